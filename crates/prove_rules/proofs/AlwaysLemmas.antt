@@ -1,5 +1,5 @@
 -- The lines of static bytes.
-use Rattle.std.proofs.Common.{◌≡◌, ◌<◌, ◌≤◌, ◌-◌, ℕ, suc, ◌+◌, List, [], ◌∷◌, ◌++◌, Bool, true, false, not, cond, length, map, Option, Some, None, Result, Ok, Err, append-nil, append_assoc, length-append, drop, drop-cons, get_or, add-one, arith, refl, sym, ap, subst, ◌∙◌}
+use Rattle.std.proofs.Common.{◌≡◌, ◌<◌, ◌≤◌, ◌-◌, ℕ, suc, ◌+◌, List, [], ◌∷◌, ◌++◌, Bool, true, false, not, cond, length, map, Option, Some, None, Result, Ok, Err, append-nil, append_assoc, drop, drop-cons, get_or, add-one, arith, refl, sym, ap, subst, ◌∙◌}
 use Rattle.std.specs.Prelude.{◌&&◌, nat_le, nat_lt, bytes_eq, codes, is_none, is_some, ok_or}
 use Rattle.model_device.specs.Bytes.{lookup}
 use Rattle.model_text.specs.Text.{◌>>=◌, ok_as, only_if}
@@ -12,22 +12,24 @@ use Rattle.model_rules.specs.Rules.{AppRules, Range, Target, Total}
 use Rattle.model_rules.specs.Reading.{Deck, NoApplication, RuleCause, always_line, are_names, are_sums, ends_of, of_deck, sign_of, static_field, static_size, terms_of, unless, with_app, with_range, with_total}
 use Rattle.prove_events.specs.declared.rules.Always.{Always}
 use Rattle.prove_events.specs.declared.rules.Balance.{Balance}
-use Rattle.prove_events.specs.declared.rules.Load.{Load}
-use Rattle.prove_events.specs.Rules.{allowance_of, range_of}
+use Rattle.prove_events.specs.Rules.{allowance_of, name_of, range_of}
 use Rattle.prove_rules.specs.declared.always.SignedName.{SignedName}
 use Rattle.prove_rules.specs.declared.always.TotalForm.{TotalForm}
 use Rattle.prove_rules.specs.declared.fault.Fault.{Fault}
 use Rattle.prove_rules.specs.declared.fault.Fault.TheVariants as fault
 use Rattle.prove_rules.specs.declared.fault.RuleCause.TheVariants as cause
+use Rattle.prove_rules.specs.declared.load.Found.{Found}
 use Rattle.prove_rules.specs.declared.partial.Partial.{Partial}
 use Rattle.prove_rules.specs.Always.{term_of, AreNoSums, IsRangeRead, IsTotalForm, IsTotalRead}
 use Rattle.prove_rules.specs.Fields.{two_of, IsNumber}
 use Rattle.prove_rules.specs.Partials.{place_of, ArePart, AreListsRead, IsTarget}
 use Rattle.prove_rules.specs.Refused.{cause_value, Faulty}
+use Rattle.prove_rules.specs.Sums.{AreTotals, IsTotal}
 use Rattle.prove_rules.proofs.FieldLemmas.{ends_refused, AreEndsRead}
 use Rattle.prove_rules.proofs.OnLemmas.{is_target, no_target, target_is}
 use Rattle.prove_rules.proofs.PlaceLemmas.{map_more, place_none, place_some}
 use Rattle.prove_rules.proofs.RefusalLemmas.{same_faulty, then_faulty}
+use Rattle.prove_rules.proofs.SumLemmas.{totals_more}
 
 -- terms after others
 abbrev pub after_terms : List SignedName → Result (List (Bool × List ℕ)) RuleCause → Result (List (Bool × List ℕ)) RuleCause
@@ -189,8 +191,8 @@ both_of : (a b : Bool) → a ≡ true → b ≡ true → (a && b) ≡ true
 both_of a b e f = rw e f
 
 -- the number of static bytes
-size_is : (o : Option Target) (l : Option Load) (load : Load) → IsTarget o l → l ≡ Some load → static_size o ≡ load.fixed
-size_is o l load h e = let t = target_is o l load h e in ap static_size t.1 ∙ t.2.size
+size_is : (o : Option Target) (l : Option Found) (found : Found) → IsTarget o l → l ≡ Some found → static_size o ≡ found.load.fixed
+size_is o l found h e = let t = target_is o l found h e in ap static_size t.1 ∙ t.2.size
 
 no_sign : (fs : List (List ℕ)) (low high : List ℕ) → fs ≡ low ∷ high ∷ [] → begins_with (codes "=") fs ≡ false → bytes_eq low (codes "=") ≡ false
 no_sign fs low high e h = ap (begins_with (codes "=")) (sym e) ∙ h
@@ -206,14 +208,14 @@ range_line a n block at low high fs inside none e =
 pub range_read : (a : AppRules) (p : Partial) (n : ℕ) (block at : List ℕ) (fs : List (List ℕ)) (w : Always) → ArePart a p → static_field block ≡ Ok at → begins_with (codes "=") fs ≡ false → w.line ≡ n → IsRangeRead p at fs w
     → always_line a n (block ∷ fs) ≡ Ok (record a { ranges = a.ranges ++ range_of w ∷ [] })
 range_read a p n block at fs w are inside none line h =
-    let within : nat_lt w.at (static_size a.target) ≡ true = ap (nat_lt w.at) (size_is a.target p.load h.load are.target h.loaded) ∙ less w.at h.load.fixed h.within in
+    let within : nat_lt w.at (static_size a.target) ≡ true = ap (nat_lt w.at) (size_is a.target p.load h.found are.target h.loaded) ∙ less w.at h.found.load.fixed h.within in
     let limits : (nat_lt w.at (static_size a.target) && nat_le w.low w.high && nat_le w.high 255) ≡ true = all_of (nat_lt w.at (static_size a.target)) (nat_le w.low w.high) (nat_le w.high 255) within (at_most w.low w.high h.order) (at_most w.high 255 h.byte) in
     let range : ℕ → Range = λ n. record { number = n; at = w.at; low = w.low; high = w.high } in
     range_line a n block at h.low h.high fs inside none h.parts
     ∙ ap (λ o. range_from a n o (natural h.low) (natural h.high)) h.place
     ∙ ap (λ o. range_from a n (Some w.at) o (natural h.high)) h.lowest
     ∙ ap (λ o. range_from a n (Some w.at) (Some w.low) o) h.highest
-    ∙ ap (range_by a (range n)) (is_target a.target p.load h.load are.target h.loaded)
+    ∙ ap (range_by a (range n)) (is_target a.target p.load h.found are.target h.loaded)
     ∙ ap (range_in a (range n)) limits
     ∙ ap (λ k. Ok (record a { ranges = a.ranges ++ range k ∷ [] })) (sym line)
 
@@ -287,37 +289,37 @@ third_of true true c e = e
 third_of true false c e = refl
 third_of false b c e = refl
 
-range_outside : (a : AppRules) (s : Partial) (n : ℕ) (block at low high : List ℕ) (fs : List (List ℕ)) (p q r : ℕ) (load : Load) → ArePart a s → static_field block ≡ Ok at → begins_with (codes "=") fs ≡ false
-    → (h : AreRangeNumbers at low high fs p q r) → s.load ≡ Some load → (nat_lt h.place.number (static_size a.target) && nat_le h.lowest.number h.highest.number && nat_le h.highest.number 255) ≡ false → always_line a n (block ∷ fs) ≡ Err (Deck OutOfRange)
-range_outside a s n block at low high fs p q r load are inside none h l out =
+range_outside : (a : AppRules) (s : Partial) (n : ℕ) (block at low high : List ℕ) (fs : List (List ℕ)) (p q r : ℕ) (found : Found) → ArePart a s → static_field block ≡ Ok at → begins_with (codes "=") fs ≡ false
+    → (h : AreRangeNumbers at low high fs p q r) → s.load ≡ Some found → (nat_lt h.place.number (static_size a.target) && nat_le h.lowest.number h.highest.number && nat_le h.highest.number 255) ≡ false → always_line a n (block ∷ fs) ≡ Err (Deck OutOfRange)
+range_outside a s n block at low high fs p q r found are inside none h l out =
     let range : Range = record { number = n; at = h.place.number; low = h.lowest.number; high = h.highest.number } in
-    range_numbers a n block at low high fs p q r inside none h ∙ ap (range_by a range) (is_target a.target s.load load are.target l) ∙ ap (range_in a range) out
+    range_numbers a n block at low high fs p q r inside none h ∙ ap (range_by a range) (is_target a.target s.load found are.target l) ∙ ap (range_in a range) out
 
 least_by : (b : Bool) (n m : ℕ) → nat_le m 4294967296 ≡ b → n ≡ cond b m 4294967296 → n ≤ m
 least_by true n m e i = omega (arith, i)
 least_by false n m e i = let k : 4294967296 < m = grind (arith, e) in omega (arith, k, i)
 
-pub place_outside : (a : AppRules) (s : Partial) (n : ℕ) (block at low high : List ℕ) (fs : List (List ℕ)) (p q r : ℕ) (load : Load) → ArePart a s → static_field block ≡ Ok at → begins_with (codes "=") fs ≡ false
-    → AreRangeNumbers at low high fs p q r → s.load ≡ Some load → load.fixed ≤ p → always_line a n (block ∷ fs) ≡ Err (Deck OutOfRange)
-place_outside a s n block at low high fs p q r load are inside none h l out =
+pub place_outside : (a : AppRules) (s : Partial) (n : ℕ) (block at low high : List ℕ) (fs : List (List ℕ)) (p q r : ℕ) (found : Found) → ArePart a s → static_field block ≡ Ok at → begins_with (codes "=") fs ≡ false
+    → AreRangeNumbers at low high fs p q r → s.load ≡ Some found → found.load.fixed ≤ p → always_line a n (block ∷ fs) ≡ Err (Deck OutOfRange)
+place_outside a s n block at low high fs p q r found are inside none h l out =
     let least : p ≤ h.place.number = least_by (nat_le h.place.number 4294967296) p h.place.number refl h.place.capped in
-    let more : load.fixed ≤ h.place.number = omega (arith, least, out) in
-    range_outside a s n block at low high fs p q r load are inside none h l
+    let more : found.load.fixed ≤ h.place.number = omega (arith, least, out) in
+    range_outside a s n block at low high fs p q r found are inside none h l
     (first_of (nat_lt h.place.number (static_size a.target)) (nat_le h.lowest.number h.highest.number) (nat_le h.highest.number 255)
-    (ap (nat_lt h.place.number) (size_is a.target s.load load are.target l) ∙ not_below h.place.number load.fixed more))
+    (ap (nat_lt h.place.number) (size_is a.target s.load found are.target l) ∙ not_below h.place.number found.load.fixed more))
 
-pub order_outside : (a : AppRules) (s : Partial) (n : ℕ) (block at low high : List ℕ) (fs : List (List ℕ)) (p q r : ℕ) (load : Load) → ArePart a s → static_field block ≡ Ok at → begins_with (codes "=") fs ≡ false
-    → AreRangeNumbers at low high fs p q r → s.load ≡ Some load → r < q → q ≤ 4294967296 → always_line a n (block ∷ fs) ≡ Err (Deck OutOfRange)
-order_outside a s n block at low high fs p q r load are inside none h l out most =
+pub order_outside : (a : AppRules) (s : Partial) (n : ℕ) (block at low high : List ℕ) (fs : List (List ℕ)) (p q r : ℕ) (found : Found) → ArePart a s → static_field block ≡ Ok at → begins_with (codes "=") fs ≡ false
+    → AreRangeNumbers at low high fs p q r → s.load ≡ Some found → r < q → q ≤ 4294967296 → always_line a n (block ∷ fs) ≡ Err (Deck OutOfRange)
+order_outside a s n block at low high fs p q r found are inside none h l out most =
     let more : h.highest.number < h.lowest.number = later q r (natural low) (natural high) h.lowest h.highest out most in
-    range_outside a s n block at low high fs p q r load are inside none h l
+    range_outside a s n block at low high fs p q r found are inside none h l
     (second_of (nat_lt h.place.number (static_size a.target)) (nat_le h.lowest.number h.highest.number) (nat_le h.highest.number 255) (not_at_most h.lowest.number h.highest.number more))
 
-pub byte_outside : (a : AppRules) (s : Partial) (n : ℕ) (block at low high : List ℕ) (fs : List (List ℕ)) (p q r : ℕ) (load : Load) → ArePart a s → static_field block ≡ Ok at → begins_with (codes "=") fs ≡ false
-    → AreRangeNumbers at low high fs p q r → s.load ≡ Some load → 255 < r → always_line a n (block ∷ fs) ≡ Err (Deck OutOfRange)
-byte_outside a s n block at low high fs p q r load are inside none h l out =
+pub byte_outside : (a : AppRules) (s : Partial) (n : ℕ) (block at low high : List ℕ) (fs : List (List ℕ)) (p q r : ℕ) (found : Found) → ArePart a s → static_field block ≡ Ok at → begins_with (codes "=") fs ≡ false
+    → AreRangeNumbers at low high fs p q r → s.load ≡ Some found → 255 < r → always_line a n (block ∷ fs) ≡ Err (Deck OutOfRange)
+byte_outside a s n block at low high fs p q r found are inside none h l out =
     let more : 255 < h.highest.number = upper 256 r (natural high) h.highest (omega arith) (omega (arith, out)) in
-    range_outside a s n block at low high fs p q r load are inside none h l
+    range_outside a s n block at low high fs p q r found are inside none h l
     (third_of (nat_lt h.place.number (static_size a.target)) (nat_le h.lowest.number h.highest.number) (nat_le h.highest.number 255) (not_at_most h.highest.number 255 more))
 
 not_less : (a b : ℕ) → nat_le a b ≡ false → b < a
@@ -327,15 +329,15 @@ most_by : (b : Bool) (n m : ℕ) → nat_le m 4294967296 ≡ b → n ≡ cond b 
 most_by true n m e i = let k : m ≤ 4294967296 = grind (arith, e) in omega (arith, i, k)
 most_by false n m e i = omega (arith, i)
 
-values_by : (d : Bool) (a : AppRules) (s : Partial) (n : ℕ) (block at low high : List ℕ) (fs : List (List ℕ)) (p q r : ℕ) (load : Load) → nat_le q r ≡ d → ArePart a s → static_field block ≡ Ok at → begins_with (codes "=") fs ≡ false
-    → AreRangeNumbers at low high fs p q r → s.load ≡ Some load → (d && nat_le r 255) ≡ false → always_line a n (block ∷ fs) ≡ Err (Deck OutOfRange)
-values_by false a s n block at low high fs p q r load e are inside none h l out =
-    order_outside a s n block at low high fs p q r load are inside none h l (not_less q r e) (most_by (nat_le h.lowest.number 4294967296) q h.lowest.number refl h.lowest.capped)
-values_by true a s n block at low high fs p q r load e are inside none h l out = byte_outside a s n block at low high fs p q r load are inside none h l (not_less r 255 out)
+values_by : (d : Bool) (a : AppRules) (s : Partial) (n : ℕ) (block at low high : List ℕ) (fs : List (List ℕ)) (p q r : ℕ) (found : Found) → nat_le q r ≡ d → ArePart a s → static_field block ≡ Ok at → begins_with (codes "=") fs ≡ false
+    → AreRangeNumbers at low high fs p q r → s.load ≡ Some found → (d && nat_le r 255) ≡ false → always_line a n (block ∷ fs) ≡ Err (Deck OutOfRange)
+values_by false a s n block at low high fs p q r found e are inside none h l out =
+    order_outside a s n block at low high fs p q r found are inside none h l (not_less q r e) (most_by (nat_le h.lowest.number 4294967296) q h.lowest.number refl h.lowest.capped)
+values_by true a s n block at low high fs p q r found e are inside none h l out = byte_outside a s n block at low high fs p q r found are inside none h l (not_less r 255 out)
 
-pub values_outside : (a : AppRules) (s : Partial) (n : ℕ) (block at low high : List ℕ) (fs : List (List ℕ)) (p q r : ℕ) (load : Load) → ArePart a s → static_field block ≡ Ok at → begins_with (codes "=") fs ≡ false
-    → AreRangeNumbers at low high fs p q r → s.load ≡ Some load → (nat_le q r && nat_le r 255) ≡ false → always_line a n (block ∷ fs) ≡ Err (Deck OutOfRange)
-values_outside a s n block at low high fs p q r load are inside none h l out = values_by (nat_le q r) a s n block at low high fs p q r load refl are inside none h l out
+pub values_outside : (a : AppRules) (s : Partial) (n : ℕ) (block at low high : List ℕ) (fs : List (List ℕ)) (p q r : ℕ) (found : Found) → ArePart a s → static_field block ≡ Ok at → begins_with (codes "=") fs ≡ false
+    → AreRangeNumbers at low high fs p q r → s.load ≡ Some found → (nat_le q r && nat_le r 255) ≡ false → always_line a n (block ∷ fs) ≡ Err (Deck OutOfRange)
+values_outside a s n block at low high fs p q r found are inside none h l out = values_by (nat_le q r) a s n block at low high fs p q r found refl are inside none h l out
 
 -- ---- totals
 
@@ -374,22 +376,23 @@ form_line a n block range fs f inside h =
     ap (λ l. always_line a n (block ∷ codes "=" ∷ l)) h.parts
     ∙ total_line a n block range f.constant.now (f.from.now, f.to.now) h.rest (map term_of f.names.items) inside h.ends h.terms
 
-pub total_read : (a : AppRules) (p : Partial) (n : ℕ) (f : TotalForm) → ArePart a p → IsTotalRead p f
-    → (t : Total) × (with_total a n (f.from.now, f.to.now) f.constant.now (map term_of f.names.items) ≡ Ok (record a { totals = a.totals ++ t ∷ [] }))
-total_read a p n f are h =
+pub total_read : (a : AppRules) (p : Partial) (n : ℕ) (f : TotalForm) (b : Balance) → ArePart a p → b.line ≡ n → IsTotalRead p f b
+    → (t : Total) × (with_total a n (f.from.now, f.to.now) f.constant.now (map term_of f.names.items) ≡ Ok (record a { totals = a.totals ++ t ∷ [] })) × IsTotal (map name_of p.sums.items) t b
+total_read a p n f b are line h =
     let terms = map term_of f.names.items in
     let t : Total = record { number = n; at = h.first; n = suc h.last - h.first; constant = h.k; terms = terms } in
     let sums : are_sums a.sums terms ≡ true = ap (λ s. are_sums s terms) are.sums ∙ h.sums in
-    let below : nat_lt h.last (static_size a.target) ≡ true = ap (nat_lt h.last) (size_is a.target p.load h.load are.target h.loaded) ∙ less h.last h.load.fixed h.within in
+    let below : nat_lt h.last (static_size a.target) ≡ true = ap (nat_lt h.last) (size_is a.target p.load h.found are.target h.loaded) ∙ less h.last h.found.load.fixed h.within in
     let within : (nat_le h.first h.last && nat_lt h.last (static_size a.target)) ≡ true = both_of (nat_le h.first h.last) (nat_lt h.last (static_size a.target)) (at_most h.first h.last h.order) below in (
       t,
       ap (λ o. total_from a n o (natural f.to.now) (number_field 0 4294967295 f.constant.now) (are_names terms)) h.starts
           ∙ ap (λ o. total_from a n (Some h.first) o (number_field 0 4294967295 f.constant.now) (are_names terms)) h.stops
           ∙ ap (λ r. total_from a n (Some h.first) (Some h.last) r (are_names terms)) h.number
           ∙ ap (total_from a n (Some h.first) (Some h.last) (Ok h.k)) h.named
-          ∙ ap (total_by a t h.last) (is_target a.target p.load h.load are.target h.loaded)
+          ∙ ap (total_by a t h.last) (is_target a.target p.load h.found are.target h.loaded)
           ∙ ap (total_sums a t h.last) sums
           ∙ ap (total_in a t) within,
+      record { number = sym line; at = h.at; n = h.size; constant = h.value; terms = h.bound },
     )
 
 -- ---- refused totals
@@ -475,31 +478,31 @@ module _ (a : AppRules) (n : ℕ) (f : TotalForm) where
   pub total_unnamed : (s : Partial) (p q k : ℕ) → ArePart a s → AreTotalNumbers f p q k → s.load ≡ None → total_of ≡ Err NoApplication
   total_unnamed s p q k are h l = numbers p q k h ∙ ap (total_by a (total_at p q k h) h.stops.number) (no_target a.target s.load are.target l)
 
-  summed : (s : Partial) (p q k : ℕ) (load : Load) → ArePart a s → (h : AreTotalNumbers f p q k) → s.load ≡ Some load
+  summed : (s : Partial) (p q k : ℕ) (found : Found) → ArePart a s → (h : AreTotalNumbers f p q k) → s.load ≡ Some found
       → total_of ≡ total_sums a (total_at p q k h) h.stops.number (are_sums (map allowance_of s.sums.items) (map term_of f.names.items))
-  summed s p q k load are h l =
-      numbers p q k h ∙ ap (total_by a (total_at p q k h) h.stops.number) (is_target a.target s.load load are.target l)
+  summed s p q k found are h l =
+      numbers p q k h ∙ ap (total_by a (total_at p q k h) h.stops.number) (is_target a.target s.load found are.target l)
       ∙ ap (λ x. total_sums a (total_at p q k h) h.stops.number (are_sums x (map term_of f.names.items))) are.sums
 
-  pub no_sums : (s : Partial) (p q k : ℕ) (load : Load) (e : Fault) → ArePart a s → AreTotalNumbers f p q k → s.load ≡ Some load → AreNoSums (are_sums (map allowance_of s.sums.items) (map term_of f.names.items)) e → Faulty total_of e
-  no_sums s p q k load (fault.Cause c) are h l i = summed s p q k load are h l ∙ ap (total_sums a (total_at p q k h) h.stops.number) i.1 ∙ ap (λ x. Err (cause_value x)) (sym i.0)
-  no_sums s p q k load fault.NoMemory are h l i = tt
+  pub no_sums : (s : Partial) (p q k : ℕ) (found : Found) (e : Fault) → ArePart a s → AreTotalNumbers f p q k → s.load ≡ Some found → AreNoSums (are_sums (map allowance_of s.sums.items) (map term_of f.names.items)) e → Faulty total_of e
+  no_sums s p q k found (fault.Cause c) are h l i = summed s p q k found are h l ∙ ap (total_sums a (total_at p q k h) h.stops.number) i.1 ∙ ap (λ x. Err (cause_value x)) (sym i.0)
+  no_sums s p q k found fault.NoMemory are h l i = tt
 
-  outside : (s : Partial) (p q k : ℕ) (load : Load) → ArePart a s → (h : AreTotalNumbers f p q k) → s.load ≡ Some load → are_sums (map allowance_of s.sums.items) (map term_of f.names.items) ≡ true
+  outside : (s : Partial) (p q k : ℕ) (found : Found) → ArePart a s → (h : AreTotalNumbers f p q k) → s.load ≡ Some found → are_sums (map allowance_of s.sums.items) (map term_of f.names.items) ≡ true
       → (nat_le h.starts.number h.stops.number && nat_lt h.stops.number (static_size a.target)) ≡ false → total_of ≡ Err (Deck OutOfRange)
-  outside s p q k load are h l i out = summed s p q k load are h l ∙ ap (total_sums a (total_at p q k h) h.stops.number) i ∙ ap (total_in a (total_at p q k h)) out
+  outside s p q k found are h l i out = summed s p q k found are h l ∙ ap (total_sums a (total_at p q k h) h.stops.number) i ∙ ap (total_in a (total_at p q k h)) out
 
-  pub end_outside : (s : Partial) (p q k : ℕ) (load : Load) → ArePart a s → AreTotalNumbers f p q k → s.load ≡ Some load → are_sums (map allowance_of s.sums.items) (map term_of f.names.items) ≡ true → load.fixed < 65536 → load.fixed ≤ q
+  pub end_outside : (s : Partial) (p q k : ℕ) (found : Found) → ArePart a s → AreTotalNumbers f p q k → s.load ≡ Some found → are_sums (map allowance_of s.sums.items) (map term_of f.names.items) ≡ true → found.load.fixed < 65536 → found.load.fixed ≤ q
       → total_of ≡ Err (Deck OutOfRange)
-  end_outside s p q k load are h l i small out =
-      let more : load.fixed ≤ h.stops.number = upper load.fixed q (natural f.to.now) h.stops small out in
-      outside s p q k load are h l i (last_of (nat_le h.starts.number h.stops.number) (nat_lt h.stops.number (static_size a.target)) (ap (nat_lt h.stops.number) (size_is a.target s.load load are.target l) ∙ not_below h.stops.number load.fixed more))
+  end_outside s p q k found are h l i small out =
+      let more : found.load.fixed ≤ h.stops.number = upper found.load.fixed q (natural f.to.now) h.stops small out in
+      outside s p q k found are h l i (last_of (nat_le h.starts.number h.stops.number) (nat_lt h.stops.number (static_size a.target)) (ap (nat_lt h.stops.number) (size_is a.target s.load found are.target l) ∙ not_below h.stops.number found.load.fixed more))
 
-  pub ends_outside : (s : Partial) (p q k : ℕ) (load : Load) → ArePart a s → AreTotalNumbers f p q k → s.load ≡ Some load → are_sums (map allowance_of s.sums.items) (map term_of f.names.items) ≡ true → q < p → p ≤ 4294967296
+  pub ends_outside : (s : Partial) (p q k : ℕ) (found : Found) → ArePart a s → AreTotalNumbers f p q k → s.load ≡ Some found → are_sums (map allowance_of s.sums.items) (map term_of f.names.items) ≡ true → q < p → p ≤ 4294967296
       → total_of ≡ Err (Deck OutOfRange)
-  ends_outside s p q k load are h l i out most =
+  ends_outside s p q k found are h l i out most =
       let more : h.stops.number < h.starts.number = later p q (natural f.from.now) (natural f.to.now) h.starts h.stops out most in
-      outside s p q k load are h l i (front_of (nat_le h.starts.number h.stops.number) (nat_lt h.stops.number (static_size a.target)) (not_at_most h.starts.number h.stops.number more))
+      outside s p q k found are h l i (front_of (nat_le h.starts.number h.stops.number) (nat_lt h.stops.number (static_size a.target)) (not_at_most h.starts.number h.stops.number more))
 
 -- ---- refused lines
 
@@ -536,43 +539,35 @@ total_line_refused a n block range fs f e inside form h = same_faulty (always_li
 
 -- ---- one more
 
--- the number of totals after one more
-pub count_more : (xs ys : List Balance) (x : Balance) → ys ≡ xs ++ x ∷ [] → length ys ≡ suc (length xs)
-count_more xs ys x e =
-    let k = ap length e in
-    let n = length-append xs (x ∷ []) in
-    omega (arith, k, n)
-
-total_more : (ts : List Total) (t : Total) (n m : ℕ) → length ts ≡ n → m ≡ suc n → length (ts ++ t ∷ []) ≡ m
-total_more ts t n m e h = let k = length-append ts (t ∷ []) in omega (arith, k, e, h)
-
 -- the rules with one more range
 pub range_added : (a : AppRules) (p : Partial) (n : ℕ) (block at : List ℕ) (fs : List (List ℕ)) (w : Always) (more : List Always) → ArePart a p → static_field block ≡ Ok at → begins_with (codes "=") fs ≡ false → w.line ≡ n
-    → IsRangeRead p at fs w → more ≡ p.always.items ++ w ∷ [] → AreListsRead (always_line a n (block ∷ fs)) p.load p.allowances.items p.sums.items p.ons.items more (length p.balances.items) p.never
+    → IsRangeRead p at fs w → more ≡ p.always.items ++ w ∷ [] → AreListsRead (always_line a n (block ∷ fs)) p.load p.allowances.items p.sums.items p.ons.items more p.balances.items p.never
 range_added a p n block at fs w more are inside none line h m =
-    subst (λ (r : Result AppRules RuleCause). AreListsRead r p.load p.allowances.items p.sums.items p.ons.items more (length p.balances.items) p.never) (sym (range_read a p n block at fs w are inside none line h)) (record {
+    subst (λ (r : Result AppRules RuleCause). AreListsRead r p.load p.allowances.items p.sums.items p.ons.items more p.balances.items p.never) (sym (range_read a p n block at fs w are inside none line h)) (record {
       target = are.target;
       allowances = are.allowances;
       distinct = are.distinct;
       sums = are.sums;
       ons = are.ons;
       ranges = ap (λ l. l ++ range_of w ∷ []) are.ranges ∙ sym (map_more range_of p.always.items w) ∙ ap (map range_of) (sym m);
+      moves = are.moves;
       totals = are.totals;
       abends = are.abends;
     })
 
 -- the rules with one more total
-pub total_added : (a : AppRules) (p : Partial) (n : ℕ) (block range : List ℕ) (fs : List (List ℕ)) (f : TotalForm) (count : ℕ) → ArePart a p → static_field block ≡ Ok range → IsTotalForm range fs f → IsTotalRead p f
-    → count ≡ suc (length p.balances.items) → AreListsRead (always_line a n (block ∷ codes "=" ∷ fs)) p.load p.allowances.items p.sums.items p.ons.items p.always.items count p.never
-total_added a p n block range fs f count are inside form h m =
-    let t = total_read a p n f are h in
-    subst (λ (r : Result AppRules RuleCause). AreListsRead r p.load p.allowances.items p.sums.items p.ons.items p.always.items count p.never) (sym (form_line a n block range fs f inside form ∙ t.1)) (record {
+pub total_added : (a : AppRules) (p : Partial) (n : ℕ) (block range : List ℕ) (fs : List (List ℕ)) (f : TotalForm) (b : Balance) (more : List Balance) → ArePart a p → static_field block ≡ Ok range → IsTotalForm range fs f → b.line ≡ n
+    → IsTotalRead p f b → more ≡ p.balances.items ++ b ∷ [] → AreListsRead (always_line a n (block ∷ codes "=" ∷ fs)) p.load p.allowances.items p.sums.items p.ons.items p.always.items more p.never
+total_added a p n block range fs f b more are inside form line h m =
+    let t = total_read a p n f b are line h in
+    subst (λ (r : Result AppRules RuleCause). AreListsRead r p.load p.allowances.items p.sums.items p.ons.items p.always.items more p.never) (sym (form_line a n block range fs f inside form ∙ t.1)) (record {
       target = are.target;
       allowances = are.allowances;
       distinct = are.distinct;
       sums = are.sums;
       ons = are.ons;
       ranges = are.ranges;
-      totals = total_more a.totals t.0 (length p.balances.items) count are.totals m;
+      moves = are.moves;
+      totals = subst (λ (bs : List Balance). AreTotals (map name_of p.sums.items) (a.totals ++ t.0 ∷ []) bs) (sym m) (totals_more (map name_of p.sums.items) a.totals p.balances.items t.0 b t.2 are.totals);
       abends = are.abends;
     })

@@ -13,6 +13,7 @@ use Rattle.model_rules.specs.Reading.{AllowLine, AppLine, AppWord, Deck, LoadLin
 use Rattle.prove_events.specs.declared.rules.Load.{Load}
 use Rattle.prove_events.specs.declared.rules.Named.{Named}
 use Rattle.prove_events.specs.Rules.{allowance_of, name_of, AreDistinct, AreLines, IsCreated}
+use Rattle.prove_rules.specs.declared.load.Found.{Found}
 use Rattle.prove_rules.specs.declared.partial.Partial.{Partial}
 use Rattle.prove_rules.specs.declared.fault.Fault.{Fault}
 use Rattle.prove_rules.specs.declared.fault.Fault.TheVariants as fault
@@ -21,9 +22,11 @@ use Rattle.prove_rules.specs.Apps.{one_of, IsAppRead}
 use Rattle.prove_rules.specs.Loads.{is_accepted, IsLoad, IsLoadOf}
 use Rattle.prove_rules.specs.Partials.{place_of, ArePart, AreLists, AreListsRead, HasFault, IsMoreNamed, IsTarget}
 use Rattle.prove_rules.specs.Refused.{cause_value, Faulty}
+use Rattle.prove_rules.specs.Sums.{AreSumLines, AreTotals}
 use Rattle.prove_rules.proofs.OnLemmas.{is_target, no_target}
 use Rattle.prove_rules.proofs.PlaceLemmas.{distinct_more, lines_names, map_more, place_none, place_some}
 use Rattle.prove_rules.proofs.RefusalLemmas.{deck_faulty, same_faulty}
+use Rattle.prove_rules.proofs.SumLemmas.{sum_lines_names, totals_names}
 
 -- ---- rules by their words
 
@@ -47,12 +50,12 @@ never_is loads a n word = refl
 
 -- ---- the application
 
-no_app : (o : Option Target) (l : Option Load) → IsTarget o l → l ≡ None → is_none o ≡ true
+no_app : (o : Option Target) (l : Option Found) → IsTarget o l → l ≡ None → is_none o ≡ true
 no_app None l h e = refl
 no_app (Some g) None h e = absurd h
 no_app (Some g) (Some l) h e = absurd (cc e)
 
-some_app : (o : Option Target) (l : Option Load) → IsTarget o l → is_some l ≡ true → is_none o ≡ false
+some_app : (o : Option Target) (l : Option Found) → IsTarget o l → is_some l ≡ true → is_none o ≡ false
 some_app None None h e = absurd (cc e)
 some_app None (Some l) h e = absurd h
 some_app (Some g) l h e = refl
@@ -68,8 +71,8 @@ three_left : (a b c d e f g : Bool) → a ≡ true → b ≡ true → f ≡ true
 three_left a b c d e f g h1 h2 h3 h4 = rw h1 (rw h2 (rw h3 (rw h4 (and_true (c && d && e && true) ∙ and_true (c && d && e)))))
 
 -- a card accepts the sizes of an application exactly if those that a `load` line gives are accepted
-fits_is : (l : LoadLine) (load : Load) → IsLoad l load → fits_limits (sizes_of l) ≡ is_accepted load
-fits_is l load h =
+fits_is : (l : LoadLine) (found : Found) → IsLoad l found → fits_limits (sizes_of l) ≡ is_accepted found.load
+fits_is l found h =
     let good = h.good.limits in
     let some : 1 ≤ length l.unit.code = omega (arith, good.some_code) in
     let long : length l.unit.code ≤ 8192 = good.code_len in
@@ -78,8 +81,8 @@ fits_is l load h =
     three_left (nat_le 1 (length l.unit.code)) (nat_le (length l.unit.code) 8192) (nat_le l.fixed 4096) (nat_le (length l.unit.init) l.fixed) (nat_le l.session 256) (nat_le (length l.unit.dir) 128) (nat_le (length l.unit.fci) 128)
     (upto 1 (length l.unit.code) some) (upto (length l.unit.code) 8192 long) (upto (length l.unit.dir) 128 dir) (upto (length l.unit.fci) 128 fci)
     ∙ ap (λ n. nat_le n 4096 && nat_le (length l.unit.init) n && nat_le l.session 256) h.fixed
-    ∙ ap (λ t. nat_le load.fixed 4096 && nat_le (length t) load.fixed && nat_le l.session 256) h.front
-    ∙ ap (λ n. nat_le load.fixed 4096 && nat_le (length load.data.now) load.fixed && nat_le n 256) h.session
+    ∙ ap (λ t. nat_le found.load.fixed 4096 && nat_le (length t) found.load.fixed && nat_le l.session 256) h.front
+    ∙ ap (λ n. nat_le found.load.fixed 4096 && nat_le (length found.load.data.now) found.load.fixed && nat_le n 256) h.session
 
 and_parts : (a b : Bool) → (a && b) ≡ true → (a ≡ true) × (b ≡ true)
 and_parts true true e = (refl, refl)
@@ -120,9 +123,9 @@ size_by t n h =
     omega (arith, k, z, h)
 
 -- the application is the one that a `load` line creates
-pub created : (name : List ℕ) (l : LoadLine) (load : Load) → IsLoad l load → is_accepted load ≡ true → IsCreated (target_of name l).app load
-created name l load h accepts =
-    let a = accepted load accepts in
+pub created : (name : List ℕ) (l : LoadLine) (found : Found) → IsLoad l found → is_accepted found.load ≡ true → IsCreated (target_of name l).app found.load
+created name l found h accepts =
+    let a = accepted found.load accepts in
     let front = ap length h.front in
     let fixed : l.fixed ≤ 4096 = omega (arith, h.fixed, a.fixed) in
     let init : length l.unit.init ≤ l.fixed = omega (arith, h.fixed, a.front, front) in
@@ -130,7 +133,7 @@ created name l load h accepts =
     let long : length l.unit.code ≤ 8192 = h.good.limits.code_len in
     record {
       code = h.code;
-      fixed = ap (λ t. t ++ zeros (l.fixed - length t)) h.front ∙ ap (λ n. load.data.now ++ zeros (n - length load.data.now)) h.fixed;
+      fixed = ap (λ t. t ++ zeros (l.fixed - length t)) h.front ∙ ap (λ n. found.load.data.now ++ zeros (n - length found.load.data.now)) h.fixed;
       size = size ∙ h.fixed;
       session = h.session;
       deny = refl;
@@ -159,21 +162,22 @@ app_new : (loads : List (List ℕ × LoadLine)) (a : AppRules) (p : Partial) (n 
     → app_rule loads a n AppLine fs ≡ app_by loads a name true (lookup loads name)
 app_new loads a p n fs name are e h l = app_named loads a n fs name e h ∙ ap (λ b. app_by loads a name b (lookup loads name)) (no_app a.target p.load are.target l)
 
-app_found : (loads : List (List ℕ × LoadLine)) (a : AppRules) (p : Partial) (n : ℕ) (fs : List (List ℕ)) (load : Load) (o : Option LoadLine) → ArePart a p → (h : IsAppRead loads p fs load) → lookup loads h.name ≡ o → IsLoadOf o load
-    → AreListsRead (app_rule loads a n AppLine fs) (Some load) p.allowances.items p.sums.items p.ons.items p.always.items (length p.balances.items) p.never
-app_found loads a p n fs load None are h e i = absurd i
-app_found loads a p n fs load (Some l) are h e i =
+app_found : (loads : List (List ℕ × LoadLine)) (a : AppRules) (p : Partial) (n : ℕ) (fs : List (List ℕ)) (found : Found) (o : Option LoadLine) → ArePart a p → (h : IsAppRead loads p fs found) → lookup loads h.name ≡ o → IsLoadOf o found
+    → AreListsRead (app_rule loads a n AppLine fs) (Some found) p.allowances.items p.sums.items p.ons.items p.always.items p.balances.items p.never
+app_found loads a p n fs found None are h e i = absurd i
+app_found loads a p n fs found (Some l) are h e i =
     let whole : app_rule loads a n AppLine fs ≡ Ok (record a { target = Some (target_of h.name l) }) =
     app_new loads a p n fs h.name are h.parts h.named h.new
     ∙ ap (app_by loads a h.name true) e
-    ∙ ap (λ b. unless b OutOfRange (record a { target = Some (target_of h.name l) })) (fits_is l load i ∙ h.accepted) in
-    subst (λ (r : Result AppRules RuleCause). AreListsRead r (Some load) p.allowances.items p.sums.items p.ons.items p.always.items (length p.balances.items) p.never) (sym whole) (record {
-      target = created h.name l load i h.accepted;
+    ∙ ap (λ b. unless b OutOfRange (record a { target = Some (target_of h.name l) })) (fits_is l found i ∙ h.accepted) in
+    subst (λ (r : Result AppRules RuleCause). AreListsRead r (Some found) p.allowances.items p.sums.items p.ons.items p.always.items p.balances.items p.never) (sym whole) (record {
+      target = (created h.name l found i h.accepted, i.aid);
       allowances = are.allowances;
       distinct = are.distinct;
       sums = are.sums;
       ons = are.ons;
       ranges = are.ranges;
+      moves = are.moves;
       totals = are.totals;
       abends = are.abends;
     })
@@ -197,20 +201,20 @@ pub app_unknown : (loads : List (List ℕ × LoadLine)) (a : AppRules) (p : Part
     → app_rule loads a n AppLine fs ≡ Err (Deck UnknownName)
 app_unknown loads a p n fs name are e h l i = app_new loads a p n fs name are e h l ∙ ap (app_by loads a name true) i
 
-large_by : (loads : List (List ℕ × LoadLine)) (a : AppRules) (name : List ℕ) (load : Load) (o : Option LoadLine) → IsLoadOf o load → is_accepted load ≡ false → app_by loads a name true o ≡ Err (Deck OutOfRange)
-large_by loads a name load None h e = absurd h
-large_by loads a name load (Some l) h e = ap (λ b. unless b OutOfRange (record a { target = Some (target_of name l) })) (fits_is l load h ∙ e)
+large_by : (loads : List (List ℕ × LoadLine)) (a : AppRules) (name : List ℕ) (found : Found) (o : Option LoadLine) → IsLoadOf o found → is_accepted found.load ≡ false → app_by loads a name true o ≡ Err (Deck OutOfRange)
+large_by loads a name found None h e = absurd h
+large_by loads a name found (Some l) h e = ap (λ b. unless b OutOfRange (record a { target = Some (target_of name l) })) (fits_is l found h ∙ e)
 
-pub app_large : (loads : List (List ℕ × LoadLine)) (a : AppRules) (p : Partial) (n : ℕ) (fs : List (List ℕ)) (name : List ℕ) (load : Load) → ArePart a p → fs ≡ name ∷ [] → name_field name ≡ Ok name → p.load ≡ None
-    → IsLoadOf (lookup loads name) load → is_accepted load ≡ false → app_rule loads a n AppLine fs ≡ Err (Deck OutOfRange)
-app_large loads a p n fs name load are e h l i out = app_new loads a p n fs name are e h l ∙ large_by loads a name load (lookup loads name) i out
+pub app_large : (loads : List (List ℕ × LoadLine)) (a : AppRules) (p : Partial) (n : ℕ) (fs : List (List ℕ)) (name : List ℕ) (found : Found) → ArePart a p → fs ≡ name ∷ [] → name_field name ≡ Ok name → p.load ≡ None
+    → IsLoadOf (lookup loads name) found → is_accepted found.load ≡ false → app_rule loads a n AppLine fs ≡ Err (Deck OutOfRange)
+app_large loads a p n fs name found are e h l i out = app_new loads a p n fs name are e h l ∙ large_by loads a name found (lookup loads name) i out
 
 -- the rules with their application
-pub app_added : (loads : List (List ℕ × LoadLine)) (a : AppRules) (p : Partial) (n : ℕ) (fs : List (List ℕ)) (load : Load) (o : Option Load) → ArePart a p → IsAppRead loads p fs load → o ≡ Some load
-    → AreListsRead (app_rule loads a n AppLine fs) o p.allowances.items p.sums.items p.ons.items p.always.items (length p.balances.items) p.never
-app_added loads a p n fs load o are h e =
-    subst (λ (x : Option Load). AreListsRead (app_rule loads a n AppLine fs) x p.allowances.items p.sums.items p.ons.items p.always.items (length p.balances.items) p.never) (sym e) (
-    app_found loads a p n fs load (lookup loads h.name) are h refl h.is)
+pub app_added : (loads : List (List ℕ × LoadLine)) (a : AppRules) (p : Partial) (n : ℕ) (fs : List (List ℕ)) (found : Found) (o : Option Found) → ArePart a p → IsAppRead loads p fs found → o ≡ Some found
+    → AreListsRead (app_rule loads a n AppLine fs) o p.allowances.items p.sums.items p.ons.items p.always.items p.balances.items p.never
+app_added loads a p n fs found o are h e =
+    subst (λ (x : Option Found). AreListsRead (app_rule loads a n AppLine fs) x p.allowances.items p.sums.items p.ons.items p.always.items p.balances.items p.never) (sym e) (
+    app_found loads a p n fs found (lookup loads h.name) are h refl h.is)
 
 -- ---- allowances and sums
 
@@ -285,40 +289,43 @@ sum_refused loads a p n fs e are h =
 
 -- the rules with one more allowance
 pub allowance_added : (loads : List (List ℕ × LoadLine)) (a : AppRules) (p : Partial) (n : ℕ) (fs : List (List ℕ)) (more : List Named) → ArePart a p → IsMoreNamed p.allowances.items fs more
-    → AreListsRead (app_rule loads a n AllowLine fs) p.load more p.sums.items p.ons.items p.always.items (length p.balances.items) p.never
+    → AreListsRead (app_rule loads a n AllowLine fs) p.load more p.sums.items p.ons.items p.always.items p.balances.items p.never
 allowance_added loads a p n fs more are h =
     let names : map name_of p.allowances.items ++ name_of h.one ∷ [] ≡ map name_of more = sym (map_more name_of p.allowances.items h.one) ∙ ap (map name_of) (sym h.more) in
     let whole : app_rule loads a n AllowLine fs ≡ Ok (record a { allowances = a.allowances ++ allowance_of h.one ∷ [] }) =
     allow_is loads a n fs
     ∙ ap (λ m. of_deck m >>= λ x. unless (is_none (lookup a.allowances x.0)) NameTwice (record a { allowances = a.allowances ++ x ∷ [] })) h.named
     ∙ ap (λ b. unless b NameTwice (record a { allowances = a.allowances ++ allowance_of h.one ∷ [] })) (new_name a.allowances p.allowances.items (name_of h.one) are.allowances h.fresh) in
-    subst (λ (r : Result AppRules RuleCause). AreListsRead r p.load more p.sums.items p.ons.items p.always.items (length p.balances.items) p.never) (sym whole) (record {
+    subst (λ (r : Result AppRules RuleCause). AreListsRead r p.load more p.sums.items p.ons.items p.always.items p.balances.items p.never) (sym whole) (record {
       target = are.target;
       allowances = more_values a.allowances p.allowances.items more h.one are.allowances h.more;
       distinct = subst (λ (ns : List (List ℕ)). AreDistinct ns) names (distinct_more p.allowances.items (name_of h.one) are.distinct h.fresh);
       sums = are.sums;
       ons = subst (λ (ns : List (List ℕ)). AreLines ns a.ons p.ons.items) names (lines_names (map name_of p.allowances.items) (name_of h.one) a.ons p.ons.items are.ons);
       ranges = are.ranges;
+      moves = are.moves;
       totals = are.totals;
       abends = are.abends;
     })
 
 -- the rules with one more sum
 pub sum_added : (loads : List (List ℕ × LoadLine)) (a : AppRules) (p : Partial) (n : ℕ) (fs : List (List ℕ)) (more : List Named) → ArePart a p → IsMoreNamed p.sums.items fs more
-    → AreListsRead (app_rule loads a n SumWord fs) p.load p.allowances.items more p.ons.items p.always.items (length p.balances.items) p.never
+    → AreListsRead (app_rule loads a n SumWord fs) p.load p.allowances.items more p.ons.items p.always.items p.balances.items p.never
 sum_added loads a p n fs more are h =
+    let names : map name_of p.sums.items ++ name_of h.one ∷ [] ≡ map name_of more = sym (map_more name_of p.sums.items h.one) ∙ ap (map name_of) (sym h.more) in
     let whole : app_rule loads a n SumWord fs ≡ Ok (record a { sums = a.sums ++ allowance_of h.one ∷ [] }) =
     sum_is loads a n fs
     ∙ ap (λ m. of_deck m >>= λ x. unless (is_none (lookup a.sums x.0)) NameTwice (record a { sums = a.sums ++ x ∷ [] })) h.named
     ∙ ap (λ b. unless b NameTwice (record a { sums = a.sums ++ allowance_of h.one ∷ [] })) (new_name a.sums p.sums.items (name_of h.one) are.sums h.fresh) in
-    subst (λ (r : Result AppRules RuleCause). AreListsRead r p.load p.allowances.items more p.ons.items p.always.items (length p.balances.items) p.never) (sym whole) (record {
+    subst (λ (r : Result AppRules RuleCause). AreListsRead r p.load p.allowances.items more p.ons.items p.always.items p.balances.items p.never) (sym whole) (record {
       target = are.target;
       allowances = are.allowances;
       distinct = are.distinct;
       sums = more_values a.sums p.sums.items more h.one are.sums h.more;
       ons = are.ons;
       ranges = are.ranges;
-      totals = are.totals;
+      moves = subst (λ (ns : List (List ℕ)). AreSumLines ns a.moves p.ons.items) names (sum_lines_names (map name_of p.sums.items) (name_of h.one) a.moves p.ons.items are.moves);
+      totals = subst (λ (ns : List (List ℕ)). AreTotals ns a.totals p.balances.items) names (totals_names (map name_of p.sums.items) (name_of h.one) a.totals p.balances.items are.totals);
       abends = are.abends;
     })
 
@@ -333,7 +340,7 @@ never_by : (a : AppRules) (n : ℕ) (o : Option ℕ) → a.abends ≡ o → (wit
 never_by a n None e = refl
 never_by a n (Some m) e = e
 
-never_lists : (a : AppRules) (p : Partial) (n : ℕ) (o never : Option ℕ) → ArePart a p → a.abends ≡ o → never ≡ first_never n o → AreLists (with_never a n o) p.load p.allowances.items p.sums.items p.ons.items p.always.items (length p.balances.items) never
+never_lists : (a : AppRules) (p : Partial) (n : ℕ) (o never : Option ℕ) → ArePart a p → a.abends ≡ o → never ≡ first_never n o → AreLists (with_never a n o) p.load p.allowances.items p.sums.items p.ons.items p.always.items p.balances.items never
 never_lists a p n None never are e h = record {
   target = are.target;
   allowances = are.allowances;
@@ -341,6 +348,7 @@ never_lists a p n None never are e h = record {
   sums = are.sums;
   ons = are.ons;
   ranges = are.ranges;
+  moves = are.moves;
   totals = are.totals;
   abends = sym h;
 }
@@ -351,19 +359,20 @@ never_lists a p n (Some m) never are e h = record {
   sums = are.sums;
   ons = are.ons;
   ranges = are.ranges;
+  moves = are.moves;
   totals = are.totals;
   abends = e ∙ sym h;
 }
 
 -- the rules with a line about abends
-pub never_added : (loads : List (List ℕ × LoadLine)) (a : AppRules) (p : Partial) (n : ℕ) (fs : List (List ℕ)) (word : List ℕ) (load : Load) (never : Option ℕ) → ArePart a p → fs ≡ word ∷ [] → bytes_eq word (codes "abend") ≡ true
-    → p.load ≡ Some load → never ≡ first_never n p.never → AreListsRead (app_rule loads a n NeverLine fs) p.load p.allowances.items p.sums.items p.ons.items p.always.items (length p.balances.items) never
-never_added loads a p n fs word load never are parts is loaded h =
+pub never_added : (loads : List (List ℕ × LoadLine)) (a : AppRules) (p : Partial) (n : ℕ) (fs : List (List ℕ)) (word : List ℕ) (found : Found) (never : Option ℕ) → ArePart a p → fs ≡ word ∷ [] → bytes_eq word (codes "abend") ≡ true
+    → p.load ≡ Some found → never ≡ first_never n p.never → AreListsRead (app_rule loads a n NeverLine fs) p.load p.allowances.items p.sums.items p.ons.items p.always.items p.balances.items never
+never_added loads a p n fs word found never are parts is loaded h =
     let whole : app_rule loads a n NeverLine fs ≡ Ok (with_never a n a.abends) =
     ap (app_rule loads a n NeverLine) parts ∙ never_is loads a n word
     ∙ ap (λ b. unless b BadLine a >>= λ r. with_app r (with_never r n r.abends)) is
-    ∙ ap (λ b. only_if b NoApplication (with_never a n a.abends)) (is_target a.target p.load load are.target loaded) in
-    subst (λ (r : Result AppRules RuleCause). AreListsRead r p.load p.allowances.items p.sums.items p.ons.items p.always.items (length p.balances.items) never) (sym whole)
+    ∙ ap (λ b. only_if b NoApplication (with_never a n a.abends)) (is_target a.target p.load found are.target loaded) in
+    subst (λ (r : Result AppRules RuleCause). AreListsRead r p.load p.allowances.items p.sums.items p.ons.items p.always.items p.balances.items never) (sym whole)
     (never_lists a p n a.abends never are refl (h ∙ ap (first_never n) (sym are.abends)))
 
 pub never_new : (o : Option ℕ) (n : ℕ) → is_none o ≡ true → Some n ≡ first_never n o

@@ -1,5 +1,5 @@
 -- Each `load` line of a text that is a deck is a line of the deck.
-use Rattle.std.proofs.Common.{◌≡◌, ◌<◌, ◌≤◌, ℕ, suc, Bool, true, false, not, cond, List, [], ◌∷◌, ◌++◌, Option, Some, None, Result, Ok, Err, arith, refl, sym, ap, subst, ◌∙◌}
+use Rattle.std.proofs.Common.{◌≡◌, ◌<◌, ◌≤◌, ℕ, suc, Bool, true, false, not, cond, List, [], ◌∷◌, ◌++◌, Option, Some, None, Result, Ok, Err, arith, refl, sym, ap, ◌∙◌}
 use Rattle.std.specs.Prelude.{◌==◌, ◌&&◌, ◌||◌, ⊤, bytes_eq, codes, is_some, nat_lt, ok_or, IfOk}
 use Rattle.std.proofs.lemmas.Bool.{eqb-true}
 use Rattle.model_device.specs.Bytes.{lookup}

@@ -10,3 +10,4 @@ pub mod PlaceLemmas
 pub mod PublicLemmas
 pub mod ReadLemmas
 pub mod RefusalLemmas
+pub mod SumLemmas

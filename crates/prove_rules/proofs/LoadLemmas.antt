@@ -11,7 +11,7 @@ use Rattle.law_explore.specs.Rules.{begins_with, stays_inside}
 use Rattle.mc_text.specs.Reading.{next_line}
 use Rattle.mc_text.proofs.ReadingLemmas.{lines_at, lines_from}
 use Rattle.model_rules.specs.Reading.{LoadLine, load_names, load_under, loads_of}
-use Rattle.prove_events.specs.declared.rules.Load.{Load}
+use Rattle.prove_rules.specs.declared.load.Found.{Found}
 use Rattle.prove_rules.specs.Loads.{first_named, is_second, loaded, loaded_at, loaded_line, loads_in, IsLoad, IsLoadOf}
 
 abbrev pub Names : Type 0
@@ -150,17 +150,17 @@ module _ (ns : Names) (name : List ℕ) (n : ℕ) (rise : Rising 1 ns) (first : 
   loads_at [] h = absurd (cc h)
   loads_at (x ∷ d) h = ap (λ ls. lookup ls name) (loads_step ns x.0 x.1 d) ∙ there_by x.0 x.1 d (x.0 == n) (nat_lt n x.0) refl refl h (λ i. loads_at d i)
 
-found_by : (text name : List ℕ) (d : List (ℕ × DeckLine)) (n : ℕ) (load : Load) (o : Option LoadLine) → loaded_at n d ≡ o → first_named (load_names false (with_numbers 1 (lines text))) name ≡ Some n → IsLoadOf o load
-    → IsLoadOf (lookup (loads_in text d) name) load
-found_by text name d n load None e f h = absurd h
-found_by text name d n load (Some l) e f h =
+found_by : (text name : List ℕ) (d : List (ℕ × DeckLine)) (n : ℕ) (found : Found) (o : Option LoadLine) → loaded_at n d ≡ o → first_named (load_names false (with_numbers 1 (lines text))) name ≡ Some n → IsLoadOf o found
+    → IsLoadOf (lookup (loads_in text d) name) found
+found_by text name d n found None e f h = absurd h
+found_by text name d n found (Some l) e f h =
     let ns = load_names false (with_numbers 1 (lines text)) in
-    subst (λ (o : Option LoadLine). IsLoadOf o load) (sym (loads_at ns name n (names_rise false 1 (lines text)) f l d e)) h
+    subst (λ (o : Option LoadLine). IsLoadOf o found) (sym (loads_at ns name n (names_rise false 1 (lines text)) f l d e)) h
 
 -- what the line of the first number loads is what the name loads
-pub load_found : (text name : List ℕ) (d : List (ℕ × DeckLine)) (n : ℕ) (load : Load) → Some n ≡ first_named (load_names false (with_numbers 1 (lines text))) name → IsLoadOf (loaded_at n d) load
-    → IsLoadOf (lookup (loads_in text d) name) load
-load_found text name d n load e h = found_by text name d n load (loaded_at n d) refl (sym e) h
+pub load_found : (text name : List ℕ) (d : List (ℕ × DeckLine)) (n : ℕ) (found : Found) → Some n ≡ first_named (load_names false (with_numbers 1 (lines text))) name → IsLoadOf (loaded_at n d) found
+    → IsLoadOf (lookup (loads_in text d) name) found
+load_found text name d n found e h = found_by text name d n found (loaded_at n d) refl (sym e) h
 
 -- ---- a name without a line
 
@@ -267,26 +267,26 @@ pub first_none : (inside : Bool) (n : ℕ) (t name : List ℕ) (whole : Option �
 first_none inside n t name whole e g = sym (ap (λ ls. first_named (load_names inside ls) name) (no_lines n t e)) ∙ g
 
 -- what a `load` line loads
-pub load_is : (d : List (ℕ × DeckLine)) (i n : ℕ) (x : DeckLine) (l : LoadLine) (load : Load) → slice_get d i ≡ Some (n, x) → loaded x ≡ Some l → IsLoad l load → IsLoadOf (loaded_line (slice_get d i)) load
-load_is d i n x l load e h g = subst (λ (o : Option LoadLine). IsLoadOf o load) (sym (ap loaded_line e ∙ h)) g
+pub load_is : (d : List (ℕ × DeckLine)) (i n : ℕ) (x : DeckLine) (l : LoadLine) (found : Found) → slice_get d i ≡ Some (n, x) → loaded x ≡ Some l → IsLoad l found → IsLoadOf (loaded_line (slice_get d i)) found
+load_is d i n x l found e h g = subst (λ (o : Option LoadLine). IsLoadOf o found) (sym (ap loaded_line e ∙ h)) g
 
 pub no_load : (d : List (ℕ × DeckLine)) (i n : ℕ) (x : DeckLine) → slice_get d i ≡ Some (n, x) → loaded x ≡ None → loaded_line (slice_get d i) ≡ None
 no_load d i n x e h = ap loaded_line e ∙ h
 
-pub load_at_line : (o u : Option LoadLine) (load : Load) → o ≡ u → IsLoadOf u load → IsLoadOf o load
-load_at_line o u load e h = subst (λ (x : Option LoadLine). IsLoadOf x load) (sym e) h
+pub load_at_line : (o u : Option LoadLine) (found : Found) → o ≡ u → IsLoadOf u found → IsLoadOf o found
+load_at_line o u found e h = subst (λ (x : Option LoadLine). IsLoadOf x found) (sym e) h
 
 no_none : {A : Type 0} (o : Option A) → o ≡ None → is_some o ≡ true → ⊥
 no_none None e h = absurd (cc h)
 no_none (Some a) e h = absurd (cc e)
 
 -- the line of the first number, which loads
-pub loads_of_line : (text name : List ℕ) (d : List (ℕ × DeckLine)) (n : ℕ) (o : Option Load) → Some n ≡ first_named (load_names false (with_numbers 1 (lines text))) name → is_some (loaded_at n d) ≡ true
+pub loads_of_line : (text name : List ℕ) (d : List (ℕ × DeckLine)) (n : ℕ) (o : Option Found) → Some n ≡ first_named (load_names false (with_numbers 1 (lines text))) name → is_some (loaded_at n d) ≡ true
     → MatchOption o (loaded_at n d ≡ None) (IsLoadOf (loaded_at n d)) → MatchOption o (lookup (loads_in text d) name ≡ None) (IsLoadOf (lookup (loads_in text d) name))
 loads_of_line text name d n None e there h = absurd (no_none (loaded_at n d) h there)
-loads_of_line text name d n (Some load) e there h = load_found text name d n load e h
+loads_of_line text name d n (Some found) e there h = load_found text name d n found e h
 
 -- what the line at a place loads is what its number loads
-pub at_place : (n : ℕ) (d : List (ℕ × DeckLine)) (i m : ℕ) (x : DeckLine) (o : Option Load) → slice_get d i ≡ Some (m, x) → m ≡ n → loaded_at n d ≡ loaded_at n (drop i d)
+pub at_place : (n : ℕ) (d : List (ℕ × DeckLine)) (i m : ℕ) (x : DeckLine) (o : Option Found) → slice_get d i ≡ Some (m, x) → m ≡ n → loaded_at n d ≡ loaded_at n (drop i d)
     → MatchOption o (loaded_line (slice_get d i) ≡ None) (IsLoadOf (loaded_line (slice_get d i))) → MatchOption o (loaded_at n d ≡ None) (IsLoadOf (loaded_at n d))
 at_place n d i m x o e f h g = subst (λ (l : Option LoadLine). MatchOption o (l ≡ None) (IsLoadOf l)) (sym (line_here n d i m x e f h)) g

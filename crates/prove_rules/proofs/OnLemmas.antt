@@ -14,10 +14,11 @@ use Rattle.model_rules.specs.Reading.{AmountForm, AmountRead, Deck, EventWord, N
 use Rattle.prove_events.specs.declared.rules.Effect.{Effect}
 use Rattle.prove_events.specs.declared.rules.Event.{Event}
 use Rattle.prove_events.specs.declared.rules.Event.TheVariants as event
-use Rattle.prove_events.specs.declared.rules.Load.{Load}
+use Rattle.prove_events.specs.declared.rules.Amount.{Amount}
 use Rattle.prove_events.specs.declared.rules.Named.{Named}
 use Rattle.prove_events.specs.declared.rules.On.{On}
 use Rattle.prove_events.specs.Rules.{allowance_of, deed_of, name_of, IsCreated, IsTrigger}
+use Rattle.prove_rules.specs.declared.load.Found.{Found}
 use Rattle.prove_rules.specs.declared.on.Head.{Head}
 use Rattle.prove_rules.specs.declared.partial.Partial.{Partial}
 use Rattle.prove_rules.specs.declared.parts.Deeds.{Deeds}
@@ -35,6 +36,7 @@ use Rattle.prove_rules.specs.Refused.{cause_value, Faulty}
 use Rattle.prove_rules.proofs.FieldLemmas.{zero_of}
 use Rattle.prove_rules.proofs.PlaceLemmas.{lines_allowance, lines_sum, place_get, place_none, place_some}
 use Rattle.prove_rules.proofs.RefusalLemmas.{deck_faulty, same_faulty, then_faulty}
+use Rattle.prove_rules.proofs.SumLemmas.{sum_lines_more, sum_lines_still}
 
 none_some : {A : Type 0} (o : Option A) → is_none o ≡ true → is_some o ≡ false
 none_some None e = refl
@@ -203,14 +205,16 @@ answer_refused a n fs e h =
 -- ---- lines
 
 -- the application that the lines above name
-pub target_is : (o : Option Target) (l : Option Load) (load : Load) → IsTarget o l → l ≡ Some load → (g : Target) × (o ≡ Some g) × IsCreated g.app load
-target_is None None load h e = absurd (cc e)
-target_is None (Some l) load h e = absurd h
-target_is (Some g) None load h e = absurd (cc e)
-target_is (Some g) (Some l) load h e = let same : l ≡ load = cc e in (g, refl, subst (IsCreated g.app) same h)
+pub target_is : (o : Option Target) (l : Option Found) (found : Found) → IsTarget o l → l ≡ Some found → (g : Target) × (o ≡ Some g) × IsCreated g.app found.load × (g.name ≡ found.aid)
+target_is None None found h e = absurd (cc e)
+target_is None (Some l) found h e = absurd h
+target_is (Some g) None found h e = absurd (cc e)
+target_is (Some g) (Some l) found h e =
+    let same : l ≡ found = cc e in
+    (g, refl, subst (λ (f : Found). IsCreated g.app f.load) same h.0, subst (λ (f : Found). g.name ≡ f.aid) same h.1)
 
-pub is_target : (o : Option Target) (l : Option Load) (load : Load) → IsTarget o l → l ≡ Some load → is_some o ≡ true
-is_target o l load h e = let t = target_is o l load h e in ap is_some t.1
+pub is_target : (o : Option Target) (l : Option Found) (found : Found) → IsTarget o l → l ≡ Some found → is_some o ≡ true
+is_target o l found h e = let t = target_is o l found h e in ap is_some t.1
 
 trigger_is : (t : Trigger) (on : On) → IsTriggerOf t on.event on.pattern.items on.result.items → IsTrigger t on
 trigger_is (AtTurn p) on h = h
@@ -236,7 +240,7 @@ pub allowance_read : (a : AppRules) (p : Partial) (n : ℕ) (t : Trigger) (act :
 allowance_read a p n t act fs effect place are h =
     let held : is_some (lookup a.allowances h.name) ≡ true = ap (λ l. is_some (lookup l h.name)) are.allowances ∙ place_some (map allowance_of p.allowances.items) h.name place h.place in
     ap (λ r. of_deck r >>= λ x. with_on a n t act x.0 x.1) h.named
-    ∙ ap (on_by a n t act (h.name, h.amount)) (is_target a.target p.load h.load are.target h.loaded)
+    ∙ ap (on_by a n t act (h.name, h.amount)) (is_target a.target p.load h.found are.target h.loaded)
     ∙ ap (on_in a n t act (h.name, h.amount)) held
 
 -- a line about a sum
@@ -285,18 +289,18 @@ line_is a n pattern adds fs name read h =
 held_sum : (a : AppRules) (p : Partial) (name : List ℕ) (place : ℕ) → ArePart a p → place_of (map allowance_of p.sums.items) name ≡ Some place → is_some (lookup a.sums name) ≡ true
 held_sum a p name place are h = ap (λ l. is_some (lookup l name)) are.sums ∙ place_some (map allowance_of p.sums.items) name place h
 
-pub sum_read : (a : AppRules) (p : Partial) (n : ℕ) (pattern : List ℕ) (adds : Bool) (fs : List (List ℕ)) (effect : Effect) (place : ℕ) → ArePart a p → (h : IsSumEffect p fs effect place)
+pub sum_read : (a : AppRules) (p : Partial) (n : ℕ) (pattern : List ℕ) (adds : Bool) (fs : List (List ℕ)) (effect : Effect) (place : ℕ) → ArePart a p → (h : IsSumEffect p fs adds effect place)
     → with_deed a n (AtTurn pattern) (OnSum adds) fs ≡ Ok (record a { moves = a.moves ++ sum_line n pattern adds h.name (amount_value h.value) ∷ [] })
 sum_read a p n pattern adds fs effect place are h =
     line_is a n pattern adds fs h.name h.read (record { text = h.text; form = h.form; parts = h.parts; formed = h.formed; named = h.named; reads = h.reads })
-    ∙ ap (sum_by a n pattern adds h.name (amount_of_read h.read)) (is_target a.target p.load h.load are.target h.loaded)
+    ∙ ap (sum_by a n pattern adds h.name (amount_of_read h.read)) (is_target a.target p.load h.found are.target h.loaded)
     ∙ ap (sum_in a n pattern adds h.name (amount_of_read h.read)) (held_sum a p h.name place are h.place)
     ∙ ap (λ m. sum_in a n pattern adds h.name m true) h.is
 
 -- ---- refused effects
 
 -- no application is named
-pub no_target : (o : Option Target) (l : Option Load) → IsTarget o l → l ≡ None → is_some o ≡ false
+pub no_target : (o : Option Target) (l : Option Found) → IsTarget o l → l ≡ None → is_some o ≡ false
 no_target None l h e = refl
 no_target (Some g) None h e = absurd h
 no_target (Some g) (Some l) h e = absurd (cc e)
@@ -314,11 +318,11 @@ pub no_application : (a : AppRules) (p : Partial) (n : ℕ) (t : Trigger) (act :
 no_application a p n t act fs name k are h l =
     ap (λ r. of_deck r >>= λ x. with_on a n t act x.0 x.1) h ∙ ap (on_by a n t act (name, k)) (no_target a.target p.load are.target l)
 
-pub no_allowance : (a : AppRules) (p : Partial) (n : ℕ) (t : Trigger) (act : rules.Action) (fs : List (List ℕ)) (name : List ℕ) (k : ℕ) (load : Load) → ArePart a p → name_and_amount fs ≡ Ok (name, k) → p.load ≡ Some load
+pub no_allowance : (a : AppRules) (p : Partial) (n : ℕ) (t : Trigger) (act : rules.Action) (fs : List (List ℕ)) (name : List ℕ) (k : ℕ) (found : Found) → ArePart a p → name_and_amount fs ≡ Ok (name, k) → p.load ≡ Some found
     → None ≡ place_of (map allowance_of p.allowances.items) name → with_deed a n t (OnAllowance act) fs ≡ Err (Deck UnknownName)
-no_allowance a p n t act fs name k load are h l none =
+no_allowance a p n t act fs name k found are h l none =
     ap (λ r. of_deck r >>= λ x. with_on a n t act x.0 x.1) h
-    ∙ ap (on_by a n t act (name, k)) (is_target a.target p.load load are.target l)
+    ∙ ap (on_by a n t act (name, k)) (is_target a.target p.load found are.target l)
     ∙ ap (on_in a n t act (name, k)) (not_held a.allowances p.allowances.items name are.allowances none)
 
 -- a line about a sum is refused for its fields, its form, its name or its numbers
@@ -346,20 +350,20 @@ pub sum_unnamed : (a : AppRules) (p : Partial) (n : ℕ) (pattern : List ℕ) (a
 sum_unnamed a p n pattern adds fs name read are h l =
     line_is a n pattern adds fs name read h ∙ ap (sum_by a n pattern adds name (amount_of_read read)) (no_target a.target p.load are.target l)
 
-with_target : (a : AppRules) (p : Partial) (n : ℕ) (pattern : List ℕ) (adds : Bool) (fs : List (List ℕ)) (name : List ℕ) (read : AmountRead) (load : Load) → ArePart a p → IsSumLine fs name read → p.load ≡ Some load
+with_target : (a : AppRules) (p : Partial) (n : ℕ) (pattern : List ℕ) (adds : Bool) (fs : List (List ℕ)) (name : List ℕ) (read : AmountRead) (found : Found) → ArePart a p → IsSumLine fs name read → p.load ≡ Some found
     → with_deed a n (AtTurn pattern) (OnSum adds) fs ≡ sum_in a n pattern adds name (amount_of_read read) (is_some (lookup a.sums name))
-with_target a p n pattern adds fs name read load are h l =
-    line_is a n pattern adds fs name read h ∙ ap (sum_by a n pattern adds name (amount_of_read read)) (is_target a.target p.load load are.target l)
+with_target a p n pattern adds fs name read found are h l =
+    line_is a n pattern adds fs name read h ∙ ap (sum_by a n pattern adds name (amount_of_read read)) (is_target a.target p.load found are.target l)
 
-pub no_sum : (a : AppRules) (p : Partial) (n : ℕ) (pattern : List ℕ) (adds : Bool) (fs : List (List ℕ)) (name : List ℕ) (read : AmountRead) (load : Load) → ArePart a p → IsSumLine fs name read → p.load ≡ Some load
+pub no_sum : (a : AppRules) (p : Partial) (n : ℕ) (pattern : List ℕ) (adds : Bool) (fs : List (List ℕ)) (name : List ℕ) (read : AmountRead) (found : Found) → ArePart a p → IsSumLine fs name read → p.load ≡ Some found
     → None ≡ place_of (map allowance_of p.sums.items) name → with_deed a n (AtTurn pattern) (OnSum adds) fs ≡ Err (Deck UnknownName)
-no_sum a p n pattern adds fs name read load are h l none =
-    with_target a p n pattern adds fs name read load are h l ∙ ap (sum_in a n pattern adds name (amount_of_read read)) (not_held a.sums p.sums.items name are.sums none)
+no_sum a p n pattern adds fs name read found are h l none =
+    with_target a p n pattern adds fs name read found are h l ∙ ap (sum_in a n pattern adds name (amount_of_read read)) (not_held a.sums p.sums.items name are.sums none)
 
-pub amount_refused : (a : AppRules) (p : Partial) (n : ℕ) (pattern : List ℕ) (adds : Bool) (fs : List (List ℕ)) (name : List ℕ) (read : AmountRead) (load : Load) (place : ℕ) (c : DeckCause) → ArePart a p → IsSumLine fs name read
-    → p.load ≡ Some load → place_of (map allowance_of p.sums.items) name ≡ Some place → amount_of_read read ≡ Err (Deck c) → with_deed a n (AtTurn pattern) (OnSum adds) fs ≡ Err (Deck c)
-amount_refused a p n pattern adds fs name read load place c are h l held r =
-    with_target a p n pattern adds fs name read load are h l
+pub amount_refused : (a : AppRules) (p : Partial) (n : ℕ) (pattern : List ℕ) (adds : Bool) (fs : List (List ℕ)) (name : List ℕ) (read : AmountRead) (found : Found) (place : ℕ) (c : DeckCause) → ArePart a p → IsSumLine fs name read
+    → p.load ≡ Some found → place_of (map allowance_of p.sums.items) name ≡ Some place → amount_of_read read ≡ Err (Deck c) → with_deed a n (AtTurn pattern) (OnSum adds) fs ≡ Err (Deck c)
+amount_refused a p n pattern adds fs name read found place c are h l held r =
+    with_target a p n pattern adds fs name read found are h l
     ∙ ap (sum_in a n pattern adds name (amount_of_read read)) (held_sum a p name place are held)
     ∙ ap (λ m. sum_in a n pattern adds name m true) r
 
@@ -396,24 +400,30 @@ sum_line_of fs field name text form r e h i same k =
 
 -- a line that was read, by what it does
 read_by : (a : AppRules) (p : Partial) (n : ℕ) (t : Trigger) (fs : List (List ℕ)) (d : Deeds) (on : On) → ArePart a p → n ≡ on.line → IsTriggerOf t on.event on.pattern.items on.result.items
-    → IsTimely t d → IsEffect p fs d on.effect on.name → IsOnRead (map name_of p.allowances.items) a (with_deed a n t (deeds_value d) fs) on
+    → IsTimely t d → IsEffect p fs d on.effect on.name → IsOnRead (map name_of p.allowances.items) (map name_of p.sums.items) a (with_deed a n t (deeds_value d) fs) on
 read_by a p n t fs (deeds.OnAllowance act) on are i trigger timely h =
     let l = allowance_line n t (action_value act) (h.name, h.amount) in
-    subst (λ (e : Option (rules.Action × ℕ)). MoreLines e (map name_of p.allowances.items) a (with_deed a n t (OnAllowance (action_value act)) fs) on) (sym h.deed) (
+    subst (λ (e : Option (rules.Action × ℕ)). MoreLines e (map name_of p.allowances.items) (map name_of p.sums.items) a (with_deed a n t (OnAllowance (action_value act)) fs) on) (sym h.deed) (
       l,
       allowance_read a p n t (action_value act) fs on.effect on.name are h,
       record { number = i; trigger = trigger_is t on trigger; action = refl; amount = refl; name = place_get p.allowances.items h.name on.name h.place },
     )
 read_by a p n t fs (deeds.OnSum adds) on are i trigger timely h =
-    subst (λ (e : Option (rules.Action × ℕ)). MoreLines e (map name_of p.allowances.items) a (with_deed a n t (OnSum adds) fs) on) (sym h.deed) (
-      sum_line n timely.0 adds h.name (amount_value h.value),
+    let turn = subst (λ (u : Trigger). IsTriggerOf u on.event on.pattern.items on.result.items) timely.1 trigger in
+    let l = sum_line n timely.0 adds h.name (amount_value h.value) in
+    let move : Bool × Amount = (adds, h.value) in
+    subst (λ (e : Option (rules.Action × ℕ)). MoreLines e (map name_of p.allowances.items) (map name_of p.sums.items) a (with_deed a n t (OnSum adds) fs) on) (sym h.deed) (
+      l,
+      move,
       ap (λ u. with_deed a n u (OnSum adds) fs) timely.1 ∙ sum_read a p n timely.0 adds fs on.effect on.name are h,
+      h.move,
+      record { number = i; turn = turn.0; pattern = turn.1; adds = refl; amount = refl; name = place_get p.sums.items h.name on.name h.place },
     )
 
 -- an `on` line that was read
 pub on_read : (a : AppRules) (p : Partial) (n : ℕ) (e : Event) (all fs : List (List ℕ)) (word : List ℕ) (h : Head) (on : On) → ArePart a p → all ≡ word ∷ fs → Some (event_value e) ≡ lookup event_words word
     → IsHead e fs h → on.event ≡ e → on.pattern ≡ h.pattern → on.result ≡ h.result → on.line ≡ n → IsEffect p (fields h.after.now) h.deeds on.effect on.name
-    → IsOnRead (map name_of p.allowances.items) a (on_line a n all) on
+    → IsOnRead (map name_of p.allowances.items) (map name_of p.sums.items) a (on_line a n all) on
 on_read a p n e all fs word h on are parts named head ev pattern result line effect =
     let trigger : IsTriggerOf head.trigger on.event on.pattern.items on.result.items =
     subst (λ (x : Event). IsTriggerOf head.trigger x on.pattern.items on.result.items) (sym ev) (
@@ -421,7 +431,7 @@ on_read a p n e all fs word h on are parts named head ev pattern result line eff
     subst (λ (x : List ℕ). IsTriggerOf head.trigger e h.pattern.items x) (ap (λ v. v.items) (sym result)) head.is)) in
     let whole : on_line a n all ≡ with_deed a n head.trigger (deeds_value h.deeds) (fields h.after.now) =
     ap (on_line a n) parts ∙ ap (λ o. ok_or o (Deck BadLine) >>= λ w. with_event_line a n w fs) (sym named) ∙ head.leads a n in
-    subst (λ (r : Result AppRules RuleCause). IsOnRead (map name_of p.allowances.items) a r on) (sym whole)
+    subst (λ (r : Result AppRules RuleCause). IsOnRead (map name_of p.allowances.items) (map name_of p.sums.items) a r on) (sym whole)
     (read_by a p n head.trigger (fields h.after.now) h.deeds on are (sym line) trigger head.timely effect)
 
 -- ---- refused lines
@@ -450,33 +460,35 @@ effect_refused a n all fs word ev h e parts named head f =
 
 -- ---- one more line
 
-added_by : (a : AppRules) (p : Partial) (r : Result AppRules RuleCause) (on : On) (d : Option (rules.Action × ℕ)) → ArePart a p → deed_of on.effect ≡ d → MoreLines d (map name_of p.allowances.items) a r on
-    → AreListsRead r p.load p.allowances.items p.sums.items (p.ons.items ++ on ∷ []) p.always.items (length p.balances.items) p.never
+added_by : (a : AppRules) (p : Partial) (r : Result AppRules RuleCause) (on : On) (d : Option (rules.Action × ℕ)) → ArePart a p → deed_of on.effect ≡ d → MoreLines d (map name_of p.allowances.items) (map name_of p.sums.items) a r on
+    → AreListsRead r p.load p.allowances.items p.sums.items (p.ons.items ++ on ∷ []) p.always.items p.balances.items p.never
 added_by a p r on None are e h =
-    subst (λ (x : Result AppRules RuleCause). AreListsRead x p.load p.allowances.items p.sums.items (p.ons.items ++ on ∷ []) p.always.items (length p.balances.items) p.never) (sym h.1) (record {
+    subst (λ (x : Result AppRules RuleCause). AreListsRead x p.load p.allowances.items p.sums.items (p.ons.items ++ on ∷ []) p.always.items p.balances.items p.never) (sym h.2) (record {
       target = are.target;
       allowances = are.allowances;
       distinct = are.distinct;
       sums = are.sums;
       ons = lines_sum (map name_of p.allowances.items) on a.ons p.ons.items e are.ons;
       ranges = are.ranges;
+      moves = sum_lines_more (map name_of p.sums.items) on a.moves p.ons.items h.0 h.1 h.3 h.4 are.moves;
       totals = are.totals;
       abends = are.abends;
     })
 added_by a p r on (Some deed) are e h =
-    subst (λ (x : Result AppRules RuleCause). AreListsRead x p.load p.allowances.items p.sums.items (p.ons.items ++ on ∷ []) p.always.items (length p.balances.items) p.never) (sym h.1) (record {
+    subst (λ (x : Result AppRules RuleCause). AreListsRead x p.load p.allowances.items p.sums.items (p.ons.items ++ on ∷ []) p.always.items p.balances.items p.never) (sym h.1) (record {
       target = are.target;
       allowances = are.allowances;
       distinct = are.distinct;
       sums = are.sums;
       ons = lines_allowance (map name_of p.allowances.items) on a.ons p.ons.items h.0 deed e h.2 are.ons;
       ranges = are.ranges;
+      moves = sum_lines_still (map name_of p.sums.items) on a.moves p.ons.items deed e are.moves;
       totals = are.totals;
       abends = are.abends;
     })
 
 -- the rules with one more `on` line
-pub on_added : (a : AppRules) (p : Partial) (r : Result AppRules RuleCause) (on : On) (more : List On) → ArePart a p → IsOnRead (map name_of p.allowances.items) a r on → more ≡ p.ons.items ++ on ∷ []
-    → AreListsRead r p.load p.allowances.items p.sums.items more p.always.items (length p.balances.items) p.never
+pub on_added : (a : AppRules) (p : Partial) (r : Result AppRules RuleCause) (on : On) (more : List On) → ArePart a p → IsOnRead (map name_of p.allowances.items) (map name_of p.sums.items) a r on → more ≡ p.ons.items ++ on ∷ []
+    → AreListsRead r p.load p.allowances.items p.sums.items more p.always.items p.balances.items p.never
 on_added a p r on more are h m =
-    subst (λ (x : List On). AreListsRead r p.load p.allowances.items p.sums.items x p.always.items (length p.balances.items) p.never) (sym m) (added_by a p r on (deed_of on.effect) are refl h)
+    subst (λ (x : List On). AreListsRead r p.load p.allowances.items p.sums.items x p.always.items p.balances.items p.never) (sym m) (added_by a p r on (deed_of on.effect) are refl h)

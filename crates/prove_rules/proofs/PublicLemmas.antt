@@ -3,7 +3,6 @@ use Rattle.std.proofs.Common.{◌≡◌, ◌+◌, ◌-◌, ◌<◌, ◌≤◌, �
 use Rattle.std.specs.Prelude.{◌&&◌, ◌||◌, nat_le, nat_lt, ℤ, pos, bytes_eq, codes, option_map, ok_or}
 use Rattle.model_text.specs.Text.{◌>>=◌, begins, decimal_number, ok_as}
 use Rattle.model_text.specs.Assembly.{minus, natural, signed_number}
-use Rattle.model_play.specs.declared.deck.DeckCause.{DeckCause}
 use Rattle.model_play.specs.declared.deck.DeckCause.TheVariants.{BadLine, BadNumber, OutOfRange}
 use Rattle.mc_text.specs.Reading.{capped_number}
 use Rattle.model_rules.specs.Rules as rules
@@ -12,7 +11,7 @@ use Rattle.model_rules.specs.Reading.{Deck, OfBytes, RuleCause, amount_read, end
 use Rattle.prove_events.specs.declared.rules.Amount.TheVariants as amount
 use Rattle.prove_rules.specs.Fields.{amount_value, IsAmountRead, IsNumber, IsPlace}
 use Rattle.prove_rules.specs.declared.public.AmountRead.TheVariants as read
-use Rattle.prove_rules.proofs.FieldLemmas.{capped_high, capped_same}
+use Rattle.prove_rules.proofs.FieldLemmas.{capped_same}
 
 -- ---- places
 

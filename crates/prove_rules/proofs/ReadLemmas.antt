@@ -9,11 +9,11 @@ use Rattle.law_explore.specs.Rules.{is_marked, line_if, marked_lines, stays_insi
 use Rattle.model_rules.specs.Rules.{no_app_rules, AppRules, Target}
 use Rattle.model_rules.specs.Reading.{AppWord, Deck, LoadLine, NoApplication, MoveLine, OnWord, AlwaysLine, RuleCause, always_line, app_line, app_rule, app_rules_from, app_rules_read, app_words, on_line, with_some_app}
 use Rattle.mc_text.specs.Reading.{next_line}
-use Rattle.prove_events.specs.declared.rules.Load.{Load}
 use Rattle.prove_events.specs.declared.rules.Rules.{Rules}
 use Rattle.prove_events.specs.declared.rules.Named.{Named}
+use Rattle.prove_events.specs.declared.rules.Balance.{Balance}
 use Rattle.prove_events.specs.declared.rules.On.{On}
-use Rattle.prove_events.specs.Rules.{allowance_of, name_of, range_of, AreDistinct, AreLines, AreRules, IsCreated}
+use Rattle.prove_events.specs.Rules.{allowance_of, name_of, range_of, AreDistinct, AreLines, AreRules}
 use Rattle.prove_rules.specs.declared.fault.Fault.{Fault}
 use Rattle.prove_rules.specs.declared.fault.Fault.TheVariants as fault
 use Rattle.prove_rules.specs.declared.fault.RuleCause.TheVariants as cause
@@ -25,7 +25,9 @@ use Rattle.prove_rules.specs.Loads.{loads_in}
 use Rattle.prove_rules.specs.Partials.{ArePart, ArePartRead, IsFinished}
 use Rattle.prove_rules.proofs.LoadLemmas.{no_lines, numbered}
 use Rattle.prove_rules.specs.Refused.{refusal_at, Faulty, RefusesRules}
+use Rattle.prove_rules.specs.Sums.{AreSumLines, AreSums, AreTotals}
 use Rattle.prove_rules.proofs.OnLemmas.{no_target, target_is}
+use Rattle.prove_rules.proofs.SumLemmas.{totals_count}
 
 abbrev pub Loads : Type 0
 Loads = List (List ℕ × LoadLine)
@@ -179,32 +181,42 @@ unfolding app_rules_read
 whole_is t d a e h s =
     ap (λ x. err_as (λ e. (e.0, Deck e.1)) x >>= λ ls. lines_read t ls >>= with_some_app) e ∙ ap (λ x. x >>= with_some_app) h ∙ ap (λ b. only_if b (0, NoApplication) a) s
 
-read_by : (t : List ℕ) (d : List (ℕ × DeckLine)) (p : Partial) (load : Load) (r : Rules) (x : Result AppRules (ℕ × RuleCause)) → deck_read t ≡ Ok d → lines_read t d ≡ x → ArePartRead x p → p.load ≡ Some load
-    → r.load ≡ load → r.allowances.items ≡ p.allowances.items → r.ons.items ≡ p.ons.items → r.always.items ≡ p.always.items → length r.balances.items ≡ length p.balances.items → r.never ≡ p.never
-    → (a : AppRules) × (g : Target) × (app_rules_read t ≡ Ok a) × AreRules a g r
-read_by t d p load r (Err e) deck lines h i f1 f2 f3 f4 f5 f6 = absurd h
-read_by t d p load r (Ok a) deck lines h i f1 f2 f3 f4 f5 f6 =
-    let target = target_is a.target p.load load h.target i in (
+-- the rules of a text with the name of their application, as the code has them
+abbrev pub AreRead : List ℕ → Rules → List ℕ → Type 0
+AreRead t r aid = (a : AppRules) × (g : Target) × (app_rules_read t ≡ Ok a) × AreRules a g r × AreSums a r × (g.name ≡ aid)
+
+read_by : (t : List ℕ) (d : List (ℕ × DeckLine)) (p : Partial) (aid : List ℕ) (r : Rules) (x : Result AppRules (ℕ × RuleCause)) → deck_read t ≡ Ok d → lines_read t d ≡ x → ArePartRead x p → p.load ≡ Some (record { aid = aid; load = r.load })
+    → r.allowances.items ≡ p.allowances.items → r.sums.items ≡ p.sums.items → r.ons.items ≡ p.ons.items → r.always.items ≡ p.always.items → r.balances.items ≡ p.balances.items → r.never ≡ p.never
+    → AreRead t r aid
+read_by t d p aid r (Err e) deck lines h i f2 f7 f3 f4 f5 f6 = absurd h
+read_by t d p aid r (Ok a) deck lines h i f2 f7 f3 f4 f5 f6 =
+    let target = target_is a.target p.load (record { aid = aid; load = r.load }) h.target i in (
       a,
       target.0,
       whole_is t d a deck lines (ap is_some target.1),
       record {
         target = target.1;
-        created = subst (IsCreated target.0.app) (sym f1) target.2;
+        created = target.2;
         allowances = h.allowances ∙ ap (map allowance_of) (sym f2);
         distinct = subst (λ (ns : List Named). AreDistinct (map name_of ns)) (sym f2) h.distinct;
         ons = subst (λ (ns : List Named). AreLines (map name_of ns) a.ons r.ons.items) (sym f2) (subst (λ (os : List On). AreLines (map name_of p.allowances.items) a.ons os) (sym f3) h.ons);
         abends = h.abends ∙ sym f6;
         ranges = h.ranges ∙ ap (map range_of) (sym f4);
-        totals = (let k = h.totals in let n = r.balances.ok.0 in omega (arith, k, n, f5));
+        totals = (let k = totals_count (map name_of p.sums.items) a.totals p.balances.items h.totals in let m = ap length f5 in let n = r.balances.ok.0 in omega (arith, k, n, m));
       },
+      record {
+        sums = h.sums ∙ ap (map allowance_of) (sym f7);
+        lines = subst (λ (ns : List Named). AreSumLines (map name_of ns) a.moves r.ons.items) (sym f7) (subst (λ (os : List On). AreSumLines (map name_of p.sums.items) a.moves os) (sym f3) h.moves);
+        totals = subst (λ (ns : List Named). AreTotals (map name_of ns) a.totals r.balances.items) (sym f7) (subst (λ (bs : List Balance). AreTotals (map name_of p.sums.items) a.totals bs) (sym f5) h.totals);
+      },
+      target.3,
     )
 
 -- the rules of a deck's text
-pub rules_finished : (t : List ℕ) (d : List (ℕ × DeckLine)) (p : Partial) (x : Result Rules RuleRefusal) → deck_read t ≡ Ok d → ArePartRead (lines_read t d) p → IfOk x (IsFinished p)
-    → IfOk x (λ r. (a : AppRules) × (g : Target) × (app_rules_read t ≡ Ok a) × AreRules a g r)
-rules_finished t d p (Ok r) deck h f =
-    read_by t d p r.load r (lines_read t d) deck refl h f.load refl (ap (λ v. v.items) f.allowances) (ap (λ v. v.items) f.ons) (ap (λ v. v.items) f.always) (ap (λ v. length v.items) f.balances) f.never
+pub rules_finished : (t : List ℕ) (d : List (ℕ × DeckLine)) (p : Partial) (x : Result (Rules × List ℕ) RuleRefusal) → deck_read t ≡ Ok d → ArePartRead (lines_read t d) p → IfOk x (λ y. IsFinished p y.0 y.1)
+    → IfOk x (λ y. AreRead t y.0 y.1)
+rules_finished t d p (Ok (r, aid)) deck h f =
+    read_by t d p aid r (lines_read t d) deck refl h f.load (ap (λ v. v.items) f.allowances) (ap (λ v. v.items) f.sums) (ap (λ v. v.items) f.ons) (ap (λ v. v.items) f.always) (ap (λ v. v.items) f.balances) f.never
 rules_finished t d p (Err e) deck h f = tt
 
 -- ---- refused decks
@@ -229,7 +241,7 @@ unnamed_by (Ok a) p h l = ap (λ b. only_if b (0, NoApplication) a) (no_target a
 pub none_named : (t : List ℕ) (d : List (ℕ × DeckLine)) (p : Partial) (e : RuleRefusal) → deck_read t ≡ Ok d → ArePartRead (lines_read t d) p → p.load ≡ None → e ≡ refusal.At 0 cause.NoApplication → RefusesRules (app_rules_read t) e
 none_named t d p e deck h l i = subst (RefusesRules (app_rules_read t)) (sym i) (from_lines t d deck ∙ unnamed_by (lines_read t d) p h l)
 
-pub unfinished : (t : List ℕ) (d : List (ℕ × DeckLine)) (p : Partial) (x : Result Rules RuleRefusal) → deck_read t ≡ Ok d → ArePartRead (lines_read t d) p → IfErr x (λ e. (e ≡ refusal.At 0 cause.NoApplication) × (p.load ≡ None))
+pub unfinished : (t : List ℕ) (d : List (ℕ × DeckLine)) (p : Partial) (x : Result (Rules × List ℕ) RuleRefusal) → deck_read t ≡ Ok d → ArePartRead (lines_read t d) p → IfErr x (λ e. (e ≡ refusal.At 0 cause.NoApplication) × (p.load ≡ None))
     → IfErr x (RefusesRules (app_rules_read t))
 unfinished t d p (Ok r) deck h f = tt
 unfinished t d p (Err e) deck h f = none_named t d p e deck h f.1 f.0

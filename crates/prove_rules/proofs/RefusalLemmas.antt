@@ -1,7 +1,6 @@
 -- Refusals of steps are those of what follows them.
-use Rattle.std.proofs.Common.{◌≡◌, ℕ, Bool, true, false, List, [], ◌∷◌, Option, Some, None, Result, Ok, Err, refl, sym, ap, subst, ◌∙◌}
-use Rattle.std.specs.Prelude.{IfErr}
-use Rattle.model_text.specs.Text.{◌>>=◌, ok_as, only_if}
+use Rattle.std.proofs.Common.{◌≡◌, Result, Err, sym, ap, subst, ◌∙◌}
+use Rattle.model_text.specs.Text.{◌>>=◌}
 use Rattle.model_play.specs.declared.deck.DeckCause.{DeckCause}
 use Rattle.model_rules.specs.Reading as reading
 use Rattle.model_rules.specs.Reading.{of_deck}

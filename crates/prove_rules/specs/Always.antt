@@ -1,18 +1,20 @@
 -- `always` lines as the code reads them.
-use Rattle.std.specs.Prelude.{◌≡◌, ◌<◌, ◌≤◌, ℕ, Bool, not, List, [], ◌∷◌, map, Some, Ok, true, false, ⊤}
+use Rattle.std.specs.Prelude.{◌≡◌, ◌<◌, ◌≤◌, ◌-◌, ℕ, suc, Bool, not, List, [], ◌∷◌, map, Some, Ok, true, false, ⊤}
 use Rattle.model_play.specs.DeckGrammar.{number_field}
 use Rattle.model_play.specs.declared.deck.DeckCause.TheVariants.{UnknownName}
 use Rattle.model_text.specs.Assembly.{natural}
 use Rattle.model_rules.specs.Reading.{are_names, are_sums, ends_of, terms_of}
 use Rattle.prove_events.specs.declared.rules.Always.{Always}
-use Rattle.prove_events.specs.declared.rules.Load.{Load}
-use Rattle.prove_events.specs.Rules.{allowance_of}
+use Rattle.prove_events.specs.declared.rules.Balance.{Balance}
+use Rattle.prove_events.specs.Rules.{allowance_of, name_of}
 use Rattle.prove_rules.specs.declared.always.SignedName.{SignedName}
 use Rattle.prove_rules.specs.declared.always.TotalForm.{TotalForm}
 use Rattle.prove_rules.specs.declared.fault.Fault.{Fault}
 use Rattle.prove_rules.specs.declared.fault.Fault.TheVariants as fault
 use Rattle.prove_rules.specs.declared.fault.RuleCause.TheVariants as cause
+use Rattle.prove_rules.specs.declared.load.Found.{Found}
 use Rattle.prove_rules.specs.declared.partial.Partial.{Partial}
+use Rattle.prove_rules.specs.Sums.{AreTerms}
 
 -- a term of a total: whether it is added, and its name
 abbrev pub term_of : SignedName → Bool × List ℕ
@@ -28,9 +30,9 @@ pub record IsRangeRead (p : Partial) (at : List ℕ) (fs : List (List ℕ)) (w :
   pub highest : natural high ≡ Some w.high
   pub order : w.low ≤ w.high
   pub byte : w.high ≤ 255
-  pub load : Load
-  pub loaded : p.load ≡ Some load
-  pub within : w.at < load.fixed
+  pub found : Found
+  pub loaded : p.load ≡ Some found
+  pub within : w.at < found.load.fixed
 
 -- a name of the terms is no sum, or there was no memory for the sums
 abbrev pub AreNoSums : Bool → Fault → Type 0
@@ -45,7 +47,7 @@ pub record IsTotalForm (range : List ℕ) (fs : List (List ℕ)) (f : TotalForm)
   pub terms : terms_of rest ≡ Ok (map term_of f.names.items)
 
 -- a total, of its fields
-pub record IsTotalRead (p : Partial) (f : TotalForm) : Type 0 where
+pub record IsTotalRead (p : Partial) (f : TotalForm) (b : Balance) : Type 0 where
   pub first : ℕ
   pub last : ℕ
   pub starts : natural f.from.now ≡ Some first
@@ -55,6 +57,10 @@ pub record IsTotalRead (p : Partial) (f : TotalForm) : Type 0 where
   pub named : are_names (map term_of f.names.items) ≡ Ok (map term_of f.names.items)
   pub sums : are_sums (map allowance_of p.sums.items) (map term_of f.names.items) ≡ true
   pub order : first ≤ last
-  pub load : Load
-  pub loaded : p.load ≡ Some load
-  pub within : last < load.fixed
+  pub found : Found
+  pub loaded : p.load ≡ Some found
+  pub within : last < found.load.fixed
+  pub at : first ≡ b.at
+  pub size : suc last - first ≡ b.n
+  pub value : k ≡ b.constant
+  pub bound : AreTerms (map name_of p.sums.items) (map term_of f.names.items) b.sums.items

@@ -3,7 +3,7 @@ use Rattle.std.specs.Prelude.{◌≡◌, ℕ, List, [], ◌∷◌, true, Option,
 use Rattle.model_device.specs.Bytes.{lookup}
 use Rattle.model_play.specs.DeckGrammar.{name_field}
 use Rattle.model_rules.specs.Reading.{LoadLine}
-use Rattle.prove_events.specs.declared.rules.Load.{Load}
+use Rattle.prove_rules.specs.declared.load.Found.{Found}
 use Rattle.prove_rules.specs.declared.partial.Partial.{Partial}
 use Rattle.prove_rules.specs.Loads.{is_accepted, IsLoadOf}
 
@@ -13,10 +13,10 @@ one_of (a ∷ []) = Some a
 one_of other = None
 
 -- fields are the name of an application that is loaded
-pub record IsAppRead (loads : List (List ℕ × LoadLine)) (p : Partial) (fs : List (List ℕ)) (load : Load) : Type 0 where
+pub record IsAppRead (loads : List (List ℕ × LoadLine)) (p : Partial) (fs : List (List ℕ)) (found : Found) : Type 0 where
   pub name : List ℕ
   pub parts : fs ≡ name ∷ []
   pub named : name_field name ≡ Ok name
   pub new : p.load ≡ None
-  pub is : IsLoadOf (lookup loads name) load
-  pub accepted : is_accepted load ≡ true
+  pub is : IsLoadOf (lookup loads name) found
+  pub accepted : is_accepted found.load ≡ true

@@ -8,3 +8,4 @@ pub mod Partials
 pub mod Parts
 pub mod Refused
 pub mod Rows
+pub mod Sums

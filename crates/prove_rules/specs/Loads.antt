@@ -7,6 +7,7 @@ use Rattle.model_play.specs.DeckGrammar as line
 use Rattle.model_rules.specs.Reading.{LoadLine, load_names, loads_of}
 use Rattle.mc_deck.specs.Lines.{GoodUnit}
 use Rattle.prove_events.specs.declared.rules.Load.{Load}
+use Rattle.prove_rules.specs.declared.load.Found.{Found}
 
 -- the `load` lines of a deck's text, each under the name of its unit
 abbrev pub loads_in : List ℕ → List (ℕ × DeckLine) → List (List ℕ × LoadLine)
@@ -39,19 +40,20 @@ loaded_at n [] = None
 loaded_at n (l ∷ ls) = cond (l.0 == n) (loaded l.1) (cond (nat_lt n l.0) None (loaded_at n ls))
 
 -- what the code has of a `load` line
-pub record IsLoad (l : LoadLine) (load : Load) : Type 0 where
-  pub code : l.unit.code ≡ load.code.now
+pub record IsLoad (l : LoadLine) (found : Found) : Type 0 where
+  pub aid : l.unit.aid ≡ found.aid
+  pub code : l.unit.code ≡ found.load.code.now
   pub bytes : AreBytes l.unit.code
-  pub front : l.unit.init ≡ load.data.now
+  pub front : l.unit.init ≡ found.load.data.now
   pub init : AreBytes l.unit.init
-  pub fixed : l.fixed ≡ load.fixed
-  pub session : l.session ≡ load.session
+  pub fixed : l.fixed ≡ found.load.fixed
+  pub session : l.session ≡ found.load.session
   pub good : GoodUnit l.unit
 
 -- it is that of a line, if this is a `load` line
-abbrev pub IsLoadOf : Option LoadLine → Load → Type 0
-IsLoadOf None load = ⊥
-IsLoadOf (Some l) load = IsLoad l load
+abbrev pub IsLoadOf : Option LoadLine → Found → Type 0
+IsLoadOf None found = ⊥
+IsLoadOf (Some l) found = IsLoad l found
 
 -- whether its sizes are those that a card accepts
 abbrev pub is_accepted : Load → Bool

@@ -12,9 +12,9 @@ use Rattle.prove_events.specs.declared.rules.Amount.{Amount}
 use Rattle.prove_events.specs.declared.rules.Effect.{Effect}
 use Rattle.prove_events.specs.declared.rules.Event.{Event}
 use Rattle.prove_events.specs.declared.rules.Event.TheVariants as event
-use Rattle.prove_events.specs.declared.rules.Load.{Load}
 use Rattle.prove_events.specs.declared.rules.On.{On}
 use Rattle.prove_events.specs.Rules.{allowance_of, deed_of, IsLine}
+use Rattle.prove_rules.specs.declared.load.Found.{Found}
 use Rattle.prove_rules.specs.declared.partial.Partial.{Partial}
 use Rattle.prove_rules.specs.declared.on.Head.{Head}
 use Rattle.prove_rules.specs.declared.parts.Deeds.{Deeds}
@@ -22,6 +22,7 @@ use Rattle.prove_rules.specs.declared.parts.Deeds.TheVariants as deeds
 use Rattle.prove_rules.specs.Fields.{amount_value}
 use Rattle.prove_rules.specs.Parts.{action_value, deeds_value, effect_words, event_value, HasParts}
 use Rattle.prove_rules.specs.Partials.{place_of}
+use Rattle.prove_rules.specs.Sums.{move_of, IsSumRule}
 
 -- ---- up to the word
 
@@ -69,11 +70,11 @@ pub record IsAllowanceEffect (p : Partial) (fs : List (List ℕ)) (act : rules.A
   pub named : name_and_amount fs ≡ Ok (name, amount)
   pub deed : deed_of effect ≡ Some (act, amount)
   pub place : place_of (map allowance_of p.allowances.items) name ≡ Some at
-  pub load : Load
-  pub loaded : p.load ≡ Some load
+  pub found : Found
+  pub loaded : p.load ≡ Some found
 
 -- fields are the name and the amount of an effect on a sum
-pub record IsSumEffect (p : Partial) (fs : List (List ℕ)) (effect : Effect) (at : ℕ) : Type 0 where
+pub record IsSumEffect (p : Partial) (fs : List (List ℕ)) (adds : Bool) (effect : Effect) (at : ℕ) : Type 0 where
   pub name : List ℕ
   pub text : List ℕ
   pub parts : fs ≡ name ∷ text ∷ []
@@ -85,22 +86,23 @@ pub record IsSumEffect (p : Partial) (fs : List (List ℕ)) (effect : Effect) (a
   pub value : Amount
   pub is : amount_of_read read ≡ Ok (amount_value value)
   pub deed : deed_of effect ≡ None
+  pub move : move_of effect ≡ Some (adds, value)
   pub place : place_of (map allowance_of p.sums.items) name ≡ Some at
-  pub load : Load
-  pub loaded : p.load ≡ Some load
+  pub found : Found
+  pub loaded : p.load ≡ Some found
 
 -- fields are the name and the amount of an effect
 abbrev pub IsEffect : Partial → List (List ℕ) → Deeds → Effect → ℕ → Type 0
 IsEffect p fs (deeds.OnAllowance a) effect place = IsAllowanceEffect p fs (action_value a) effect place
-IsEffect p fs (deeds.OnSum adds) effect place = IsSumEffect p fs effect place
+IsEffect p fs (deeds.OnSum adds) effect place = IsSumEffect p fs adds effect place
 
 -- ---- a line
 
 -- rules with one more line, about an allowance or about a sum
-abbrev pub MoreLines : Option (rules.Action × ℕ) → List (List ℕ) → AppRules → Result AppRules RuleCause → On → Type 0
-MoreLines None names a r on = (m : SumLine) × (r ≡ Ok (record a { moves = a.moves ++ m ∷ [] }))
-MoreLines (Some deed) names a r on = (l : OnLine) × (r ≡ Ok (record a { ons = a.ons ++ l ∷ [] })) × IsLine names deed l on
+abbrev pub MoreLines : Option (rules.Action × ℕ) → List (List ℕ) → List (List ℕ) → AppRules → Result AppRules RuleCause → On → Type 0
+MoreLines None names sums a r on = (m : SumLine) × (k : Bool × Amount) × (r ≡ Ok (record a { moves = a.moves ++ m ∷ [] })) × (move_of on.effect ≡ Some k) × IsSumRule sums k m on
+MoreLines (Some deed) names sums a r on = (l : OnLine) × (r ≡ Ok (record a { ons = a.ons ++ l ∷ [] })) × IsLine names deed l on
 
 -- rules with this `on` line
-abbrev pub IsOnRead : List (List ℕ) → AppRules → Result AppRules RuleCause → On → Type 0
-IsOnRead names a r on = MoreLines (deed_of on.effect) names a r on
+abbrev pub IsOnRead : List (List ℕ) → List (List ℕ) → AppRules → Result AppRules RuleCause → On → Type 0
+IsOnRead names sums a r on = MoreLines (deed_of on.effect) names sums a r on

@@ -1,6 +1,5 @@
 -- What is read of the rules of a deck, for rows that compute it.
 use Rattle.std.specs.Prelude.{ℕ, List, ◌++◌, codes, Result, Ok, Err}
-use Rattle.model_play.specs.DeckGrammar.{deck_read}
 use Rattle.model_rules.specs.Rules.{AppRules}
 use Rattle.model_rules.specs.Reading.{RuleCause, app_rules_read}
 use Rattle.model_rules.specs.Decks.{with_rules}

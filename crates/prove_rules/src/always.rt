@@ -5,10 +5,11 @@ ghost use Rattle.law_explore.specs.Rules.{begins_with};
 ghost use Rattle.model_rules.specs.Rules.{AppRules};
 ghost use Rattle.model_play.specs.declared.deck.DeckCause.TheVariants.{BadLine};
 ghost use Rattle.model_rules.specs.Reading.{always_line, are_names, are_sums, sign_of, static_field, terms_of, with_total, Deck};
-ghost use Rattle.prove_events.specs.Rules.{allowance_of};
+ghost use Rattle.prove_events.specs.Rules.{allowance_of, name_of};
 ghost use Rattle.prove_rules.specs.Always.{term_of, AreNoSums, IsRangeRead, IsTotalForm, IsTotalRead};
 ghost use Rattle.prove_rules.specs.Partials.{ArePart, ArePartRead};
 ghost use Rattle.prove_rules.specs.Refused.{Faulty};
+ghost use Rattle.prove_rules.specs.Sums.{AreTerms};
 
 use crate::fault::{Fault, bad_line, refused};
 use crate::field::{amount_field, assembly_number, name_field, two_fields};
@@ -79,12 +80,14 @@ fn check_names(names: &[SignedName<'_>]) -> Result<(), DeckCause>
 }
 
 // The sums that the terms name.
+#[tactic(auto, using(crate::proofs::SumLemmas::terms_start, crate::proofs::SumLemmas::terms_end))]
 fn sums_of(
     alloc: Global,
     sums: &[Named<'_>],
     names: &[SignedName<'_>],
 ) -> Result<Vec<SignedSum>, Fault>
     ensures sums { OnOk result (are_sums (map allowance_of sums.now) (map term_of names.now) ≡ true) }
+    ensures terms { IfOk result (λ list. AreTerms (map name_of sums.now) (map term_of names.now) list.items) }
     ensures refused { IfErr result (AreNoSums (are_sums (map allowance_of sums.now) (map term_of names.now))) }
 {
     let mut list = Vec::new(alloc);
@@ -131,7 +134,8 @@ fn read_total(
     line: u32,
     form: &TotalForm<'_>,
 ) -> Result<Balance, Fault>
-    ensures read { OnOk result (IsTotalRead rules.now form.now) }
+    ensures read { IfOk result (IsTotalRead rules.now form.now) }
+    ensures line { IfOk result (λ total. total.line ≡ line) }
     ensures refused { IfErr result (λ e. (a : AppRules) (n : ℕ) → ArePart a rules.now
         → Faulty (with_total a n (form.now.from.now, form.now.to.now) form.now.constant.now
         (map term_of form.now.names.items)) e) }

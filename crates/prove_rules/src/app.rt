@@ -12,7 +12,7 @@ ghost use Rattle.prove_rules.specs.Refused.{Faulty};
 use crate::fault::{Fault, bad_line, refused};
 use crate::field::{name_and_amount, name_field};
 use crate::lines::code_lines;
-use crate::load::load_of;
+use crate::load::{Found, load_of};
 use crate::partial::{Partial, named_load, place_of};
 use lab_match::first_field;
 use mc_deck::Deck;
@@ -51,7 +51,7 @@ fn read_app<'a, 't>(
     source: &Source<'a>,
     rules: &Partial<'a>,
     text: &'t [u8],
-) -> Result<(&'t [u8], Load<'a>), Fault>
+) -> Result<(&'t [u8], Found<'a>), Fault>
     requires few { length (lines source.now.text.now) ≤ 20000 }
     requires deck { deck_read source.now.text.now ≡ Ok source.now.deck.now }
     ensures read { IfOk result (λ p. IsAppRead (loads_in source.now.text.now source.now.deck.now) rules.now
@@ -66,13 +66,13 @@ fn read_app<'a, 't>(
     if rules.load.is_some() {
         return Err(refused(DeckCause::NameTwice));
     }
-    let Some(load) = load_of(source.deck, source.text, name) else {
+    let Some(found) = load_of(source.deck, source.text, name) else {
         return Err(refused(DeckCause::UnknownName));
     };
-    if !is_accepted(&load) {
+    if !is_accepted(&found.load) {
         return Err(refused(DeckCause::OutOfRange));
     }
-    Ok((name, load))
+    Ok((name, found))
 }
 
 /// Adds the application that an `app` line names, by the text after that word.
@@ -94,10 +94,14 @@ pub fn add_app<'a>(
     ensures refused { IfErr result (λ e. (a : AppRules) (n : ℕ) → ArePart a rules.old
         → Faulty (app_rule (loads_in source.now.text.now source.now.deck.now) a n AppLine (fields text.now)) e) }
 {
-    let (name, load) = read_app(source, rules, text)?;
-    rules.code_lines = code_lines(alloc, source.text, name)?;
-    rules.load = Some(load);
-    Ok(())
+    match read_app(source, rules, text) {
+        Ok((name, found)) => {
+            rules.code_lines = code_lines(alloc, source.text, name)?;
+            rules.load = Some(found);
+            Ok(())
+        }
+        Err(fault) => Err(fault),
+    }
 }
 
 // Adds an allowance or a sum.

@@ -8,9 +8,17 @@ ghost use Rattle.model_rules.specs.Reading.{load_names};
 ghost use Rattle.prove_rules.specs.Loads.{first_named, is_second, loaded_at, loaded_line, loads_in, IsLoadOf};
 
 use lab_match::{begins_with, first_field, stays_inside};
+use mc_base::Aid;
 use mc_deck::{Deck, Line};
 use mc_text::next_line;
 use prove_events::Load;
+
+/// What a line of a deck loads: the name of the application, and how it is created.
+#[derive(Clone, Copy, Debug)]
+pub struct Found<'a> {
+    pub aid: Aid,
+    pub load: Load<'a>,
+}
 
 // Whether the second field of a line is a name.
 fn is_second(line: &[u8], name: &[u8]) -> bool
@@ -61,7 +69,7 @@ fn bytes_of(bytes: &[u8]) -> &[u8]
 }
 
 // What the line at a place of a deck loads.
-fn load_in(deck: &Deck, i: usize) -> Option<Load<'_>>
+fn load_in(deck: &Deck, i: usize) -> Option<Found<'_>>
     requires { i < length deck.now }
     ensures { MatchOption result (loaded_line (slice_get deck.now i) ≡ None)
         (IsLoadOf (loaded_line (slice_get deck.now i))) }
@@ -72,18 +80,21 @@ fn load_in(deck: &Deck, i: usize) -> Option<Load<'_>>
             unit,
             fixed,
             session,
-        } => Some(Load {
-            code: bytes_of(unit.code),
-            data: bytes_of(unit.init),
-            fixed,
-            session,
+        } => Some(Found {
+            aid: unit.aid,
+            load: Load {
+                code: bytes_of(unit.code),
+                data: bytes_of(unit.init),
+                fixed,
+                session,
+            },
         }),
         _ => None,
     }
 }
 
 // What the line of a number loads. The lines of a deck are in the order of their numbers.
-fn load_at(deck: &Deck, number: u32) -> Option<Load<'_>>
+fn load_at(deck: &Deck, number: u32) -> Option<Found<'_>>
     ensures { MatchOption result (loaded_at number deck.now ≡ None) (IsLoadOf (loaded_at number deck.now)) }
 {
     for i in 0..deck.len() {
@@ -99,7 +110,7 @@ fn load_at(deck: &Deck, number: u32) -> Option<Load<'_>>
 }
 
 /// Returns the application of a name as the deck's first line creates it that loads it, or `None` if no line does.
-pub fn load_of<'a>(deck: &'a Deck, text: &[u8], name: &[u8]) -> Option<Load<'a>>
+pub fn load_of<'a>(deck: &'a Deck, text: &[u8], name: &[u8]) -> Option<Found<'a>>
     requires few { length (lines text.now) ≤ 20000 }
     requires deck { deck_read text.now ≡ Ok deck.now }
     ensures { MatchOption result (lookup (loads_in text.now deck.now) name.now ≡ None)

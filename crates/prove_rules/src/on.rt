@@ -138,7 +138,7 @@ fn allowance_effect(
 
 // The effect on a sum, and the place of this.
 fn sum_effect(rules: &Partial<'_>, adds: bool, text: &[u8]) -> Result<(Effect, usize), Fault>
-    ensures effect { IfOk result (λ p. IsSumEffect rules.now (fields text.now) p.0 p.1) }
+    ensures effect { IfOk result (λ p. IsSumEffect rules.now (fields text.now) adds p.0 p.1) }
     ensures refused { IfErr result (λ e. (a : AppRules) (n : ℕ) (pattern : List ℕ) → ArePart a rules.now
         → Faulty (with_deed a n (AtTurn pattern) (OnSum adds) (fields text.now)) e) }
 {
@@ -172,7 +172,8 @@ fn effect_of(rules: &Partial<'_>, deeds: Deeds, text: &[u8]) -> Result<(Effect, 
 // Reads an `on` line, by its number and the text after that word.
 fn read_on(alloc: Global, rules: &Partial<'_>, line: u32, text: &[u8]) -> Result<On, Fault>
     ensures read { IfOk result (λ on. (a : AppRules) → ArePart a rules.now
-        → IsOnRead (map name_of rules.now.allowances.items) a (on_line a line (fields text.now)) on) }
+        → IsOnRead (map name_of rules.now.allowances.items) (map name_of rules.now.sums.items) a
+        (on_line a line (fields text.now)) on) }
     ensures refused { IfErr result (λ e. (a : AppRules) → ArePart a rules.now
         → Faulty (on_line a line (fields text.now)) e) }
 {

@@ -1,17 +1,18 @@
 // The rules of the lines so far.
-ghost use Rattle.std.specs.Prelude.{◌≡◌, map, IfErr, IfOk, None, Some};
+ghost use Rattle.std.specs.Prelude.{◌≡◌, ℕ, List, map, IfErr, IfOk, None, Some};
 ghost use Rattle.prove_events.specs.Rules.{allowance_of};
 ghost use Rattle.prove_rules.specs.declared.fault.Fault.TheVariants.{Cause};
 ghost use Rattle.prove_rules.specs.declared.fault.RuleCause.TheVariants.{NoApplication};
 ghost use Rattle.prove_rules.specs.Partials.{place_of};
 
 use crate::fault::{Fault, RuleCause};
+use crate::load::Found;
 use prove_events::{Always, Balance, CodeLine, Load, Named, On};
 
 /// The rules so far, before and after the application is named.
 #[derive(Drop)]
 pub struct Partial<'a> {
-    pub load: Option<Load<'a>>,
+    pub load: Option<Found<'a>>,
     pub code_lines: Vec<CodeLine>,
     pub allowances: Vec<Named<'a>>,
     pub sums: Vec<Named<'a>>,
@@ -39,11 +40,12 @@ pub fn place_of(list: &[Named<'_>], name: &[u8]) -> Option<usize>
 ///
 /// Returns `NoApplication` if they name none.
 pub fn named_load<'a>(rules: &Partial<'a>) -> Result<Load<'a>, Fault>
-    ensures load { IfOk result (λ load. rules.now.load ≡ Some load) }
+    ensures load { IfOk result (λ load. (aid : List ℕ)
+        × (rules.now.load ≡ Some (record { aid = aid; load = load }))) }
     ensures refused { IfErr result (λ e. (e ≡ Cause NoApplication) × (rules.now.load ≡ None)) }
 {
-    match rules.load {
-        Some(load) => Ok(load),
+    match &rules.load {
+        Some(found) => Ok(found.load),
         None => Err(Fault::Cause(RuleCause::NoApplication)),
     }
 }

@@ -13,6 +13,7 @@ ghost use Rattle.prove_rules.specs.Lines.{is_plain_mark, kind_value, lines_read,
 ghost use Rattle.prove_rules.specs.Loads.{loads_in};
 ghost use Rattle.prove_rules.specs.Partials.{ArePart, ArePartRead, IsFinished};
 ghost use Rattle.prove_rules.specs.Refused.{refusal_at, Faulty, RefusesRules};
+ghost use Rattle.prove_rules.specs.Sums.{AreSums};
 
 use crate::always::add_always;
 use crate::app::{Source, add_allowance, add_app, add_never, add_sum};
@@ -20,6 +21,7 @@ use crate::fault::{Fault, RuleCause, RuleRefusal, bad_line};
 use crate::on::add_on;
 use crate::partial::Partial;
 use lab_match::{first_field, stays_inside};
+use mc_base::Aid;
 use mc_deck::Deck;
 use mc_text::next_line;
 use prove_events::Rules;
@@ -204,9 +206,9 @@ fn read_lines<'a>(alloc: Global, source: &Source<'a>) -> Result<Partial<'a>, Rul
     Ok(rules)
 }
 
-// The rules of all lines, if these name an application.
-fn finished(rules: Partial<'_>) -> Result<Rules<'_>, RuleRefusal>
-    ensures finished { IfOk result (IsFinished rules.entry) }
+// The rules of all lines with the name of their application, if these name one.
+fn finished(rules: Partial<'_>) -> Result<(Rules<'_>, Aid), RuleRefusal>
+    ensures finished { IfOk result (λ p. IsFinished rules.entry p.0 p.1) }
     ensures refused { IfErr result (λ e. (e ≡ At 0 NoApplication) × (rules.entry.load ≡ None)) }
 {
     let Partial {
@@ -220,22 +222,48 @@ fn finished(rules: Partial<'_>) -> Result<Rules<'_>, RuleRefusal>
         never,
     } = rules;
     match load {
-        Some(load) => Ok(Rules {
-            load,
-            code_lines,
-            allowances,
-            sums,
-            ons,
-            always,
-            balances,
-            never,
-        }),
+        Some(found) => Ok((
+            Rules {
+                load: found.load,
+                code_lines,
+                allowances,
+                sums,
+                ons,
+                always,
+                balances,
+                never,
+            },
+            found.aid,
+        )),
         None => Err(RuleRefusal::At(0, RuleCause::NoApplication)),
     }
 }
 
-/// Reads the rules of a deck for one application: its comments whose first field is `#@`. A line inside a section is
-/// assembly.
+/// Reads the rules of a deck for one application, with the application's AID: the deck's comments whose first field is
+/// `#@`. A line inside a section is assembly.
+///
+/// # Errors
+///
+/// Returns the refusal of the first line that is no rule, or of line 0 if none names the application; or `NoMemory` if it
+/// is out of memory.
+pub fn read_named_rules<'a>(
+    alloc: Global,
+    deck: &'a Deck,
+    text: &'a [u8],
+) -> Result<(Rules<'a>, Aid), RuleRefusal>
+    requires { deck_read text.now ≡ Ok deck.now }
+    ensures read { IfOk result (λ p. (a : AppRules) × (g : Target) × (app_rules_read text.now ≡ Ok a) × AreRules a g p.0
+        × AreSums a p.0 × (g.name ≡ p.1)) }
+    ensures refused { IfErr result (RefusesRules (app_rules_read text.now)) }
+{
+    let source = Source { deck, text };
+    match read_lines(alloc, &source) {
+        Ok(rules) => finished(rules),
+        Err(refusal) => Err(refusal),
+    }
+}
+
+/// Reads the rules of a deck for one application, as `read_named_rules` does.
 ///
 /// # Errors
 ///
@@ -250,9 +278,8 @@ pub fn read_rules<'a>(
     ensures read { IfOk result (λ r. (a : AppRules) × (g : Target) × (app_rules_read text.now ≡ Ok a) × AreRules a g r) }
     ensures refused { IfErr result (RefusesRules (app_rules_read text.now)) }
 {
-    let source = Source { deck, text };
-    match read_lines(alloc, &source) {
-        Ok(rules) => finished(rules),
+    match read_named_rules(alloc, deck, text) {
+        Ok((rules, _aid)) => Ok(rules),
         Err(refusal) => Err(refusal),
     }
 }

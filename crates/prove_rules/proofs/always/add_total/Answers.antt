@@ -1,7 +1,6 @@
-use Rattle.std.proofs.Common.{length}
 use Rattle.std.proofs.lemmas.Result.{err_from_is_err_and}
 use Rattle.model_text.specs.Text.{fields}
-use Rattle.prove_rules.proofs.AlwaysLemmas.{count_more, total_added, total_line_refused}
+use Rattle.prove_rules.proofs.AlwaysLemmas.{total_added, total_line_refused}
 use Rattle.prove_rules.proofs.always.add_total.Goals as goal
 
 pub returns-in_err-form-clause-refused : goal.returns-in_err-form-clause-refused
@@ -16,5 +15,5 @@ returns-in_err-total-clause-refused c =
 
 pub returns-clause-added : goal.returns-clause-added
 returns-clause-added c = λ a block are inside.
-    total_added a c.args.rules.now c.args.line block c.args.range.now (fields c.args.text.now) c.in_ok-form.form (length c.push.new.list.items) are inside c.in_ok-form.ensures.form c.in_ok-total.ensures.read
-    (count_more c.args.rules.now.balances.items c.push.new.list.items c.in_ok-total.total c.in_ok-push.ensures)
+    total_added a c.args.rules.now c.args.line block c.args.range.now (fields c.args.text.now) c.in_ok-form.form c.in_ok-total.total c.push.new.list.items are inside c.in_ok-form.ensures.form c.in_ok-total.ensures.line c.in_ok-total.ensures.read
+    c.in_ok-push.ensures

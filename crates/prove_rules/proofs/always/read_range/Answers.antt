@@ -44,8 +44,8 @@ returns-then-place-load-clause-refused c =
     record { parts = c.in_ok-low.ensures.parts; place = c.in_ok-place.ensures.number; lowest = c.in_ok-lowest.ensures.number; highest = c.in_ok-highest.ensures.number } in
     let out : c.in_ok-load.load.fixed ≤ c.in_ok-place.place = omega arith in
     λ a n block are inside. deck_faulty (always_line a n (block ∷ fields c.args.text.now)) c.refused.result OutOfRange c.refused.ensures
-    (place_outside a c.args.rules.now n block c.args.at.now c.in_ok-low.low.now c.in_ok-low.high.now (fields c.args.text.now) c.in_ok-place.place c.in_ok-lowest.lowest c.in_ok-highest.highest c.in_ok-load.load are inside
-    c.requires numbers c.in_ok-load.ensures.load out)
+    (place_outside a c.args.rules.now n block c.args.at.now c.in_ok-low.low.now c.in_ok-low.high.now (fields c.args.text.now) c.in_ok-place.place c.in_ok-lowest.lowest c.in_ok-highest.highest (record { aid = c.in_ok-load.ensures.load.0; load = c.in_ok-load.load }) are inside
+    c.requires numbers c.in_ok-load.ensures.load.1 out)
 
 pub returns-then-not-are_in_order-clause-refused : goal.returns-then-not-are_in_order-clause-refused
 returns-then-not-are_in_order-clause-refused c =
@@ -53,5 +53,5 @@ returns-then-not-are_in_order-clause-refused c =
     record { parts = c.in_ok-low.ensures.parts; place = c.in_ok-place.ensures.number; lowest = c.in_ok-lowest.ensures.number; highest = c.in_ok-highest.ensures.number } in
     let out : (nat_le c.in_ok-lowest.lowest c.in_ok-highest.highest && nat_le c.in_ok-highest.highest 255) ≡ false = grind (arith, c.are_in_order.ensures.is, c.if-not-are_in_order.true, c.if-not-are_in_order.ensures) in
     λ a n block are inside. deck_faulty (always_line a n (block ∷ fields c.args.text.now)) c.refused-then-not-are_in_order.result OutOfRange c.refused-then-not-are_in_order.ensures
-    (values_outside a c.args.rules.now n block c.args.at.now c.in_ok-low.low.now c.in_ok-low.high.now (fields c.args.text.now) c.in_ok-place.place c.in_ok-lowest.lowest c.in_ok-highest.highest c.in_ok-load.load are inside
-    c.requires numbers c.in_ok-load.ensures.load out)
+    (values_outside a c.args.rules.now n block c.args.at.now c.in_ok-low.low.now c.in_ok-low.high.now (fields c.args.text.now) c.in_ok-place.place c.in_ok-lowest.lowest c.in_ok-highest.highest (record { aid = c.in_ok-load.ensures.load.0; load = c.in_ok-load.load }) are inside
+    c.requires numbers c.in_ok-load.ensures.load.1 out)

@@ -49,6 +49,6 @@ returns-in_err-sums-clause-refused c =
       number = sym c.in_ok-constant.ensures;
       named = subst (λ (l : List SignedName). are_names (map term_of l) ≡ Ok (map term_of l)) c.as_slice.ensures.value c.in_ok-check_names.ensures.named;
     } in
-    rw (p.1, p.2) (λ a n are. no_sums a n c.args.form.now c.args.rules.now c.in_ok-from.from c.in_ok-to.to c.in_ok-constant.constant c.in_ok-load.load c.in_err-sums.field-0.0 are numbers c.in_ok-load.ensures.load
+    rw (p.1, p.2) (λ a n are. no_sums a n c.args.form.now c.args.rules.now c.in_ok-from.from c.in_ok-to.to c.in_ok-constant.constant (record { aid = c.in_ok-load.ensures.load.0; load = c.in_ok-load.load }) c.in_err-sums.field-0.0 are numbers c.in_ok-load.ensures.load.1
     (subst (λ (l : List SignedName). AreNoSums (are_sums (map allowance_of c.args.rules.now.sums.items) (map term_of l)) c.in_err-sums.field-0.0) c.as_slice-3.ensures.value
     (subst (λ (l : List Named). AreNoSums (are_sums (map allowance_of l) (map term_of c.as_slice-3.result.now)) c.in_err-sums.field-0.0) c.as_slice-2.ensures.value c.in_err-sums.ensures.refused)))

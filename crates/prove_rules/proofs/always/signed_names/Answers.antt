@@ -1,5 +1,4 @@
 use Rattle.std.proofs.Common.{refl}
-use Rattle.std.proofs.lemmas.Result.{err_from_is_err_and}
 use Rattle.model_text.specs.Text.{fields}
 use Rattle.model_play.specs.declared.deck.DeckCause.TheVariants.{BadLine}
 use Rattle.model_rules.specs.Reading.{terms_of}

@@ -13,14 +13,14 @@ returns-then-is_none-clause-added c =
     let word : bytes_eq c.in-Some.word.now (codes "abend") ≡ true = grind (arith, c.as_slice.ensures, c.ne.ensures, c.if-ne.false, c.if-ne.ensures) in
     let held : is_none c.args.rules.now.never ≡ true = grind (arith, c.is_none.ensures, c.if-is_none.true, c.if-is_none.ensures) in
     λ loads a are.
-    never_added loads a c.args.rules.now c.args.line (fields c.args.text.now) c.in-Some.word.now c.in_ok-_load._load (Some c.args.line) are c.in-Some.ensures word c.in_ok-_load.ensures.load (never_new c.args.rules.now.never c.args.line held)
+    never_added loads a c.args.rules.now c.args.line (fields c.args.text.now) c.in-Some.word.now (record { aid = c.in_ok-_load.ensures.load.0; load = c.in_ok-_load._load }) (Some c.args.line) are c.in-Some.ensures word c.in_ok-_load.ensures.load.1 (never_new c.args.rules.now.never c.args.line held)
 
 pub returns-else-is_none-clause-added : goal.returns-else-is_none-clause-added
 returns-else-is_none-clause-added c =
     let word : bytes_eq c.in-Some.word.now (codes "abend") ≡ true = grind (arith, c.as_slice.ensures, c.ne.ensures, c.if-ne.false, c.if-ne.ensures) in
     let held : is_none c.args.rules.now.never ≡ false = grind (arith, c.is_none.ensures, c.if-is_none.false, c.if-is_none.ensures) in
     λ loads a are.
-    never_added loads a c.args.rules.now c.args.line (fields c.args.text.now) c.in-Some.word.now c.in_ok-_load._load c.args.rules.now.never are c.in-Some.ensures word c.in_ok-_load.ensures.load (never_there c.args.rules.now.never c.args.line held)
+    never_added loads a c.args.rules.now c.args.line (fields c.args.text.now) c.in-Some.word.now (record { aid = c.in_ok-_load.ensures.load.0; load = c.in_ok-_load._load }) c.args.rules.now.never are c.in-Some.ensures word c.in_ok-_load.ensures.load.1 (never_there c.args.rules.now.never c.args.line held)
 
 pub returns-in_default-clause-refused : goal.returns-in_default-clause-refused
 returns-in_default-clause-refused c = λ loads a are.

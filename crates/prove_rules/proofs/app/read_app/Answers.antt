@@ -40,6 +40,6 @@ returns-then-not-is_accepted-clause-refused c =
     let loads = loads_in c.args.source.now.text.now c.args.source.now.deck.now in
     let named = c.in_ok-name.ensures.value ∙ ap Ok c.in_ok-name.ensures.same in
     λ a n are. deck_faulty (app_rule loads a n AppLine (fields c.args.text.now)) c.refused-then-not-is_accepted.result OutOfRange c.refused-then-not-is_accepted.ensures
-    (app_large loads a c.args.rules.now n (fields c.args.text.now) c.in-Some.field.now c.in-Some-load_of.load are c.in-Some.ensures named (none_yet c.args.rules.now.load (grind (arith, c.is_some.ensures, c.if-is_some.false, c.if-is_some.ensures)))
-    (subst (λ (x : List ℕ). IsLoadOf (lookup loads x) c.in-Some-load_of.load) c.in_ok-name.ensures.same c.in-Some-load_of.ensures)
+    (app_large loads a c.args.rules.now n (fields c.args.text.now) c.in-Some.field.now c.in-Some-load_of.found are c.in-Some.ensures named (none_yet c.args.rules.now.load (grind (arith, c.is_some.ensures, c.if-is_some.false, c.if-is_some.ensures)))
+    (subst (λ (x : List ℕ). IsLoadOf (lookup loads x) c.in-Some-load_of.found) c.in_ok-name.ensures.same c.in-Some-load_of.ensures)
     (grind (arith, c.is_accepted.ensures, c.if-not-is_accepted.true, c.if-not-is_accepted.ensures)))

@@ -25,4 +25,4 @@ returns-in_err-_load-clause-refused c =
 pub returns-in_default-clause-refused : goal.returns-in_default-clause-refused
 returns-in_default-clause-refused c = λ a n t are.
     deck_faulty (with_deed a n t (OnAllowance (action_value c.args.action)) (fields c.args.text.now)) c.refused.result UnknownName c.refused.ensures
-    (no_allowance a c.args.rules.now n t (action_value c.args.action) (fields c.args.text.now) c.in_ok-name.name.now c.in_ok-name.amount c.in_ok-_load._load are c.in_ok-name.ensures c.in_ok-_load.ensures.load (c.in_default.ensures ∙ ap (λ (l : List Named). place_of (map allowance_of l) c.in_ok-name.name.now) c.as_slice.ensures.value))
+    (no_allowance a c.args.rules.now n t (action_value c.args.action) (fields c.args.text.now) c.in_ok-name.name.now c.in_ok-name.amount (record { aid = c.in_ok-_load.ensures.load.0; load = c.in_ok-_load._load }) are c.in_ok-name.ensures c.in_ok-_load.ensures.load.1 (c.in_default.ensures ∙ ap (λ (l : List Named). place_of (map allowance_of l) c.in_ok-name.name.now) c.as_slice.ensures.value))

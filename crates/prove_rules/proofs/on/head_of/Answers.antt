@@ -1,9 +1,8 @@
-use Rattle.std.proofs.Common.{ℕ, sym, ap, subst}
-use Rattle.std.specs.Prelude.{false, true, IfErr}
+use Rattle.std.proofs.Common.{sym, ap, subst}
+use Rattle.std.specs.Prelude.{IfErr}
 use Rattle.std.proofs.lemmas.Result.{IfErr-weaker}
 use Rattle.model_text.specs.Text.{fields}
 use Rattle.law_explore.specs.Rules.{full_parts, parts_of}
-use Rattle.model_rules.specs.Rules.{AppRules}
 use Rattle.model_rules.specs.Reading as reading
 use Rattle.model_rules.specs.Reading.{action_words, bare_parts, of_deck, turn_words, with_event_line, EventWord}
 use Rattle.prove_rules.specs.Ons.{result_parts}

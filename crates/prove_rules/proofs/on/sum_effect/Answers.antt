@@ -1,4 +1,4 @@
-use Rattle.std.proofs.Common.{List, map, ap, refl, sym, ◌∙◌}
+use Rattle.std.proofs.Common.{List, Bool, Some, map, ap, refl, sym, ◌∙◌}
 use Rattle.prove_events.specs.declared.rules.Named.{Named}
 use Rattle.prove_events.specs.Rules.{allowance_of}
 use Rattle.prove_rules.specs.Partials.{place_of}
@@ -44,21 +44,21 @@ returns-in_default-clause-refused c =
     let s = sum_line_of (fields c.args.text.now) c.in_ok-field.field.now c.in_ok-name.name.now c.in_ok-field.amount.now c.in_ok-form.form c.in_ok-read.read c.in_ok-field.ensures.parts c.in_ok-form.ensures c.in_ok-name.ensures.value c.in_ok-name.ensures.same c.in_ok-read.ensures in
     λ a n pattern are.
     deck_faulty (with_deed a n (AtTurn pattern) (OnSum c.args.adds) (fields c.args.text.now)) c.refused.result UnknownName c.refused.ensures
-    (no_sum a c.args.rules.now n pattern c.args.adds (fields c.args.text.now) c.in_ok-name.name.now s.0 c.in_ok-_load._load are s.1 c.in_ok-_load.ensures.load (c.in_default.ensures ∙ ap (λ (l : List Named). place_of (map allowance_of l) c.in_ok-name.name.now) c.as_slice.ensures.value))
+    (no_sum a c.args.rules.now n pattern c.args.adds (fields c.args.text.now) c.in_ok-name.name.now s.0 (record { aid = c.in_ok-_load.ensures.load.0; load = c.in_ok-_load._load }) are s.1 c.in_ok-_load.ensures.load.1 (c.in_default.ensures ∙ ap (λ (l : List Named). place_of (map allowance_of l) c.in_ok-name.name.now) c.as_slice.ensures.value))
 
 pub returns-in_err-amount-clause-refused : goal.returns-in_err-amount-clause-refused
 returns-in_err-amount-clause-refused c =
     let p = err_from_is_err_and c.from_residual-in_err-amount.result c.from_residual-in_err-amount.ensures.1 in
     let s = sum_line_of (fields c.args.text.now) c.in_ok-field.field.now c.in_ok-name.name.now c.in_ok-field.amount.now c.in_ok-form.form c.in_ok-read.read c.in_ok-field.ensures.parts c.in_ok-form.ensures c.in_ok-name.ensures.value c.in_ok-name.ensures.same c.in_ok-read.ensures in
-    rw (p.1, p.2) (λ a n pattern are. amount_refused a c.args.rules.now n pattern c.args.adds (fields c.args.text.now) c.in_ok-name.name.now s.0 c.in_ok-_load._load c.in-Some.place c.in_err-amount.field-0.0 are s.1 c.in_ok-_load.ensures.load (sym (c.in-Some.ensures ∙ ap (λ (l : List Named). place_of (map allowance_of l) c.in_ok-name.name.now) c.as_slice.ensures.value))
+    rw (p.1, p.2) (λ a n pattern are. amount_refused a c.args.rules.now n pattern c.args.adds (fields c.args.text.now) c.in_ok-name.name.now s.0 (record { aid = c.in_ok-_load.ensures.load.0; load = c.in_ok-_load._load }) c.in-Some.place c.in_err-amount.field-0.0 are s.1 c.in_ok-_load.ensures.load.1 (sym (c.in-Some.ensures ∙ ap (λ (l : List Named). place_of (map allowance_of l) c.in_ok-name.name.now) c.as_slice.ensures.value))
     (c.in_err-amount.ensures s.0 s.2))
 
 pub returns-then-adds-clause-effect : goal.returns-then-adds-clause-effect
 returns-then-adds-clause-effect c =
     let s = sum_line_of (fields c.args.text.now) c.in_ok-field.field.now c.in_ok-name.name.now c.in_ok-field.amount.now c.in_ok-form.form c.in_ok-read.read c.in_ok-field.ensures.parts c.in_ok-form.ensures c.in_ok-name.ensures.value c.in_ok-name.ensures.same c.in_ok-read.ensures in
-    record { name = c.in_ok-name.name.now; text = s.1.text; parts = s.1.parts; form = s.1.form; formed = s.1.formed; named = s.1.named; read = s.0; reads = s.1.reads; value = c.in_ok-amount.amount; is = c.in_ok-amount.ensures s.0 s.2; deed = refl; place = sym (c.in-Some.ensures ∙ ap (λ (l : List Named). place_of (map allowance_of l) c.in_ok-name.name.now) c.as_slice.ensures.value); load = c.in_ok-_load._load; loaded = c.in_ok-_load.ensures.load }
+    record { name = c.in_ok-name.name.now; text = s.1.text; parts = s.1.parts; form = s.1.form; formed = s.1.formed; named = s.1.named; read = s.0; reads = s.1.reads; value = c.in_ok-amount.amount; is = c.in_ok-amount.ensures s.0 s.2; deed = refl; move = ap (λ (b : Bool). Some (b, c.in_ok-amount.amount)) (sym c.if-adds.true); place = sym (c.in-Some.ensures ∙ ap (λ (l : List Named). place_of (map allowance_of l) c.in_ok-name.name.now) c.as_slice.ensures.value); found = (record { aid = c.in_ok-_load.ensures.load.0; load = c.in_ok-_load._load }); loaded = c.in_ok-_load.ensures.load.1 }
 
 pub returns-clause-effect : goal.returns-clause-effect
 returns-clause-effect c =
     let s = sum_line_of (fields c.args.text.now) c.in_ok-field.field.now c.in_ok-name.name.now c.in_ok-field.amount.now c.in_ok-form.form c.in_ok-read.read c.in_ok-field.ensures.parts c.in_ok-form.ensures c.in_ok-name.ensures.value c.in_ok-name.ensures.same c.in_ok-read.ensures in
-    record { name = c.in_ok-name.name.now; text = s.1.text; parts = s.1.parts; form = s.1.form; formed = s.1.formed; named = s.1.named; read = s.0; reads = s.1.reads; value = c.in_ok-amount.amount; is = c.in_ok-amount.ensures s.0 s.2; deed = refl; place = sym (c.in-Some.ensures ∙ ap (λ (l : List Named). place_of (map allowance_of l) c.in_ok-name.name.now) c.as_slice.ensures.value); load = c.in_ok-_load._load; loaded = c.in_ok-_load.ensures.load }
+    record { name = c.in_ok-name.name.now; text = s.1.text; parts = s.1.parts; form = s.1.form; formed = s.1.formed; named = s.1.named; read = s.0; reads = s.1.reads; value = c.in_ok-amount.amount; is = c.in_ok-amount.ensures s.0 s.2; deed = refl; move = ap (λ (b : Bool). Some (b, c.in_ok-amount.amount)) (sym c.if-adds.false); place = sym (c.in-Some.ensures ∙ ap (λ (l : List Named). place_of (map allowance_of l) c.in_ok-name.name.now) c.as_slice.ensures.value); found = (record { aid = c.in_ok-_load.ensures.load.0; load = c.in_ok-_load._load }); loaded = c.in_ok-_load.ensures.load.1 }

@@ -1,4 +1,4 @@
-use Rattle.std.proofs.Common.{◌≡◌, ℕ, arith, sym, true, false}
+use Rattle.std.proofs.Common.{◌≡◌, arith, sym, true, false}
 use Rattle.std.specs.Prelude.{◌==◌, is_some}
 use Rattle.prove_rules.proofs.FieldLemmas.{cut_once, cut_twice}
 use Rattle.prove_rules.proofs.range.two_pieces.Goals as goal
