@@ -1,8 +1,8 @@
-mod FieldLemmas
+pub mod FieldLemmas
 mod MoveLemmas
 mod OnLemmas
 mod PartLemmas
-mod ReadLemmas
+pub mod ReadLemmas
 pub mod CountLemmas
 mod AmountLemmas
 pub mod SpendLemmas

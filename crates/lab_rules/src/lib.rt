@@ -14,9 +14,10 @@ mod reading;
 mod refusal;
 mod rules;
 
+pub use fault::Fault;
 pub use laws::counts_are_times;
 pub use occasions::{applications, apply_all, count, count_turn, has_turns};
 pub use pattern::plain_into;
-pub use reading::{Exploration, read_exploration};
+pub use reading::{Exploration, add_line, read_exploration, refusal_at};
 pub use refusal::ExplorationRefusal;
 pub use rules::{Allowance, Effect, Move, Occasion, OnRule, Rules};

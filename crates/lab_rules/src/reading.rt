@@ -248,8 +248,12 @@ fn rule_text(line: &[u8]) -> Result<&[u8], Fault>
     Ok(trim(behind))
 }
 
-// Adds the rule of a line of a deck, if it is one, by whether it is in a section.
-fn add_line<'a>(
+/// Adds the rule of a line of a deck, if it is one, by whether it is in a section.
+///
+/// # Errors
+///
+/// Returns why the line is no rule, or `NoMemory` if it is out of memory.
+pub fn add_line<'a>(
     alloc: Global,
     rules: &mut Rules<'a>,
     inside: bool,
@@ -272,8 +276,8 @@ fn add_line<'a>(
     add_rule(alloc, rules, number, text)
 }
 
-// Returns the refusal of a line that is no rule.
-fn refusal_at(number: u32, fault: Fault) -> DeckRefusal
+/// Returns the refusal of a line that is no rule.
+pub fn refusal_at(number: u32, fault: Fault) -> DeckRefusal
     ensures { result ≡ refusal_at number fault }
 {
     match fault {

@@ -1,6 +1,6 @@
 -- What happens to one application along the deck and the tries of an exploration, and what it breaks: the rules of the
 -- application, counted event by event.
-use Rattle.std.specs.Prelude.{ℕ, ◌+◌, ◌-◌, Bool, true, false, cond, ◌&&◌, ◌||◌, nat_lt, ◌==◌, List, [], ◌∷◌, ◌++◌, bytes_eq, codes, decimal, is_some, Option, Some, None, Result, Ok, Err}
+use Rattle.std.specs.Prelude.{ℕ, ◌+◌, ◌-◌, Bool, true, false, cond, ◌&&◌, ◌||◌, nat_lt, ◌==◌, List, [], ◌∷◌, ◌++◌, bytes_eq, codes, decimal, not, is_some, Option, Some, None, Result, Ok, Err}
 use Rattle.model_device.specs.Bytes.{lookup}
 use Rattle.model_device.specs.Card.{App}
 use Rattle.model_text.specs.Text.{◌>>=◌, ok_as, err_as, only_if, lines, with_numbers, fields}
@@ -12,7 +12,7 @@ use Rattle.model_play.specs.Play.{Live, Running, Warm, State, AfterPower, Step, 
 use Rattle.model_play.specs.Transcript.{outcome_text}
 use Rattle.model_device.specs.Device.{blank_words, device_words}
 use Rattle.law_promise.specs.History.{after_step}
-use Rattle.law_explore.specs.Rules.{Move, without_field, move_line, marked_lines, is_some_of}
+use Rattle.law_explore.specs.Rules.{Move, without_field, move_line, marked_lines, is_some_of, begins_with, stays_inside}
 use Rattle.law_explore.specs.Tries.{Manner, Whole, CutAt, step_of}
 use Rattle.law_explore.specs.States.{play_of_deck, warm_in}
 use Rattle.model_rules.specs.Rules.{OnLine, SumLine, Range, Total, Target, AppRules, no_app_rules}
@@ -22,6 +22,20 @@ use Rattle.model_rules.specs.Keeping.{Occasion, OnTurn, OnCommand, OnAnswer, OnS
 use Rattle.law_explore.specs.Matching.{fits}
 
 -- ---- a deck with the rules of one application
+
+-- whether fields are those of a rule that begins with a word
+abbrev pub is_rule_of : List ℕ → List (List ℕ) → Bool
+is_rule_of word [] = false
+is_rule_of word (mark ∷ fs) = bytes_eq mark (codes "#@") && begins_with word fs
+
+-- whether a rule outside of sections begins with a word; the first of these lines is in a section or not
+abbrev pub has_rule_of : List ℕ → Bool → List (List ℕ) → Bool
+has_rule_of word inside [] = false
+has_rule_of word inside (l ∷ ls) = (not inside && is_rule_of word (fields l)) || has_rule_of word (stays_inside inside (fields l)) ls
+
+-- whether the rules of a deck speak of one application
+abbrev pub names_application : List ℕ → Bool
+names_application text = has_rule_of (codes "app") false (lines text)
 
 -- its lines, its moves and its rules, and the application
 pub record AppExploration : Type 0 where
