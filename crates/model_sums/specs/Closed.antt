@@ -15,7 +15,7 @@ use Rattle.model_prove.specs.Splits.{Scene, stand_in, with_values, deciders, lat
 use Rattle.model_prove.specs.Reach.{coarse, target_choices, takes_target}
 use Rattle.model_prove.specs.Work.{work}
 use Rattle.model_prove.specs.Arrivals.{Setting, Arrival, AtPlace, AtMoment, Breaks, Lost, static_size, depths}
-use Rattle.model_prove.specs.Steps.{Spot, arounds, primitive_of, chosen, inside, coarse_for, coarse_around, place_arrivals}
+use Rattle.model_prove.specs.Steps.{Spot, arounds, primitive_of, inside, coarse_for, coarse_around, place_arrivals}
 use Rattle.model_prove.specs.Between.{Class, classes, moment_arrivals}
 use Rattle.model_sums.specs.Sums.{Sums, SumsTable, sums_at, first_known, are_even, sums_follow}
 use Rattle.model_sums.specs.Moves.{moved, moved_coarsely, after_next}
@@ -86,10 +86,11 @@ turn_closed s u w x =
     let h = shape w.ins f w.scene.public x in
     row_closed s u w h (moved s.rules.totals w.spot.key w.ins h (work w.ins f w.scene.public) w.sums) (place_arrivals s w.spot.key w.spot.known)
 
--- with one combination of the bytes that decide it, which then are known
+-- With one combination of the bytes that decide it. The outcomes are those of the place as the tables know it, since
+-- these are what the tables of facts have.
 abbrev pub choice_closed : Setting → SumsTable → Turn → Choice → Bool
 choice_closed s u w c =
-    all_pass (turn_closed s u (record w { scene = with_values w.scene c; spot = chosen c w.spot })) (arounds w.spot.key.start (primitive_of w.ins))
+    all_pass (turn_closed s u (record w { scene = with_values w.scene c })) (arounds w.spot.key.start (primitive_of w.ins))
 
 -- after its first choice, with the bytes that then decide
 abbrev pub first_choice_closed : Setting → SumsTable → Turn → Choice → Bool
