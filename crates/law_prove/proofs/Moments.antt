@@ -196,7 +196,7 @@ module _ (s : Setting) (t : Tables) (loadable : IsLoadable s.app) (closed : is_c
 
   -- ---- the rules
 
-  idle_ranges : (h : History) (fixed : List ℕ) → IsMoment s t false h fixed [] → are_in_ranges fixed s.rules.ranges ≡ true
+  pub idle_ranges : (h : History) (fixed : List ℕ) → IsMoment s t false h fixed [] → are_in_ranges fixed s.rules.ranges ≡ true
   idle_ranges h fixed m =
       in_ranges fixed m.facts (moment_memory fixed []) m.holds (memory_bytes fixed [] m.static tt) (idle_memory fixed) s.rules.ranges
       ((moment_closed s t (record { selected = false; allowances = m.standing.allowances }) m.facts closed m.there).ranges)

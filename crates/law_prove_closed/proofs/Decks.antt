@@ -17,7 +17,7 @@ bytes_are : (bs : List ℕ) → are_bytes bs ≡ true → AreBytes bs
 bytes_are [] e = tt
 bytes_are (b ∷ bs) e = let p = and_parts (nat_lt b 256) (are_bytes bs) e in (ltb-true b 256 p.0, bytes_are bs p.1)
 
-loadable_is : (a : App) → is_loadable a ≡ true → IsLoadable a
+pub loadable_is : (a : App) → is_loadable a ≡ true → IsLoadable a
 loadable_is a e =
     let p4 = and_parts (are_bytes a.code && nat_lt (length a.code) 65536 && are_bytes a.fixed && nat_le (length a.fixed) dynamic_base) (nat_le (dynamic_base + a.session) dynamic_end) e in
     let p3 = and_parts (are_bytes a.code && nat_lt (length a.code) 65536 && are_bytes a.fixed) (nat_le (length a.fixed) dynamic_base) p4.0 in

@@ -84,7 +84,7 @@ found_by true false test p ps rest k l passes is e again = again (sym (ap (λ (z
 found_by false true test p ps rest k l passes is e again = absurd (cc (sym passes ∙ (ap test (places_are p.0 k is) ∙ (again e).0)))
 found_by false false test p ps rest k l passes is e again = again e
 
-found : (test : PlaceKey → Bool) (ps : List (PlaceKey × Known)) (k : PlaceKey) (l : Known) → place_at (filter (λ p. test p.0) ps) k ≡ Some l → (test k ≡ true) × (place_at ps k ≡ Some l)
+pub found : (test : PlaceKey → Bool) (ps : List (PlaceKey × Known)) (k : PlaceKey) (l : Known) → place_at (filter (λ p. test p.0) ps) k ≡ Some l → (test k ≡ true) × (place_at ps k ≡ Some l)
 found test [] k l e = absurd (cc e)
 found test (p ∷ ps) k l e = found_by (test p.0) (same_places p.0 k) test p ps (filter (λ p. test p.0) ps) k l refl refl e (found test ps k l)
 

@@ -1,0 +1,11 @@
+pub mod Standings
+pub mod Totals
+pub mod Protection
+pub mod Checked
+pub mod Kept
+pub mod Outcomes
+pub mod Deeds
+pub mod Turns
+pub mod Begins
+pub mod Sound
+pub mod Final
