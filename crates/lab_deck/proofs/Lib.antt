@@ -1,0 +1,2 @@
+mod TogetherLemmas
+pub mod ReadLemmas

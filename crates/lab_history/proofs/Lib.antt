@@ -1,0 +1,6 @@
+mod DigitLemmas
+mod GroupLemmas
+mod BlockLemmas
+mod DoneLemmas
+mod NameLemmas
+mod SumLemmas

@@ -1,0 +1,10 @@
+pub mod Digits
+pub mod Durable
+pub mod Courses
+pub mod Amounts
+pub mod Blocks
+pub mod Moves
+pub mod Standings
+pub mod Applying
+pub mod Lines
+pub mod Sums
