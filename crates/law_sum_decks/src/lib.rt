@@ -1,4 +1,4 @@
-#![tactic(auto, unfolding(crate::specs::Decks::proves_sums))]
+#![tactic(auto)]
 
 //! The rules of a deck, with their sums, are kept in every play if one check that is computed says so.
 
@@ -20,6 +20,7 @@ pub fn transaction_is_kept()
 
 /// It is not proved if the commit adds another number, nor if the sum is added to as the transaction begins: power may
 /// go before the commit.
+#[tactic(auto, unfolding(crate::specs::Decks::proves_sums))]
 pub fn other_events_are_refused()
     ensures amount { proves_sums 200 transaction_sums
         (transaction_with (codes "#@ on turn *PRIM 3,1* add s 4\n")) ≡ false }

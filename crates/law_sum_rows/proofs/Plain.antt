@@ -257,7 +257,7 @@ return_fits f less more e =
     let low = leb-true (floor f + 4 + less) f.lb both.0 in
     (omega (arith, low), leb-true (f.lb + more) f.dt both.1)
 
--- a return that leaves and moves so many bytes
+-- a return with its two lengths
 return_row : (i : Ins) (less more : ℕ) → ((f : Frame) (public : List ℕ) (x : Around) → shape i f public x ≡ shape_of f.dt (Returns less more) None Goes) → ((f : Frame) (public : List ℕ) (x : Around) → NoCause (causes i f public x) → no_return f less more ≡ false)
     → ((f : Frame) (public : List ℕ) → work i f public ≡ AsShaped) → takes_target i ≡ false → ((f : Frame) → deciders i f ≡ []) → primitive_of i ≡ None → mode_of i ≡ None → StepCase i
 return_row i less more shaped free works takes none prim mode s t u step static =

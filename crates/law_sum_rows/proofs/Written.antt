@@ -31,7 +31,7 @@ use Rattle.law_sum_rows.proofs.Rows.{unprotected, IsWork, IsCoarsely, Compared, 
 use Rattle.law_sum_rows.proofs.Plain.{dt_high}
 use Rattle.law_sum_rows.proofs.Addresses.{numbers_agree, pair_within}
 
--- A row that pops bytes and writes others at the address that begins so many bytes below the top of the stack.
+-- A row that pops bytes and writes others at the address `to` bytes below the top of the stack.
 pub record IsWriting (i : Ins) (pops to : ℕ) (count : Frame → ℕ) (bytes : Frame → List ℕ → List ℕ) (lengths : Facts → ℕ → List ℕ) (task : Frame → Work) : Type 0 where
   pub form : (f : Frame) (public : List ℕ) (x : Around) → shape i f public x ≡ shape_of (f.dt - pops) (Writes (number_below_top f to) (count f) (bytes f public)) None Goes
   pub works : (f : Frame) (public : List ℕ) → work i f public ≡ task f
