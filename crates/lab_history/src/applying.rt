@@ -98,8 +98,10 @@ fn apply_deed(
     times: &mut [u64],
     deed: &Deed,
 ) -> Option<Break>
-    ensures amounts { ComesTo result standing.new.amounts.items (deed_effect rules.now.ons.items deed.now standing.old.amounts.items) }
-    ensures blocks { vec_len standing.old.kept ≡ vec_len standing.old.waiting → IsDone rules.now.ons.items rules.now.balances.items deed.now
+    ensures amounts { ComesTo result standing.new.amounts.items
+        (deed_effect rules.now.ons.items deed.now standing.old.amounts.items) }
+    ensures blocks { vec_len standing.old.kept ≡ vec_len standing.old.waiting
+        → IsDone rules.now.ons.items rules.now.balances.items deed.now
         standing.old.kept.items standing.old.waiting.items standing.new.kept.items standing.new.waiting.items }
 {
     match deed {
@@ -135,7 +137,8 @@ fn apply_deeds(
 ) -> Option<Break>
     ensures amounts { ComesTo result standing.new.amounts.items
         (deeds_effect rules.now.ons.items extent course.now.deeds.items standing.old.amounts.items) }
-    ensures blocks { vec_len standing.old.kept ≡ vec_len standing.old.waiting → IfNone result (AreDone rules.now.ons.items
+    ensures blocks { vec_len standing.old.kept ≡ vec_len standing.old.waiting → IfNone result
+        (AreDone rules.now.ons.items
         rules.now.balances.items extent course.now.deeds.items standing.old.kept.items standing.old.waiting.items
         standing.new.kept.items standing.new.waiting.items) }
 {
@@ -197,7 +200,8 @@ pub fn apply(
 ) -> Option<Break>
     ensures amounts { ComesTo result standing.new.amounts.items
         (course_effect rules.now.ons.items course.now extent standing.old.amounts.items) }
-    ensures blocks { vec_len standing.old.kept ≡ vec_len standing.old.waiting → IfNone result (AreDone rules.now.ons.items
+    ensures blocks { vec_len standing.old.kept ≡ vec_len standing.old.waiting → IfNone result
+        (AreDone rules.now.ons.items
         rules.now.balances.items extent course.now.deeds.items standing.old.kept.items standing.old.waiting.items
         standing.new.kept.items standing.new.waiting.items) }
 {

@@ -99,7 +99,8 @@ pub fn first_block(
     sums: &[Named<'_>],
 ) -> Result<Vec<u8>, NoMemory>
     ensures size { IfOk result (λ block. length block.items ≡ balance.now.n) }
-    ensures number { IfOk result (λ block. (num block.items + taken_by sums.now balance.now.sums.items) % 256 ^ balance.now.n
+    ensures number { IfOk result (λ block.
+        (num block.items + taken_by sums.now balance.now.sums.items) % 256 ^ balance.now.n
         ≡ (balance.now.constant + added_by sums.now balance.now.sums.items) % 256 ^ balance.now.n) }
 {
     let mut block = zero_block(alloc, balance.n)?;

@@ -15,7 +15,7 @@ fn cost(words: usize) -> usize
     (words + 3) / 4 + 2 * words + 3
 }
 
-// The number of words of an atomic write of this many device writes, or 0 if none has so many.
+// The number of words of an atomic write of a number of device writes, or 0 if no atomic write has that number.
 fn words_of(writes: usize) -> usize
     ensures high { result ≤ 64 }
     ensures words { (words : ℕ) → 1 ≤ words → words ≤ 64 → writes ≡ cost Two words → result ≡ words }

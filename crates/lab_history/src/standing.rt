@@ -120,7 +120,8 @@ impl Standing {
 
     /// Drops what waits.
     pub fn drop_waiting(&mut self)
-        ensures waiting { vec_len self.old.kept ≡ vec_len self.old.waiting → self.new.waiting.items ≡ self.old.kept.items }
+        ensures waiting { vec_len self.old.kept ≡ vec_len self.old.waiting → self.new.waiting.items
+            ≡ self.old.kept.items }
         ensures kept { self.new.kept.items ≡ self.old.kept.items }
         ensures amounts { self.new.amounts.items ≡ self.old.amounts.items }
     {
@@ -132,7 +133,8 @@ impl Standing {
         ensures kept { self.new.kept.items ≡ self.old.kept.items }
         ensures amounts { self.new.amounts.items ≡ self.old.amounts.items }
         ensures size { vec_len self.new.waiting ≡ vec_len self.old.waiting }
-        ensures waiting { AreMoved balances.now sum takes (num number.now) self.old.waiting.items self.new.waiting.items }
+        ensures waiting { AreMoved balances.now sum takes (num number.now) self.old.waiting.items
+            self.new.waiting.items }
     {
         move_blocks(self.waiting.as_mut_slice(), balances, sum, takes, number);
     }
