@@ -1,0 +1,10 @@
+use Rattle.std.proofs.Common.{◌≡◌, drop}
+use Rattle.model_sums.specs.Origins as origins
+use Rattle.prove_forms.specs.Origins.{origins_value, listed_values}
+use Rattle.prove_forms.proofs.origins.Origins.listed_follow.Given as goal
+
+-- what is left of the list decides
+abbrev pub invariant-loop-listed : goal.invariant-loop-listed
+invariant-loop-listed l =
+    origins.listed_follow (origins_value l.self) (origins_value l.other) (listed_values l.list)
+    ≡ origins.listed_follow (origins_value l.self) (origins_value l.other) (listed_values (drop l.listed-index l.list))
