@@ -17,4 +17,4 @@ mod reading;
 mod refusal_rows;
 
 pub use fault::{RuleCause, RuleRefusal};
-pub use reading::{read_named_rules, read_rules};
+pub use reading::read_named_rules;

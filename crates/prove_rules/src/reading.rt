@@ -262,24 +262,3 @@ pub fn read_named_rules<'a>(
         Err(refusal) => Err(refusal),
     }
 }
-
-/// Reads the rules of a deck for one application, as `read_named_rules` does.
-///
-/// # Errors
-///
-/// Returns the refusal of the first line that is no rule, or of line 0 if none names the application; or `NoMemory` if it
-/// is out of memory.
-pub fn read_rules<'a>(
-    alloc: Global,
-    deck: &'a Deck,
-    text: &'a [u8],
-) -> Result<Rules<'a>, RuleRefusal>
-    requires { deck_read text.now ≡ Ok deck.now }
-    ensures read { IfOk result (λ r. (a : AppRules) × (g : Target) × (app_rules_read text.now ≡ Ok a) × AreRules a g r) }
-    ensures refused { IfErr result (RefusesRules (app_rules_read text.now)) }
-{
-    match read_named_rules(alloc, deck, text) {
-        Ok((rules, _aid)) => Ok(rules),
-        Err(refusal) => Err(refusal),
-    }
-}
