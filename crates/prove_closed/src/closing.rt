@@ -48,8 +48,12 @@ fn moment_closed(
     moment_holds(alloc, subject, classes, key, facts)
 }
 
-// Whether each of some moments of the tables is closed.
-fn moments_closed(
+/// Returns whether the tables include what may follow each of some moments, which keep the ranges.
+///
+/// # Errors
+///
+/// Returns `NoMemory` if it is out of memory.
+pub fn moments_closed(
     alloc: Global,
     subject: &Subject<'_>,
     classes: &[Class],
@@ -72,9 +76,9 @@ fn moments_closed(
     Ok(true)
 }
 
-// What a check of tables looks at, if the code has addresses of two bytes, the keys are whole and no two classes are
-// equal.
-fn subject_of<'a>(
+/// Returns what a check of tables looks at, or `None`, unless the code has addresses of two bytes, the keys are whole
+/// and no two classes are equal.
+pub fn subject_of<'a>(
     rules: &'a Rules<'_>,
     tables: &'a Tables,
     numbers: &'a [Vec<bool>],
@@ -137,8 +141,12 @@ fn all_places_closed(alloc: Global, subject: &Subject<'_>) -> Result<bool, NoMem
     places_hold(alloc, subject, keys, known)
 }
 
-// The classes of commands that the definition has, unless the search for them gives up.
-fn classes_of(alloc: Global, rules: &Rules<'_>) -> Result<Option<Vec<Class>>, NoMemory>
+/// Returns the classes of commands that the definition has, or `None` if the search for them gives up.
+///
+/// # Errors
+///
+/// Returns `NoMemory` if it is out of memory.
+pub fn classes_of(alloc: Global, rules: &Rules<'_>) -> Result<Option<Vec<Class>>, NoMemory>
     ensures { IfOk result (λ r. IfSome r (λ found. (a : AppRules) (g : Target) → AreRules a g rules.now
         → class_values found.items ≡ between.classes a)) }
 {
@@ -199,8 +207,12 @@ fn closed_with(
     rules_closed(alloc, &subject, rules)
 }
 
-// What is prepared of the patterns of results, unless the search for it gives up.
-fn replies_of<'a>(alloc: Global, rules: &'a Rules<'_>) -> Result<Option<Replies<'a>>, NoMemory>
+/// Returns what is prepared of the patterns of results, or `None` if the search for it gives up.
+///
+/// # Errors
+///
+/// Returns `NoMemory` if it is out of memory.
+pub fn replies_of<'a>(alloc: Global, rules: &'a Rules<'_>) -> Result<Option<Replies<'a>>, NoMemory>
     ensures { IfOk result (λ r. IfSome r (λ replies. (a : AppRules) (g : Target) → AreRules a g rules.now
         → IsPrepared a replies)) }
 {

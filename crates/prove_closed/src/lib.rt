@@ -11,4 +11,5 @@ mod moments;
 mod places;
 mod ranges;
 
-pub use closing::is_closed;
+pub use closing::{classes_of, is_closed, moments_closed, replies_of, subject_of};
+pub use places::{place_closed, spot_at};

@@ -28,8 +28,12 @@ fn kept_at(alloc: Global, protected: bool, fixed: u16, known: &Known) -> Result<
     known.read.part(alloc, 0, fixed as u32)
 }
 
-// A place with what the tables have there; `fixed` is the number of static bytes.
-fn spot_at(
+/// Returns a place with what the tables have there; `fixed` is the number of static bytes.
+///
+/// # Errors
+///
+/// Returns `NoMemory` if it is out of memory.
+pub fn spot_at(
     alloc: Global,
     fixed: u16,
     key: &PlaceKey,
@@ -45,8 +49,12 @@ fn spot_at(
     Ok(Spot::new(key.registers, calls, known.read, kept, known.last))
 }
 
-// Whether the tables include each outcome of a place of theirs.
-fn place_closed(
+/// Returns whether the tables include each outcome of a place with what is known there.
+///
+/// # Errors
+///
+/// Returns `NoMemory` if it is out of memory.
+pub fn place_closed(
     alloc: Global,
     subject: &Subject<'_>,
     key: &PlaceKey,

@@ -19,8 +19,12 @@ use prove_facts::{Facts, Values};
 use prove_scenes::{Scene, deciders, inside, later_deciders, takes_target};
 use std::alloc::Global;
 
-// A choice after another.
-fn both(alloc: Global, first: &[(u16, u8)], second: &Choice) -> Result<Choice, NoMemory>
+/// Returns a choice with another after it.
+///
+/// # Errors
+///
+/// Returns `NoMemory` if it is out of memory.
+pub fn both(alloc: Global, first: &[(u16, u8)], second: &Choice) -> Result<Choice, NoMemory>
     ensures { IfOk result (λ c. choice_of c ≡ first.now ++ choice_of second.now) }
 {
     let mut bytes = Vec::from_slice(alloc, first)?;
@@ -156,8 +160,8 @@ fn may_be(facts: &Facts, at: u16, value: u8) -> bool
     facts.at(at).has(value)
 }
 
-// Whether two bytes may be an address.
-fn may_lead(facts: &Facts, at: u16, target: u16) -> bool
+/// Returns whether the two bytes at an address may be a place of the code.
+pub fn may_lead(facts: &Facts, at: u16, target: u16) -> bool
     requires { at < 65535 }
     ensures { result ≡ is_target facts.now at target }
 {
@@ -232,8 +236,8 @@ fn greater_of(values: &Values, value: u16, greatest: u8) -> u8
     greatest
 }
 
-// The greatest address that two bytes may be.
-fn greatest_target(facts: &Facts, at: u16) -> u16
+/// Returns the greatest place of the code that the two bytes at an address may be.
+pub fn greatest_target(facts: &Facts, at: u16) -> u16
     requires { at < 65535 }
     ensures { result ≡ greatest_value (values_at facts.now at) * 256 + greatest_value (values_at facts.now (suc at)) }
 {

@@ -26,8 +26,8 @@ use prove_spots::Spot;
 use prove_works::{coarse_spots, reaches_static};
 use std::alloc::Global;
 
-// What a row does, which may write nothing after all.
-fn crude_for(act: &Act, crude: Coarse) -> Coarse
+/// Returns what a row of too many combinations does, which may write nothing after all.
+pub fn crude_for(act: &Act, crude: Coarse) -> Coarse
     ensures { (k : Facts) → coarse_value k result ≡ steps.coarse_for (act_value act.now) (coarse_value k crude) }
 {
     match (act, crude) {
@@ -36,8 +36,8 @@ fn crude_for(act: &Act, crude: Coarse) -> Coarse
     }
 }
 
-// What a row of too many combinations knows around it.
-fn crude_around(begun: Begun) -> Around
+/// Returns what a row of too many combinations knows around it.
+pub fn crude_around(begun: Begun) -> Around
     ensures { (classes : List (List Bool)) → around_value result ≡ steps.coarse_around (start_of classes begun) }
 {
     match begun {

@@ -9,4 +9,9 @@ mod places;
 mod scenes;
 mod stepping;
 
+pub use branching::{both, greatest_target, may_lead};
+pub use choices::{Choice, Choices, choices_among, combined};
+pub use crude::{crude_around, crude_for};
 pub use places::place_holds;
+pub use scenes::scene_with;
+pub use stepping::arounds;

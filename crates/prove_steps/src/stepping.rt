@@ -86,8 +86,12 @@ fn asks_delegator(primitive: Option<Primitive>) -> bool
     }
 }
 
-// What an instruction may know around its frame.
-fn arounds(alloc: Global, begun: Begun, ins: &Ins) -> Result<Vec<Around>, NoMemory>
+/// Returns what an instruction may know around its frame.
+///
+/// # Errors
+///
+/// Returns `NoMemory` if it is out of memory.
+pub fn arounds(alloc: Global, begun: Begun, ins: &Ins) -> Result<Vec<Around>, NoMemory>
     ensures { (classes : List (List Bool)) → IfOk result (λ list. map around_value list.items
         ≡ steps.arounds (start_of classes begun) (steps.primitive_of ins.now)) }
 {
