@@ -1,0 +1,13 @@
+use Rattle.std.proofs.Common.{List, ℕ, subst, sym}
+use Rattle.std.specs.Prelude.{map}
+use Rattle.model_sums.specs.Events as events
+use Rattle.prove_events.specs.declared.rules.SignedSum.{SignedSum}
+use Rattle.prove_events.specs.Rules.{name_of}
+use Rattle.prove_forms.specs.Forms.{OptionalIs}
+use Rattle.prove_rules.specs.Sums.{AreTerms}
+use Rattle.prove_sums.proofs.events.off_after_line.Goals as goal
+
+pub returns : goal.returns
+returns c t k f g is move off =
+    subst (λ (n : ℕ). OptionalIs c.in_ok-after.after (events.off_after_line n k g t.terms f)) (sym is.n)
+    (c.in_ok-after.ensures t.terms k f g (subst (λ (x : List SignedSum). AreTerms (map name_of c.args.named.now) t.terms x) (sym c.as_slice-terms.ensures.value) is.terms) move off)

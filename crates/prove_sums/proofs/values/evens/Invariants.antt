@@ -1,0 +1,10 @@
+use Rattle.std.proofs.Common.{ℕ, List, drop}
+use Rattle.model_rules.specs.Rules.{Total}
+use Rattle.prove_rules.specs.Sums.{AreTotals}
+use Rattle.prove_sums.proofs.WalkLemmas.{Evens}
+use Rattle.prove_sums.proofs.values.evens.Given as goal
+
+-- those of the totals so far are there
+abbrev pub invariant-loop-balance : goal.invariant-loop-balance
+invariant-loop-balance l =
+    (names : List (List ℕ)) (ts : List Total) → AreTotals names ts l.balances → Evens names ts (drop l._balance-index l.balances) l.offs.items
