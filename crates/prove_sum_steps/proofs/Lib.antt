@@ -1,0 +1,9 @@
+pub mod PassLemmas
+pub mod GoalLemmas
+pub mod ReachLemmas
+pub mod EventLemmas
+pub mod RowLemmas
+pub mod StepLemmas
+pub mod PlaceLemmas
+pub mod TotalLemmas
+pub mod ClosingLemmas

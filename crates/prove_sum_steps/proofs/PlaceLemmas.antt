@@ -1,0 +1,103 @@
+-- A place with what is known there, as the code has it and as the definition has it.
+use Rattle.std.proofs.Common.{◌≡◌, ℕ, Bool, true, List, length, Option, Some, sym, ap, subst, ◌∙◌}
+use Rattle.std.specs.Prelude.{Ok}
+use Rattle.model_machine.specs.Code.{instruction_at}
+use Rattle.model_prove.specs.Arrivals.{Setting}
+use Rattle.model_prove.specs.Between.{Class}
+use Rattle.model_prove.specs.Facts.{Facts}
+use Rattle.model_prove.specs.Keys as known
+use Rattle.model_prove.specs.Keys.{MomentKey}
+use Rattle.model_prove.specs.Steps.{Spot, place_arrivals}
+use Rattle.model_prove.specs.Tables.{includes_all, moments_closed}
+use Rattle.model_sums.specs.Closed.{all_pass, arrival_closed, fetched_closed, place_closed}
+use Rattle.model_sums.specs.Sums.{Sums, SumsTable}
+use Rattle.prove_arrivals.specs.declared.subject.Subject.{Subject}
+use Rattle.prove_arrivals.specs.Subjects.{IsOver, IsSubject, classes_in, known_in, spot_in, tables_in}
+use Rattle.prove_keys.specs.declared.keys.PlaceKey.{PlaceKey}
+use Rattle.prove_keys.specs.declared.known.PackedKnown.{PackedKnown}
+use Rattle.prove_keys.specs.declared.tables.Tables.{Tables}
+use Rattle.prove_keys.specs.Keys.{place_of}
+use Rattle.prove_keys.specs.Known.{known_of}
+use Rattle.prove_keys.specs.Tables.{AreWhole, tables_of}
+use Rattle.prove_rules.specs.Sums.{AreSums}
+use Rattle.prove_scenes.specs.declared.scene.Sizes.{Sizes}
+use Rattle.prove_spots.specs.Grounds.{Ground}
+use Rattle.prove_sums.specs.Values.{sums_value}
+use Rattle.prove_sum_steps.specs.declared.turns.Turn.{Turn}
+use Rattle.prove_sum_steps.specs.Places.{AreGoals, near_in, spot_with}
+use Rattle.prove_sum_steps.specs.Walks.{IsTurn, Passes, instruction_closed, place_in}
+
+-- the place of an instruction is that of a key
+pub place_is : (names : List (List ℕ)) (u : Subject) (k : PlaceKey) (p : PackedKnown) (g : Ground)
+    → (spot_in names u k.begun k.amounts.items g).key ≡ place_of names (classes_in u) k → known_in g ≡ known_of k.registers.protected u.sizes.fixed p
+    → spot_in names u k.begun k.amounts.items g ≡ spot_with names u k p
+place_is names u k p g key known = λ i. record { key = key i; known = known i }
+
+-- what is checked of an instruction at a place
+pub turn_is : (names : List (List ℕ)) (s : Setting) (u : SumsTable) (t : Turn) (p : Spot) → place_in names t ≡ p → IsOver names s t.subject.now t.key.now.amounts.items
+    → AreSums s.rules t.rules.now → AreGoals names s u t.subject.now p t.goals.now → IsTurn names s u t
+turn_is names s u t p e over sums are =
+    record {
+      over = over;
+      sums = sums;
+      goals = are.goals;
+      reached = λ w next after k all.
+          subst (λ (p : Spot). all_pass (arrival_closed s u w next after) (place_arrivals s p.key p.known) ≡ true) (sym e) (are.reached w next after k all);
+    }
+
+-- an instruction that was fetched there
+pub fetched_is : (names : List (List ℕ)) (s : Setting) (u : SumsTable) (t : Turn) (p : Spot) → place_in names t ≡ p → instruction_closed names s u t ≡ true
+    → fetched_closed s u p (sums_value t.sums.now) (Ok (t.ins.now, t.next)) ≡ true
+fetched_is names s u t p e h = subst (λ (p : Spot). fetched_closed s u p (sums_value t.sums.now) (Ok (t.ins.now, t.next)) ≡ true) e h
+
+-- what the table has at a place
+pub there_closed : (s : Setting) (u : SumsTable) (p : Spot) (o : Option Sums) (before : Sums) (code : List ℕ) → o ≡ Some before → s.app.code ≡ code
+    → fetched_closed s u p before (instruction_at code p.key.at) ≡ true → place_closed s u p o ≡ true
+there_closed s u p o before code e same h =
+    subst (λ (o : Option Sums). place_closed s u p o ≡ true) (sym e)
+    (subst (λ (code : List ℕ). fetched_closed s u p before (instruction_at code p.key.at) ≡ true) (sym same) h)
+
+-- ---- other tables
+
+module _ (names : List (List ℕ)) (u v : Subject) (near : Tables) (sizes : v.sizes ≡ u.sizes) (tables : v.tables.now ≡ near) (classes : classes_in v ≡ classes_in u) where
+  all_same : tables_in names v ≡ near_in names u near
+  all_same =
+      ap (λ (c : List (List Bool)). tables_of names c v.sizes.fixed v.tables.now) classes
+      ∙ ap (λ (z : Sizes). tables_of names (classes_in u) z.fixed v.tables.now) sizes
+      ∙ ap (λ (x : Tables). tables_of names (classes_in u) u.sizes.fixed x) tables
+
+  -- what a place leads to is within them
+  pub within_near : (s : Setting) (k : PlaceKey) (p : PackedKnown)
+      → includes_all (tables_in names v) (place_arrivals s (place_of names (classes_in v) k) (known_of k.registers.protected v.sizes.fixed p)) ≡ true
+      → includes_all (near_in names u near) (place_arrivals s (spot_with names u k p).key (spot_with names u k p).known) ≡ true
+  within_near s k p h =
+      subst (λ (x : known.Tables). includes_all x (place_arrivals s (spot_with names u k p).key (spot_with names u k p).known) ≡ true) all_same
+      (subst (λ (c : List (List Bool)). includes_all (tables_in names v) (place_arrivals s (place_of names c k) (known_of k.registers.protected u.sizes.fixed p)) ≡ true) classes
+      (subst (λ (z : Sizes). includes_all (tables_in names v) (place_arrivals s (place_of names (classes_in v) k) (known_of k.registers.protected z.fixed p)) ≡ true) sizes h))
+
+  -- what may follow some moments is
+  pub moments_near : (s : Setting) (cs : List Class) (ms : List (MomentKey × Facts)) → moments_closed s cs (tables_in names v) ms ≡ true
+      → moments_closed s cs (near_in names u near) ms ≡ true
+  moments_near s cs ms h = subst (λ (x : known.Tables). moments_closed s cs x ms ≡ true) all_same h
+
+-- a subject with other tables
+pub subject_with : (names : List (List ℕ)) (s : Setting) (u : Subject) (v : Subject) (n m : ℕ) → IsSubject names s u → length names ≡ n → m ≡ length (classes_in u)
+    → AreWhole n m v.tables.now → v ≡ record u { tables = v.tables } → IsSubject names s v
+subject_with names s u v n m is size count whole same =
+    subst (IsSubject names s) (sym same)
+    (record {
+      code = is.code;
+      sized = is.sized;
+      ons = is.ons;
+      never = is.never;
+      distinct = is.distinct;
+      whole = subst (λ (n : ℕ). AreWhole n (length (classes_in u)) v.tables.now) (sym size) (subst (λ (m : ℕ). AreWhole n m v.tables.now) count whole);
+      apart = is.apart;
+      prepared = is.prepared;
+    })
+
+-- an instruction that passes at the place
+pub fetched_with : (names : List (List ℕ)) (s : Setting) (u : SumsTable) (t : Turn) (p : Spot) → place_in names t ≡ p → IsOver names s t.subject.now t.key.now.amounts.items
+    → AreSums s.rules t.rules.now → AreGoals names s u t.subject.now p t.goals.now → Passes t (λ names s u. instruction_closed names s u t)
+    → fetched_closed s u p (sums_value t.sums.now) (Ok (t.ins.now, t.next)) ≡ true
+fetched_with names s u t p e over sums are h = fetched_is names s u t p e (h names s u (turn_is names s u t p e over sums are))
