@@ -1,22 +1,24 @@
 // The check of finished tables against the definition of outcomes.
-ghost use Rattle.std.specs.Prelude.{◌≡◌, true, vec_len, IfOk};
+ghost use Rattle.std.specs.Prelude.{◌≡◌, true, ℕ, List, map, IfOk};
 ghost use Rattle.model_rules.specs.Rules.{AppRules, Target};
-ghost use Rattle.prove_events.specs.Rules.{AreRules};
-ghost use Rattle.prove_tables.specs.Closed.{AreClosed};
+ghost use Rattle.model_prove.specs.Keys as keys;
+ghost use Rattle.model_prove.specs.Tables as closed;
+ghost use Rattle.prove_closed.specs.Classes.{lists_of};
+ghost use Rattle.prove_events.specs.Rules.{AreRules, name_of};
+ghost use Rattle.prove_keys.specs.Tables.{tables_of};
+ghost use Rattle.prove_rules.specs.Sums.{AreSums};
+ghost use Rattle.prove_tables.specs.Closed.{AreProved, HasSums, tables_with};
 
+use crate::subject::Subject;
+use crate::sums_table::table_of_sums;
+use crate::tables::Found;
 use mc_base::NoMemory;
 use prove_closed::is_closed;
-use prove_events::{Class, Event, On, Rules};
+use prove_events::{Class, Event, On};
 use prove_facts::push;
-use prove_keys::Tables;
+use prove_sum_steps::sums_are_closed;
 use std::alloc::Global;
-
-/// Returns whether the tables of some rules are checked by the definition of outcomes: those without lines of sums.
-pub fn is_by_definition(rules: &Rules<'_>) -> bool
-    ensures { vec_len rules.now.balances ≡ 0 → result ≡ true }
-{
-    rules.balances.is_empty()
-}
+use std::collections::BTreeSet;
 
 // Which `command` and `answer` lines the commands of a class match.
 fn lines_of(alloc: Global, ons: &[On], class: &Class) -> Result<Vec<bool>, NoMemory> {
@@ -38,21 +40,72 @@ fn lines_of_all(alloc: Global, ons: &[On], classes: &[Class]) -> Result<Vec<Vec<
     Ok(all)
 }
 
-/// Returns whether finished tables are closed, as the definition has it: they have the first moment and every outcome
-/// of each of their keys, none breaks a rule, and each moment keeps the ranges.
+// Whether the tables that a search found are closed: they have the first moment and every outcome of each of their keys,
+// none breaks a rule, and each moment keeps the ranges.
+fn are_closed(
+    alloc: Global,
+    subject: &Subject<'_>,
+    found: &Found,
+    numbers: &[Vec<bool>],
+) -> Result<bool, NoMemory>
+    ensures { IfOk result (λ holds. holds ≡ true → (a : AppRules) (g : Target) → AreRules a g subject.now.rules.now
+        → closed.is_closed (record { rules = a; app = g.app })
+        (tables_with subject.now.rules.now numbers.now found.now.tables) ≡ true) }
+{
+    is_closed(alloc, subject.rules, &found.tables, numbers)
+}
+
+// The numbers of places in their order.
+fn listed(alloc: Global, places: &BTreeSet<usize>) -> Result<Vec<usize>, NoMemory> {
+    let mut list = Vec::new(alloc);
+    for place in places {
+        push(&mut list, *place)?;
+    }
+    Ok(list)
+}
+
+// Whether the table of sums that a search found is closed beside its tables.
+fn have_sums(
+    alloc: Global,
+    subject: &Subject<'_>,
+    found: &Found,
+    numbers: &[Vec<bool>],
+) -> Result<bool, NoMemory>
+    ensures { IfOk result (λ even. even ≡ true → (a : AppRules) (g : Target) → AreRules a g subject.now.rules.now
+        → AreSums a subject.now.rules.now
+        → HasSums a g (tables_with subject.now.rules.now numbers.now found.now.tables)) }
+{
+    let tables = &found.tables;
+    let sums = table_of_sums(alloc, subject.sizes.blocks, tables.known.as_slice())?;
+    let begun = listed(alloc, &found.successors.begun)?;
+    sums_are_closed(
+        alloc,
+        subject.rules,
+        tables,
+        numbers,
+        sums.as_slice(),
+        found.successors.near.as_slice(),
+        begun.as_slice(),
+    )
+}
+
+/// Returns whether the tables that a search found are closed, as the definition has it, and with lines of sums a table of
+/// sums beside them.
 ///
 /// # Errors
 ///
 /// Returns `NoMemory` if it is out of memory.
-pub fn are_closed(
-    alloc: Global,
-    rules: &Rules<'_>,
-    classes: &[Class],
-    tables: &Tables,
-) -> Result<bool, NoMemory>
-    ensures { IfOk result (λ closed. closed ≡ true → (a : AppRules) (g : Target) → AreRules a g rules.now
-        → AreClosed a g) }
+pub fn are_proved(alloc: Global, subject: &Subject<'_>, found: &Found) -> Result<bool, NoMemory>
+    ensures { IfOk result (λ proved. proved ≡ true → (a : AppRules) (g : Target) → AreRules a g subject.now.rules.now
+        → AreSums a subject.now.rules.now → AreProved a g) }
 {
-    let numbers = lines_of_all(alloc, rules.ons.as_slice(), classes)?;
-    is_closed(alloc, rules, tables, numbers.as_slice())
+    let rules = subject.rules;
+    let numbers = lines_of_all(alloc, rules.ons.as_slice(), subject.classes.as_slice())?;
+    if !are_closed(alloc, subject, found, numbers.as_slice())? {
+        return Ok(false);
+    }
+    if rules.balances.is_empty() {
+        return Ok(true);
+    }
+    have_sums(alloc, subject, found, numbers.as_slice())
 }

@@ -4,7 +4,6 @@
 //! code and at each moment between commands, the search that fills them, and the check of the finished tables.
 
 mod balances;
-mod checking;
 mod closing;
 mod ends;
 mod events;
@@ -14,6 +13,8 @@ mod places;
 mod proving;
 mod searching;
 mod subject;
+mod successors;
+mod sums_table;
 mod tables;
 mod text;
 mod way_text;

@@ -1,21 +1,23 @@
 // The proof of an application's rules.
-ghost use Rattle.std.specs.Prelude.{◌≡◌, true, false, vec_len, IfOk};
+ghost use Rattle.std.specs.Prelude.{◌≡◌, true, false, IfOk};
+ghost use Rattle.law_sum_plays.specs.Laws.{ClosedSumsLaw};
 ghost use Rattle.model_prove.specs.Tables.{ClosedLaw};
 ghost use Rattle.model_rules.specs.Law.{AreKept};
 ghost use Rattle.model_rules.specs.Rules.{AppRules, Target};
 ghost use Rattle.prove_events.specs.Rules.{AreRules};
-ghost use Rattle.prove_tables.specs.Closed.{AreClosed};
+ghost use Rattle.prove_rules.specs.Sums.{AreSums};
+ghost use Rattle.prove_tables.specs.Closed.{AreProved};
 ghost use Rattle.prove_tables.specs.Reports.{IsReport};
 
 use crate::balances::balance_at_creation;
-use crate::checking::is_closed;
-use crate::closing::{are_closed, is_by_definition};
+use crate::closing::are_proved;
 use crate::keys::{Break, Rule};
 use crate::searching::{Stopped, search};
 use crate::subject::{Subject, blocks_of};
 use crate::tables::{Found, MOST_KEYS};
 use crate::text::{add_verdict, break_ranges, text_of_tables};
 use law_prove_closed::closed_tables_keep_rules;
+use law_sum_plays::closed_sums_keep_rules;
 use mc_base::NoMemory;
 use prove_events::{Balance, Load, Rules};
 use prove_facts::{Facts, Values, mask, push};
@@ -113,47 +115,27 @@ fn too_many(alloc: Global) -> Result<Verdict, NoMemory>
     })
 }
 
-// Whether finished tables prove the rules: by the definition of outcomes, or with lines of sums by those of the search
-// once more.
-fn is_proved(
-    alloc: Global,
-    subject: &Subject<'_>,
-    found: &Found,
-    first: &MomentKey,
-    facts: &Facts,
-) -> Result<bool, NoMemory>
-    ensures { IfOk result (λ proved. proved ≡ true → vec_len subject.now.rules.now.balances ≡ 0
-        → (a : AppRules) (g : Target) → AreRules a g subject.now.rules.now → AreClosed a g) }
+// Whether what a search found proves the rules: nothing is broken or not known, and its tables are closed, as the
+// definition has it.
+fn is_proved(alloc: Global, subject: &Subject<'_>, found: &Found) -> Result<bool, NoMemory>
+    ensures { IfOk result (λ proved. proved ≡ true → (a : AppRules) (g : Target) → AreRules a g subject.now.rules.now
+        → AreSums a subject.now.rules.now → AreProved a g) }
 {
     if !found.broken.is_empty() || !found.unknown.is_empty() {
         return Ok(false);
     }
-    if is_by_definition(subject.rules) {
-        return are_closed(
-            alloc,
-            subject.rules,
-            subject.classes.as_slice(),
-            &found.tables,
-        );
-    }
-    is_closed(alloc, subject, &found.tables, first, facts)
+    are_proved(alloc, subject, found)
 }
 
-fn verdict_of(
-    alloc: Global,
-    subject: &Subject<'_>,
-    found: Found,
-    first: &MomentKey,
-    facts: &Facts,
-) -> Result<Verdict, NoMemory>
+fn verdict_of(alloc: Global, subject: &Subject<'_>, found: Found) -> Result<Verdict, NoMemory>
     ensures report { IfOk result (λ v. IsReport v.proved v.text.items) }
-    ensures closed { IfOk result (λ v. v.proved ≡ true → vec_len subject.now.rules.now.balances ≡ 0
-        → (a : AppRules) (g : Target) → AreRules a g subject.now.rules.now → AreClosed a g) }
+    ensures closed { IfOk result (λ v. v.proved ≡ true → (a : AppRules) (g : Target)
+        → AreRules a g subject.now.rules.now → AreSums a subject.now.rules.now → AreProved a g) }
 {
     let mut found = found;
     break_balances(subject.rules, &mut found)?;
     break_ranges(subject, &mut found)?;
-    let proved = is_proved(alloc, subject, &found, first, facts)?;
+    let proved = is_proved(alloc, subject, &found)?;
     let text = text_of_tables(alloc, subject, &found, proved)?;
     Ok(Verdict { text, proved })
 }
@@ -166,22 +148,18 @@ fn verdict_of(
 /// Returns `NoMemory` if it is out of memory.
 pub fn prove(alloc: Global, rules: &Rules<'_>) -> Result<Verdict, NoMemory>
     ensures report { IfOk result (λ v. IsReport v.proved v.text.items) }
-    // Rules without lines of sums that are proved are kept in every play of every deck.
-    ensures kept { IfOk result (λ v. v.proved ≡ true → vec_len rules.now.balances ≡ 0
-        → (a : AppRules) (g : Target) → AreRules a g rules.now → AreKept a) }
+    // Rules that are proved are kept in every play of every deck, with their lines of sums.
+    ensures kept { IfOk result (λ v. v.proved ≡ true → (a : AppRules) (g : Target) → AreRules a g rules.now
+        → AreSums a rules.now → AreKept a) }
 {
     closed_tables_keep_rules();
+    closed_sums_keep_rules();
     let blocks = blocks_of(alloc, rules)?;
     let subject = Subject::new(alloc, rules, blocks.as_slice())?;
-    let facts = first_facts(alloc, &rules.load)?;
     let first = first_key(alloc, rules)?;
-    match search(
-        alloc,
-        &subject,
-        first_key(alloc, rules)?,
-        facts.copied(alloc)?,
-    ) {
-        Ok(found) => verdict_of(alloc, &subject, found, &first, &facts),
+    let facts = first_facts(alloc, &rules.load)?;
+    match search(alloc, &subject, first, facts) {
+        Ok(found) => verdict_of(alloc, &subject, found),
         Err(Stopped::TooMany) => too_many(alloc),
         Err(Stopped::NoMemory) => Err(NoMemory),
     }

@@ -3,6 +3,7 @@ use crate::keys::Outcome;
 use crate::moments::moment_outcomes;
 use crate::places::place_outcomes;
 use crate::subject::Subject;
+use crate::successors::Successors;
 use crate::tables::{Found, MOST_KEYS, rounded};
 use mc_base::NoMemory;
 use prove_facts::{Facts, push};
@@ -136,7 +137,13 @@ fn join_moment(
     }
 }
 
-fn join_place(alloc: Global, run: &mut Run, key: PlaceKey, known: Known) -> Result<(), NoMemory> {
+// A place joins those that are there; returns its number.
+fn join_place(
+    alloc: Global,
+    run: &mut Run,
+    key: PlaceKey,
+    known: Known,
+) -> Result<usize, NoMemory> {
     let Ok((number, fresh)) = run.found.tables.places.insert_full(key) else {
         return Err(NoMemory);
     };
@@ -146,52 +153,63 @@ fn join_place(alloc: Global, run: &mut Run, key: PlaceKey, known: Known) -> Resu
             PackedKnown::new(alloc, &known)?,
         )?;
         push(&mut run.place_waits, false)?;
-        return await_place(run, number);
+        await_place(run, number)?;
+        return Ok(number);
     }
     let grows = match run.found.tables.known.get_mut(number) {
         Some(there) => known_grows(alloc, there, &known)?,
         None => false,
     };
     if grows {
-        await_place(run, number)
-    } else {
-        Ok(())
+        await_place(run, number)?;
     }
+    Ok(number)
 }
 
+// An outcome joins the tables; returns the number of the place to which it leads, if it leads to one.
 fn join(
     alloc: Global,
     subject: &Subject<'_>,
     run: &mut Run,
     outcome: Outcome,
-) -> Result<(), NoMemory> {
+) -> Result<Option<usize>, NoMemory> {
     match outcome {
-        Outcome::Moment(key, facts) => join_moment(alloc, subject, run, key, facts),
-        Outcome::Place(key, known) => join_place(alloc, run, key, known),
+        Outcome::Moment(key, facts) => {
+            join_moment(alloc, subject, run, key, facts)?;
+            Ok(None)
+        }
+        Outcome::Place(key, known) => Ok(Some(join_place(alloc, run, key, known)?)),
         Outcome::Broken(broken) => match run.found.broken.insert(broken) {
-            Ok(_) => Ok(()),
+            Ok(_) => Ok(None),
             Err(_) => Err(NoMemory),
         },
         Outcome::Unknown(at) => match run.found.unknown.insert(at) {
-            Ok(_) => Ok(()),
+            Ok(_) => Ok(None),
             Err(_) => Err(NoMemory),
         },
     }
 }
 
+// Outcomes join the tables; returns the numbers of the places to which they lead, each once, if they are asked for.
 fn join_all(
     alloc: Global,
     subject: &Subject<'_>,
     run: &mut Run,
     outcomes: Vec<Outcome>,
-) -> Result<(), Stopped> {
+    asked: bool,
+) -> Result<Vec<usize>, Stopped> {
+    let mut places = Vec::new(alloc);
     for outcome in outcomes {
-        join(alloc, subject, run, outcome)?;
+        if let Some(number) = join(alloc, subject, run, outcome)? {
+            if asked && !places.as_slice().contains(&number) {
+                push(&mut places, number)?;
+            }
+        }
         if run.found.tables.keys() > MOST_KEYS {
             return Err(Stopped::TooMany);
         }
     }
-    Ok(())
+    Ok(places)
 }
 
 // The next key whose outcomes are due: a place, the one that waits longest, and else the moment that waits shortest.
@@ -249,13 +267,33 @@ pub fn outcomes_of_place(
 
 // Takes the outcomes of one key; returns whether some were due.
 fn advance(alloc: Global, subject: &Subject<'_>, run: &mut Run) -> Result<bool, Stopped> {
-    let outcomes = match next_due(run) {
+    let due = next_due(run);
+    let outcomes = match due {
         Due::Moment(number) => outcomes_of_moment(alloc, subject, &run.found.tables, number)?,
         Due::Place(number) => outcomes_of_place(alloc, subject, &run.found.tables, number)?,
         Due::Nothing => return Ok(false),
     };
-    join_all(alloc, subject, run, outcomes)?;
+    let asked = !subject.rules.balances.is_empty();
+    let places = join_all(alloc, subject, run, outcomes, asked)?;
+    if asked {
+        note(alloc, &mut run.found.successors, due, places)?;
+    }
     Ok(true)
+}
+
+// Notes the places to which the outcomes of a key lead. What the last visit of a key leads to is noted: it has seen all
+// that the tables know there.
+fn note(
+    alloc: Global,
+    successors: &mut Successors,
+    due: Due,
+    places: Vec<usize>,
+) -> Result<(), NoMemory> {
+    match due {
+        Due::Moment(_) => successors.begin(places),
+        Due::Place(number) => successors.follow(alloc, number, places),
+        Due::Nothing => Ok(()),
+    }
 }
 
 // Takes the outcomes of all keys, until none are due. No table of so few keys needs 2^64 turns; after them it gives up.

@@ -1,5 +1,6 @@
 // What a search found, and facts as they are kept between commands.
 use crate::keys::Break;
+use crate::successors::Successors;
 use mc_base::NoMemory;
 use prove_events::{Always, Rules};
 use prove_facts::{Fact, Facts, Values};
@@ -12,11 +13,13 @@ pub const MOST_KEYS: usize = 1_000_000;
 // The most values of a set that is not rounded.
 const MOST_VALUES: u32 = 16;
 
-/// What a search found: the tables, the rules that some outcome breaks, and the places at which it is not known where
-/// the code goes on.
+/// What a search found: the tables, the places that follow each place, the rules that some outcome breaks, and the places
+/// at which it is not known where the code goes on.
 #[derive(Drop)]
 pub struct Found {
     pub tables: Tables,
+    /// Noted of rules with lines of sums alone.
+    pub successors: Successors,
     pub broken: BTreeSet<Break>,
     pub unknown: BTreeSet<u16>,
 }
@@ -26,6 +29,7 @@ impl Found {
     pub fn new(alloc: Global) -> Found {
         Found {
             tables: Tables::new(alloc),
+            successors: Successors::new(alloc),
             broken: BTreeSet::new(alloc),
             unknown: BTreeSet::new(alloc),
         }
