@@ -1,5 +1,5 @@
 -- The search through all states of a card with what the rules of one application count, breadth first, and its text.
-use Rattle.std.specs.Prelude.{◌≡◌, ◌≢◌, ℕ, zero, suc, ◌+◌, Bool, true, false, nat_lt, List, [], ◌∷◌, ◌++◌, length, reverse, codes, decimal, Result, Ok, Err}
+use Rattle.std.specs.Prelude.{ℕ, zero, suc, ◌+◌, Bool, true, false, nat_lt, List, [], ◌∷◌, ◌++◌, length, reverse, codes, decimal, Result, Ok, Err}
 use Rattle.model_text.specs.Text.{◌>>=◌, ok_as}
 use Rattle.model_play.specs.Play.{State}
 use Rattle.law_explore.specs.States.{CardState, play_of, play_of_deck, first_play, warm_state, state_in, is_known}
@@ -8,8 +8,7 @@ use Rattle.law_explore.specs.Search.{Ending, All, AtDepth, TooMany, Broken, Stat
 use Rattle.law_explore_text.specs.Report.{depth_lines, broken_text, silent_lines, sums_text}
 use Rattle.model_rules.specs.Rules.{AppRules, Target}
 use Rattle.model_rules.specs.Keeping.{Standing}
-use Rattle.model_rules.specs.Law.{AreKept}
-use Rattle.law_histories.specs.Histories.{AppExploration, app_exploration_read, first_standing_of, standing_after_steps, steps_of_try, events_of, heard_lines, heard_too}
+use Rattle.law_histories.specs.Histories.{AppExploration, first_standing_of, standing_after_steps, steps_of_try, events_of, heard_lines, heard_too}
 
 -- A state that was found: a card with the amounts of the allowances; what stands there, with the sums, which are in no
 -- state; and the tries that lead to it, the last first.
@@ -160,12 +159,3 @@ app_text_within limit n x = text_of_search (play_of_deck x.lines) (app_search li
 unfoldable pub app_text : ℕ → AppExploration → List ℕ
 unfolding app_text_within
 app_text n x = app_text_within most_states n x
-
--- ---- what is proved
-
--- Rules that are kept in every play are broken in no exploration of a deck that they stand in. (A statement; it is tested
--- over all decks with rules, and not proved.)
-abbrev pub KeptLaw : Type 0
-KeptLaw =
-    (limit n : ℕ) (text : List ℕ) (x : AppExploration) → app_exploration_read text ≡ Ok x → AreKept x.rules
-    → (name : List ℕ) (path : List Try) → (app_search limit n x).ending ≢ Broken name path
