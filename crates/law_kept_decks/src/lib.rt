@@ -1,0 +1,4 @@
+//! Decks whose rules are proved, and their explorations.
+#![tactic(auto)]
+
+mod laws;
