@@ -15,6 +15,7 @@ mod standing;
 pub use amounts::first_amounts;
 pub use applying::apply;
 pub use arithmetic::number_bytes;
+pub use blocks::{first_block, is_block};
 pub use course::{Course, Deed, Extent, Happening};
 pub use durable::is_durable;
 pub use laws::{blocks_are_sums, places_are_names, ranges_are_ranges};

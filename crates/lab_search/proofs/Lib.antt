@@ -4,17 +4,17 @@ mod MoveLemmas
 mod RestoreLemmas
 mod RestoringLemmas
 mod TryLemmas
-mod AlikeLemmas
+pub mod AlikeLemmas
 pub mod SameKept
 mod BaseLemmas
-mod AttemptLemmas
+pub mod AttemptLemmas
 mod BeginLemmas
 mod TallyLemmas
-mod KeptLemmas
-mod RoundLemmas
+pub mod KeptLemmas
+pub mod RoundLemmas
 mod CourseLemmas
-mod EndingLemmas
+pub mod EndingLemmas
 mod PathLemmas
-mod HaltLemmas
-mod StartLemmas
+pub mod HaltLemmas
+pub mod StartLemmas
 mod DepthLemmas

@@ -71,9 +71,9 @@ pub struct Start {
 }
 
 impl Start {
-    // The lead to a path, by whether its first move is cut: on a card that runs already, the cut takes the place of
-    // a stop that is armed.
-    fn lead_to(&self, cut: bool) -> Lead
+    /// Returns the lead to a path, by whether its first move is cut: on a card that runs already, the cut takes the place
+    /// of a stop that is armed.
+    pub fn lead_to(&self, cut: bool) -> Lead
         ensures { result ≡ record {
           armed = self.now.lead.armed && not (self.now.ran && cut);
           power = self.now.lead.power;
@@ -87,8 +87,8 @@ impl Start {
     }
 }
 
-// Whether the first step of a path arms a cut.
-fn begins_cut(path: &[Step]) -> bool
+/// Returns whether the first step of a path arms a cut.
+pub fn begins_cut(path: &[Step]) -> bool
     ensures { (ms : List rule.Move) (ts : List Try) → AlikeLists (IsTry ms) path.now ts → result ≡ begins_cut ts }
 {
     match path {
@@ -107,8 +107,12 @@ fn kept_as(depth: Option<u32>) -> Explored
     }
 }
 
-// The number of statements that lead to a broken rule. Returns `NoMemory` if there is no room for it.
-fn count_of_statements(lead: Lead, path: &[Step]) -> Result<u64, NoMemory>
+/// Returns the number of statements that lead to a broken rule.
+///
+/// # Errors
+///
+/// Returns `NoMemory` if there is no room for it.
+pub fn count_of_statements(lead: Lead, path: &[Step]) -> Result<u64, NoMemory>
     ensures { IfOk result (λ count. count ≡ one_if lead.armed + one_if lead.power + lines_of path.now) }
 {
     let mut count = u64::from(lead.armed) + u64::from(lead.power);
@@ -162,8 +166,12 @@ fn put_steps<T: Sink>(out: &mut T, moves: &[Move<'_>], path: &[Step]) -> Result<
     Ok(())
 }
 
-// Writes the statements that lead to a broken rule.
-fn put_path<T: Sink>(
+/// Writes the statements that lead to a broken rule.
+///
+/// # Errors
+///
+/// Returns `WriteFault` if the sink fails.
+pub fn put_path<T: Sink>(
     out: &mut T,
     lead: Lead,
     moves: &[Move<'_>],
@@ -210,8 +218,12 @@ fn report_broken<T: Sink>(
 }
 
 impl Search {
-    // The steps from the first state to the end of a last one, in order.
-    fn path(&self, alloc: Global, last: Step) -> Result<Vec<Step>, NoMemory>
+    /// Returns the steps from the first state to the end of a last one, in order.
+    ///
+    /// # Errors
+    ///
+    /// Returns `NoMemory` if it is out of memory.
+    pub fn path(&self, alloc: Global, last: Step) -> Result<Vec<Step>, NoMemory>
         ensures { IfOk result (λ path. (d : Depth) (ns : List Node) (n : Node) (t : Try)
             → IsFrom d self.now ns n last.before → IsTry d.rules.moves last t
             → AlikeLists (IsTry d.rules.moves) path.items (reverse (t ∷ n.path))) }

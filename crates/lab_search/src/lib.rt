@@ -15,5 +15,13 @@ mod search;
 mod tally;
 mod trying;
 
-pub use endings::{Explored, SearchFault};
+pub use beginning::{Beginning, Lead, begin};
+pub use endings::{Explored, SearchFault, Start, begins_cut, count_of_statements, put_path};
+pub use journey::{Fill, Manner, Step};
+pub use making::{Candidate, restore};
+pub use playing::{Budget, play};
+pub use report::{put_broken, put_depth, put_sums, put_unheard};
+pub use rounds::{Halt, Search};
 pub use search::{explore, explore_within};
+pub use tally::Tally;
+pub use trying::{Laboratory, Tried};

@@ -40,8 +40,8 @@ pub struct Candidate<'a> {
     pub applies: &'a [bool],
 }
 
-// Puts a state back on a player before its first line: sets the budget, powers up, and puts back what ran.
-fn restore<N: Bench, L: Ledger>(
+/// Puts a state back on a player before its first line: sets the budget, powers up, and puts back what ran.
+pub fn restore<N: Bench, L: Ledger>(
     player: &mut Player<N>,
     budget: &Budget,
     saved: &Live,

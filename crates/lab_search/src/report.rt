@@ -79,8 +79,12 @@ pub fn put_sums<T: Sink>(
     put(out, b"\n")
 }
 
-// Writes the line of a rule that applied to no try, unless it applied to one.
-fn put_unheard<T: Sink>(out: &mut T, line: u32, heard: bool) -> Result<(), WriteFault>
+/// Writes the line of a rule that applied to no try, unless it applied to one.
+///
+/// # Errors
+///
+/// Returns `WriteFault` if the sink fails.
+pub fn put_unheard<T: Sink>(out: &mut T, line: u32, heard: bool) -> Result<(), WriteFault>
     ensures { Puts (sunk T.Sink out.old) (silent_if heard line) result (sunk T.Sink out.new) }
 {
     if heard {

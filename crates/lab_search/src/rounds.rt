@@ -85,9 +85,15 @@ impl Search {
         })
     }
 
-    // Keeps a state that was reached by a step, if it is new. Returns `Full` if there are too many.
-    fn keep(&mut self, state: CardState, step: Step) -> Result<Option<Halt>, NoMemory>
-        ensures { IfOk result (λ h. (d : Depth) (ns : List Node) (n : Node) (t : Try) (c : model.CardState)
+    /// Keeps a state that was reached by a step, if it is new. Returns `Full` if there are too many.
+    ///
+    /// # Errors
+    ///
+    /// Returns `NoMemory` if it is out of memory.
+    pub fn keep(&mut self, state: CardState, step: Step) -> Result<Option<Halt>, NoMemory>
+        ensures laboratory { self.new.laboratory ≡ self.old.laboratory }
+        ensures rosters { self.new.rosters ≡ self.old.rosters }
+        ensures comes { IfOk result (λ h. (d : Depth) (ns : List Node) (n : Node) (t : Try) (c : model.CardState)
             → IsFrom d self.old ns n step.before → IsTry d.rules.moves step t
             → Kept self.old.laboratory self.old.rosters (names_in d.rules) state c
             → Comes d ns (with_reached (is_known c (known_in ns)) d.most (record { state = c; path = t ∷ n.path })

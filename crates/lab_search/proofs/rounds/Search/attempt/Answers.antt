@@ -28,7 +28,7 @@ returns-in-None g c =
     let more = tally_more d.rules.ons n.state m c.args.step.manner (tally_of c.args.self.now) _ _ counts c.in_ok-count-in-Reached.ensures.tries c.in_ok-count-in-Reached.ensures.heard in
     reached d c.args.self.now _ c.keep.new.self ns n m c.args.candidate.now c.args.step c.in-Reached.state c.in_ok-tried.tried c.in_ok-keep-in-Reached.field-0
     c.in_ok-tried.ensures.keeps refl refl refl more h (c.in_ok-tried.ensures.tried d.rules.allowances d.rules.ons n.state m kept h.candidate k)
-    c.in-Reached.is (λ t e. c.in_ok-keep-in-Reached.ensures d ns n t e) None c.in-None.is
+    c.in-Reached.is (λ t e. c.in_ok-keep-in-Reached.ensures.comes d ns n t e) None c.in-None.is
 
 pub returns-in-Some-2 : goal.returns-in-Some-2
 returns-in-Some-2 g c =
@@ -38,7 +38,7 @@ returns-in-Some-2 g c =
     let more = tally_more d.rules.ons n.state m c.args.step.manner (tally_of c.args.self.now) _ _ counts c.in_ok-count-in-Reached.ensures.tries c.in_ok-count-in-Reached.ensures.heard in
     reached d c.args.self.now _ c.keep.new.self ns n m c.args.candidate.now c.args.step c.in-Reached.state c.in_ok-tried.tried c.in_ok-keep-in-Reached.field-0
     c.in_ok-tried.ensures.keeps refl refl refl more h (c.in_ok-tried.ensures.tried d.rules.allowances d.rules.ons n.state m kept h.candidate k)
-    c.in-Reached.is (λ t e. c.in_ok-keep-in-Reached.ensures d ns n t e) (Some c.in-Some-2.halt) c.in-Some-2.is
+    c.in-Reached.is (λ t e. c.in_ok-keep-in-Reached.ensures.comes d ns n t e) (Some c.in-Some-2.halt) c.in-Some-2.is
 
 pub attempt-requires : goal.attempt-requires
 attempt-requires g c =
