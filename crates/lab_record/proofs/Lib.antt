@@ -1,0 +1,6 @@
+mod PlayingLemmas
+mod StaticLemmas
+mod SightLemmas
+mod EndingLemmas
+mod LogLemmas
+mod RecordingLemmas

@@ -1,0 +1,7 @@
+use Rattle.mc_deck.specs.Lines.{line_of}
+use Rattle.lab_record.proofs.PlayingLemmas.{line_playing}
+use Rattle.lab_record.proofs.playing.play_line.Goals as goal
+
+pub returns-clause-playing : goal.returns-clause-playing
+returns-clause-playing g c =
+    line_playing g.N.Nvm.state g.N.Bench.bench _ c.args.player.now c.line-answer.new.self (line_of c.args.line.now) _ _ c.line-answer.result c.line-answer.ensures.done c.requires.playing

@@ -1,0 +1,5 @@
+pub mod Fitting
+pub mod Logs
+pub mod Recorders
+pub mod Courses
+pub mod Playing

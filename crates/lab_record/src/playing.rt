@@ -1,0 +1,36 @@
+// A line that is played, of which nothing is recorded.
+ghost use Rattle.mc_deck.specs.Lines.{line_of, GoodLine};
+ghost use Rattle.mc_script.specs.Players.{device_of};
+ghost use Rattle.mc_script.specs.Benches.{IsPlaying};
+
+use mc_base::Steps;
+use mc_deck::{Deck, Line};
+use mc_nvm::Bench;
+use mc_script::{Player, Silent};
+use std::sync::ledger::Ledger;
+
+/// Plays a line, and records nothing.
+pub fn play_line<N: Bench, L: Ledger>(player: &mut Player<N>, line: &Line<'_>, steps: &mut Steps<L>)
+    requires playing { IsPlaying N.Bench player.old }
+    requires good { GoodLine (line_of line.now) }
+    ensures playing { IsPlaying N.Bench player.new }
+    ensures keeps_device { N.same (device_of player.old) (device_of player.new) }
+{
+    let _answer = player.line(line, &mut Silent, steps);
+}
+
+/// Plays the lines of a deck before the one with a number, or all if it has no such line.
+pub fn play_before<N: Bench, L: Ledger>(
+    player: &mut Player<N>,
+    deck: &Deck,
+    i: usize,
+    steps: &mut Steps<L>,
+)
+    requires { IsPlaying N.Bench player.old }
+    ensures { IsPlaying N.Bench player.new }
+{
+    let count = deck.len();
+    for j in 0..i.min(count) {
+        play_line(player, &deck.line(j).1, steps);
+    }
+}

@@ -1,0 +1,10 @@
+// The application that is recorded.
+use mc_base::Aid;
+use prove_events::Rules;
+
+/// An application: its rules, and its AID.
+#[derive(Clone, Copy)]
+pub struct Subject<'a> {
+    pub rules: &'a Rules<'a>,
+    pub aid: &'a Aid,
+}
