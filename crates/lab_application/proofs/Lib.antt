@@ -1,0 +1,6 @@
+mod SearchLemmas
+mod ShadowLemmas
+mod FirstLemmas
+mod WordLemmas
+mod DepthLemmas
+mod HaltLemmas

@@ -1,0 +1,17 @@
+use Rattle.std.proofs.Common.{◌≡◌, true, List, length}
+use Rattle.model_play.specs.Family.{is_running}
+use Rattle.law_explore.specs.Rules as rule
+use Rattle.law_explore.specs.Search.{Node}
+use Rattle.lab_search.specs.Kept.{names_in}
+use Rattle.lab_search.specs.Rounds.{Depth, TriesMove}
+use Rattle.lab_application.specs.Finding.{AreKeptWith, IsSameSearch}
+use Rattle.lab_application.proofs.attempts.Attempt.make_all.Given as goal
+
+-- each try so far reached a state that is kept
+abbrev pub invariant-loop-made : goal.invariant-loop-made
+invariant-loop-made g l =
+    record {
+      same : IsSameSearch l.fn.search l.search;
+      count : length l.all.items ≡ l.made;
+      kept : (d : Depth) (ns : List Node) (n : Node) (m : rule.Move) → TriesMove d l.fn.search ns n m l.self.candidate.now l.self.before l.self.chosen → is_running n.state.live ≡ true → AreKeptWith l.search (names_in d.rules) l.all.items;
+    }

@@ -1,0 +1,22 @@
+use Rattle.std.proofs.Common.{arith}
+use Rattle.lab_search.specs.declared.journey.Manner.TheVariants as manner
+use Rattle.lab_application.proofs.SearchLemmas.{if_ok_then, on_ok_then, reached_kept, same_tries}
+use Rattle.lab_application.proofs.attempts.Attempt.try_fill.Goals as goal
+
+pub make-requires : goal.make-requires
+make-requires g c =
+    let q = c.requires.can in
+    let counted = c.requires.counted in
+    (q.0, q.1, q.2, q.3, q.4, (q.5, omega (arith, counted)))
+
+pub returns-in-Some-clause-keeps : goal.returns-in-Some-clause-keeps
+returns-in-Some-clause-keeps g c = on_ok_then c.take.result _ _ (λ h. λ names x k i. h names x k (c.in_ok-reached.ensures.same.keeps names x k i)) c.take.ensures.keeps
+
+pub returns-in-Some-clause-comes : goal.returns-in-Some-clause-comes
+returns-in-Some-clause-comes g c =
+    if_ok_then c.take.result _ _
+    (λ o f. λ d ns n m h k.
+    let there = same_tries d ns n m c.args.self.now.candidate.now c.args.self.now.before c.args.self.now.chosen c.args.search.now c.make.new.search c.in_ok-reached.ensures.same h in
+    let counted = c.requires.counted in
+    f d ns n m there (reached_kept d c.make.new.search n m (manner.Cut c.args.made c.args.fill) c.in_ok-reached.field-0 c.in-Some.reached c.in-Some.is (c.in_ok-reached.ensures.made d ns n m h (k, omega (arith, counted)))))
+    c.take.ensures.comes

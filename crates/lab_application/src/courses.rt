@@ -1,0 +1,109 @@
+// What happens to an application while a move is made whole from a state.
+ghost use Rattle.std.specs.Prelude.{◌≡◌, List, OnOk, true};
+ghost use Rattle.law_explore.specs.Search.{Node};
+ghost use Rattle.mc_deck.specs.Lines.{line_of, GoodLine};
+ghost use Rattle.mc_script.specs.Players.{IsUnfused};
+ghost use Rattle.lab_key.specs.Shown.{ShowsSome};
+ghost use Rattle.lab_search.specs.Rounds.{Depth, IsFrom};
+ghost use Rattle.lab_application.specs.Finding.{IsKept, IsSameSearch};
+
+use crate::statics::{put_card, statics_in};
+use lab_history::Course;
+use lab_key::{CardState, Rosters};
+use lab_record::{Subject, play_recorded};
+use lab_rules::Move;
+use lab_search::{Budget, Laboratory, Search, restore};
+use mc_base::{NoMemory, Steps};
+use mc_deck::Line;
+use mc_nvm::Bench;
+use mc_script::{Live, Player};
+use std::alloc::Global;
+use std::sync::ledger::Ledger;
+
+// Plays a line from the card that a device shows, and returns the device, and what happens to the application.
+fn course_on<N: Bench, L: Ledger>(
+    alloc: Global,
+    device: N,
+    budget: &Budget,
+    live: &Live,
+    line: &Line<'_>,
+    subject: Subject<'_>,
+    steps: &mut Steps<L>,
+) -> (N, Result<Course, NoMemory>)
+    requires unfused { IsUnfused (N.bench device) }
+    requires steady { (N.bench device).steady ≡ true }
+    requires shown { ShowsSome (N.state device).words live.now }
+    requires good { GoodLine (line_of line.now) }
+    ensures keeps_device { N.same device result.0 }
+{
+    let mut player = Player::new(device);
+    restore(&mut player, budget, live, steps);
+    let played = play_recorded(alloc, &mut player, line, subject, steps);
+    let course = match played {
+        Ok(played) => Ok(played.course),
+        Err(_) => Err(NoMemory),
+    };
+    (player.into_dev(), course)
+}
+
+// What happens to the application while a move is made whole from a state, and its static bytes before it, if it is there.
+fn course_in<L: Ledger>(
+    alloc: Global,
+    laboratory: &mut Laboratory,
+    rosters: &Rosters,
+    state: &CardState,
+    subject: Subject<'_>,
+    chosen: &Move<'_>,
+    steps: &mut Steps<L>,
+) -> Result<(Course, Option<Vec<u8>>), NoMemory>
+    requires { IsKept laboratory.old rosters.now state.now }
+    ensures root { OnOk result (laboratory.new.device.root ≡ laboratory.old.device.root) }
+    ensures budget { OnOk result (laboratory.new.budget ≡ laboratory.old.budget) }
+{
+    let fixed = statics_in(alloc, laboratory, rosters, state, subject.aid)?;
+    let Some(saved) = rosters.saved(state.card) else {
+        return Err(NoMemory);
+    };
+    put_card(&mut laboratory.device, saved);
+    let (_device, course) = course_on(
+        alloc,
+        &mut laboratory.device,
+        &laboratory.budget,
+        &saved.live,
+        &chosen.line(),
+        subject,
+        steps,
+    );
+    Ok((course?, fixed))
+}
+
+/// Returns what happens to the application while a move is made whole from the state with a number, and its static bytes
+/// before it, or `None` if it is not there.
+///
+/// # Errors
+///
+/// Returns `NoMemory` if it is out of memory.
+pub fn course_of<L: Ledger>(
+    alloc: Global,
+    search: &mut Search,
+    subject: Subject<'_>,
+    chosen: &Move<'_>,
+    before: usize,
+    steps: &mut Steps<L>,
+) -> Result<(Course, Option<Vec<u8>>), NoMemory>
+    requires { (d : Depth) × (ns : List Node) × (n : Node) × IsFrom d search.old ns n before }
+    ensures { OnOk result (IsSameSearch search.old search.new) }
+{
+    let Some(state) = search.states.get_index(before) else {
+        return Err(NoMemory);
+    };
+    course_in(
+        alloc,
+        &mut search.laboratory,
+        &search.rosters,
+        state,
+        subject,
+        chosen,
+        steps,
+    )
+}
