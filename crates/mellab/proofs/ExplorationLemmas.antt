@@ -1,12 +1,15 @@
 -- A deck with its rules that was read is one of the definition, and what its exploration comes to.
-use Rattle.std.specs.Prelude.{◌≡◌, ℕ, true, false, List, Result, Ok, Err}
-use Rattle.std.proofs.Common.{ap, inr, refl, subst, sym, ◌∙◌}
+use Rattle.std.specs.Prelude.{◌≡◌, ℕ, ◌+◌, Bool, true, false, List, length, Option, Some, None, Result, Ok, Err, IfOk, IfErr}
+use Rattle.std.proofs.Common.{ap, arith, inr, refl, subst, sym, ◌∙◌}
 use Rattle.mc_text.specs.Texts.{Fails}
 use Rattle.law_explore.specs.Rules as rule
 use Rattle.law_explore.specs.Rules.{exploration_read}
 use Rattle.law_explore.specs.Search.{Ending, All, AtDepth, Broken, TooMany, search_of}
+use Rattle.law_explore.specs.States.{play_of_deck}
 use Rattle.law_explore_text.specs.Report.{text_within}
 use Rattle.law_explore.proofs.ReadRules.{moves_of_exploration}
+use Rattle.law_histories.specs.Histories.{AppExploration, AppFault, app_exploration_read, names_application}
+use Rattle.law_histories.specs.Searches.{text_of_search}
 use Rattle.lab_rules.specs.Meanings.{IsExplorationRead}
 use Rattle.lab_rules.specs.declared.reading.Exploration.{Exploration}
 use Rattle.lab_search.specs.Kept.{IsExplorationOf}
@@ -15,13 +18,16 @@ use Rattle.lab_search.specs.declared.endings.Explored.{Explored}
 use Rattle.lab_search.specs.declared.endings.Explored.TheVariants as explored
 use Rattle.lab_search.specs.declared.endings.SearchFault.{SearchFault}
 use Rattle.lab_search.specs.declared.endings.SearchFault.TheVariants as fault
-use Rattle.mc_filter.specs.Inputs.{ReadWhole}
+use Rattle.mc_filter.specs.Inputs.{ReadsLimited, ReadWhole, Rejects}
 use Rattle.mc_filter.specs.Outside.{IsRead, Outside}
+use Rattle.mc_filter.specs.declared.rejection.Rejection.{Rejection}
+use Rattle.mc_filter.specs.declared.rejection.Rejection.TheVariants as rejection
 use Rattle.mc_filter.specs.declared.status.Status.{Status}
 use Rattle.mc_filter.specs.declared.status.Status.TheVariants.{WriteFault}
+use Rattle.mellab.specs.declared.job.Job.{Job}
 use Rattle.mellab.specs.declared.job.Job.TheVariants as job
-use Rattle.mellab.specs.Verdicts.{LabVerdict, Reports, ReportsPart, Refusal, ending_verdict, exploration_verdict, text_of_verdict, IsVerdictOfJob}
-use Rattle.mellab.specs.Running.{status_explored}
+use Rattle.mellab.specs.Verdicts.{LabVerdict, Reports, ReportsPart, Refusal, app_fault_line, ending_verdict, exploration_fault_line, exploration_verdict, text_of_verdict, IsAppVerdict, IsExplorationVerdict, IsVerdictOfJob}
+use Rattle.mellab.specs.Running.{refused_application, refused_exploration, status_explored, EndsApplication, EndsExploration, RejectsLabJob}
 use Rattle.mellab.specs.Statuses.{IsTextWritten, MellabEnds}
 
 -- ---- the deck and its rules
@@ -53,32 +59,25 @@ verdict_is text (AtDepth d) = refl
 verdict_is text (Broken name path) = refl
 verdict_is text (TooMany d) = refl
 
-module _ (depth most : ℕ) (a : Outside) (input : List ℕ) (x : rule.Exploration) (read : ReadWhole a.input_old a.input input) (is : exploration_read input ≡ Ok x) where
-  abbrev text : List ℕ
-  text = text_within most depth x
+same_text : (text : List ℕ) (e : Explored) → text_of_verdict (verdict_by text e) ≡ text
+same_text text explored.All = refl
+same_text text explored.Partial = refl
+same_text text explored.Broken = refl
 
-  abbrev end : Ending
-  end = (search_of most depth x).ending
-
-  verdict : exploration_verdict depth most (exploration_read input) ≡ ending_verdict text end
-  verdict = ap (exploration_verdict depth most) is
-
+module _ (depth most : ℕ) (a : Outside) (input : List ℕ) (read : ReadWhole a.input_old a.input input) (text : List ℕ) (end : Ending) (is : IsVerdictOfJob (job.Explore depth most) input (ending_verdict text end)) where
   -- the verdict that is due
   due : (e : Explored) → e ≡ explored_as end → IsRead Refusal (IsVerdictOfJob (job.Explore depth most)) a.input_old a.input (verdict_by text e)
-  due e how = inr (record { input = input; read = read; is = ap (verdict_by text) how ∙ sym (verdict ∙ verdict_is text end) })
+  due e how =
+      inr (record {
+        input = input;
+        read = read;
+        is = subst (λ (v : LabVerdict). IsVerdictOfJob (job.Explore depth most) input v) (verdict_is text end ∙ ap (verdict_by text) (sym how)) is;
+      })
 
   failed : (v : LabVerdict) → Fails a.out_old (text_of_verdict v) a.out → IsTextWritten v WriteFault a
   failed (Reports t well) w = record { result = Err (record {}); status = refl; written = w }
   failed (ReportsPart t) w = record { result = Err (record {}); status = refl; written = w }
   failed (Refusal t) w = record { result = Err (record {}); status = refl; written = w }
-
-  same_text : (e : Explored) → text_of_verdict (verdict_by text e) ≡ text
-  same_text explored.All = refl
-  same_text explored.Partial = refl
-  same_text explored.Broken = refl
-
-  verdict_text : text_of_verdict (exploration_verdict depth most (exploration_read input)) ≡ text
-  verdict_text = ap text_of_verdict (verdict ∙ verdict_is text end) ∙ same_text (explored_as end)
 
   ends_as : (r : Result Explored SearchFault) → IsExplored a.out_old text end r a.out → MellabEnds (job.Explore depth most) a (status_explored r)
   ends_as (Ok explored.All) h =
@@ -92,11 +91,75 @@ module _ (depth most : ℕ) (a : Outside) (input : List ℕ) (x : rule.Explorati
       record {
         verdict = verdict_by text e;
         due = due e refl;
-        done = failed (verdict_by text e) (subst (λ (t : List ℕ). Fails a.out_old t a.out) (sym (same_text e)) h.text);
+        done = failed (verdict_by text e) (subst (λ (t : List ℕ). Fails a.out_old t a.out) (sym (same_text text e)) h.text);
       }
   ends_as (Err fault.NoMemory) h =
-      inr (record { input = input; read = read; written = subst (λ (t : List ℕ). WritesFront a.out_old t a.out) (sym verdict_text) h.text })
+      inr (record {
+        input = input;
+        read = read;
+        verdict = ending_verdict text end;
+        due = is;
+        written = subst (λ (t : List ℕ). WritesFront a.out_old t a.out) (sym (ap text_of_verdict (verdict_is text end) ∙ same_text text (explored_as end))) h.text;
+      })
 
-  -- an exploration ended
-  pub ends_explored : (r : Result Explored SearchFault) (s : Status) → s ≡ status_explored r → IsExplored a.out_old text end r a.out → MellabEnds (job.Explore depth most) a s
+  ends_explored : (r : Result Explored SearchFault) (s : Status) → s ≡ status_explored r → IsExplored a.out_old text end r a.out → MellabEnds (job.Explore depth most) a s
   ends_explored r s e h = subst (λ (t : Status). MellabEnds (job.Explore depth most) a t) (sym e) (ends_as r h)
+
+-- ---- the two kinds of decks
+
+due_by : (depth most : ℕ) (input : List ℕ) (named : Bool) (v : LabVerdict) → names_application input ≡ named → IsExplorationVerdict named depth most input v → IsVerdictOfJob (job.Explore depth most) input v
+due_by depth most input named v e h = subst (λ (b : Bool). IsExplorationVerdict b depth most input v) (sym e) h
+
+module _ (depth most : ℕ) (a : Outside) (input : List ℕ) (read : ReadWhole a.input_old a.input input) where
+  -- an exploration of a deck whose rules name no application ended
+  pub ends_moves : (s : Status) → names_application input ≡ false → EndsExploration depth most input a.out_old a.out s → MellabEnds (job.Explore depth most) a s
+  ends_moves s named h =
+      let text = text_within most depth h.exploration in
+      let end = (search_of most depth h.exploration).ending in
+      let verdict = due_by depth most input false (ending_verdict text end) named (sym (ap (exploration_verdict depth most) h.is)) in
+      ends_explored depth most a input read text end verdict h.result s h.status h.explored
+
+  -- one of a deck whose rules speak of an application ended
+  pub ends_application : (s : Status) → names_application input ≡ true → EndsApplication depth input a.out_old a.out s → MellabEnds (job.Explore depth most) a s
+  ends_application s named h =
+      let q = h.explored.search in
+      let text = text_of_search (play_of_deck h.exploration.lines) q in
+      let found : IsAppVerdict depth (Ok h.exploration) (ending_verdict text q.ending) = record { rules = h.rules; are = h.are; search = q; found = h.explored.found; verdict = refl } in
+      let verdict = due_by depth most input true (ending_verdict text q.ending) named (subst (λ (r : Result AppExploration AppFault). IsAppVerdict depth r (ending_verdict text q.ending)) (sym h.is) found) in
+      ends_explored depth most a input read text q.ending verdict h.result s h.status h.explored.explored
+
+  few : ReadsLimited a.input_old a.input
+  few = (read.quiet, record { front = input; took = read.bytes; bound = let fits = read.fits in omega (arith, fits) })
+
+  rejects_by : (Is : List ℕ → Type 0) → ((line : List ℕ) → Is line → IsVerdictOfJob (job.Explore depth most) input (Refusal line)) → (e : Rejection) → Rejects Is e → RejectsLabJob (job.Explore depth most) a e
+  rejects_by Is f (rejection.Refusal line) h = inr (record { input = input; read = read; is = f line.items h })
+  rejects_by Is f rejection.ReadFault h = absurd h
+  rejects_by Is f rejection.NoMemory h = few
+
+  refusal_moves : (r : Result rule.Exploration rule.ExplorationFault) (line : List ℕ) → refused_exploration r line → Refusal line ≡ exploration_verdict depth most r
+  refusal_moves (Ok x) line h = absurd h
+  refusal_moves (Err e) line h = ap Refusal h
+
+  refusal_application : (r : Result AppExploration AppFault) (line : List ℕ) → refused_application r line → IsAppVerdict depth r (Refusal line)
+  refusal_application (Ok x) line h = absurd h
+  refusal_application (Err e) line h = ap Refusal h
+
+  -- a deck whose rules name no application is rejected
+  pub rejects_moves : (e : Rejection) → names_application input ≡ false → Rejects (refused_exploration (exploration_read input)) e → RejectsLabJob (job.Explore depth most) a e
+  rejects_moves e named h =
+      rejects_by (refused_exploration (exploration_read input)) (λ line i. due_by depth most input false (Refusal line) named (refusal_moves (exploration_read input) line i)) e h
+
+  -- one whose rules speak of an application is rejected
+  pub rejects_application : (e : Rejection) → names_application input ≡ true → Rejects (refused_application (app_exploration_read input)) e → RejectsLabJob (job.Explore depth most) a e
+  rejects_application e named h =
+      rejects_by (refused_application (app_exploration_read input)) (λ line i. due_by depth most input true (Refusal line) named (refusal_application (app_exploration_read input) line i)) e h
+
+-- ---- results
+
+pub if_ok : {A E : Type 0} (P Q : A → Type 0) (r : Result A E) → ((x : A) → P x → Q x) → IfOk r P → IfOk r Q
+if_ok P Q (Ok x) f h = f x h
+if_ok P Q (Err e) f h = tt
+
+pub if_err : {A E : Type 0} (P Q : E → Type 0) (r : Result A E) → ((e : E) → P e → Q e) → IfErr r P → IfErr r Q
+if_err P Q (Ok x) f h = tt
+if_err P Q (Err e) f h = f e h

@@ -3,4 +3,5 @@ mod Completeness
 mod ReportedLemmas
 mod DepthLemmas
 mod ExplorationLemmas
+mod ApplicationLemmas
 mod RuleLemmas

@@ -1,6 +1,5 @@
 -- A deck whose rules are proved.
-use Rattle.std.proofs.Common.{◌≡◌, ◌∙◌, sym, subst, ap, refl, ℕ, Bool, true, false, List, length, Option, Some, Result, Ok, inr}
-use Rattle.std.specs.Prelude.{vec_len}
+use Rattle.std.proofs.Common.{◌≡◌, ◌∙◌, sym, subst, refl, ℕ, Bool, true, false, List, Option, Some, Result, Ok, inr}
 use Rattle.mc_streams.specs.declared.refusals.WriteFault.{WriteFault as Fault}
 use Rattle.mc_text.specs.Texts.{Puts}
 use Rattle.model_play.specs.DeckGrammar.{DeckLine, deck_read}
@@ -11,6 +10,7 @@ use Rattle.model_rules.specs.Rules.{AppRules, Target}
 use Rattle.law_prove_closed.specs.Decks.{TargetIsKept}
 use Rattle.prove_events.specs.declared.rules.Rules.{Rules}
 use Rattle.prove_events.specs.Rules.{AreRules}
+use Rattle.prove_rules.specs.Sums.{AreSums}
 use Rattle.prove_tables.specs.Reports.{IsReport}
 use Rattle.mc_filter.specs.Inputs.{ReadWhole}
 use Rattle.mc_filter.specs.Outside.{Outside}
@@ -24,15 +24,14 @@ use Rattle.mellab.specs.Verdicts.{Reports, AreKeptIfRead, IsProofOf, IsProofVerd
 kept_of_target : (a : AppRules) (g : Target) → a.target ≡ Some g → AreKept a → TargetIsKept a a.target
 kept_of_target a g is kept = subst (λ (t : Option Target). AreKeptBy a t → TargetIsKept a t) (sym is) (λ k. k) kept
 
--- rules that were read and proved are kept, if they have no sums
+-- rules that were read and proved are kept
 pub kept_as_read : (input : List ℕ) (rules : Rules) (proved : Bool)
-    → ((a : AppRules) × (g : Target) × (app_rules_read input ≡ Ok a) × AreRules a g rules)
-    → (proved ≡ true → vec_len rules.balances ≡ 0 → (a : AppRules) (g : Target) → AreRules a g rules → AreKept a)
+    → ((a : AppRules) × (g : Target) × (app_rules_read input ≡ Ok a) × AreRules a g rules × AreSums a rules)
+    → (proved ≡ true → (a : AppRules) (g : Target) → AreRules a g rules → AreSums a rules → AreKept a)
     → IsProofOf proved (app_rules_read input)
 kept_as_read input rules false read kept = tt
-kept_as_read input rules true (a, g, is, are) kept =
-    subst (λ (r : Result AppRules (ℕ × RuleCause)). AreKeptIfRead r) (sym is) (λ none.
-    kept_of_target a g are.target (kept refl (sym are.totals ∙ ap length none) a g are))
+kept_as_read input rules true (a, g, is, are, sums) kept =
+    subst (λ (r : Result AppRules (ℕ × RuleCause)). AreKeptIfRead r) (sym is) (kept_of_target a g are.target (kept refl a g are sums))
 
 -- the text of a proof of a deck's rules was written, or the sink failed
 pub says_proved : (a : Outside) (input : List ℕ) (ls : List (ℕ × DeckLine)) (text : List ℕ) (proved : Bool) (r : Result (Unit {0}) Fault) (s : Status) → ReadWhole a.input_old a.input input → deck_read input ≡ Ok ls → IsReport proved text → IsProofOf proved (app_rules_read input)

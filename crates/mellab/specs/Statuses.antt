@@ -14,8 +14,7 @@ use Rattle.mellab.specs.declared.job.About.{About}
 use Rattle.mellab.specs.declared.job.Request.{Request}
 use Rattle.mellab.specs.declared.job.Request.TheVariants as request
 use Rattle.mellab.specs.Jobs.{about_text, usage}
-use Rattle.law_explore.specs.Rules.{exploration_read}
-use Rattle.mellab.specs.Verdicts.{LabVerdict, Reports, ReportsPart, Refusal, exploration_verdict, text_of_verdict, IsVerdictOfJob}
+use Rattle.mellab.specs.Verdicts.{LabVerdict, Reports, ReportsPart, Refusal, text_of_verdict, IsVerdictOfJob}
 
 -- ---- what was read, and what was done
 
@@ -41,12 +40,14 @@ MellabDone job a s = SaysDone (IsRead Refusal (IsVerdictOfJob job) a.input_old a
 
 -- ---- statuses
 
--- out of memory within an exploration: the input was read to its end, a prefix of the text that is due was written, and
--- no call of source or sink failed
+-- out of memory within an exploration: the input was read to its end, a prefix of the text of a verdict that is due was
+-- written, and no call of source or sink failed
 pub record StopsWithin (depth most : ℕ) (a : Outside) : Type 0 where
   pub input : List ℕ
   pub read : ReadWhole a.input_old a.input input
-  pub written : WritesFront a.out_old (text_of_verdict (exploration_verdict depth most (exploration_read input))) a.out
+  pub verdict : LabVerdict
+  pub due : IsVerdictOfJob (job.Explore depth most) input verdict
+  pub written : WritesFront a.out_old (text_of_verdict verdict) a.out
 
 -- out of memory: before the first byte was written, or for an exploration within its text
 abbrev pub MellabStops : Job → Outside → Type 0

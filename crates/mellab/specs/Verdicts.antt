@@ -11,6 +11,13 @@ use Rattle.mc_lab.specs.Sweeps.{is_whole, sweep_text}
 use Rattle.law_explore.specs.Rules.{Exploration, ExplorationFault, LineFault, NoMove, NoRule, exploration_read}
 use Rattle.law_explore.specs.Search.{Ending, All, AtDepth, Broken, TooMany, search_of}
 use Rattle.law_explore_text.specs.Report.{text_within}
+use Rattle.law_explore.specs.States.{play_of_deck}
+use Rattle.law_histories.specs.Histories.{AppExploration, AppFault, app_exploration_read, names_application}
+use Rattle.law_histories.specs.Histories as histories
+use Rattle.law_histories.specs.Searches.{Search as AppSearch, text_of_search}
+use Rattle.lab_application.specs.Texts.{IsFoundFrom}
+use Rattle.prove_events.specs.Rules.{AreRules as AreAppRules}
+use Rattle.prove_events.specs.declared.rules.Rules.{Rules as CodeRules}
 use Rattle.model_rules.specs.Rules.{AppRules}
 use Rattle.model_rules.specs.Reading.{RuleCause, app_rules_read}
 use Rattle.law_prove_closed.specs.Decks.{TargetIsKept}
@@ -45,6 +52,12 @@ exploration_fault_line (LineFault n c) = deck_line (n, c)
 exploration_fault_line NoMove = at_line 0 (codes "NoMove")
 exploration_fault_line NoRule = at_line 0 (codes "NoRule")
 
+-- the line of a refusal of a deck whose rules speak of one application
+abbrev pub app_fault_line : AppFault → List ℕ
+app_fault_line (histories.LineFault n c) = at_line n (cause_word c)
+app_fault_line histories.NoMove = at_line 0 (codes "NoMove")
+app_fault_line histories.NoRule = at_line 0 (codes "NoRule")
+
 -- ---- jobs
 
 -- the verdict on a deck's expectations, played on a blank device
@@ -72,15 +85,34 @@ abbrev pub exploration_verdict : ℕ → ℕ → Result Exploration ExplorationF
 exploration_verdict depth most (Ok x) = ending_verdict (text_within most depth x) (search_of most depth x).ending
 exploration_verdict depth most (Err e) = Refusal (exploration_fault_line e)
 
+-- A verdict on the exploration of a deck with the rules of one application to a depth, by its text and the end of its
+-- search, which is one of the definition as far as the form of its text goes.
+pub record IsAppSearch (depth : ℕ) (x : AppExploration) (v : LabVerdict) : Type 0 where
+  pub rules : CodeRules
+  pub are : AreAppRules x.rules x.target rules
+  pub search : AppSearch
+  pub found : IsFoundFrom rules x.moves 0 depth search
+  pub verdict : v ≡ ending_verdict (text_of_search (play_of_deck x.lines) search) search.ending
+
+-- the verdict on such an exploration, or the refusal of its deck
+abbrev pub IsAppVerdict : ℕ → Result AppExploration AppFault → LabVerdict → Type 0
+IsAppVerdict depth (Ok x) v = IsAppSearch depth x v
+IsAppVerdict depth (Err e) v = v ≡ Refusal (app_fault_line e)
+
+-- the verdict on an exploration, by whether the rules of its deck speak of one application
+abbrev pub IsExplorationVerdict : Bool → ℕ → ℕ → List ℕ → LabVerdict → Type 0
+IsExplorationVerdict false depth most input v = v ≡ exploration_verdict depth most (exploration_read input)
+IsExplorationVerdict true depth most input v = IsAppVerdict depth (app_exploration_read input) v
+
 -- the line that refuses the rules of a deck that can be read
 abbrev pub refused_rules : Result AppRules (ℕ × RuleCause) → List ℕ → Type 0
 refused_rules (Ok r) line = ⊥
 refused_rules (Err e) line = line ≡ at_line e.0 (cause_word e.1)
 
--- what is proved of rules that were read: without lines of sums they are kept in every play of every deck
+-- what is proved of rules that were read: they are kept in every play of every deck
 abbrev pub AreKeptIfRead : Result AppRules (ℕ × RuleCause) → Type 0
 AreKeptIfRead (Err e) = ⊥
-AreKeptIfRead (Ok r) = r.totals ≡ [] → TargetIsKept r r.target
+AreKeptIfRead (Ok r) = TargetIsKept r r.target
 
 -- what a verdict says of the rules of a deck
 abbrev pub IsProofOf : Bool → Result AppRules (ℕ × RuleCause) → Type 0
@@ -89,7 +121,7 @@ IsProofOf true r = AreKeptIfRead r
 
 -- A verdict on the rules of a deck in every play of every deck. Its text is no definition: of a deck that can be read, a
 -- line refuses its rules as the definition does, or the last line of a text is whether all rules are proved; then they
--- are kept, if they have no sums.
+-- are kept.
 abbrev pub IsProofVerdict : List ℕ → Result (List (ℕ × DeckLine)) (ℕ × DeckCause) → LabVerdict → Type 0
 IsProofVerdict input (Ok ls) (Reports text well) = IsReport well text × IsProofOf well (app_rules_read input)
 IsProofVerdict input (Ok ls) (ReportsPart text) = ⊥
@@ -100,5 +132,5 @@ IsProofVerdict input (Err e) v = v ≡ Refusal (deck_line e)
 abbrev pub IsVerdictOfJob : Job → List ℕ → LabVerdict → Type 0
 IsVerdictOfJob job.Expect input v = v ≡ expectation_verdict (expected_deck_read input)
 IsVerdictOfJob job.Sweep input v = v ≡ sweep_verdict (remarks mark.Whole input) (deck_read input)
-IsVerdictOfJob (job.Explore depth most) input v = v ≡ exploration_verdict depth most (exploration_read input)
+IsVerdictOfJob (job.Explore depth most) input v = IsExplorationVerdict (names_application input) depth most input v
 IsVerdictOfJob job.Prove input v = IsProofVerdict input (deck_read input) v

@@ -1,14 +1,16 @@
 // The exploration of a deck.
-ghost use Rattle.std.specs.Prelude.{◌≡◌, Some, IfErr, IfOk};
+ghost use Rattle.std.specs.Prelude.{◌≡◌, IfErr, IfOk};
 ghost use Rattle.law_explore.specs.Rules.{exploration_read};
 ghost use Rattle.lab_rules.specs.Meanings.{IsExplorationRead};
 ghost use Rattle.mc_text.specs.Texts.{sunk};
 ghost use Rattle.mc_filter.specs.Inputs.{Rejects};
 ghost use Rattle.mc_filter.specs.Outside.{outside};
 ghost use Rattle.mellab.specs.declared.job.Job.TheVariants as job;
-ghost use Rattle.mellab.specs.Running.{refused_exploration, status_explored, RejectsLabJob};
+ghost use Rattle.mellab.specs.Running.{refused_exploration, status_explored, EndsExploration, RejectsLabJob};
 ghost use Rattle.mellab.specs.Statuses.{MellabEnds};
 
+use crate::applying::explore_application;
+use lab_moves::names_application;
 use lab_rules::{Exploration, ExplorationRefusal, read_exploration};
 use lab_search::{Explored, SearchFault, explore_within};
 use mc_base::Steps;
@@ -36,8 +38,8 @@ fn exploration_of(alloc: Global, text: &[u8]) -> Result<Exploration<'_>, Rejecti
     }
 }
 
-// The status after an exploration.
-fn status_explored(explored: Result<Explored, SearchFault>) -> Status
+/// Returns the status after an exploration.
+pub fn status_explored(explored: Result<Explored, SearchFault>) -> Status
     ensures { result ≡ status_explored explored }
 {
     match explored {
@@ -47,6 +49,23 @@ fn status_explored(explored: Result<Explored, SearchFault>) -> Status
         Err(SearchFault::WriteFault) => Status::WriteFault,
         Err(SearchFault::NoMemory) => Status::NoMemory,
     }
+}
+
+// Explores the deck of a text with its rules.
+fn explore_moves<T: Sink, L: Ledger>(
+    alloc: Global,
+    depth: u32,
+    most: u32,
+    text: &[u8],
+    out: &mut T,
+    steps: &mut Steps<L>,
+) -> Result<Status, Rejection>
+    ensures ends { IfOk result (EndsExploration depth most text.now (sunk T.Sink out.old) (sunk T.Sink out.new)) }
+    ensures rejected { IfErr result (Rejects (refused_exploration (exploration_read text.now))) }
+    ensures out { IfErr result (λ e. sunk T.Sink out.new ≡ sunk T.Sink out.old) }
+{
+    let exploration = exploration_of(alloc, text)?;
+    Ok(status_explored(explore_within(alloc, &exploration, most as usize, depth, out, steps)))
 }
 
 /// Explores the deck that an input spells, at most `depth` moves deep and with at most as many states, on a device of its
@@ -70,6 +89,8 @@ pub fn explore_input<S: Source, T: Sink, L: Ledger>(
     ensures out { IfErr result (λ e. sunk T.Sink out.new ≡ sunk T.Sink out.old) }
 {
     let text = read_input(alloc, input)?;
-    let exploration = exploration_of(alloc, text.as_slice())?;
-    Ok(status_explored(explore_within(alloc, &exploration, most as usize, depth, out, steps)))
+    if names_application(text.as_slice()) {
+        return explore_application(alloc, depth, most, text.as_slice(), out, steps);
+    }
+    explore_moves(alloc, depth, most, text.as_slice(), out, steps)
 }

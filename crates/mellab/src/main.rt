@@ -3,6 +3,7 @@
 //! The laboratory, over the standard streams.
 
 mod about;
+mod applying;
 #[cfg(test)]
 mod examples;
 mod exploring;

@@ -4,6 +4,7 @@ ghost use Rattle.model_play.specs.DeckGrammar.{deck_read};
 ghost use Rattle.model_rules.specs.Rules.{AppRules, Target};
 ghost use Rattle.model_rules.specs.Reading.{app_rules_read};
 ghost use Rattle.prove_events.specs.Rules.{AreRules};
+ghost use Rattle.prove_rules.specs.Sums.{AreSums};
 ghost use Rattle.mc_text.specs.Texts.{sunk};
 ghost use Rattle.mc_filter.specs.Inputs.{Rejects};
 ghost use Rattle.mc_filter.specs.Outside.{outside};
@@ -17,7 +18,7 @@ use mc_deck::Deck;
 use mc_filter::{Rejection, Status, deck_of, ended, read_input, refused};
 use mc_streams::{Sink, Source, put_all};
 use prove_events::Rules;
-use prove_rules::{RuleRefusal, read_rules};
+use prove_rules::{RuleRefusal, read_named_rules};
 use prove_tables::prove;
 use std::alloc::Global;
 
@@ -25,11 +26,11 @@ use std::alloc::Global;
 fn rules_of<'a>(alloc: Global, deck: &'a Deck, text: &'a [u8]) -> Result<Rules<'a>, Rejection>
     requires { deck_read text.now ≡ Ok deck.now }
     ensures read { IfOk result (λ r. (a : AppRules) × (g : Target) × (app_rules_read text.now ≡ Ok a)
-        × AreRules a g r) }
+        × AreRules a g r × AreSums a r) }
     ensures rejected { IfErr result (Rejects (refused_rules (app_rules_read text.now))) }
 {
-    match read_rules(alloc, deck, text) {
-        Ok(rules) => Ok(rules),
+    match read_named_rules(alloc, deck, text) {
+        Ok((rules, _aid)) => Ok(rules),
         Err(RuleRefusal::At(number, cause)) => Err(refused(alloc, "line", number, cause.word())),
         Err(RuleRefusal::NoMemory) => Err(Rejection::NoMemory),
     }

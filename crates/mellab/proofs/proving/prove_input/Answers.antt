@@ -7,6 +7,7 @@ use Rattle.mc_filter.specs.declared.status.Status.{Status}
 use Rattle.model_rules.specs.Reading.{app_rules_read}
 use Rattle.model_rules.specs.Rules.{AppRules, Target}
 use Rattle.prove_events.specs.Rules.{AreRules}
+use Rattle.prove_rules.specs.Sums.{AreSums}
 use Rattle.mellab.proofs.RuleLemmas.{kept_as_read, says_proved}
 use Rattle.mellab.proofs.proving.prove_input.Goals as goal
 
@@ -21,5 +22,5 @@ returns-clause-done g c =
     let said = c.put_all-written.ensures in
     let put = puts_by a.out_old a.out c.as_slice-3.result.now text c.put_all-written.result c.as_slice-3.ensures.value said.bytes said.fault said.part said.quiet in
     let status = c.ended.ensures ∙ ap (λ (s : Status). status_after_writing s c.put_all-written.result) c.status_by.ensures in
-    let kept = kept_as_read c.in_ok-text.text.items c.in_ok-rules.rules c.in_ok-verdict.verdict.proved (subst (λ (t : List ℕ). (a : AppRules) × (g : Target) × (app_rules_read t ≡ Ok a) × AreRules a g c.in_ok-rules.rules) c.as_slice-2.ensures.value c.in_ok-rules.ensures.read) c.in_ok-verdict.ensures.kept in
+    let kept = kept_as_read c.in_ok-text.text.items c.in_ok-rules.rules c.in_ok-verdict.verdict.proved (subst (λ (t : List ℕ). (a : AppRules) × (g : Target) × (app_rules_read t ≡ Ok a) × AreRules a g c.in_ok-rules.rules × AreSums a c.in_ok-rules.rules) c.as_slice-2.ensures.value c.in_ok-rules.ensures.read) c.in_ok-verdict.ensures.kept in
     says_proved a c.in_ok-text.text.items c.in_ok-deck.deck text c.in_ok-verdict.verdict.proved c.put_all-written.result c.ended.result c.in_ok-text.ensures.read is c.in_ok-verdict.ensures.report kept status put
