@@ -68,3 +68,21 @@ def test_the_page_has_a_row_for_each_key_and_the_way_of_each_broken_rule():
 
 def test_the_page_refuses_another_text():
     assert run("prove_html.py", "explored states 1 tries 1 all\n")[0] == 2
+
+
+# INS 99, which no way has, gives the tries back.
+GIFT = re.sub("^        EXITSW 0x6D00", "        CMPB PT[-12],0x99\n        JUMP EQ,gift\n        EXITSW 0x6D00", PURSE, flags=re.MULTILINE)
+GIFT = re.sub("^(length: .*)", r"\1\ngift:   SETB SB[2],3\n        EXIT", GIFT, flags=re.MULTILINE)
+
+
+def test_the_proposed_moves_break_the_rule():
+    for purse in (LATE, GIFT):
+        status, deck = run("prove_moves.py", purse)
+        assert status == 0 and "#@ move select A000000100\n" in deck
+        depth = re.search(r"^# mellab explore (\d+)$", deck, re.MULTILINE)[1]
+        done = subprocess.run([program_path("mellab"), "explore", depth], input=deck.encode(), stdout=subprocess.PIPE, timeout=200, check=False)
+        assert done.returncode == 1 and re.search(r"^broken guesses after \d+ lines", done.stdout.decode(), re.MULTILINE), done.stdout.decode()
+
+
+def test_nothing_is_proposed_of_what_is_proved():
+    assert run("prove_moves.py", PURSE) == (1, "")
