@@ -1,20 +1,20 @@
 -- The operand and the stack of a full turn are those that the frames after the turn show.
 use Rattle.std.proofs.Common.{◌≡◌, ℕ, zero, suc, ◌+◌, ◌-◌, ◌≤◌, Bool, true, false, cond, ◌||◌, List, [], ◌∷◌, take, drop, Option, Some, None, Result, Ok, Err, refl, arith, sym, ap, subst, ◌∙◌}
 use Rattle.std.specs.Prelude.{bytes_eq, nat_le, nat_lt, option_map, option_and_then}
-use Rattle.model_device.specs.Bytes.{lookup}
-use Rattle.model_device.specs.Card.{App}
-use Rattle.model_device.proofs.MapLemmas.{name_is_itself, other_way}
-use Rattle.model_machine.specs.declared.instruction.Ins.{Ins}
-use Rattle.model_machine.specs.declared.instruction.DecodeFault.{DecodeFault}
-use Rattle.model_machine.specs.declared.instruction.DecodeFault.TheVariants.{Undefined, Past}
-use Rattle.model_machine.specs.declared.machine.Abend.TheVariants.{A09}
-use Rattle.model_machine.specs.Code.{instruction_at}
-use Rattle.model_machine.specs.Frame.{Effect, Frame, Place, bytes_in, floor, la_of, resolve, where_is}
-use Rattle.model_machine.specs.Primitives.{Delegates, Done, Exits, Goes, Then}
-use Rattle.model_machine.specs.Row.{RowEnd, Abends, Does, row}
-use Rattle.model_machine.specs.Chain.{Chain, Follows, Continues, Ends, Reply, Abended, after_exit, around, called_app, chain_after_call, chain_after_effect, depth_of, follows, frame_at, is_active, reply_of, reported_frame, row_turn, turn_of, turn_of_chain, turn_of_fetch}
-use Rattle.law_rows.specs.Keeping.{Keeps, Leaves, OnDone, OnLeave}
-use Rattle.law_rows.proofs.Keeping.{row_keeps, row_leaves}
+use Rattle.mc_base.specs.model_device.specs.Bytes.{lookup}
+use Rattle.mc_base.specs.model_device.specs.Card.{App}
+use Rattle.mc_base.specs.model_device.proofs.MapLemmas.{name_is_itself, other_way}
+use Rattle.mc_arith.specs.model_machine.specs.declared.instruction.Ins.{Ins}
+use Rattle.mc_arith.specs.model_machine.specs.declared.instruction.DecodeFault.{DecodeFault}
+use Rattle.mc_arith.specs.model_machine.specs.declared.instruction.DecodeFault.TheVariants.{Undefined, Past}
+use Rattle.mc_arith.specs.model_machine.specs.declared.machine.Abend.TheVariants.{A09}
+use Rattle.mc_arith.specs.model_machine.specs.Code.{instruction_at}
+use Rattle.mc_arith.specs.model_machine.specs.Frame.{Effect, Frame, Place, bytes_in, floor, la_of, resolve, where_is}
+use Rattle.mc_arith.specs.model_machine.specs.Primitives.{Delegates, Done, Exits, Goes, Then}
+use Rattle.mc_arith.specs.model_machine.specs.Row.{RowEnd, Abends, Does, row}
+use Rattle.mc_arith.specs.model_machine.specs.Chain.{Chain, Follows, Continues, Ends, Reply, Abended, after_exit, around, called_app, chain_after_call, chain_after_effect, depth_of, follows, frame_at, is_active, reply_of, reported_frame, row_turn, turn_of, turn_of_chain, turn_of_fetch}
+use Rattle.mc_deck.specs.law_rows.specs.Keeping.{Keeps, Leaves, OnDone, OnLeave}
+use Rattle.mc_deck.specs.law_rows.proofs.Keeping.{row_keeps, row_leaves}
 use Rattle.mc_machine.specs.Chains.{NamesApart}
 use Rattle.desk_draft.specs.FullTurns as desk
 use Rattle.desk_draft.specs.FullTurns.{Span, after_fetch, after_row, full_turn, running_code, span_of, stack_of}

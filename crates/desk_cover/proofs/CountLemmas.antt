@@ -3,7 +3,7 @@ use Rattle.std.proofs.Common.{◌≡◌, ℕ, suc, ◌+◌, ◌<◌, ◌≤◌, 
 use Rattle.std.specs.Prelude.{map, filter, not}
 use Rattle.std.specs.List.{AllByRecursion}
 use Rattle.std.proofs.lemmas.List.{map-append}
-use Rattle.model_machine.specs.declared.instruction.Ins.{Ins}
+use Rattle.mc_arith.specs.model_machine.specs.declared.instruction.Ins.{Ins}
 use Rattle.desk_draft.specs.Listings.{CodeLine, Source}
 use Rattle.desk_draft.specs.FullTurns.{FullTurn}
 use Rattle.desk_draft.specs.Traces.{is_turn_of}

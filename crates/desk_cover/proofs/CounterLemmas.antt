@@ -1,6 +1,6 @@
 -- A counter counts the full turn of a chain.
 use Rattle.std.proofs.Common.{◌≡◌, ℕ, List, [], ◌∷◌, Option, sym, ap, ◌∙◌}
-use Rattle.model_machine.specs.Chain.{Chain, Turn as ModelTurn, turn_of}
+use Rattle.mc_arith.specs.model_machine.specs.Chain.{Chain, Turn as ModelTurn, turn_of}
 use Rattle.desk_draft.specs.FullTurns.{running_code}
 use Rattle.mc_machine.specs.declared.outcome.Turn.{Turn}
 use Rattle.mc_machine.specs.Turns.{turn_value}

@@ -2,13 +2,13 @@
 use Rattle.std.proofs.Common.{◌≡◌, ℕ, ◌+◌, ◌≤◌, List, [], ◌∷◌, ◌++◌, length, Result, arith, sym, ap, subst, ◌∙◌}
 use Rattle.std.specs.Prelude.{flat_map, map}
 use Rattle.std.specs.List.{AllByRecursion}
-use Rattle.model_device.specs.Device.{IsImage}
-use Rattle.model_play.specs.DeckGrammar.{DeckLine}
-use Rattle.model_play.specs.Laws.{HoldsOf}
-use Rattle.model_play.specs.Play.{Step, plays, start}
-use Rattle.model_play.specs.ReadyAgain.{AreLines, IsLine}
-use Rattle.law_family.proofs.DeckBytes.{played_bytes}
-use Rattle.law_family.proofs.PlayLaw.{play_law}
+use Rattle.mc_base.specs.model_device.specs.Device.{IsImage}
+use Rattle.mc_deck.specs.model_play.specs.DeckGrammar.{DeckLine}
+use Rattle.mc_deck.specs.model_play.specs.Laws.{HoldsOf}
+use Rattle.mc_deck.specs.model_play.specs.Play.{Step, plays, start}
+use Rattle.mc_deck.specs.model_play.specs.ReadyAgain.{AreLines, IsLine}
+use Rattle.mc_deck.specs.law_family.proofs.DeckBytes.{played_bytes}
+use Rattle.mc_deck.specs.law_family.proofs.PlayLaw.{play_law}
 use Rattle.mc_streams.specs.declared.refusals.WriteFault.{WriteFault}
 use Rattle.mc_text.specs.Texts.{Sunk, Puts}
 use Rattle.desk_draft.specs.FullTurns.{FullTurn, turns_of_step}

@@ -1,18 +1,18 @@
 -- A full turn of a chain: its turn, its code, and the frame that it leaves.
 use Rattle.std.proofs.Common.{◌≡◌, ℕ, zero, suc, List, Option, Some, None, Result, Ok, Err, refl, sym, ap, subst, ◌∙◌}
 use Rattle.std.specs.Prelude.{unwrap_or, IsSome}
-use Rattle.model_device.specs.Bytes.{lookup}
-use Rattle.model_device.specs.Card.{App}
-use Rattle.model_device.specs.Device.{DeviceState}
-use Rattle.model_machine.specs.declared.instruction.Ins.{Ins}
-use Rattle.model_machine.specs.declared.instruction.DecodeFault.{DecodeFault}
-use Rattle.model_machine.specs.declared.instruction.DecodeFault.TheVariants.{Undefined, Past}
-use Rattle.model_machine.specs.Code.{instruction_at}
-use Rattle.model_machine.specs.Frame.{Frame}
-use Rattle.model_machine.specs.Row.{RowEnd, Abends, Does, row}
-use Rattle.model_machine.specs.Chain.{Chain, Turn, Follows, Continues, Ends, Reply, Abended, around, chain_after_effect, code_in, follows, frame_at, reported_frame, row_turn, turn_of, turn_of_chain, turn_of_fetch}
-use Rattle.law_rows.specs.Keeping.{Keeps, OnDone}
-use Rattle.law_rows.proofs.Keeping.{row_keeps}
+use Rattle.mc_base.specs.model_device.specs.Bytes.{lookup}
+use Rattle.mc_base.specs.model_device.specs.Card.{App}
+use Rattle.mc_base.specs.model_device.specs.Device.{DeviceState}
+use Rattle.mc_arith.specs.model_machine.specs.declared.instruction.Ins.{Ins}
+use Rattle.mc_arith.specs.model_machine.specs.declared.instruction.DecodeFault.{DecodeFault}
+use Rattle.mc_arith.specs.model_machine.specs.declared.instruction.DecodeFault.TheVariants.{Undefined, Past}
+use Rattle.mc_arith.specs.model_machine.specs.Code.{instruction_at}
+use Rattle.mc_arith.specs.model_machine.specs.Frame.{Frame}
+use Rattle.mc_arith.specs.model_machine.specs.Row.{RowEnd, Abends, Does, row}
+use Rattle.mc_arith.specs.model_machine.specs.Chain.{Chain, Turn, Follows, Continues, Ends, Reply, Abended, around, chain_after_effect, code_in, follows, frame_at, reported_frame, row_turn, turn_of, turn_of_chain, turn_of_fetch}
+use Rattle.mc_deck.specs.law_rows.specs.Keeping.{Keeps, OnDone}
+use Rattle.mc_deck.specs.law_rows.proofs.Keeping.{row_keeps}
 use Rattle.desk_draft.specs.FullTurns.{after_fetch, after_row, full_turn, running_code}
 use Rattle.mc_bank.specs.Bank.{app_of, name_or, no_app}
 use Rattle.mc_segs.specs.HeldFrames.{Seen}

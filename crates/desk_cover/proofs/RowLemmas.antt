@@ -1,15 +1,15 @@
 -- A row that has an operand goes on.
 use Rattle.std.specs.Prelude.{◌≡◌, ℕ, List, Option, Some, None, ⊤}
 use Rattle.std.proofs.Common.{refl, sym, subst}
-use Rattle.model_machine.specs.declared.instruction.Ins.{Ins}
-use Rattle.model_machine.specs.declared.instruction.Ins.TheVariants as ins
-use Rattle.model_machine.specs.Frame.{Frame}
-use Rattle.model_machine.specs.Primitives.{Around, Done, Goes}
-use Rattle.model_machine.specs.Row.{causes, effect, first_cause, row}
-use Rattle.law_rows.specs.Shapes.{shape}
-use Rattle.law_rows.specs.Keeping.{OnDone}
-use Rattle.law_rows.proofs.RowShapes.{shapes}
-use Rattle.law_rows.proofs.Keeping.{on_done}
+use Rattle.mc_arith.specs.model_machine.specs.declared.instruction.Ins.{Ins}
+use Rattle.mc_arith.specs.model_machine.specs.declared.instruction.Ins.TheVariants as ins
+use Rattle.mc_arith.specs.model_machine.specs.Frame.{Frame}
+use Rattle.mc_arith.specs.model_machine.specs.Primitives.{Around, Done, Goes}
+use Rattle.mc_arith.specs.model_machine.specs.Row.{causes, effect, first_cause, row}
+use Rattle.mc_deck.specs.law_rows.specs.Shapes.{shape}
+use Rattle.mc_deck.specs.law_rows.specs.Keeping.{OnDone}
+use Rattle.mc_deck.specs.law_rows.proofs.RowShapes.{shapes}
+use Rattle.mc_deck.specs.law_rows.proofs.Keeping.{on_done}
 use Rattle.desk_draft.specs.FullTurns.{Span, span_of}
 
 -- if there is an operand

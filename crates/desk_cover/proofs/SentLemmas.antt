@@ -1,19 +1,19 @@
 -- The full turns of a line are those of the command that its player sends.
 use Rattle.std.proofs.Common.{◌≡◌, ◌⊎◌, inl, inr, ℕ, zero, suc, Bool, true, false, List, [], ◌∷◌, ◌++◌, length, take, Option, Some, None, refl, sym, ap, subst, ◌∙◌}
 use Rattle.std.specs.List.{AllByRecursion}
-use Rattle.model_device.specs.Card as model
-use Rattle.model_device.specs.Device.{DeviceState, BenchState}
-use Rattle.model_device.specs.PowerUp.{Base, OnCard}
-use Rattle.model_machine.specs.Apdu.{ApduParts}
-use Rattle.model_machine.specs.Chain.{Chain, Follows, Continues, Ends, Turn, start, turn_of_chain}
-use Rattle.model_card.specs.Commands.{command}
-use Rattle.model_card.specs.Items.{StopAt, card_done}
-use Rattle.model_card.specs.Manager.{Selected, SessionState, Route, WrongLength, WrongClass, ToSelect, ToManager, ToApplication, route}
-use Rattle.model_play.specs.DeckGrammar.{DeckLine}
-use Rattle.model_play.specs.DeckGrammar as line
-use Rattle.model_play.specs.Play.{FailedWrite, Live, Running, State, BeforePower, AfterPower, delete_bytes, is_done, load_commands, select_bytes, step}
-use Rattle.model_play.specs.TraceText.{before_stop, shown_turns}
-use Rattle.model_play.proofs.PlayLemmas.{step_is}
+use Rattle.mc_base.specs.model_device.specs.Card as model
+use Rattle.mc_base.specs.model_device.specs.Device.{DeviceState, BenchState}
+use Rattle.mc_base.specs.model_device.specs.PowerUp.{Base, OnCard}
+use Rattle.mc_arith.specs.model_machine.specs.Apdu.{ApduParts}
+use Rattle.mc_arith.specs.model_machine.specs.Chain.{Chain, Follows, Continues, Ends, Turn, start, turn_of_chain}
+use Rattle.mc_bank.specs.model_card.specs.Commands.{command}
+use Rattle.mc_bank.specs.model_card.specs.Items.{StopAt, card_done}
+use Rattle.mc_bank.specs.model_card.specs.Manager.{Selected, SessionState, Route, WrongLength, WrongClass, ToSelect, ToManager, ToApplication, route}
+use Rattle.mc_deck.specs.model_play.specs.DeckGrammar.{DeckLine}
+use Rattle.mc_deck.specs.model_play.specs.DeckGrammar as line
+use Rattle.mc_deck.specs.model_play.specs.Play.{FailedWrite, Live, Running, State, BeforePower, AfterPower, delete_bytes, is_done, load_commands, select_bytes, step}
+use Rattle.mc_deck.specs.model_play.specs.TraceText.{before_stop, shown_turns}
+use Rattle.mc_deck.specs.model_play.proofs.PlayLemmas.{step_is}
 use Rattle.desk_draft.specs.FullTurns.{FullTurn, full_turn, turns_of_application, turns_of_command, turns_of_commands, turns_of_line_in, turns_of_live, turns_of_route, turns_of_run, turns_of_sent, turns_of_step, turns_on}
 use Rattle.desk_draft.proofs.TurnLemmas.{step_turns, turns_of}
 use Rattle.mc_card.specs.Ends.{is_passed}

@@ -5,21 +5,21 @@ use Rattle.std.specs.Prelude.{bytes_eq, nat_le, option_and_then, option_map, sli
 use Rattle.std.proofs.Math.Seq.{take-append_seam}
 use Rattle.std.proofs.lemmas.List.{append-nil}
 use denote.Ref.{Bor}
-use Rattle.model_device.specs.Bytes.{bytes2}
-use Rattle.model_device.specs.Device.{DeviceState}
-use Rattle.model_device.specs.Limits.{most_code}
-use Rattle.model_device.specs.Orders.{Answer}
-use Rattle.model_device.proofs.MapLemmas.{same_name}
-use Rattle.model_machine.specs.declared.instruction.Ins.{Ins}
-use Rattle.model_machine.specs.declared.instruction.DecodeFault.{DecodeFault}
-use Rattle.model_machine.specs.declared.instruction.DecodeFault.TheVariants.{Undefined, Past}
-use Rattle.model_machine.specs.Code.{instruction_at}
-use Rattle.model_machine.specs.Frame.{Frame, Place, Static, Dynamic, Public, dynamic_base, dynamic_end, public_base, public_end, resolve, where_is}
-use Rattle.model_text.specs.Listing.{hex_text}
-use Rattle.model_machine.specs.Primitives.{Goes, Done, Then}
-use Rattle.model_machine.specs.Row.{RowEnd, Abends, Does, row}
-use Rattle.model_text.specs.TurnText.{bit_text, ins_text, turn_line}
-use Rattle.model_machine.specs.Chain.{Chain, Turn as ModelTurn, Follows, Continues, Ends, around, chain_after_effect, follows, frame_at, row_turn, turn_of, turn_of_chain, turn_of_fetch}
+use Rattle.mc_base.specs.model_device.specs.Bytes.{bytes2}
+use Rattle.mc_base.specs.model_device.specs.Device.{DeviceState}
+use Rattle.mc_base.specs.model_device.specs.Limits.{most_code}
+use Rattle.mc_base.specs.model_device.specs.Orders.{Answer}
+use Rattle.mc_base.specs.model_device.proofs.MapLemmas.{same_name}
+use Rattle.mc_arith.specs.model_machine.specs.declared.instruction.Ins.{Ins}
+use Rattle.mc_arith.specs.model_machine.specs.declared.instruction.DecodeFault.{DecodeFault}
+use Rattle.mc_arith.specs.model_machine.specs.declared.instruction.DecodeFault.TheVariants.{Undefined, Past}
+use Rattle.mc_arith.specs.model_machine.specs.Code.{instruction_at}
+use Rattle.mc_arith.specs.model_machine.specs.Frame.{Frame, Place, Static, Dynamic, Public, dynamic_base, dynamic_end, public_base, public_end, resolve, where_is}
+use Rattle.mc_isa.specs.model_text.specs.Listing.{hex_text}
+use Rattle.mc_arith.specs.model_machine.specs.Primitives.{Goes, Done, Then}
+use Rattle.mc_arith.specs.model_machine.specs.Row.{RowEnd, Abends, Does, row}
+use Rattle.mc_isa.specs.model_text.specs.TurnText.{bit_text, ins_text, turn_line}
+use Rattle.mc_arith.specs.model_machine.specs.Chain.{Chain, Turn as ModelTurn, Follows, Continues, Ends, around, chain_after_effect, follows, frame_at, row_turn, turn_of, turn_of_chain, turn_of_fetch}
 use Rattle.mc_streams.specs.declared.sink.Sink.{Ghosts}
 use Rattle.desk_draft.specs.FullTurns.{FullTurn, Span, running_code, span_of, stack_of}
 use Rattle.desk_draft.specs.Listings.{CodeLine, Source}
@@ -39,8 +39,8 @@ use Rattle.desk_cover.specs.Tracing.{line_pair, source_part_of, state_part_of, t
 use Rattle.desk_cover.specs.Watching.{full_turn_of}
 use Rattle.desk_cover.proofs.AfterLemmas.{turn_shows}
 use Rattle.desk_cover.proofs.FullTurnLemmas.{code_is, frame_name, turn_is}
-use Rattle.law_rows.specs.Keeping.{Keeps, OnDone}
-use Rattle.law_rows.proofs.Keeping.{fixed_longer, row_keeps}
+use Rattle.mc_deck.specs.law_rows.specs.Keeping.{Keeps, OnDone}
+use Rattle.mc_deck.specs.law_rows.proofs.Keeping.{fixed_longer, row_keeps}
 use Rattle.desk_cover.proofs.RowLemmas.{OnSpan, SpanGoes, row_goes}
 
 -- ---- the section of a turn

@@ -3,7 +3,7 @@ use Rattle.std.specs.Prelude.{◌≡◌, ℕ, ◌+◌, ◌≤◌, Bool, true, fa
 use Rattle.std.specs.List.{AllByRecursion}
 use Rattle.std.proofs.Common.{refl, sym, ap, subst, ◌∙◌, arith, length-append}
 use Rattle.std.proofs.Math.Nat.{add-zero}
-use Rattle.model_machine.specs.Row.{holds}
+use Rattle.mc_arith.specs.model_machine.specs.Row.{holds}
 use Rattle.desk_draft.specs.Listings.{CodeLine, Source}
 use Rattle.desk_draft.specs.FullTurns.{FullTurn}
 use Rattle.desk_draft.specs.Coverage.{is_decoded, is_decoded_at, line_condition}

@@ -1,11 +1,11 @@
 -- What a watcher sees of a turn: the operand's place before it, and the operand's bytes and the stack after it.
 use Rattle.std.specs.Prelude.{◌≡◌, ℕ, ◌+◌, ◌-◌, ◌≤◌, cond, List, [], length, take, bytes_eq, slice_get, Option, Some, None, option_and_then, option_map, IfSome, Result, Ok, Err}
-use Rattle.model_device.specs.Device.{DeviceState}
-use Rattle.model_machine.specs.declared.instruction.Ins.{Ins}
-use Rattle.model_machine.specs.declared.instruction.DecodeFault.{DecodeFault}
-use Rattle.model_machine.specs.Code.{instruction_at}
-use Rattle.model_machine.specs.Frame.{Frame, Place, Static, Dynamic, Public, bytes_in, dynamic_end, floor, resolve, where_is}
-use Rattle.model_machine.specs.Chain.{Follows, Continues, Ends}
+use Rattle.mc_base.specs.model_device.specs.Device.{DeviceState}
+use Rattle.mc_arith.specs.model_machine.specs.declared.instruction.Ins.{Ins}
+use Rattle.mc_arith.specs.model_machine.specs.declared.instruction.DecodeFault.{DecodeFault}
+use Rattle.mc_arith.specs.model_machine.specs.Code.{instruction_at}
+use Rattle.mc_arith.specs.model_machine.specs.Frame.{Frame, Place, Static, Dynamic, Public, bytes_in, dynamic_end, floor, resolve, where_is}
+use Rattle.mc_arith.specs.model_machine.specs.Chain.{Follows, Continues, Ends}
 use Rattle.desk_draft.specs.FullTurns.{Span, span_of, stack_of}
 use Rattle.desk_draft.specs.Listings.{Source}
 use Rattle.mc_segs.specs.declared.access.Place.{Place as CodePlace}

@@ -1,6 +1,6 @@
 -- The section that an application is of.
 use Rattle.std.specs.Prelude.{ℕ, ◌+◌, Bool, cond, ◌&&◌, List, [], ◌∷◌, bytes_eq, unwrap_or, Option, Some, None}
-use Rattle.model_text.specs.Text.{hex_bytes}
+use Rattle.mc_isa.specs.model_text.specs.Text.{hex_bytes}
 use Rattle.desk_draft.specs.Listings.{Source}
 
 -- the bytes that the AID of a section spells, none if it spells none

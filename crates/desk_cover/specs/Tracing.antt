@@ -1,8 +1,8 @@
 -- The trace of a draft as it is written: the line of a turn by its parts, and a text in a sink that may fail.
 use Rattle.std.specs.Prelude.{◌≡◌, ℕ, List, [], ◌∷◌, ◌++◌, codes, decimal, Option, Some, None}
 use Rattle.std.proofs.Common.{refl, sym, ap, subst, ◌∙◌, append_assoc}
-use Rattle.model_machine.specs.Chain.{Turn}
-use Rattle.model_text.specs.TurnText.{turn_line}
+use Rattle.mc_arith.specs.model_machine.specs.Chain.{Turn}
+use Rattle.mc_isa.specs.model_text.specs.TurnText.{turn_line}
 use Rattle.mc_streams.specs.declared.refusals.WriteFault.{WriteFault}
 use Rattle.mc_streams.specs.declared.sink.Sink.{Ghosts}
 use Rattle.mc_text.specs.Logs.{Log}

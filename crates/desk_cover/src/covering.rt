@@ -1,10 +1,10 @@
 // How often each line of a draft's code ran, and each of its branches went each way.
 ghost use Rattle.std.specs.Prelude.{◌≡◌, ◌++◌, [], map, IfErr, IfOk};
 ghost use Rattle.std.specs.List.{AllByRecursion};
-ghost use Rattle.model_device.specs.Device.{IsImage};
-ghost use Rattle.model_machine.specs.Code.{front};
-ghost use Rattle.model_play.specs.Play.{start};
-ghost use Rattle.model_play.specs.ReadyAgain.{IsLine};
+ghost use Rattle.mc_base.specs.model_device.specs.Device.{IsImage};
+ghost use Rattle.mc_arith.specs.model_machine.specs.Code.{front};
+ghost use Rattle.mc_deck.specs.model_play.specs.Play.{start};
+ghost use Rattle.mc_deck.specs.model_play.specs.ReadyAgain.{IsLine};
 ghost use Rattle.desk_draft.specs.Coverage.{condition_decoded, condition_in, condition_of, line_condition};
 ghost use Rattle.desk_draft.specs.FullTurns.{FullTurn};
 ghost use Rattle.desk_draft.specs.Sources.{code_line_value};

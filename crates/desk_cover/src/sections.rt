@@ -1,6 +1,6 @@
 // The sections of a draft, as a watcher looks for them.
 ghost use Rattle.std.specs.Prelude.{◌≡◌, bytes_eq, drop, map, option_map, take, IfOk};
-ghost use Rattle.model_text.specs.Text.{hex_bytes};
+ghost use Rattle.mc_isa.specs.model_text.specs.Text.{hex_bytes};
 ghost use Rattle.desk_draft.specs.Listings.{has_byte_at, line_at};
 ghost use Rattle.desk_draft.specs.Sources.{code_line_value, source_value, sources_value};
 ghost use Rattle.desk_cover.specs.Sections.{aid_bytes};

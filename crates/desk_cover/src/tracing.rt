@@ -1,9 +1,9 @@
 // The trace of a draft: the line of each turn of a section with its source line, its operand and its stack.
 ghost use Rattle.std.specs.Prelude.{◌≡◌, ◌≤◌, ◌+◌, ◌-◌, ◌*◌, ◌++◌, [], ℕ, None, Option, Some, codes, decimal, length, option_map, take, IfSome};
 ghost use Rattle.arrayvec.specs.ArrayVec.{array_vec_len};
-ghost use Rattle.model_machine.specs.Code.{Shaped};
-ghost use Rattle.model_text.specs.TurnText.{turn_line};
-ghost use Rattle.model_play.specs.Transcript.{line_text};
+ghost use Rattle.mc_arith.specs.model_machine.specs.Code.{Shaped};
+ghost use Rattle.mc_isa.specs.model_text.specs.TurnText.{turn_line};
+ghost use Rattle.mc_deck.specs.model_play.specs.Transcript.{line_text};
 ghost use Rattle.mc_machine.specs.Turns.{turn_value};
 ghost use Rattle.desk_draft.specs.FullTurns.{FullTurn, last_bytes};
 ghost use Rattle.desk_draft.specs.Traces.{bytes_or_dash, trace_text};

@@ -1,9 +1,9 @@
 -- A section with its code, as the code keeps it.
 use Rattle.std.proofs.Common.{◌≡◌, ℕ, List, [], ◌∷◌, Ok, Err, refl, sym, ap, ◌∙◌}
 use Rattle.std.specs.Prelude.{map}
-use Rattle.model_text.specs.declared.assembler.AsmCause.{AsmCause}
-use Rattle.model_text.specs.Assembly.{assembled_lines}
-use Rattle.model_play.specs.DeckGrammar.{section_program}
+use Rattle.mc_text.specs.model_text.specs.declared.assembler.AsmCause.{AsmCause}
+use Rattle.mc_text.specs.model_text.specs.Assembly.{assembled_lines}
+use Rattle.mc_deck.specs.model_play.specs.DeckGrammar.{section_program}
 use Rattle.desk_draft.specs.declared.draft.SourceLine.{SourceLine}
 use Rattle.desk_draft.specs.declared.source.CodeLine.{CodeLine}
 use Rattle.desk_draft.specs.declared.source.Source.{Source}

@@ -1,7 +1,7 @@
 -- Declarations, by their words and their fields.
 use Rattle.std.proofs.Common.{◌≡◌, ℕ, Bool, true, false, cond, List, [], ◌∷◌, take, Option, Some, None, refl, subst, ◌∙◌}
 use Rattle.std.specs.Prelude.{option_map}
-use Rattle.model_device.specs.Bytes.{lookup}
+use Rattle.mc_text.specs.model_device.specs.Bytes.{lookup}
 use Rattle.desk_draft.specs.Declarations.{DeclarationWord, StaticWord, SessionWord, PublicWord, ConstWord, Scope, declaration_of, declaration_text, declaration_words, gives, is_labelled, scope_after}
 use Rattle.desk_draft.specs.declared.declaration.Declaration.{Declaration}
 use Rattle.desk_draft.specs.Views.{Declares, DeclaresMaybe, gives_by}

@@ -4,18 +4,18 @@ use Rattle.std.specs.Prelude.{ℤ, pos, ◌+ℤ◌, nat_lt, nat_le, ◌==◌, by
 use Rattle.std.specs.Fmt.{signed_decimal}
 use Rattle.std.specs.List.{AllByRecursion}
 use Rattle.std.proofs.lemmas.Bool.{and_from, and_parts}
-use Rattle.model_device.specs.Bytes.{has_name, lookup}
-use Rattle.model_text.specs.Text.{◌>>=◌, ok_as, only_if, before_trimmed, decimal_number, every, fields, first_cut, halves_with_character, hex_bytes, is_blank, is_empty, pieces, pieces_with_character, trim, trim_end, trim_front}
-use Rattle.model_text.specs.Listing.{address_text, hex_text, register_name, register_names}
-use Rattle.model_play.specs.declared.deck.DeckCause.{DeckCause}
-use Rattle.model_play.specs.declared.deck.DeckCause.TheVariants.{BadHex, OutOfRange, UnknownName}
-use Rattle.law_family.proofs.FlatTexts.{unfed, Flat, flat_append, flat_decimal, flat_hex}
+use Rattle.mc_text.specs.model_device.specs.Bytes.{has_name, lookup}
+use Rattle.mc_text.specs.model_text.specs.Text.{◌>>=◌, ok_as, only_if, before_trimmed, decimal_number, every, fields, first_cut, halves_with_character, hex_bytes, is_blank, is_empty, pieces, pieces_with_character, trim, trim_end, trim_front}
+use Rattle.mc_text.specs.model_text.specs.Listing.{address_text, hex_text, register_name, register_names}
+use Rattle.mc_deck.specs.model_play.specs.declared.deck.DeckCause.{DeckCause}
+use Rattle.mc_deck.specs.model_play.specs.declared.deck.DeckCause.TheVariants.{BadHex, OutOfRange, UnknownName}
+use Rattle.mc_deck.specs.law_family.proofs.FlatTexts.{unfed, Flat, flat_append, flat_decimal, flat_hex}
 use Rattle.desk_draft.specs.Parts.{part_in, part_of, with_core, before_rest, first_word, after_word, without_comment}
 use Rattle.desk_draft.specs.Declarations.{NameMeaning, Bytes, Number}
 use Rattle.desk_draft.specs.Operands.{after_text, body_text, bytes_text, instruction_text, jump_words, labelled_text, later_text, named_text, operand_by_parts, operand_text, operands_text, piece_text, pieces_text, plain_operand, shifted_text, size_text, sized_words}
 use Rattle.desk_draft.specs.Statements.{Loadable, after_open, aid_or_name, aid_text, command_field, command_text, counted_hex, field_by, is_aid, load_text, naming_words, one_field_text, only_of, only_text, plain_hex, stated_text, statement_text, text_in_brackets}
 use Rattle.desk_draft.specs.Rules.{after_two, brace_text, braces_of, braces_text, has_second, is_unknown, moved_text, opened_text, opened_texts, rule_text}
-use Rattle.law_family.proofs.FlatTexts.{flat_signed}
+use Rattle.mc_deck.specs.law_family.proofs.FlatTexts.{flat_signed}
 
 -- ---- parts of a text
 

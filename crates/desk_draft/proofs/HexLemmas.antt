@@ -1,7 +1,7 @@
 -- Hexadecimal digits, and the number of bytes that they spell.
 use Rattle.std.proofs.Common.{◌≡◌, ◌≢◌, ℕ, suc, ◌+◌, ◌*◌, ◌/◌, ◌%◌, Bool, true, false, List, [], ◌∷◌, length, Option, Some, None, refl, sym, ap, subst, ◌∙◌, arith}
 use Rattle.std.specs.Prelude.{option_map, option_and_then, ◌&&◌}
-use Rattle.model_text.specs.Text.{every, hex_value, hex_values, before_values, hex_bytes, bytes_of_digits}
+use Rattle.mc_text.specs.model_text.specs.Text.{every, hex_value, hex_values, before_values, hex_bytes, bytes_of_digits}
 use Rattle.desk_draft.specs.Views.{is_hex, is_there}
 
 values_by : (o : Option ℕ) (r : Option (List ℕ)) (b : Bool) (n : ℕ) → is_there o && b ≡ true → (b ≡ true → option_map length r ≡ Some n) → option_map length (before_values o r) ≡ Some (suc n)

@@ -5,9 +5,9 @@ use Rattle.std.specs.Ordering.{is_eq, nat_cmp}
 use Rattle.std.specs.Cmp.Lexicographic.{slice_cmp}
 use Rattle.std.proofs.lemmas.Map.Text.{is_eq-slice_cmp}
 use Rattle.std.proofs.lemmas.List.{drop_more}
-use Rattle.model_device.specs.Bytes.{or_else}
-use Rattle.model_device.proofs.MapLemmas.{same_name}
-use Rattle.model_text.specs.Text.{lines, with_numbers}
+use Rattle.mc_text.specs.model_device.specs.Bytes.{or_else}
+use Rattle.mc_text.specs.model_device.proofs.MapLemmas.{same_name}
+use Rattle.mc_text.specs.model_text.specs.Text.{lines, with_numbers}
 use Rattle.mc_text.specs.Reading.{next_line}
 use Rattle.mc_text.proofs.ReadingLemmas.{lines_at, lines_from}
 use Rattle.mc_asm.specs.Items.{texts}

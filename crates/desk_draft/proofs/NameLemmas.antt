@@ -4,7 +4,7 @@ use Rattle.std.specs.Prelude.{bytes_eq, option_map}
 use Rattle.std.specs.Ordering.{is_eq, nat_cmp}
 use Rattle.std.specs.Cmp.Lexicographic.{slice_cmp}
 use Rattle.std.proofs.lemmas.Map.Text.{is_eq-slice_cmp}
-use Rattle.model_device.specs.Bytes.{lookup, or_else}
+use Rattle.mc_text.specs.model_device.specs.Bytes.{lookup, or_else}
 use Rattle.desk_draft.specs.Declarations
 use Rattle.desk_draft.specs.Declarations.{header_bytes, header_names, header_words}
 use Rattle.desk_draft.specs.declared.meaning.Meaning.{Meaning}

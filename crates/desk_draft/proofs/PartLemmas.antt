@@ -2,7 +2,7 @@
 use Rattle.std.specs.Prelude.{◌==◌}
 use Rattle.desk_draft.specs.Parts.{first_word, after_word, without_comment}
 use Rattle.std.proofs.Common.{◌≡◌, ℕ, zero, suc, ◌≤◌, Bool, true, false, cond, List, [], ◌∷◌, length, drop, arith}
-use Rattle.model_text.specs.Text.{first_cut, halves_with_character, is_blank, trim, trim_end, trim_front, before_trimmed}
+use Rattle.mc_text.specs.model_text.specs.Text.{first_cut, halves_with_character, is_blank, trim, trim_end, trim_front, before_trimmed}
 
 short_by : (b : Bool) (c : ℕ) (t : List ℕ) → length (trim_front t) ≤ length t → length (cond b (trim_front t) (c ∷ t)) ≤ suc (length t)
 short_by true c t h = omega (arith, h)

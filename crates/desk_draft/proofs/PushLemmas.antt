@@ -1,9 +1,9 @@
 -- A deck that grows by texts that may be refused.
 use Rattle.std.proofs.Common.{◌≡◌, ℕ, Bool, true, false, List, [], ◌∷◌, ◌++◌, length, drop, Option, Some, None, Result, Ok, Err, refl, sym, ap, subst, ◌∙◌, append_assoc, arith}
 use Rattle.std.specs.Prelude.{◌==◌, ◌&&◌}
-use Rattle.model_device.specs.Bytes.{has_name}
-use Rattle.model_text.specs.Text.{◌>>=◌, ok_as, first_cut, pieces}
-use Rattle.model_play.specs.declared.deck.DeckCause.{DeckCause}
+use Rattle.mc_text.specs.model_device.specs.Bytes.{has_name}
+use Rattle.mc_text.specs.model_text.specs.Text.{◌>>=◌, ok_as, first_cut, pieces}
+use Rattle.mc_deck.specs.model_play.specs.declared.deck.DeckCause.{DeckCause}
 use Rattle.mc_text.proofs.ReadingLemmas.{pieces_at, pieces_cut}
 use Rattle.desk_draft.specs.Declarations.{NameMeaning}
 use Rattle.desk_draft.specs.Operands.{operand_text, piece_text, later_text, pieces_text, operands_text, after_text, body_text, labelled_text, instruction_text, jump_words, sized_words}

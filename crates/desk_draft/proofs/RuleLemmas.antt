@@ -6,10 +6,10 @@ use Rattle.std.specs.BTreeMap.{BTreeMap}
 use Rattle.std.specs.Ordering.{is_eq, nat_cmp}
 use Rattle.std.specs.Cmp.Lexicographic.{slice_cmp}
 use Rattle.std.proofs.lemmas.Map.Text.{is_eq-slice_cmp}
-use Rattle.model_device.specs.Bytes.{lookup}
-use Rattle.model_text.specs.Text.{◌>>=◌, ok_as, only_if, fields, first_cut, pieces}
-use Rattle.model_play.specs.declared.deck.DeckCause.{DeckCause}
-use Rattle.model_play.specs.declared.deck.DeckCause.TheVariants.{BadHex, BadLine, UnknownName}
+use Rattle.mc_text.specs.model_device.specs.Bytes.{lookup}
+use Rattle.mc_text.specs.model_text.specs.Text.{◌>>=◌, ok_as, only_if, fields, first_cut, pieces}
+use Rattle.mc_deck.specs.model_play.specs.declared.deck.DeckCause.{DeckCause}
+use Rattle.mc_deck.specs.model_play.specs.declared.deck.DeckCause.TheVariants.{BadHex, BadLine, UnknownName}
 use Rattle.mc_deck.specs.declared.refusal.Fault.{Fault}
 use Rattle.mc_deck.specs.Refused.{Faulty}
 use Rattle.mc_text.proofs.ReadingLemmas.{pieces_at, pieces_cut}

@@ -1,13 +1,13 @@
 -- What a section declares: names, sizes, places and numbers, and the section after a declaration.
 use Rattle.std.proofs.Common.{◌≡◌, ℕ, zero, suc, ◌+◌, ◌-◌, ◌<◌, ◌≤◌, Bool, true, false, List, ◌∷◌, length, Option, Some, None, Result, Ok, Err, refl, sym, ap, subst, ◌∙◌, arith}
 use Rattle.std.specs.Prelude.{pos, nat_le, is_none, ok_or, option_map, unwrap_or, ◌==◌}
-use Rattle.model_device.specs.Bytes.{has_name, lookup}
-use Rattle.model_text.specs.Text.{◌>>=◌, ok_as, only_if, begins, decimal_number, hex_bytes}
-use Rattle.model_text.specs.Listing.{condition_names, register_names}
-use Rattle.model_text.specs.Assembly.{is_label, minus, natural}
-use Rattle.model_play.specs.DeckGrammar.{number_field}
-use Rattle.model_play.specs.declared.deck.DeckCause.{DeckCause}
-use Rattle.model_play.specs.declared.deck.DeckCause.TheVariants.{BadHex, BadLine, BadName, BadNumber, NameTwice, OutOfRange}
+use Rattle.mc_text.specs.model_device.specs.Bytes.{has_name, lookup}
+use Rattle.mc_text.specs.model_text.specs.Text.{◌>>=◌, ok_as, only_if, begins, decimal_number, hex_bytes}
+use Rattle.mc_text.specs.model_text.specs.Listing.{condition_names, register_names}
+use Rattle.mc_text.specs.model_text.specs.Assembly.{is_label, minus, natural}
+use Rattle.mc_deck.specs.model_play.specs.DeckGrammar.{number_field}
+use Rattle.mc_deck.specs.model_play.specs.declared.deck.DeckCause.{DeckCause}
+use Rattle.mc_deck.specs.model_play.specs.declared.deck.DeckCause.TheVariants.{BadHex, BadLine, BadName, BadNumber, NameTwice, OutOfRange}
 use Rattle.mc_text.specs.Reading.{capped_number}
 use Rattle.mc_deck.specs.declared.refusal.Fault.{Fault}
 use Rattle.mc_deck.specs.declared.refusal.Fault.TheVariants as fault

@@ -4,8 +4,8 @@ use Rattle.std.specs.Prelude.{bytes_eq, option_map}
 use Rattle.std.specs.Ordering.{is_eq, nat_cmp}
 use Rattle.std.specs.Cmp.Lexicographic.{slice_cmp}
 use Rattle.std.proofs.lemmas.Map.Text.{is_eq-slice_cmp}
-use Rattle.model_device.specs.Bytes.{lookup, or_else}
-use Rattle.model_device.proofs.MapLemmas.{same_name}
+use Rattle.mc_text.specs.model_device.specs.Bytes.{lookup, or_else}
+use Rattle.mc_text.specs.model_device.proofs.MapLemmas.{same_name}
 use Rattle.desk_draft.specs.Statements.{Loadable}
 use Rattle.desk_draft.specs.declared.statement.Sizes.{Sizes}
 use Rattle.desk_draft.specs.Views.{loadable_of}

@@ -2,13 +2,13 @@
 use Rattle.std.proofs.Common.{◌≡◌, ℕ, suc, ◌+◌, Bool, true, false, cond, List, [], ◌∷◌, length, Option, Some, None, Result, Ok, Err, refl, sym, ap, subst, ◌∙◌}
 use Rattle.std.specs.Prelude.{ℤ, pos, ◌-ℤ◌, bytes_eq, ok_or, nat_le, ⊤, ◌==◌}
 use Rattle.std.specs.List.{AllByRecursion}
-use Rattle.model_device.specs.Bytes.{lookup, bytes2}
-use Rattle.model_text.specs.Text.{◌>>=◌, ok_as, only_if, first_cut, is_blank, is_empty, trim}
-use Rattle.model_machine.specs.Code.{spell}
-use Rattle.model_machine.specs.declared.instruction.Ins.{Ins}
-use Rattle.model_text.specs.declared.assembler.AsmCause.{AsmCause}
-use Rattle.model_text.specs.declared.assembler.AsmCause.TheVariants.{BadOperands, UnknownLabel, UnknownWord, FarBranch}
-use Rattle.model_text.specs.Assembly.{CodeItem, Nothing, Raw, Plain, ToPlace, ToDistance, WordForm, Bare, OfByte, OfBytes, OfWord, OfWords, RawByte, ByDistance, ByPlace, Primitive, Addressed, AddressedByte, AddressedWord, Target, Label, Given, Line, words, byte, word, both, address, all_bytes, condition, signed_operand, is_label, label_or_given, by_distance, by_place, primitive, item_of_word, operands, word_and_operands, label_and_rest, line_read, bytes_of_item, size, fits_signed}
+use Rattle.mc_text.specs.model_device.specs.Bytes.{lookup, bytes2}
+use Rattle.mc_text.specs.model_text.specs.Text.{◌>>=◌, ok_as, only_if, first_cut, is_blank, is_empty, trim}
+use Rattle.mc_text.specs.model_machine.specs.Code.{spell}
+use Rattle.mc_text.specs.model_machine.specs.declared.instruction.Ins.{Ins}
+use Rattle.mc_text.specs.model_text.specs.declared.assembler.AsmCause.{AsmCause}
+use Rattle.mc_text.specs.model_text.specs.declared.assembler.AsmCause.TheVariants.{BadOperands, UnknownLabel, UnknownWord, FarBranch}
+use Rattle.mc_text.specs.model_text.specs.Assembly.{CodeItem, Nothing, Raw, Plain, ToPlace, ToDistance, WordForm, Bare, OfByte, OfBytes, OfWord, OfWords, RawByte, ByDistance, ByPlace, Primitive, Addressed, AddressedByte, AddressedWord, Target, Label, Given, Line, words, byte, word, both, address, all_bytes, condition, signed_operand, is_label, label_or_given, by_distance, by_place, primitive, item_of_word, operands, word_and_operands, label_and_rest, line_read, bytes_of_item, size, fits_signed}
 
 -- an item whose number of bytes does not depend on the place of its label
 abbrev GoodItem : CodeItem → Type 0

@@ -4,12 +4,12 @@ use native.Mathlib.Numerals.{unary_clauses}
 use Rattle.std.specs.Prelude.{filter, flat_map, map, not, nat_le, ◌==◌}
 use Rattle.std.proofs.Math.Seq.{take-append_seam, drop-append_seam}
 use Rattle.std.proofs.lemmas.List.{length-append, take_min}
-use Rattle.model_device.specs.Limits.{most_code}
-use Rattle.model_text.specs.declared.assembler.AsmCause.{AsmCause}
-use Rattle.model_text.specs.declared.assembler.AsmCause.TheVariants.{LabelTwice, TooLong}
-use Rattle.model_text.specs.Text.{◌>>=◌, ok_as, err_as, only_if, fields, is_empty, trim}
-use Rattle.model_text.specs.Assembly.{Laid, Line, Placed, assembled_lines, bytes_of_item, is_new, joined_code, laid_lines, line_laid, line_read, size, with_label}
-use Rattle.model_play.specs.DeckGrammar.{is_data, section_program}
+use Rattle.mc_text.specs.model_device.specs.Limits.{most_code}
+use Rattle.mc_text.specs.model_text.specs.declared.assembler.AsmCause.{AsmCause}
+use Rattle.mc_text.specs.model_text.specs.declared.assembler.AsmCause.TheVariants.{LabelTwice, TooLong}
+use Rattle.mc_text.specs.model_text.specs.Text.{◌>>=◌, ok_as, err_as, only_if, fields, is_empty, trim}
+use Rattle.mc_text.specs.model_text.specs.Assembly.{Laid, Line, Placed, assembled_lines, bytes_of_item, is_new, joined_code, laid_lines, line_laid, line_read, size, with_label}
+use Rattle.mc_deck.specs.model_play.specs.DeckGrammar.{is_data, section_program}
 use Rattle.desk_draft.specs.Parts.{without_comment}
 use Rattle.desk_draft.specs.Drafts.{Section, SourceLine}
 use Rattle.desk_draft.specs.Listings.{CodeLine, Source, code_line, laid_code, lines_in_place, program_lines, program_of, source_of, source_with, value_or_nothing}

@@ -1,10 +1,10 @@
 -- What statements become.
 use Rattle.std.proofs.Common.{◌≡◌, ℕ, ◌<◌, ◌≤◌, Bool, true, false, List, [], ◌∷◌, ◌++◌, length, take, Bor, Option, Some, None, Result, Ok, Err, refl, sym, ap, subst, ◌∙◌, append_assoc, arith}
 use Rattle.std.specs.Prelude.{bytes_eq, codes, nat_eq, nat_le, ok_or, option_map, unwrap_or}
-use Rattle.model_device.specs.Bytes.{has_name, lookup}
-use Rattle.model_text.specs.Text.{◌>>=◌, ok_as, fields, first_cut, hex_bytes, is_blank, is_empty, is_within}
-use Rattle.model_text.specs.Listing.{hex_text}
-use Rattle.model_play.specs.declared.deck.DeckCause.TheVariants.{BadHex, OutOfRange, UnknownName}
+use Rattle.mc_text.specs.model_device.specs.Bytes.{has_name, lookup}
+use Rattle.mc_text.specs.model_text.specs.Text.{◌>>=◌, ok_as, fields, first_cut, hex_bytes, is_blank, is_empty, is_within}
+use Rattle.mc_text.specs.model_text.specs.Listing.{hex_text}
+use Rattle.mc_deck.specs.model_play.specs.declared.deck.DeckCause.TheVariants.{BadHex, OutOfRange, UnknownName}
 use Rattle.mc_deck.proofs.FieldLemmas.{fields_left, field_more, field_none}
 use Rattle.desk_draft.specs.Parts.{Part, part_in, with_core, after_word}
 use Rattle.desk_draft.specs.Statements.{Loadable, aid_or_name, aid_text, command_text, counted_hex, is_aid, load_text, named_text, naming_words, one_field_text, only_of, only_text, plain_hex, stated_text, statement_text}

@@ -1,15 +1,15 @@
 -- A draft and its deck have as many lines.
 use Rattle.std.proofs.Common.{◌≡◌, ℕ, suc, ◌+◌, ◌-◌, Bool, true, false, cond, List, [], ◌∷◌, ◌++◌, length, take, drop, Option, Some, None, Result, Ok, Err, refl, sym, ap, subst, ◌∙◌, append_assoc, append-nil}
 use Rattle.std.specs.Prelude.{pos, ◌==◌, ◌&&◌, bytes_eq, codes, is_none, map, ok_or, option_map, slice_index, unwrap_or, ⊤}
-use Rattle.model_device.specs.Bytes.{lookup, zeros}
-use Rattle.model_text.specs.Text.{◌>>=◌, ok_as, err_as, only_if, fields, pieces, pieces_with_character, with_numbers}
-use Rattle.model_text.specs.Assembly.{signed_number}
-use Rattle.model_text.specs.Listing.{hex_text}
-use Rattle.model_play.specs.DeckGrammar.{is_data, is_end, number_field}
-use Rattle.model_play.specs.declared.deck.DeckCause.{DeckCause}
-use Rattle.model_play.specs.declared.deck.DeckCause.TheVariants.{BadLine, BadNumber, NameTwice, OutOfRange}
+use Rattle.mc_text.specs.model_device.specs.Bytes.{lookup, zeros}
+use Rattle.mc_text.specs.model_text.specs.Text.{◌>>=◌, ok_as, err_as, only_if, fields, pieces, pieces_with_character, with_numbers}
+use Rattle.mc_text.specs.model_text.specs.Assembly.{signed_number}
+use Rattle.mc_text.specs.model_text.specs.Listing.{hex_text}
+use Rattle.mc_deck.specs.model_play.specs.DeckGrammar.{is_data, is_end, number_field}
+use Rattle.mc_deck.specs.model_play.specs.declared.deck.DeckCause.{DeckCause}
+use Rattle.mc_deck.specs.model_play.specs.declared.deck.DeckCause.TheVariants.{BadLine, BadNumber, NameTwice, OutOfRange}
 use Rattle.mc_text.specs.Reading.{without_return}
-use Rattle.law_family.proofs.FlatTexts.{Flat, flat_append, flat_hex}
+use Rattle.mc_deck.specs.law_family.proofs.FlatTexts.{Flat, flat_append, flat_hex}
 use Rattle.mc_asm.proofs.CleanLemmas.{pieces_none, pieces_there}
 use Rattle.desk_draft.specs.Parts.{EndedLine, ended_lines, ended_pieces, without_comment}
 use Rattle.desk_draft.specs.Declarations.{Bytes, NameMeaning, Number, Scope, fits_word, DeclarationWord, StaticWord, SessionWord, PublicWord, ConstWord, const_scope, constant, data_count, data_scope, declaration_in, declaration_of, declaration_text, declaration_words, empty_scope, gives_later, header_names, is_labelled, label_name, most_session, public_scope, public_span, scope_after, session_scope, static_count, static_scope, with_name}

@@ -1,16 +1,16 @@
 -- The turns of a line with what surrounds them, and those of its step.
 use Rattle.std.proofs.Common.{◌≡◌, ℕ, zero, suc, Bool, true, false, List, [], ◌∷◌, ◌++◌, Option, Some, None, refl, ap, ◌∙◌}
 use Rattle.std.specs.Prelude.{map}
-use Rattle.model_device.specs.Card.{Card}
-use Rattle.model_device.specs.PowerUp.{Base, OnCard, AtFault}
-use Rattle.model_machine.specs.Apdu.{ApduParts}
-use Rattle.model_machine.specs.Chain.{Turn, Chain, Acted, Follows, Continues, Ends, turn_of_chain, run_of_chain, run_after_turn, chain_session, start}
-use Rattle.model_card.specs.Commands.{Command, manager_command, application_command, by_route, command}
-use Rattle.model_card.specs.Items.{card_done}
-use Rattle.model_card.specs.Manager.{Selected, SessionState, Route, WrongLength, WrongClass, ToSelect, ToManager, ToApplication, route, Managed, Declines, Accepts, select, manage, room_on}
-use Rattle.model_play.specs.DeckGrammar.{DeckLine}
-use Rattle.model_play.specs.DeckGrammar as line
-use Rattle.model_play.specs.Play.{State, BeforePower, AfterPower, Live, Running, Unpowered, Muted, Warm, FailedWrite, Armed, send, command_with_rest, line_command, select_bytes, delete_bytes, load_commands, is_done, card_line, after_power_step, before_power_step, step}
+use Rattle.mc_text.specs.model_device.specs.Card.{Card}
+use Rattle.mc_text.specs.model_device.specs.PowerUp.{Base, OnCard, AtFault}
+use Rattle.mc_text.specs.model_machine.specs.Apdu.{ApduParts}
+use Rattle.mc_text.specs.model_machine.specs.Chain.{Turn, Chain, Acted, Follows, Continues, Ends, turn_of_chain, run_of_chain, run_after_turn, chain_session, start}
+use Rattle.mc_deck.specs.model_card.specs.Commands.{Command, manager_command, application_command, by_route, command}
+use Rattle.mc_deck.specs.model_card.specs.Items.{card_done}
+use Rattle.mc_deck.specs.model_card.specs.Manager.{Selected, SessionState, Route, WrongLength, WrongClass, ToSelect, ToManager, ToApplication, route, Managed, Declines, Accepts, select, manage, room_on}
+use Rattle.mc_deck.specs.model_play.specs.DeckGrammar.{DeckLine}
+use Rattle.mc_deck.specs.model_play.specs.DeckGrammar as line
+use Rattle.mc_deck.specs.model_play.specs.Play.{State, BeforePower, AfterPower, Live, Running, Unpowered, Muted, Warm, FailedWrite, Armed, send, command_with_rest, line_command, select_bytes, delete_bytes, load_commands, is_done, card_line, after_power_step, before_power_step, step}
 use Rattle.desk_draft.specs.FullTurns.{FullTurn, full_turn, turns_on, turns_of_run, turns_of_application, turns_of_route, turns_of_command, turns_of_sent, turns_of_commands, turns_of_line, turns_of_live, turns_of_line_in}
 
 -- the turns alone

@@ -1,8 +1,8 @@
 -- The words whose second operand is a length, and operands that are alone.
 use Rattle.std.proofs.Common.{◌≡◌, ℕ, Bool, true, false, List, [], ◌∷◌, ◌++◌, length, Option, Some, None, refl, ap, sym, ◌∙◌, arith}
 use Rattle.std.specs.Prelude.{◌||◌, ◌==◌, bytes_eq, is_none}
-use Rattle.model_device.specs.Bytes.{has_name}
-use Rattle.model_text.specs.Text.{first_cut, pieces}
+use Rattle.mc_text.specs.model_device.specs.Bytes.{has_name}
+use Rattle.mc_text.specs.model_text.specs.Text.{first_cut, pieces}
 use Rattle.mc_text.proofs.ReadingLemmas.{pieces_at, pieces_cut}
 use Rattle.desk_draft.specs.Operands.{sized_words, moving_words, one_block_words, two_block_words}
 

@@ -2,9 +2,9 @@
 use Rattle.std.proofs.Common.{◌≡◌, ℕ, ◌-◌, Bool, true, false, cond, List, [], ◌∷◌, ◌++◌, length, take, drop, Option, Some, None, Result, Ok, Err, refl, sym, ap, subst, ◌∙◌, append_assoc, append-nil, arith}
 use Rattle.std.specs.Prelude.{bytes_eq, codes, map, IfOk}
 use Rattle.std.proofs.lemmas.List.{length-append, take_at, drop_at}
-use Rattle.model_text.specs.Text.{ok_as, fields}
-use Rattle.model_play.specs.DeckGrammar.{is_data, is_end}
-use Rattle.model_play.specs.declared.deck.DeckCause.{DeckCause}
+use Rattle.mc_text.specs.model_text.specs.Text.{ok_as, fields}
+use Rattle.mc_deck.specs.model_play.specs.DeckGrammar.{is_data, is_end}
+use Rattle.mc_deck.specs.model_play.specs.declared.deck.DeckCause.{DeckCause}
 use Rattle.mc_deck.specs.declared.refusal.Fault.{Fault}
 use Rattle.desk_draft.specs.Declarations.{empty_scope}
 use Rattle.desk_draft.specs.Drafts

@@ -2,26 +2,26 @@
 use Rattle.std.specs.Prelude.{ℕ, List, Result}
 use Rattle.std.specs.Fmt.{digits}
 use Rattle.sha1.specs.Sha1.{sha1, digest_bytes, hash_after, compress, rounds, schedule, first_words}
-use Rattle.model_device.specs.Device.{blank_words, device_words}
-use Rattle.model_card.specs.Units.{name_of}
-use Rattle.model_machine.specs.Apdu.{apdu_read}
-use Rattle.model_device.specs.Pieces.{touched_words}
-use Rattle.model_machine.specs.Des.{des_encipher, des_decipher, tdes_encipher, tdes_decipher, des_signature, tdes_signature}
-use Rattle.model_machine.specs.Aes.{aes_encipher, aes_decipher, aes_signature}
-use Rattle.model_device.specs.Image.{targets_1, targets_2, pairs}
-use Rattle.model_device.specs.Card.{blocks_from, apps_of}
-use Rattle.model_device.specs.Layout.{layout, step_of, bad_block, bad_record}
-use Rattle.model_machine.specs.Frame.{bytes_at, write_effect, too_many}
-use Rattle.model_machine.specs.Primitives.{later_causes, prim_effect}
-use Rattle.model_machine.specs.Row.{causes, effect, row}
-use Rattle.model_machine.specs.Chain.{turn_of_chain, run_of_chain}
-use Rattle.model_text.specs.TurnText.{turn_line}
-use Rattle.model_text.specs.Text.{ok_as}
-use Rattle.model_card.specs.Manager.{manage}
-use Rattle.model_card.specs.Commands.{command}
-use Rattle.model_play.specs.Play.{Step, start, send, play_at_power, step, plays, moves_of, steady_failures}
-use Rattle.model_play.specs.DeckGrammar.{DeckLine}
-use Rattle.model_play.specs.declared.deck.DeckCause.{DeckCause}
+use Rattle.mc_text.specs.model_device.specs.Device.{blank_words, device_words}
+use Rattle.mc_deck.specs.model_card.specs.Units.{name_of}
+use Rattle.mc_text.specs.model_machine.specs.Apdu.{apdu_read}
+use Rattle.mc_text.specs.model_device.specs.Pieces.{touched_words}
+use Rattle.mc_text.specs.model_machine.specs.Des.{des_encipher, des_decipher, tdes_encipher, tdes_decipher, des_signature, tdes_signature}
+use Rattle.mc_text.specs.model_machine.specs.Aes.{aes_encipher, aes_decipher, aes_signature}
+use Rattle.mc_text.specs.model_device.specs.Image.{targets_1, targets_2, pairs}
+use Rattle.mc_text.specs.model_device.specs.Card.{blocks_from, apps_of}
+use Rattle.mc_text.specs.model_device.specs.Layout.{layout, step_of, bad_block, bad_record}
+use Rattle.mc_text.specs.model_machine.specs.Frame.{bytes_at, write_effect, too_many}
+use Rattle.mc_text.specs.model_machine.specs.Primitives.{later_causes, prim_effect}
+use Rattle.mc_text.specs.model_machine.specs.Row.{causes, effect, row}
+use Rattle.mc_text.specs.model_machine.specs.Chain.{turn_of_chain, run_of_chain}
+use Rattle.mc_text.specs.model_text.specs.TurnText.{turn_line}
+use Rattle.mc_text.specs.model_text.specs.Text.{ok_as}
+use Rattle.mc_deck.specs.model_card.specs.Manager.{manage}
+use Rattle.mc_deck.specs.model_card.specs.Commands.{command}
+use Rattle.mc_deck.specs.model_play.specs.Play.{Step, start, send, play_at_power, step, plays, moves_of, steady_failures}
+use Rattle.mc_deck.specs.model_play.specs.DeckGrammar.{DeckLine}
+use Rattle.mc_deck.specs.model_play.specs.declared.deck.DeckCause.{DeckCause}
 use Rattle.desk_draft.specs.Drafts.{deck_of}
 use Rattle.desk_draft.specs.Listings.{desk_read, draft_listing}
 use Rattle.desk_draft.specs.Verdicts

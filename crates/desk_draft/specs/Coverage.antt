@@ -1,12 +1,12 @@
 -- How often each line of code ran and each branch went each way, as a record of LCOV (geninfo, "tracefile").
 use Rattle.std.specs.Prelude.{ℕ, ◌-◌, Bool, true, false, cond, not, ◌&&◌, nat_lt, ◌==◌, List, [], ◌∷◌, ◌++◌, map, filter, flat_map, length, codes, decimal, Option, Some, None, Result, Ok, Err}
-use Rattle.model_machine.specs.declared.instruction.Ins.{Ins}
-use Rattle.model_machine.specs.declared.instruction.Ins.TheVariants as ins
-use Rattle.model_machine.specs.declared.instruction.DecodeFault.{DecodeFault}
-use Rattle.model_text.specs.Text.{is_within}
-use Rattle.model_machine.specs.Code.{front}
-use Rattle.model_machine.specs.Row.{holds}
-use Rattle.model_play.specs.Play.{Step}
+use Rattle.mc_text.specs.model_machine.specs.declared.instruction.Ins.{Ins}
+use Rattle.mc_text.specs.model_machine.specs.declared.instruction.Ins.TheVariants as ins
+use Rattle.mc_text.specs.model_machine.specs.declared.instruction.DecodeFault.{DecodeFault}
+use Rattle.mc_text.specs.model_text.specs.Text.{is_within}
+use Rattle.mc_text.specs.model_machine.specs.Code.{front}
+use Rattle.mc_text.specs.model_machine.specs.Row.{holds}
+use Rattle.mc_deck.specs.model_play.specs.Play.{Step}
 use Rattle.desk_draft.specs.Listings.{CodeLine, Source}
 use Rattle.desk_draft.specs.FullTurns.{FullTurn, turns_of_step}
 use Rattle.desk_draft.specs.Traces.{is_turn_of}

@@ -1,12 +1,12 @@
 -- The declarations of a section: what they name, the sums of bytes so far, and what stands in their place in the deck.
 use Rattle.std.specs.Prelude.{ℕ, ◌+◌, ◌-◌, ℤ, pos, negsuc, Bool, true, false, cond, not, ◌&&◌, ◌||◌, nat_lt, nat_le, ◌==◌, List, [], ◌∷◌, ◌++◌, length, codes, unwrap_or, is_none, Option, Some, None, option_map, ok_or, Result, Ok, Err}
-use Rattle.model_device.specs.Bytes.{lookup, has_name, zeros}
-use Rattle.model_text.specs.Text.{◌>>=◌, ok_as, only_if, begins, fields, decimal_number, hex_bytes}
-use Rattle.model_text.specs.Listing.{condition_names, register_names, hex_text}
-use Rattle.model_text.specs.Assembly.{is_label, signed_number}
-use Rattle.model_play.specs.DeckGrammar.{number_field, hex_field, is_end}
-use Rattle.model_play.specs.declared.deck.DeckCause.{DeckCause}
-use Rattle.model_play.specs.declared.deck.DeckCause.TheVariants.{BadLine, BadName, BadNumber, OutOfRange, NameTwice}
+use Rattle.mc_text.specs.model_device.specs.Bytes.{lookup, has_name, zeros}
+use Rattle.mc_text.specs.model_text.specs.Text.{◌>>=◌, ok_as, only_if, begins, fields, decimal_number, hex_bytes}
+use Rattle.mc_text.specs.model_text.specs.Listing.{condition_names, register_names, hex_text}
+use Rattle.mc_text.specs.model_text.specs.Assembly.{is_label, signed_number}
+use Rattle.mc_deck.specs.model_play.specs.DeckGrammar.{number_field, hex_field, is_end}
+use Rattle.mc_deck.specs.model_play.specs.declared.deck.DeckCause.{DeckCause}
+use Rattle.mc_deck.specs.model_play.specs.declared.deck.DeckCause.TheVariants.{BadLine, BadName, BadNumber, OutOfRange, NameTwice}
 use Rattle.desk_draft.specs.Parts.{without_comment}
 
 -- what a name stands for: bytes from an offset of a register on, by the register's tag, or a number as it was written

@@ -1,23 +1,23 @@
 -- The turns of a run with what surrounds each: the code that runs, the frame after it, and the bytes of its operand.
 use Rattle.std.specs.Prelude.{ℕ, zero, suc, ◌-◌, ℤ, Bool, true, false, cond, ◌==◌, List, [], ◌∷◌, ◌++◌, length, take, drop, Option, Some, None, option_and_then, Result, Ok, Err}
-use Rattle.model_machine.specs.declared.instruction.Ins.{Ins}
-use Rattle.model_machine.specs.declared.instruction.Ins.TheVariants as ins
-use Rattle.model_machine.specs.declared.instruction.DecodeFault.{DecodeFault}
-use Rattle.model_device.specs.Bytes.{lookup}
-use Rattle.model_device.specs.Card.{Card}
-use Rattle.model_device.specs.PowerUp.{Base, OnCard, AtFault}
-use Rattle.model_machine.specs.Apdu.{ApduParts}
-use Rattle.model_machine.specs.Code.{instruction_at}
-use Rattle.model_machine.specs.Frame.{Frame, Effect, resolve, where_is, bytes_in, floor}
-use Rattle.model_machine.specs.Row.{RowEnd, Abends, Does, row}
-use Rattle.model_machine.specs.Chain.{Turn, Chain, Follows, Continues, Ends, around, code_in, frame_at, chain_after_effect, follows, reported_frame, turn_of_chain, turn_without_budget, start}
-use Rattle.model_card.specs.Commands.{command}
-use Rattle.model_card.specs.Items.{card_done}
-use Rattle.model_card.specs.Manager.{Selected, SessionState, Route, WrongLength, WrongClass, ToSelect, ToManager, ToApplication, route}
-use Rattle.model_play.specs.DeckGrammar.{DeckLine}
-use Rattle.model_play.specs.DeckGrammar as line
-use Rattle.model_play.specs.Play.{State, BeforePower, AfterPower, Live, Running, Unpowered, Muted, Step, select_bytes, delete_bytes, load_commands, is_done}
-use Rattle.model_play.specs.TraceText.{shown_turns}
+use Rattle.mc_text.specs.model_machine.specs.declared.instruction.Ins.{Ins}
+use Rattle.mc_text.specs.model_machine.specs.declared.instruction.Ins.TheVariants as ins
+use Rattle.mc_text.specs.model_machine.specs.declared.instruction.DecodeFault.{DecodeFault}
+use Rattle.mc_text.specs.model_device.specs.Bytes.{lookup}
+use Rattle.mc_text.specs.model_device.specs.Card.{Card}
+use Rattle.mc_text.specs.model_device.specs.PowerUp.{Base, OnCard, AtFault}
+use Rattle.mc_text.specs.model_machine.specs.Apdu.{ApduParts}
+use Rattle.mc_text.specs.model_machine.specs.Code.{instruction_at}
+use Rattle.mc_text.specs.model_machine.specs.Frame.{Frame, Effect, resolve, where_is, bytes_in, floor}
+use Rattle.mc_text.specs.model_machine.specs.Row.{RowEnd, Abends, Does, row}
+use Rattle.mc_text.specs.model_machine.specs.Chain.{Turn, Chain, Follows, Continues, Ends, around, code_in, frame_at, chain_after_effect, follows, reported_frame, turn_of_chain, turn_without_budget, start}
+use Rattle.mc_deck.specs.model_card.specs.Commands.{command}
+use Rattle.mc_deck.specs.model_card.specs.Items.{card_done}
+use Rattle.mc_deck.specs.model_card.specs.Manager.{Selected, SessionState, Route, WrongLength, WrongClass, ToSelect, ToManager, ToApplication, route}
+use Rattle.mc_deck.specs.model_play.specs.DeckGrammar.{DeckLine}
+use Rattle.mc_deck.specs.model_play.specs.DeckGrammar as line
+use Rattle.mc_deck.specs.model_play.specs.Play.{State, BeforePower, AfterPower, Live, Running, Unpowered, Muted, Step, select_bytes, delete_bytes, load_commands, is_done}
+use Rattle.mc_deck.specs.model_play.specs.TraceText.{shown_turns}
 
 -- a turn, the code of its application, its frame after the turn (before it where the chain ends with an abend), and the
 -- bytes that its operand `REG[offset]` names, as they are after the turn; none where it has no such operand, or ends

@@ -1,9 +1,9 @@
 -- The laws of drafts, their decks and their plays.
 use Rattle.std.specs.Prelude.{◌≡◌, ℕ, ◌==◌, List, map, flat_map, length, Option, Ok}
-use Rattle.model_text.specs.Text.{pieces}
-use Rattle.model_text.specs.Assembly.{assembled_lines}
-use Rattle.model_play.specs.DeckGrammar.{DeckLine, deck_read}
-use Rattle.model_play.specs.Play.{State, FailedWrite, step}
+use Rattle.mc_text.specs.model_text.specs.Text.{pieces}
+use Rattle.mc_text.specs.model_text.specs.Assembly.{assembled_lines}
+use Rattle.mc_deck.specs.model_play.specs.DeckGrammar.{DeckLine, deck_read}
+use Rattle.mc_deck.specs.model_play.specs.Play.{State, FailedWrite, step}
 use Rattle.desk_draft.specs.Drafts.{Section, deck_of}
 use Rattle.desk_draft.specs.Listings.{source_of, program_of}
 use Rattle.desk_draft.specs.FullTurns.{turns_of_line_in}

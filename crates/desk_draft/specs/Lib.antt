@@ -16,3 +16,6 @@ pub mod Loads
 pub mod Laws
 pub mod PurseDraft
 pub mod Computed
+-- the libraries below that those above cite through this one
+pub use Rattle.mc_deck.specs.model_card as model_card
+pub use Rattle.mc_deck.specs.model_play as model_play

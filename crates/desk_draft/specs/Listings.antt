@@ -1,12 +1,12 @@
 -- The code of the sections of a draft line by line, and the listing of a draft.
 use Rattle.std.specs.Prelude.{ℕ, ◌+◌, Bool, cond, not, ◌&&◌, nat_lt, nat_le, List, [], ◌∷◌, ◌++◌, map, filter, flat_map, length, codes, decimal, Option, Some, None, Result, Ok, Err}
-use Rattle.model_device.specs.Bytes.{bytes2}
-use Rattle.model_text.specs.declared.assembler.AsmCause.{AsmCause}
-use Rattle.model_text.specs.Text.{◌>>=◌, ok_as, fields, is_empty, trim}
-use Rattle.model_text.specs.Listing.{hex_text}
-use Rattle.model_text.specs.Assembly.{Laid, Placed, laid_lines, joined_code, bytes_of_item}
-use Rattle.model_play.specs.DeckGrammar.{DeckLine, is_data, section_program, deck_read}
-use Rattle.model_play.specs.declared.deck.DeckCause.{DeckCause}
+use Rattle.mc_text.specs.model_device.specs.Bytes.{bytes2}
+use Rattle.mc_text.specs.model_text.specs.declared.assembler.AsmCause.{AsmCause}
+use Rattle.mc_text.specs.model_text.specs.Text.{◌>>=◌, ok_as, fields, is_empty, trim}
+use Rattle.mc_text.specs.model_text.specs.Listing.{hex_text}
+use Rattle.mc_text.specs.model_text.specs.Assembly.{Laid, Placed, laid_lines, joined_code, bytes_of_item}
+use Rattle.mc_deck.specs.model_play.specs.DeckGrammar.{DeckLine, is_data, section_program, deck_read}
+use Rattle.mc_deck.specs.model_play.specs.declared.deck.DeckCause.{DeckCause}
 use Rattle.desk_draft.specs.Parts.{without_comment}
 use Rattle.desk_draft.specs.Statements.{Loadable}
 use Rattle.desk_draft.specs.Drafts.{SourceLine, Section, Draft, draft_read}

@@ -5,7 +5,7 @@ use Rattle.std.specs.Cmp.Lexicographic.{slice_cmp}
 use Rattle.std.specs.BTreeMap
 use Rattle.std.specs.BTreeMap.{BTreeMap}
 use denote.Ref.{Bor}
-use Rattle.model_text.specs.Text.{lines}
+use Rattle.mc_text.specs.model_text.specs.Text.{lines}
 use Rattle.mc_asm.specs.Items.{texts}
 use Rattle.desk_draft.specs.declared.desk.Desk.{Desk}
 use Rattle.desk_draft.specs.declared.source.CodeLine.{CodeLine}

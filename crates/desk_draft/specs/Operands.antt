@@ -1,11 +1,11 @@
 -- An instruction of a draft and what it becomes in the deck: each operand that is a name, with the rest of the line as
 -- it was.
 use Rattle.std.specs.Prelude.{ℕ, ◌-◌, ℤ, pos, ◌+ℤ◌, Bool, true, false, cond, ◌&&◌, nat_lt, ◌==◌, List, [], ◌∷◌, ◌++◌, length, drop, bytes_eq, codes, decimal, Option, Some, None, Result, Ok}
-use Rattle.model_device.specs.Bytes.{lookup, has_name}
-use Rattle.model_text.specs.Text.{◌>>=◌, ok_as, only_if, pieces, first_cut, decimal_number}
-use Rattle.model_text.specs.Listing.{address_text}
-use Rattle.model_play.specs.declared.deck.DeckCause.{DeckCause}
-use Rattle.model_play.specs.declared.deck.DeckCause.TheVariants.{OutOfRange}
+use Rattle.mc_text.specs.model_device.specs.Bytes.{lookup, has_name}
+use Rattle.mc_text.specs.model_text.specs.Text.{◌>>=◌, ok_as, only_if, pieces, first_cut, decimal_number}
+use Rattle.mc_text.specs.model_text.specs.Listing.{address_text}
+use Rattle.mc_deck.specs.model_play.specs.declared.deck.DeckCause.{DeckCause}
+use Rattle.mc_deck.specs.model_play.specs.declared.deck.DeckCause.TheVariants.{OutOfRange}
 use Rattle.desk_draft.specs.Parts.{part_of, with_core, before_rest, first_word, after_word, without_comment}
 use Rattle.desk_draft.specs.Declarations.{NameMeaning, Bytes, Number}
 

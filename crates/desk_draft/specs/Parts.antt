@@ -1,6 +1,6 @@
 -- Texts taken apart with every byte kept: lines with what ends them, and a part with the blanks around it.
 use Rattle.std.specs.Prelude.{ℕ, ◌-◌, ◌==◌, List, [], ◌∷◌, ◌++◌, length, take, drop}
-use Rattle.model_text.specs.Text.{pieces, first_cut, trim, trim_front, is_blank}
+use Rattle.mc_text.specs.model_text.specs.Text.{pieces, first_cut, trim, trim_front, is_blank}
 use Rattle.mc_text.specs.Reading.{without_return}
 
 -- a line of a text, and the bytes that end it: a line feed, with the carriage return right before it where there is

@@ -1,9 +1,9 @@
 -- A rule of a draft, which is a comment of the deck, and what it becomes: names in braces, and the statement of a move.
 use Rattle.std.specs.Prelude.{ℕ, Bool, false, cond, not, ◌&&◌, ◌==◌, List, [], ◌∷◌, ◌++◌, bytes_eq, codes, is_none, Option, Some, None, Result, Ok, Err}
-use Rattle.model_device.specs.Bytes.{lookup, has_name}
-use Rattle.model_text.specs.Text.{◌>>=◌, ok_as, only_if, fields, first_cut, pieces}
-use Rattle.model_play.specs.declared.deck.DeckCause.{DeckCause}
-use Rattle.model_play.specs.declared.deck.DeckCause.TheVariants.{BadHex, BadLine, UnknownName}
+use Rattle.mc_text.specs.model_device.specs.Bytes.{lookup, has_name}
+use Rattle.mc_text.specs.model_text.specs.Text.{◌>>=◌, ok_as, only_if, fields, first_cut, pieces}
+use Rattle.mc_deck.specs.model_play.specs.declared.deck.DeckCause.{DeckCause}
+use Rattle.mc_deck.specs.model_play.specs.declared.deck.DeckCause.TheVariants.{BadHex, BadLine, UnknownName}
 use Rattle.desk_draft.specs.Parts.{after_word, before_rest, first_word}
 use Rattle.desk_draft.specs.Declarations.{NameMeaning}
 use Rattle.desk_draft.specs.Operands.{operand_text}

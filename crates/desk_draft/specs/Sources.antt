@@ -1,10 +1,10 @@
 -- The code of sections as the code keeps it: of each line its place and the number of its bytes.
 use Rattle.std.specs.Prelude.{◌≡◌, ℕ, ◌+◌, ◌==◌, cond, min, List, [], ◌∷◌, ◌++◌, map, take, drop, Option, Some, None, Result, Ok, Err}
 use Rattle.std.specs.Global.{Vec}
-use Rattle.model_text.specs.declared.assembler.AsmCause.{AsmCause}
-use Rattle.model_text.specs.Text.{fields, ok_as, trim}
-use Rattle.model_text.specs.Assembly.{line_read, size}
-use Rattle.model_play.specs.DeckGrammar.{is_data}
+use Rattle.mc_text.specs.model_text.specs.declared.assembler.AsmCause.{AsmCause}
+use Rattle.mc_text.specs.model_text.specs.Text.{fields, ok_as, trim}
+use Rattle.mc_text.specs.model_text.specs.Assembly.{line_read, size}
+use Rattle.mc_deck.specs.model_play.specs.DeckGrammar.{is_data}
 use Rattle.desk_draft.specs.declared.source.CodeLine.{CodeLine}
 use Rattle.desk_draft.specs.declared.source.Source.{Source}
 use Rattle.desk_draft.specs.Parts.{without_comment}

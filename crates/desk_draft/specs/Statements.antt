@@ -1,10 +1,10 @@
 -- A statement of a draft between its sections, and what it becomes in the deck.
 use Rattle.std.specs.Prelude.{ℕ, ◌-◌, Bool, cond, nat_le, ◌==◌, List, [], ◌∷◌, ◌++◌, length, take, slice_index, unwrap_or, bytes_eq, codes, decimal, Option, Some, None, ok_or, Result, Ok, Err}
-use Rattle.model_device.specs.Bytes.{lookup, has_name}
-use Rattle.model_text.specs.Text.{◌>>=◌, ok_as, only_if, is_within, fields, hex_bytes}
-use Rattle.model_text.specs.Listing.{hex_text}
-use Rattle.model_play.specs.declared.deck.DeckCause.{DeckCause}
-use Rattle.model_play.specs.declared.deck.DeckCause.TheVariants.{BadHex, OutOfRange, UnknownName}
+use Rattle.mc_text.specs.model_device.specs.Bytes.{lookup, has_name}
+use Rattle.mc_text.specs.model_text.specs.Text.{◌>>=◌, ok_as, only_if, is_within, fields, hex_bytes}
+use Rattle.mc_text.specs.model_text.specs.Listing.{hex_text}
+use Rattle.mc_deck.specs.model_play.specs.declared.deck.DeckCause.{DeckCause}
+use Rattle.mc_deck.specs.model_play.specs.declared.deck.DeckCause.TheVariants.{BadHex, OutOfRange, UnknownName}
 use Rattle.desk_draft.specs.Parts.{part_in, after_word, with_core}
 
 -- what a statement needs of a section: its AID as it was written, and the sizes of its static bytes and of its session

@@ -1,11 +1,11 @@
 -- The trace of a draft: the line of each turn of a section with its source line, the bytes of its operand, and the top
 -- of the stack.
 use Rattle.std.specs.Prelude.{ℕ, ◌-◌, Bool, cond, ◌&&◌, List, [], ◌∷◌, ◌++◌, length, take, bytes_eq, codes, unwrap_or, Option, Some, None}
-use Rattle.model_text.specs.Text.{hex_bytes}
-use Rattle.model_text.specs.Listing.{hex_text}
-use Rattle.model_text.specs.TurnText.{turn_line}
-use Rattle.model_play.specs.Play.{Step}
-use Rattle.model_play.specs.Transcript.{plain_text, texts}
+use Rattle.mc_text.specs.model_text.specs.Text.{hex_bytes}
+use Rattle.mc_text.specs.model_text.specs.Listing.{hex_text}
+use Rattle.mc_text.specs.model_text.specs.TurnText.{turn_line}
+use Rattle.mc_deck.specs.model_play.specs.Play.{Step}
+use Rattle.mc_deck.specs.model_play.specs.Transcript.{plain_text, texts}
 use Rattle.desk_draft.specs.Listings.{CodeLine, Source}
 use Rattle.desk_draft.specs.Verdicts.{source_part, source_line}
 use Rattle.desk_draft.specs.FullTurns.{FullTurn, turns_of_step, stack_of, last_bytes}

@@ -1,8 +1,8 @@
 -- The verdicts of the stack checker on a draft, with the source line of each place that is refused.
 use Rattle.std.specs.Prelude.{ℕ, ◌==◌, cond, List, [], ◌∷◌, ◌++◌, bytes_eq, codes, decimal, Option, Some, None, option_and_then, Result, Ok, Err}
-use Rattle.model_text.specs.declared.checker.CheckCause.{CheckCause}
-use Rattle.model_text.specs.CheckWords.{check_word}
-use Rattle.model_text.specs.Text.{lines, with_numbers, fields}
+use Rattle.mc_text.specs.model_text.specs.declared.checker.CheckCause.{CheckCause}
+use Rattle.mc_text.specs.model_text.specs.CheckWords.{check_word}
+use Rattle.mc_text.specs.model_text.specs.Text.{lines, with_numbers, fields}
 use Rattle.desk_draft.specs.Listings.{CodeLine, Source, Desk, line_at}
 
 -- ` ; ` with the number and the text of a source line, nothing where there is none

@@ -5,11 +5,11 @@ use Rattle.std.specs.Cmp.Lexicographic.{slice_cmp}
 use Rattle.std.specs.BTreeMap
 use Rattle.std.specs.BTreeMap.{BTreeMap}
 use denote.Ref.{Bor}
-use Rattle.model_device.specs.Bytes.{lookup, or_else, zeros}
-use Rattle.model_text.specs.Text.{ok_as, only_if, hex_value, is_empty}
-use Rattle.model_text.specs.Listing.{address_text, hex_text}
-use Rattle.model_play.specs.declared.deck.DeckCause.{DeckCause}
-use Rattle.model_play.specs.declared.deck.DeckCause.TheVariants.{BadLine, BadNumber, OutOfRange, NameTwice}
+use Rattle.mc_text.specs.model_device.specs.Bytes.{lookup, or_else, zeros}
+use Rattle.mc_text.specs.model_text.specs.Text.{ok_as, only_if, hex_value, is_empty}
+use Rattle.mc_text.specs.model_text.specs.Listing.{address_text, hex_text}
+use Rattle.mc_deck.specs.model_play.specs.declared.deck.DeckCause.{DeckCause}
+use Rattle.mc_deck.specs.model_play.specs.declared.deck.DeckCause.TheVariants.{BadLine, BadNumber, OutOfRange, NameTwice}
 use Rattle.mc_deck.specs.declared.refusal.Fault.{Fault}
 use Rattle.mc_deck.specs.declared.refusal.Fault.TheVariants as fault
 use Rattle.mc_deck.specs.declared.refusal.DeckRefusal.{DeckRefusal}

@@ -1,7 +1,7 @@
 // The declaration of a line.
 ghost use Rattle.std.specs.Prelude.{◌≡◌, option_map, ◌∷◌};
-ghost use Rattle.model_text.specs.Text.{begins};
-ghost use Rattle.model_device.specs.Bytes.{lookup};
+ghost use Rattle.mc_text.specs.model_text.specs.Text.{begins};
+ghost use Rattle.mc_text.specs.model_device.specs.Bytes.{lookup};
 ghost use Rattle.mc_asm.specs.Items.{texts};
 ghost use Rattle.desk_draft.specs.Declarations.{declaration_in, declaration_of, declaration_words, is_labelled, gives, StaticWord, SessionWord, PublicWord, ConstWord};
 ghost use Rattle.desk_draft.specs.Views.{word_of, gives_by, Declares, DeclaresMaybe};

@@ -1,9 +1,9 @@
 // Drafts, line by line.
 ghost use Rattle.std.specs.Prelude.{◌≡◌, ◌<◌, length, slice_get, ◌+◌, ◌++◌, ◌∷◌, ◌&&◌, [], ℕ, Bool, List, true, option_map, codes, cond, IfErr, IfOk, IfSome, MatchResult, Ok, OnOk, Some, None};
-ghost use Rattle.model_device.specs.Bytes.{zeros};
-ghost use Rattle.model_text.specs.Text.{fields};
-ghost use Rattle.model_text.specs.Listing.{hex_text};
-ghost use Rattle.model_play.specs.DeckGrammar.{is_data, is_end};
+ghost use Rattle.mc_text.specs.model_device.specs.Bytes.{zeros};
+ghost use Rattle.mc_text.specs.model_text.specs.Text.{fields};
+ghost use Rattle.mc_text.specs.model_text.specs.Listing.{hex_text};
+ghost use Rattle.mc_deck.specs.model_play.specs.DeckGrammar.{is_data, is_end};
 ghost use Rattle.mc_asm.specs.Items.{texts};
 ghost use Rattle.mc_deck.specs.Refused.{DeckRefuses, Faulty};
 ghost use Rattle.mc_deck.specs.declared.refusal.DeckRefusal.TheVariants.{NoMemory};

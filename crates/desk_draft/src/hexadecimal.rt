@@ -1,6 +1,6 @@
 // Hexadecimal digits that are counted.
 ghost use Rattle.std.specs.Prelude.{◌≡◌, length, option_map};
-ghost use Rattle.model_text.specs.Text.{every, hex_bytes};
+ghost use Rattle.mc_text.specs.model_text.specs.Text.{every, hex_bytes};
 ghost use Rattle.desk_draft.specs.Views.{is_hex};
 
 use mc_text::hex_value;

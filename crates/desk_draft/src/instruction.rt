@@ -1,7 +1,7 @@
 // An instruction, and what it becomes.
 ghost use Rattle.std.specs.Prelude.{◌≡◌, ◌==◌, ◌&&◌, ℕ, List, length};
-ghost use Rattle.model_text.specs.Text.{first_cut, pieces};
-ghost use Rattle.model_device.specs.Bytes.{has_name};
+ghost use Rattle.mc_text.specs.model_text.specs.Text.{first_cut, pieces};
+ghost use Rattle.mc_text.specs.model_device.specs.Bytes.{has_name};
 ghost use Rattle.desk_draft.specs.Declarations.{NameMeaning};
 ghost use Rattle.desk_draft.specs.Operands.{after_text, body_text, instruction_text, jump_words, labelled_text, moving_words, one_block_words, piece_text, pieces_text, sized_words, two_block_words};
 ghost use Rattle.desk_draft.specs.Views.{AreNames, Pushes};

@@ -1,6 +1,6 @@
 // What the lines of a draft so far have named.
 ghost use Rattle.std.specs.Prelude.{◌≡◌, ◌++◌, ◌∷◌, ◌||◌, [], ℕ, List, bytes_eq, drop, not, OnOk, None};
-ghost use Rattle.model_device.specs.Bytes.{lookup};
+ghost use Rattle.mc_text.specs.model_device.specs.Bytes.{lookup};
 ghost use Rattle.desk_draft.specs.Declarations.{NameMeaning};
 ghost use Rattle.desk_draft.specs.Drafts.{app_after, closed_section, ended_rules, marked_rules, nothing_before, rules_after, sizes_of, Rules};
 ghost use Rattle.desk_draft.specs.Drafts;

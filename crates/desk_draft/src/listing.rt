@@ -1,8 +1,8 @@
 // The listing of a draft.
 ghost use Rattle.std.specs.Prelude.{◌≡◌, ◌++◌, flat_map, map, Ok, IfErr, IfOk, OnOk};
 ghost use Rattle.mc_deck.specs.Refused.{DeckRefuses};
-ghost use Rattle.model_device.specs.Bytes.{bytes2};
-ghost use Rattle.model_text.specs.Listing.{hex_text};
+ghost use Rattle.mc_text.specs.model_device.specs.Bytes.{bytes2};
+ghost use Rattle.mc_text.specs.model_text.specs.Listing.{hex_text};
 ghost use Rattle.desk_draft.specs.Listings.{draft_listing, listing_head, listing_line, listing_of};
 ghost use Rattle.desk_draft.specs.Sources.{code_line_value, source_value, sources_value};
 

@@ -1,6 +1,6 @@
 // What a name stands for.
 ghost use Rattle.std.specs.Prelude.{◌≡◌, ℕ, List, [], ◌∷◌, option_map, Some, None, OnOk};
-ghost use Rattle.model_device.specs.Bytes.{lookup};
+ghost use Rattle.mc_text.specs.model_device.specs.Bytes.{lookup};
 ghost use Rattle.desk_draft.specs.Declarations.{header_bytes, header_names, header_words, Bytes, NameMeaning};
 ghost use Rattle.desk_draft.specs.Views.{meaning_of, AreNames};
 
@@ -32,7 +32,7 @@ pub type Names<'a> = BTreeMap<&'a [u8], Meaning<'a>>;
 
 impl Register {
     ghost use Rattle.std.specs.Prelude.{◌≡◌};
-    ghost use Rattle.model_text.specs.Listing.{register_name};
+    ghost use Rattle.mc_text.specs.model_text.specs.Listing.{register_name};
     ghost use Rattle.desk_draft.specs.Views.{register_tag};
 
     /// Returns the register's name.

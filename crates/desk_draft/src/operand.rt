@@ -1,16 +1,16 @@
 // One operand, and what it becomes.
 ghost use Rattle.std.specs.Prelude.{◌≡◌, ◌++◌, ◌==◌, ℕ, List, bytes_eq, codes, OnOk};
-ghost use Rattle.model_device.specs.Bytes.{lookup};
-ghost use Rattle.model_text.specs.Text.{decimal_number, first_cut, ok_as};
-ghost use Rattle.model_text.specs.Listing.{address_text};
+ghost use Rattle.mc_text.specs.model_device.specs.Bytes.{lookup};
+ghost use Rattle.mc_text.specs.model_text.specs.Text.{decimal_number, first_cut, ok_as};
+ghost use Rattle.mc_text.specs.model_text.specs.Listing.{address_text};
 ghost use Rattle.desk_draft.specs.Declarations.{NameMeaning};
 ghost use Rattle.desk_draft.specs.Operands.{bytes_text, named_text, operand_text, plain_operand, shifted_text, size_text};
 ghost use Rattle.desk_draft.specs.Views.{register_tag, text_of_operand, AreNames};
 
 use crate::meaning::{Meaning, Names, Register, look_up};
 use crate::text::{push, push_decimal, push_signed};
+use mc_deck::model_play::DeckCause;
 use mc_text::{cut, decimal_number};
-use model_play::DeckCause;
 use std::alloc::AllocError;
 
 /// What an operand becomes: a text, a place, a place and a size, or a size alone.

@@ -1,7 +1,7 @@
 // A rule of a draft, and what it becomes.
 ghost use Rattle.std.specs.Prelude.{◌≡◌, ◌≤◌, ◌++◌, ◌==◌, ◌&&◌, ℕ, List, bytes_eq, codes, length, not, option_map};
-ghost use Rattle.model_text.specs.Text.{fields, first_cut, ok_as, only_if};
-ghost use Rattle.model_play.specs.declared.deck.DeckCause.TheVariants.{UnknownName};
+ghost use Rattle.mc_text.specs.model_text.specs.Text.{fields, first_cut, ok_as, only_if};
+ghost use Rattle.mc_deck.specs.model_play.specs.declared.deck.DeckCause.TheVariants.{UnknownName};
 ghost use Rattle.mc_asm.specs.Items.{texts};
 ghost use Rattle.desk_draft.specs.Declarations.{NameMeaning};
 ghost use Rattle.desk_draft.specs.Parts.{before_rest};
@@ -14,9 +14,9 @@ use crate::operand::{operand_of, push_operand};
 use crate::part::{after_word, before_rest, first_word};
 use crate::statement::{Sections, is_unnamed, push_statement};
 use crate::text::push;
+use mc_deck::model_play::DeckCause;
 use mc_deck::{Fault, fields};
 use mc_text::cut;
-use model_play::DeckCause;
 use std::alloc::Global;
 
 /// Returns whether a line is a rule.

@@ -1,9 +1,9 @@
 // What a section declares.
 ghost use Rattle.std.specs.Prelude.{◌≡◌, pos, ◌+◌, ◌-◌, ◌<◌, ◌≤◌, ℕ, List, ◌∷◌, length, nat_le, is_none, option_map, IfOk};
-ghost use Rattle.model_device.specs.Bytes.{has_name, lookup};
-ghost use Rattle.model_text.specs.Text.{ok_as};
-ghost use Rattle.model_text.specs.Listing.{condition_names, register_names};
-ghost use Rattle.model_play.specs.DeckGrammar.{number_field};
+ghost use Rattle.mc_text.specs.model_device.specs.Bytes.{has_name, lookup};
+ghost use Rattle.mc_text.specs.model_text.specs.Text.{ok_as};
+ghost use Rattle.mc_text.specs.model_text.specs.Listing.{condition_names, register_names};
+ghost use Rattle.mc_deck.specs.model_play.specs.DeckGrammar.{number_field};
 ghost use Rattle.mc_text.specs.Reading.{capped_number};
 ghost use Rattle.mc_asm.specs.Items.{texts};
 ghost use Rattle.desk_draft.specs.Declarations.{const_scope, constant, data_count, data_scope, decimal_field, empty_scope, header_names, label_name, most_session, optional_hex, public_scope, public_span, session_scope, static_count, static_scope, Bytes, NameMeaning};
@@ -13,9 +13,9 @@ use crate::declaration::Declaration;
 use crate::hexadecimal::byte_count;
 use crate::meaning::{Meaning, Names, Register, look_up, no_names, put_name};
 use mc_asm::{is_label, natural};
+use mc_deck::model_play::DeckCause;
 use mc_deck::{Fault, number_field};
 use mc_text::decimal_number;
-use model_play::DeckCause;
 use std::alloc::Global;
 
 /// What stands in a section before a line: its names, the numbers of its static and session bytes, and the number of

@@ -1,7 +1,7 @@
 // The code of the sections of a draft, line by line.
 ghost use Rattle.std.specs.Prelude.{◌≡◌, ◌++◌, ◌∷◌, [], drop, length, map, take, IfOk, OnOk, option_map};
-ghost use Rattle.model_text.specs.Assembly.{assembled_lines};
-ghost use Rattle.model_play.specs.DeckGrammar.{section_program};
+ghost use Rattle.mc_text.specs.model_text.specs.Assembly.{assembled_lines};
+ghost use Rattle.mc_deck.specs.model_play.specs.DeckGrammar.{section_program};
 ghost use Rattle.mc_asm.specs.Passes.{numbered_lines};
 ghost use Rattle.desk_draft.specs.Listings.{has_byte_at, source_of};
 ghost use Rattle.desk_draft.specs.Sources.{code_line_value, line_size, one_span, size_in_section, source_value, sources_value, span_of, spans_from, Assembles};

@@ -1,9 +1,9 @@
 // A statement between sections, and what it becomes.
 ghost use Rattle.std.specs.Prelude.{◌≡◌, ◌++◌, ◌∷◌, ◌&&◌, [], ℕ, List, bytes_eq, codes, is_none, not, ok_or, option_map, OnOk};
-ghost use Rattle.model_device.specs.Bytes.{has_name, lookup};
-ghost use Rattle.model_text.specs.Text.{fields, hex_bytes, is_within, ok_as};
-ghost use Rattle.model_text.specs.Listing.{hex_text};
-ghost use Rattle.model_play.specs.declared.deck.DeckCause.TheVariants.{UnknownName};
+ghost use Rattle.mc_text.specs.model_device.specs.Bytes.{has_name, lookup};
+ghost use Rattle.mc_text.specs.model_text.specs.Text.{fields, hex_bytes, is_within, ok_as};
+ghost use Rattle.mc_text.specs.model_text.specs.Listing.{hex_text};
+ghost use Rattle.mc_deck.specs.model_play.specs.declared.deck.DeckCause.TheVariants.{UnknownName};
 ghost use Rattle.mc_asm.specs.Items.{texts};
 ghost use Rattle.desk_draft.specs.Statements.{after_open, aid_or_name, text_in_brackets, command_field, command_text, counted_hex, is_aid, load_text, named_text, naming_words, one_field_text, only_of, plain_hex, stated_text, statement_text, Loadable};
 ghost use Rattle.desk_draft.specs.Views.{loadable_of, part_text, AreSections, Pushes};
@@ -11,9 +11,9 @@ ghost use Rattle.desk_draft.specs.Views.{loadable_of, part_text, AreSections, Pu
 use crate::hexadecimal::byte_count;
 use crate::part::{after_word, part_in};
 use crate::text::{push, push_byte, push_decimal};
+use mc_deck::model_play::DeckCause;
 use mc_deck::{Fault, fields};
 use mc_text::cut_blank;
-use model_play::DeckCause;
 use std::alloc::AllocError;
 use std::collections::BTreeMap;
 

@@ -9,7 +9,7 @@ mod statements;
 mod verdicts;
 
 use crate::{DeckRefusal, Loads, deck_of, list, push_source_part, read_desk};
-use model_play::DeckCause;
+use mc_deck::model_play::DeckCause;
 use std::alloc::Global;
 
 // Whether a draft makes this deck.

@@ -1,8 +1,8 @@
 // The text of a deck, piece by piece.
 ghost use Rattle.std.specs.Prelude.{◌≡◌, ◌++◌, ◌∷◌, [], decimal, OnOk};
 ghost use Rattle.std.specs.Fmt.{signed_decimal};
-ghost use Rattle.model_device.specs.Bytes.{zeros};
-ghost use Rattle.model_text.specs.Listing.{hex_text};
+ghost use Rattle.mc_text.specs.model_device.specs.Bytes.{zeros};
+ghost use Rattle.mc_text.specs.model_text.specs.Listing.{hex_text};
 
 use itoa::Buffer;
 use mc_text::digit;

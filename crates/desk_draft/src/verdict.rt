@@ -1,6 +1,6 @@
 // The source line of a place that the stack checker refuses.
 ghost use Rattle.std.specs.Prelude.{◌≡◌, ◌<◌, ◌++◌, ◌∷◌, [], ℕ, List, length, option_map, slice_get, IfOk, None, OnOk, Some};
-ghost use Rattle.model_text.specs.Text.{fields, lines};
+ghost use Rattle.mc_text.specs.model_text.specs.Text.{fields, lines};
 ghost use Rattle.mc_asm.specs.Items.{texts};
 ghost use Rattle.desk_draft.specs.Listings.{Desk};
 ghost use Rattle.desk_draft.specs.Listings as listings;

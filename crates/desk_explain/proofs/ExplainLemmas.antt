@@ -1,6 +1,6 @@
 -- What is explained of a draft by its reading.
 use Rattle.std.proofs.Common.{◌≡◌, ℕ, Bool, false, List, Result, Ok, Err, refl, sym, subst}
-use Rattle.model_play.specs.declared.deck.DeckCause.{DeckCause}
+use Rattle.mc_deck.specs.model_play.specs.declared.deck.DeckCause.{DeckCause}
 use Rattle.desk_draft.specs.Listings.{desk_read, Desk}
 use Rattle.desk_explain.specs.Explained.{BeginsWith, Explains}
 

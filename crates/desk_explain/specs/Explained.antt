@@ -1,7 +1,7 @@
 -- What is explained of a draft, line by line.
 use Rattle.std.specs.Prelude.{◌≡◌, ℕ, Bool, false, List, ◌++◌, codes, decimal, Result, Ok, Err, ⊤}
-use Rattle.model_play.specs.declared.deck.DeckCause.{DeckCause}
-use Rattle.model_play.specs.Words.{deck_word}
+use Rattle.mc_deck.specs.model_play.specs.declared.deck.DeckCause.{DeckCause}
+use Rattle.mc_deck.specs.model_play.specs.Words.{deck_word}
 use Rattle.desk_draft.specs.Listings.{Desk}
 
 -- a line as editors read it: the name of the file, the number of the line, the column, the word of the cause, and a text

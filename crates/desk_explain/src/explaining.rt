@@ -1,6 +1,6 @@
 // All that is wrong with a draft.
 ghost use Rattle.std.specs.Prelude.{◌≡◌, ◌++◌, ℕ, List, codes, decimal, Err, IfOk, OnOk, Ok};
-ghost use Rattle.model_play.specs.Words.{deck_word};
+ghost use Rattle.mc_deck.specs.model_play.specs.Words.{deck_word};
 ghost use Rattle.desk_draft.specs.Listings.{desk_read, Desk};
 ghost use Rattle.desk_explain.specs.Explained.{explained_line, BeginsWith, Explains};
 

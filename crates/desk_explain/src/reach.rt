@@ -1,6 +1,6 @@
 // The places of code that a way from its first instruction reaches, whatever the stack holds.
 ghost use Rattle.std.specs.Prelude.{◌≤◌, length};
-ghost use Rattle.model_device.specs.Limits.{most_code};
+ghost use Rattle.mc_isa.specs.model_device.specs.Limits.{most_code};
 
 use mc_check::{call_target, goes_on, is_call, jump_target};
 use mc_isa::{Ins, decode};

@@ -8,8 +8,8 @@ use crate::part::{field_at, label_part};
 use crate::text::{push, push_number};
 use desk_draft::read_desk;
 use mc_asm::{AsmCause, is_label};
+use mc_deck::model_card::UnitRefusal;
 use mc_deck::{DeckCause, DeckRefusal};
-use model_card::UnitRefusal;
 use std::alloc::{AllocError, Global};
 
 /// A line that is refused, counted from 1, its kind and the cause.

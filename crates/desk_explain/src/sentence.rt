@@ -6,7 +6,7 @@ use crate::warning::Warning;
 use mc_asm::AsmCause;
 use mc_check::CheckCause;
 use mc_deck::DeckCause;
-use model_card::UnitRefusal;
+use mc_deck::model_card::UnitRefusal;
 
 /// What was expected, and what to do.
 #[derive(Clone, Copy, Debug, PartialEq, Eq)]

@@ -1,6 +1,6 @@
 // What is said of code that the stack checker refuses.
 ghost use Rattle.std.specs.Prelude.{◌≤◌, length};
-ghost use Rattle.model_device.specs.Limits.{most_code};
+ghost use Rattle.mc_isa.specs.model_device.specs.Limits.{most_code};
 
 use crate::column::column_at;
 use crate::entry::{Entry, push_sentence};

@@ -1,8 +1,8 @@
 // The two ways on which code comes to a place that the stack checker refuses. The facts are followed as the checker
 // follows them, one after the other; what breaks a rule by itself is followed no further.
 ghost use Rattle.std.specs.Prelude.{◌≤◌, length};
-ghost use Rattle.model_device.specs.Limits.{most_code};
-ghost use Rattle.model_machine.specs.Code.{Shaped};
+ghost use Rattle.mc_isa.specs.model_device.specs.Limits.{most_code};
+ghost use Rattle.mc_isa.specs.model_machine.specs.Code.{Shaped};
 
 use mc_check::{
     Counts, Entry, Routine, Seen, call_target, goes_on, height_after, is_conditional, jump_target,

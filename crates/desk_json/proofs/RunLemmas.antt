@@ -2,7 +2,7 @@
 use Rattle.std.proofs.Common.{◌≡◌, ℕ, zero, suc, ◌+◌, ◌≤◌, Bool, true, false, cond, not, ◌==◌, List, [], ◌∷◌, ◌++◌, length, drop, codes, decimal, refl, arith, ap, sym, ◌∙◌, append_assoc, append-nil}
 use Rattle.std.specs.Prelude.{min}
 use Rattle.std.proofs.lemmas.Bool.Decides.{nat_tests}
-use Rattle.model_text.specs.Listing.{hex_text}
+use Rattle.mc_text.specs.model_text.specs.Listing.{hex_text}
 use Rattle.desk_json.specs.Json.{any_run, before_if, before_runs, changes, run_text, runs_after, runs_more}
 use Rattle.desk_json.specs.Runs.{any_after, begin_text, byte_text, close_text, rest_text}
 

@@ -1,6 +1,6 @@
 -- The texts of JSON: the characters of strings, keys, and the runs of addresses whose bytes differ.
 use Rattle.std.specs.Prelude.{ℕ, ◌+◌, Bool, true, false, cond, ◌&&◌, nat_le, ◌==◌, List, [], ◌∷◌, ◌++◌, codes, decimal}
-use Rattle.model_text.specs.Listing.{hex_text}
+use Rattle.mc_text.specs.model_text.specs.Listing.{hex_text}
 
 -- ---- strings and keys
 

@@ -1,6 +1,6 @@
 -- Runs of addresses as they are written, byte by byte: a run stays open until a byte does not differ.
 use Rattle.std.specs.Prelude.{ℕ, ◌+◌, Bool, true, false, not, ◌==◌, List, [], ◌∷◌, ◌++◌, codes, decimal}
-use Rattle.model_text.specs.Listing.{hex_text}
+use Rattle.mc_text.specs.model_text.specs.Listing.{hex_text}
 
 -- what ends a run, if one is open
 abbrev pub close_text : Bool → List ℕ

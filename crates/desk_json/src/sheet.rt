@@ -1,7 +1,7 @@
 // Lines of JSON, gathered and written to a sink.
 ghost use Rattle.std.specs.Prelude.{◌≡◌, ◌+◌, ◌≤◌, ◌++◌, [], ◌∷◌, codes, decimal, length, None};
 ghost use Rattle.arrayvec.specs.ArrayVec.{array_vec_len};
-ghost use Rattle.model_text.specs.Listing.{hex_text};
+ghost use Rattle.mc_text.specs.model_text.specs.Listing.{hex_text};
 ghost use Rattle.mc_text.specs.Texts.{sunk};
 ghost use Rattle.desk_json.specs.Json.{character, characters};
 ghost use Rattle.desk_json.specs.Sheets.{fault_in, written_by, Adds};

@@ -1,14 +1,14 @@
 -- The lines of a turn: the first frame before it, its own, and that of the frame that it called.
 use Rattle.std.proofs.Common.{◌≡◌, ℕ, zero, suc, ◌+◌, ◌≤◌, Bool, true, false, cond, List, [], ◌++◌, Option, None, Result, Ok, Err, refl, arith, sym, ap, subst, ◌∙◌}
 use Rattle.std.specs.Prelude.{get_or, length, min, option_map, slice_set}
-use Rattle.model_device.specs.Bytes.{lookup}
-use Rattle.model_device.specs.Device.{DeviceState}
-use Rattle.model_machine.specs.declared.instruction.Ins.{Ins}
-use Rattle.model_machine.specs.declared.instruction.DecodeFault.{DecodeFault}
-use Rattle.model_machine.specs.declared.instruction.DecodeFault.TheVariants.{Undefined, Past}
-use Rattle.model_machine.specs.Code.{instruction_at}
-use Rattle.model_machine.specs.Row.{RowEnd, Abends, Does, row}
-use Rattle.model_machine.specs.Chain.{Chain, Continues, Ends, Follows, Outcome, Turn as ModelTurn, around, code_in, depth_of, frame_at, row_turn, turn_of, turn_of_chain, turn_of_fetch}
+use Rattle.law_steps.specs.model_device.specs.Bytes.{lookup}
+use Rattle.law_steps.specs.model_device.specs.Device.{DeviceState}
+use Rattle.law_steps.specs.model_machine.specs.declared.instruction.Ins.{Ins}
+use Rattle.law_steps.specs.model_machine.specs.declared.instruction.DecodeFault.{DecodeFault}
+use Rattle.law_steps.specs.model_machine.specs.declared.instruction.DecodeFault.TheVariants.{Undefined, Past}
+use Rattle.law_steps.specs.model_machine.specs.Code.{instruction_at}
+use Rattle.law_steps.specs.model_machine.specs.Row.{RowEnd, Abends, Does, row}
+use Rattle.law_steps.specs.model_machine.specs.Chain.{Chain, Continues, Ends, Follows, Outcome, Turn as ModelTurn, around, code_in, depth_of, frame_at, row_turn, turn_of, turn_of_chain, turn_of_fetch}
 use Rattle.std.specs.Borrow.{MutBor}
 use Rattle.mc_streams.specs.declared.refusals.WriteFault.{WriteFault}
 use Rattle.mc_streams.specs.declared.sink.Sink.{Ghosts}

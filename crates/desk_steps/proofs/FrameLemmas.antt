@@ -2,10 +2,10 @@
 use Rattle.std.proofs.Common.{◌≡◌, inl, inr, ℕ, suc, ◌+◌, ◌≤◌, Bool, true, false, cond, not, List, [], ◌∷◌, Option, Some, refl, arith, sym, ap, ◌∙◌}
 use Rattle.std.proofs.lemmas.Bool.Decides.{nat_tests}
 use Rattle.std.specs.Prelude.{◌==◌, bytes_eq, length, nat_lt}
-use Rattle.model_machine.specs.declared.instruction.Ins.{Ins}
-use Rattle.model_machine.specs.declared.machine.Abend.{Abend}
-use Rattle.model_machine.specs.Frame.{Frame}
-use Rattle.model_machine.specs.Chain.{Chain, Follows, Continues, Ends, Abended, depth_of, turn_of}
+use Rattle.law_steps.specs.model_machine.specs.declared.instruction.Ins.{Ins}
+use Rattle.law_steps.specs.model_machine.specs.declared.machine.Abend.{Abend}
+use Rattle.law_steps.specs.model_machine.specs.Frame.{Frame}
+use Rattle.law_steps.specs.model_machine.specs.Chain.{Chain, Follows, Continues, Ends, Abended, depth_of, turn_of}
 use Rattle.law_steps.specs.Nexts.{Nexts}
 use Rattle.law_steps.specs.Readings.{Reading, first_sets, no_reading, reading_of, sets_between}
 use Rattle.law_steps.specs.Registers.{frame_after}

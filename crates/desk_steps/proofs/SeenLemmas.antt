@@ -4,15 +4,15 @@ use Rattle.std.specs.Prelude.{get_or, is_none, min, nat_le, nat_lt}
 use Rattle.std.proofs.lemmas.Bool.{and_parts, leb-true}
 use Rattle.std.proofs.lemmas.Bool.Decides.{nat_tests}
 use Rattle.std.proofs.lemmas.List.{length-take}
-use Rattle.model_device.specs.Bytes.{num}
-use Rattle.model_device.specs.Pieces.{laid_pieces}
-use Rattle.model_device.proofs.ListLemmas.{splice_longer}
-use Rattle.model_device.specs.Bytes.{splice}
-use Rattle.model_machine.specs.declared.instruction.Ins.{Ins}
-use Rattle.model_machine.specs.declared.machine.Abend.{Abend}
-use Rattle.model_machine.specs.Frame.{Frame, Place, Static, Dynamic, Public, address_at, bytes_at, bytes_in, dynamic_base, dynamic_end, is_outside, public_base, public_end, static_bytes}
-use Rattle.model_machine.specs.Primitives.{number_below_top}
-use Rattle.model_machine.specs.Chain.{Abended, Chain, Outcome, Reply, Turn as ModelTurn, around, delegator_in, depth_of, frame_at, turn_of}
+use Rattle.law_steps.specs.model_device.specs.Bytes.{num}
+use Rattle.law_steps.specs.model_device.specs.Pieces.{laid_pieces}
+use Rattle.law_steps.specs.model_device.proofs.ListLemmas.{splice_longer}
+use Rattle.law_steps.specs.model_device.specs.Bytes.{splice}
+use Rattle.law_steps.specs.model_machine.specs.declared.instruction.Ins.{Ins}
+use Rattle.law_steps.specs.model_machine.specs.declared.machine.Abend.{Abend}
+use Rattle.law_steps.specs.model_machine.specs.Frame.{Frame, Place, Static, Dynamic, Public, address_at, bytes_at, bytes_in, dynamic_base, dynamic_end, is_outside, public_base, public_end, static_bytes}
+use Rattle.law_steps.specs.model_machine.specs.Primitives.{number_below_top}
+use Rattle.law_steps.specs.model_machine.specs.Chain.{Abended, Chain, Outcome, Reply, Turn as ModelTurn, around, delegator_in, depth_of, frame_at, turn_of}
 use Rattle.mc_machine.specs.Turns.{turn_value}
 use Rattle.mc_machine.specs.declared.outcome.Turn.{Turn}
 use Rattle.law_steps.specs.Readings.{Reading, reading_after, reading_of}

@@ -1,12 +1,12 @@
 -- Shots of the frame that ran a turn, before it and after it.
 use Rattle.std.proofs.Common.{◌≡◌, ◌≢◌, inl, inr, ℕ, ◌-◌, ◌≤◌, Bool, true, false, cond, List, [], ◌∷◌, Option, Some, None, refl, sym, ap, subst, arith, ◌∙◌}
 use Rattle.std.specs.Prelude.{bytes_eq, length, not, take, is_some, option_map, IsSome}
-use Rattle.model_device.specs.Bytes.{lookup}
-use Rattle.model_device.specs.Device.{DeviceState}
-use Rattle.model_machine.specs.declared.instruction.Ins.{Ins}
-use Rattle.model_machine.specs.declared.machine.Abend.{Abend}
-use Rattle.model_machine.specs.Frame.{Frame, dynamic_base}
-use Rattle.model_machine.specs.Chain.{Chain, Follows, Continues, Ends, Outcome, Reply, Abended, depth_of, turn_of}
+use Rattle.law_steps.specs.model_device.specs.Bytes.{lookup}
+use Rattle.law_steps.specs.model_device.specs.Device.{DeviceState}
+use Rattle.law_steps.specs.model_machine.specs.declared.instruction.Ins.{Ins}
+use Rattle.law_steps.specs.model_machine.specs.declared.machine.Abend.{Abend}
+use Rattle.law_steps.specs.model_machine.specs.Frame.{Frame, dynamic_base}
+use Rattle.law_steps.specs.model_machine.specs.Chain.{Chain, Follows, Continues, Ends, Outcome, Reply, Abended, depth_of, turn_of}
 use Rattle.mc_machine.specs.Chains.{Chained}
 use Rattle.mc_machine.specs.Turns.{outcome_value, turn_value}
 use Rattle.mc_machine.specs.declared.outcome.Turn.{Turn}

@@ -2,9 +2,9 @@
 use Rattle.std.specs.Prelude.{◌≡◌, ◌⊎◌, ℕ, ◌+◌, ◌≤◌, Bool, true, false, cond, ◌==◌, nat_lt, min, List, [], ◌∷◌, ◌++◌, length, map, get_or, option_map, Option, Some, None, Result}
 use Rattle.std.specs.Borrow.{MutBor}
 use Rattle.std.proofs.Common.{inl, refl, sym, ap, subst, ◌∙◌, append_assoc, append-nil}
-use Rattle.model_play.specs.DeckGrammar.{DeckLine}
-use Rattle.model_play.specs.Play.{FailedWrite, State, Step, plays, start}
-use Rattle.model_machine.specs.Chain.{Chain, Follows, Continues, Ends, depth_of, turn_of}
+use Rattle.law_steps.specs.model_play.specs.DeckGrammar.{DeckLine}
+use Rattle.law_steps.specs.model_play.specs.Play.{FailedWrite, State, Step, plays, start}
+use Rattle.law_steps.specs.model_machine.specs.Chain.{Chain, Follows, Continues, Ends, depth_of, turn_of}
 use Rattle.mc_streams.specs.declared.refusals.WriteFault.{WriteFault}
 use Rattle.mc_streams.specs.declared.sink.Sink.{Ghosts}
 use Rattle.mc_text.specs.Texts.{sunk, Sunk}

@@ -1,11 +1,11 @@
 -- A card after a turn of a chain, and the shots of the frame that ran it, before the turn and after it.
 use Rattle.std.specs.Prelude.{◌≡◌, ℕ, ◌+◌, ◌-◌, ◌≤◌, Bool, true, false, cond, not, nat_lt, min, List, [], length, replicate, bytes_eq, Option, Some, None, IsSome}
-use Rattle.model_device.specs.Bytes.{lookup}
-use Rattle.model_device.specs.Device.{DeviceState}
-use Rattle.model_machine.specs.declared.instruction.Ins.{Ins}
-use Rattle.model_machine.specs.declared.machine.Abend.{Abend}
-use Rattle.model_machine.specs.Frame.{Frame}
-use Rattle.model_machine.specs.Chain.{Chain, Follows, Continues, Ends, Outcome, Reply, Abended, depth_of, turn_of}
+use Rattle.law_steps.specs.model_device.specs.Bytes.{lookup}
+use Rattle.law_steps.specs.model_device.specs.Device.{DeviceState}
+use Rattle.law_steps.specs.model_machine.specs.declared.instruction.Ins.{Ins}
+use Rattle.law_steps.specs.model_machine.specs.declared.machine.Abend.{Abend}
+use Rattle.law_steps.specs.model_machine.specs.Frame.{Frame}
+use Rattle.law_steps.specs.model_machine.specs.Chain.{Chain, Follows, Continues, Ends, Outcome, Reply, Abended, depth_of, turn_of}
 use Rattle.law_steps.specs.Readings.{reading_after, reading_of}
 use Rattle.law_steps.specs.Registers.{frame_after}
 use Rattle.law_steps.specs.Shown.{EndsFrame, is_exit_of}

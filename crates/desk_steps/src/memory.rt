@@ -1,8 +1,8 @@
 // What is kept of the frames of a play between two turns: their bytes, their protection and the device writes.
 ghost use Rattle.std.specs.Prelude.{◌≡◌, ◌≤◌, ℕ, bytes_eq, get_or, length, option_map, slice_set, take, false, IsSome, Some, []};
-ghost use Rattle.model_device.specs.Bytes.{lookup};
+ghost use Rattle.law_steps.specs.model_device.specs.Bytes.{lookup};
 ghost use Rattle.mc_bank.specs.Bank.{app_of};
-ghost use Rattle.model_machine.specs.Chain.{depth_of, turn_of, Chain as ModelChain, Follows};
+ghost use Rattle.law_steps.specs.model_machine.specs.Chain.{depth_of, turn_of, Chain as ModelChain, Follows};
 ghost use Rattle.mc_deck.specs.Lines.{line_of};
 ghost use Rattle.mc_machine.specs.Turns.{outcome_value};
 ghost use Rattle.mc_card.specs.Parts.{IsUp, RunsChain, card_in};

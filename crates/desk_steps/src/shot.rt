@@ -1,7 +1,7 @@
 // The bytes that a frame reads between two turns.
 ghost use Rattle.std.specs.Prelude.{◌≡◌, ◌+◌, ◌-◌, ◌≤◌, length, take, IsSome, Some};
-ghost use Rattle.model_machine.specs.Frame.{dynamic_base, static_bytes, with_la, with_sw};
-ghost use Rattle.model_device.specs.Bytes.{bytes2, lookup, splice};
+ghost use Rattle.law_steps.specs.model_machine.specs.Frame.{dynamic_base, static_bytes, with_la, with_sw};
+ghost use Rattle.law_steps.specs.model_device.specs.Bytes.{bytes2, lookup, splice};
 ghost use Rattle.mc_bank.specs.Bank.{app_of};
 ghost use Rattle.mc_card.specs.Parts.{IsUp, card_in};
 ghost use Rattle.mc_segs.specs.HeldFrames.{CanRun, frame_on_bank};

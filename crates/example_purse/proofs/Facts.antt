@@ -2,18 +2,18 @@
 use Rattle.std.proofs.Common.{◌≡◌, ℕ, zero, suc, ◌+◌, ◌-◌, ◌*◌, ◌/◌, ◌%◌, ◌^◌, ◌<◌, ◌≤◌, Bool, true, false, cond, not, List, [], ◌∷◌, ◌++◌, length, take, drop, Some, None, refl, sym, ap, subst, ◌∙◌, arith, inl, inr}
 use Rattle.std.specs.Prelude.{◌≢◌, ◌⊎◌, ◌==◌, bytes_eq, Option}
 use Rattle.std.proofs.lemmas.Bool.{eqb-true, eq-eqb, false_from_ne_true}
-use Rattle.model_device.specs.Bytes.{bytes, bytes2, num, splice}
-use Rattle.model_machine.specs.Apdu.{ApduParts}
-use Rattle.model_machine.specs.Blocks.{sub_blocks, is_zero}
-use Rattle.model_machine.specs.Frame.{Frame, session_of, sw_of, with_la}
-use Rattle.model_machine.specs.Primitives.{Done}
+use Rattle.model_text.specs.model_device.specs.Bytes.{bytes, bytes2, num, splice}
+use Rattle.model_text.specs.model_machine.specs.Apdu.{ApduParts}
+use Rattle.model_text.specs.model_machine.specs.Blocks.{sub_blocks, is_zero}
+use Rattle.model_text.specs.model_machine.specs.Frame.{Frame, session_of, sw_of, with_la}
+use Rattle.model_text.specs.model_machine.specs.Primitives.{Done}
 use Rattle.law_promise.specs.History.{with_event}
 use Rattle.law_promise.specs.Outline.{Entry, BySelection, ByDelegation, is_direct, public_size, ExitShown, DeedShown}
 use Rattle.law_promise.proofs.PublicBytes.{ins_byte, other_ins, length_bytes, body_of_two, status_set, status_beside_la, status_beside_two, status_new}
 use Rattle.example_purse.specs.Purse.{Event, Tries, Debited, comparison}
 use Rattle.example_purse.specs.Laws.{RightLaw, wrong_since, tries_left, JustRight, sum_of_debits, number_of_debits, JustOrdered, is_shown}
 use Rattle.example_purse.proofs.Places.{PurseKept, Cells, fixed_of, balance_of, less, one_more, IsFresh, IsZeroed, Sits, IsNoDebit, IsDebit, MadeNone, IsPaid, IsSpent, IsOpenIf, IsRight, IsOpen, HasTwo, Carries, Debits, purse_outline}
-use Rattle.model_device.proofs.MapLemmas.{name_is_itself, same_name}
+use Rattle.model_text.specs.model_device.proofs.MapLemmas.{name_is_itself, same_name}
 
 -- ---- events
 

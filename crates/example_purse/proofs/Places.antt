@@ -1,8 +1,8 @@
 -- What holds before the instruction at each place of the purse, and its proof outline.
 use Rattle.std.proofs.Common.{◌≡◌, ℕ, suc, ◌+◌, ◌-◌, ◌%◌, ◌<◌, ◌≤◌, Bool, true, false, List, [], ◌∷◌, length, take, drop}
 use Rattle.std.specs.Prelude.{⊤, ◌≢◌, ◌⊎◌, slice_index}
-use Rattle.model_device.specs.Bytes.{bytes, num}
-use Rattle.model_machine.specs.Frame.{Frame, new_public, session_of, sw_of}
+use Rattle.model_text.specs.model_device.specs.Bytes.{bytes, num}
+use Rattle.model_text.specs.model_machine.specs.Frame.{Frame, new_public, session_of, sw_of}
 use Rattle.law_promise.specs.Outline.{Entry, BySelection, ByDelegation, Outline}
 use Rattle.example_purse.specs.Purse.{Event, Commanded, Debited, purse_name, purse_app, purse_watch}
 use Rattle.example_purse.specs.Laws.{wrong_since, AtMostThree, tries_left, JustTook, JustRight, EachCostsATry, sum_of_debits, number_of_debits, EachIsOrdered, is_shown, KeepsSessions, AnswersDebit}

@@ -1,6 +1,6 @@
 -- What the purse promises follows from its outline.
 use Rattle.std.proofs.Common.{ℕ, List, []}
-use Rattle.model_play.specs.Play.{Step, plays, start}
+use Rattle.law_promise.specs.model_play.specs.Play.{Step, plays, start}
 use Rattle.law_promise.specs.Kept.{LineKept}
 use Rattle.law_promise.proofs.OutlineDomain.{kept_along, kept_from}
 use Rattle.law_promise.proofs.FromOutline.{along_as, along_from, fixed_from}

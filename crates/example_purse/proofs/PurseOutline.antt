@@ -1,13 +1,13 @@
 -- Each instruction of the purse leads from its place to the next ones.
 use Rattle.std.proofs.Common.{ℕ, suc, ◌+◌, ◌-◌, ◌/◌, ◌%◌, ◌^◌, ◌≤◌, true, false, List, [], ◌∷◌, ◌++◌, length, take, drop, refl, arith, inl, inr, ◌∙◌, ◌≡◌}
 use Rattle.std.proofs.lemmas.Bool.{ltb-false}
-use Rattle.model_device.specs.Bytes.{num}
-use Rattle.model_device.specs.Pieces.{touched_words}
-use Rattle.model_machine.specs.Apdu.{ApduParts}
-use Rattle.model_machine.specs.Code.{instruction_at}
-use Rattle.model_machine.specs.Frame.{Frame, bytes_at, write_effect, too_many, new_public, session_of}
-use Rattle.model_machine.specs.Primitives.{Around, later_causes, prim_effect}
-use Rattle.model_machine.specs.Row.{causes, effect, row}
+use Rattle.model_text.specs.model_device.specs.Bytes.{num}
+use Rattle.model_text.specs.model_device.specs.Pieces.{touched_words}
+use Rattle.model_text.specs.model_machine.specs.Apdu.{ApduParts}
+use Rattle.model_text.specs.model_machine.specs.Code.{instruction_at}
+use Rattle.model_text.specs.model_machine.specs.Frame.{Frame, bytes_at, write_effect, too_many, new_public, session_of}
+use Rattle.model_text.specs.model_machine.specs.Primitives.{Around, later_causes, prim_effect}
+use Rattle.model_text.specs.model_machine.specs.Row.{causes, effect, row}
 use Rattle.law_promise.specs.Outline.{Entry, BySelection, ByDelegation, is_direct, IsShown, FitsEntry, public_size, FetchShown, first_frame_of}
 use Rattle.example_purse.specs.Purse.{Event, Commanded, Selected, Ended, purse_code}
 use Rattle.example_purse.specs.Laws.{wrong_since, tries_left}

@@ -2,24 +2,24 @@
 use Rattle.std.proofs.Common.{◌≡◌, ℕ, ◌+◌, ◌%◌, Bool, true, false, List, [], ◌∷◌, Option, Some, None, take, drop, refl}
 use Rattle.std.specs.Prelude.{◌&&◌, ◌==◌, nat_le, slice_index}
 use Rattle.std.proofs.lemmas.Bool.{and_from, le-leb, eq-eqb}
-use Rattle.model_device.specs.Bytes.{num, lookup}
-use Rattle.model_device.specs.Card.{App}
-use Rattle.model_play.specs.Given.{apps_in}
-use Rattle.model_device.specs.Card.{blocks_from, apps_of}
-use Rattle.model_device.specs.Pieces.{touched_words}
-use Rattle.model_device.specs.Image.{targets_1, targets_2, pairs}
-use Rattle.model_device.specs.Layout.{layout, step_of, bad_block, bad_record}
-use Rattle.model_card.specs.Units.{name_of}
-use Rattle.model_machine.specs.Apdu.{apdu_read}
+use Rattle.model_text.specs.model_device.specs.Bytes.{num, lookup}
+use Rattle.model_text.specs.model_device.specs.Card.{App}
+use Rattle.law_promise.specs.model_play.specs.Given.{apps_in}
+use Rattle.model_text.specs.model_device.specs.Card.{blocks_from, apps_of}
+use Rattle.model_text.specs.model_device.specs.Pieces.{touched_words}
+use Rattle.model_text.specs.model_device.specs.Image.{targets_1, targets_2, pairs}
+use Rattle.model_text.specs.model_device.specs.Layout.{layout, step_of, bad_block, bad_record}
+use Rattle.law_promise.specs.model_card.specs.Units.{name_of}
+use Rattle.model_text.specs.model_machine.specs.Apdu.{apdu_read}
 use Rattle.model_text.specs.Assembly.{assembly_of}
-use Rattle.model_machine.specs.Frame.{bytes_at, write_effect, too_many}
-use Rattle.model_machine.specs.Primitives.{later_causes, prim_effect}
-use Rattle.model_machine.specs.Row.{causes, effect, row}
-use Rattle.model_machine.specs.Chain.{turn_of_chain, run_of_chain}
-use Rattle.model_card.specs.Manager.{manage}
-use Rattle.model_card.specs.Commands.{command}
-use Rattle.model_play.specs.DeckGrammar.{deck_read}
-use Rattle.model_play.specs.Play.{Step, send, play_at_power, step, plays, moves_of, steady_failures}
+use Rattle.model_text.specs.model_machine.specs.Frame.{bytes_at, write_effect, too_many}
+use Rattle.model_text.specs.model_machine.specs.Primitives.{later_causes, prim_effect}
+use Rattle.model_text.specs.model_machine.specs.Row.{causes, effect, row}
+use Rattle.model_text.specs.model_machine.specs.Chain.{turn_of_chain, run_of_chain}
+use Rattle.law_promise.specs.model_card.specs.Manager.{manage}
+use Rattle.law_promise.specs.model_card.specs.Commands.{command}
+use Rattle.law_promise.specs.model_play.specs.DeckGrammar.{deck_read}
+use Rattle.law_promise.specs.model_play.specs.Play.{Step, send, play_at_power, step, plays, moves_of, steady_failures}
 use Rattle.law_promise.specs.History.{after_run}
 use Rattle.law_promise.specs.Along.{OnApp}
 use Rattle.law_promise.specs.Computed.{IsBroken, on_app, tests_along, steps_of, all_bring_only}

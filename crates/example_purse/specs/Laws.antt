@@ -1,10 +1,10 @@
 -- The three promises of the purse. A history has its newest event first.
 use Rattle.std.specs.Prelude.{◌≡◌, ◌≢◌, ℕ, suc, ◌+◌, ◌%◌, ◌<◌, ◌≤◌, ◌⊎◌, Bool, true, false, List, [], ◌∷◌, length, take, drop, slice_index, Option, ⊤}
-use Rattle.model_device.specs.Bytes.{num}
-use Rattle.model_machine.specs.Apdu.{ApduParts}
-use Rattle.model_machine.specs.Blocks.{sub_blocks}
-use Rattle.model_play.specs.DeckGrammar.{DeckLine}
-use Rattle.model_play.specs.Play.{FailedWrite, Step, plays, start}
+use Rattle.model_text.specs.model_device.specs.Bytes.{num}
+use Rattle.model_text.specs.model_machine.specs.Apdu.{ApduParts}
+use Rattle.model_text.specs.model_machine.specs.Blocks.{sub_blocks}
+use Rattle.law_promise.specs.model_play.specs.DeckGrammar.{DeckLine}
+use Rattle.law_promise.specs.model_play.specs.Play.{FailedWrite, Step, plays, start}
 use Rattle.law_promise.specs.Along.{Along, OnFixed, OnAnswer, command_for}
 use Rattle.law_promise.specs.Found.{AlongFrom}
 use Rattle.example_purse.specs.Purse.{Event, Commanded, Right, Wrong, Tries, Debited, Selected, Ended, purse_name, purse_app, purse_watch}

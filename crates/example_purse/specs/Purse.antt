@@ -1,9 +1,9 @@
 -- The purse: its text and its code, what it is on a card, and what is counted of it.
 use Rattle.std.specs.Prelude.{ℕ, Bool, true, false, cond, not, ◌&&◌, ◌==◌, ℤ, pos, negsuc, List, [], ◌∷◌, ◌++◌, take, drop, slice_index, bytes_eq, Option, Some, None}
-use Rattle.model_machine.specs.declared.instruction.Ins.{Ins}
-use Rattle.model_machine.specs.declared.instruction.Ins.TheVariants as ins
-use Rattle.model_device.specs.Bytes.{num}
-use Rattle.model_device.specs.Card.{App}
+use Rattle.model_text.specs.model_machine.specs.declared.instruction.Ins.{Ins}
+use Rattle.model_text.specs.model_machine.specs.declared.instruction.Ins.TheVariants as ins
+use Rattle.model_text.specs.model_device.specs.Bytes.{num}
+use Rattle.model_text.specs.model_device.specs.Card.{App}
 use Rattle.law_promise.specs.History.{Deed, Watch}
 use Rattle.example_purse.specs.declared.purse.TheConstants.{CODE, TEXT}
 

@@ -1,9 +1,9 @@
 -- The three promises as tests, and decks of the purse and of wrong purses, whose plays are computed.
 use Rattle.std.specs.Prelude.{ℕ, ◌+◌, ◌%◌, Bool, true, false, ◌&&◌, ◌||◌, nat_le, ◌==◌, List, [], ◌∷◌, ◌++◌, length, take, drop, slice_index, codes, Result, Ok, Err}
-use Rattle.model_device.specs.Bytes.{num}
+use Rattle.model_text.specs.model_device.specs.Bytes.{num}
 use Rattle.model_text.specs.declared.assembler.AsmCause.{AsmCause}
 use Rattle.model_text.specs.Assembly.{assembly_of}
-use Rattle.model_device.specs.Card.{App}
+use Rattle.model_text.specs.model_device.specs.Card.{App}
 use Rattle.example_purse.specs.Purse.{Event, Commanded, Right, Wrong, Tries, Debited, purse_app, purse_text}
 use Rattle.example_purse.specs.Laws.{wrong_since, tries_left, sum_of_debits, number_of_debits, is_shown}
 

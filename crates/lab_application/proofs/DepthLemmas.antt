@@ -1,12 +1,12 @@
 -- How the text of an exploration follows its depths.
 use Rattle.std.proofs.Common.{◌≡◌, ℕ, ◌+◌, ◌<◌, ◌≤◌, List, [], ◌∷◌, ◌++◌, length, Option, Some, None, Result, IsErr, IfOk, refl, arith, sym, ap, ◌∙◌}
 use Rattle.std.specs.Result.{IsErrAnd}
-use Rattle.model_play.specs.DeckGrammar.{DeckLine}
-use Rattle.model_play.specs.Play.{State}
-use Rattle.law_explore.specs.Rules as rule
-use Rattle.law_explore.specs.Search.{Ending, All, AtDepth, Broken, TooMany, Node}
-use Rattle.law_explore.specs.States.{play_of_deck}
-use Rattle.law_explore_text.specs.Report.{broken_text, sums_text}
+use Rattle.law_histories.specs.model_play.specs.DeckGrammar.{DeckLine}
+use Rattle.law_histories.specs.model_play.specs.Play.{State}
+use Rattle.law_histories.specs.law_explore.specs.Rules as rule
+use Rattle.law_histories.specs.law_explore.specs.Search.{Ending, All, AtDepth, Broken, TooMany, Node}
+use Rattle.law_histories.specs.law_explore.specs.States.{play_of_deck}
+use Rattle.law_histories.specs.law_explore_text.specs.Report.{broken_text, sums_text}
 use Rattle.law_histories.specs.Searches.{Round, Search as Found, kept_text, search_end, with_depth}
 use Rattle.mc_text.specs.Texts.{Sunk, Writes, Fails}
 use Rattle.lab_history.specs.declared.standing.Break.{Break}

@@ -1,8 +1,8 @@
 -- The first state of an exploration of moves, with the amounts of an application.
 use Rattle.std.proofs.Common.{◌≡◌, ℕ, suc, not, ◌&&◌, List, [], ◌∷◌, length, sym, ap, ◌∙◌}
-use Rattle.model_play.specs.DeckGrammar.{DeckLine}
-use Rattle.law_explore.specs.Rules as rule
-use Rattle.law_explore.specs.Search.{first_state}
+use Rattle.law_histories.specs.model_play.specs.DeckGrammar.{DeckLine}
+use Rattle.law_histories.specs.law_explore.specs.Rules as rule
+use Rattle.law_histories.specs.law_explore.specs.Search.{first_state}
 use Rattle.lab_key.specs.declared.state.CardState.{CardState}
 use Rattle.lab_rules.specs.declared.reading.Exploration.{Exploration}
 use Rattle.lab_search.specs.declared.beginning.Beginning.{Beginning}
@@ -11,7 +11,7 @@ use Rattle.lab_search.specs.declared.rounds.Search.{Search}
 use Rattle.lab_search.specs.Kept.{names_in, Begins, IsExplorationOf, Kept}
 use Rattle.lab_search.specs.Rounds.{Holds}
 use Rattle.lab_search.proofs.StartLemmas.{ran_start}
-use Rattle.law_explore.specs.States as model
+use Rattle.law_histories.specs.law_explore.specs.States as model
 use Rattle.lab_application.specs.Shadows.{AreMovesOf, counting, shadow}
 use Rattle.lab_application.specs.Starts.{StartsWith}
 use Rattle.lab_application.proofs.SearchLemmas.{amounts_with, kept_named}

@@ -2,11 +2,11 @@
 use Rattle.std.proofs.Common.{◌≡◌, ℕ, zero, suc, ◌+◌, ◌≤◌, List, ◌∷◌, reverse, Some, Result, IfOk, arith, sym, subst, slice_get}
 use Rattle.std.specs.List.{AllByRecursion}
 use Rattle.std.proofs.lemmas.Option.{slice_get_within}
-use Rattle.model_play.specs.Play.{State}
-use Rattle.law_explore.specs.Rules as rule
-use Rattle.law_explore.specs.Search.{Node, statements_to}
-use Rattle.law_explore.specs.Tries.{Try}
-use Rattle.law_explore_text.specs.Report.{broken_text}
+use Rattle.law_histories.specs.model_play.specs.Play.{State}
+use Rattle.law_histories.specs.law_explore.specs.Rules as rule
+use Rattle.law_histories.specs.law_explore.specs.Search.{Node, statements_to}
+use Rattle.law_histories.specs.law_explore.specs.Tries.{Try}
+use Rattle.law_histories.specs.law_explore_text.specs.Report.{broken_text}
 use Rattle.mc_text.specs.Texts.{Sunk}
 use Rattle.lab_history.specs.declared.standing.Break.{Break}
 use Rattle.lab_search.specs.declared.endings.Explored.{Explored}

@@ -1,11 +1,11 @@
 -- What a search keeps while it makes tries.
 use Rattle.std.proofs.Common.{◌≡◌, ℕ, zero, suc, List, [], ◌∷◌, ◌++◌, length, map, Option, Some, None, Result, Ok, Err, IfOk, OnOk, refl, sym, ap, subst, ◌∙◌, slice_get}
 use Rattle.std.specs.Prelude.{false, is_some}
-use Rattle.law_explore.specs.Rules as rule
-use Rattle.law_explore.specs.States as model
-use Rattle.law_explore.specs.States.{is_known}
-use Rattle.law_explore.specs.Search.{Node, Round, HaltedRound, with_reached}
-use Rattle.law_explore.specs.Tries.{Try}
+use Rattle.law_histories.specs.law_explore.specs.Rules as rule
+use Rattle.law_histories.specs.law_explore.specs.States as model
+use Rattle.law_histories.specs.law_explore.specs.States.{is_known}
+use Rattle.law_histories.specs.law_explore.specs.Search.{Node, Round, HaltedRound, with_reached}
+use Rattle.law_histories.specs.law_explore.specs.Tries.{Try}
 use Rattle.lab_key.specs.declared.kept.Rosters.{Rosters}
 use Rattle.lab_key.specs.declared.state.CardState.{CardState}
 use Rattle.lab_key.specs.Kept.{IsKeptCard}

@@ -1,11 +1,11 @@
 -- The moves of a deck with the rules of one application are an exploration of moves alone.
 use Rattle.std.proofs.Common.{◌≡◌, ℕ, zero, suc, ◌≤◌, ◌<◌, Bool, true, false, cond, List, [], ◌∷◌, length, replicate, Some, None, refl, arith, sym, ap, subst, ◌∙◌, slice_get, codes}
 use Rattle.std.specs.Prelude.{bytes_eq}
-use Rattle.model_device.specs.Bytes.{lookup}
-use Rattle.model_play.specs.Play.{is_card_line}
-use Rattle.law_explore.specs.Rules as rule
-use Rattle.law_explore.specs.Matching.{fits, matches, plain, some_rest}
-use Rattle.model_play.specs.DeckGrammar.{DeckLine}
+use Rattle.law_histories.specs.model_device.specs.Bytes.{lookup}
+use Rattle.law_histories.specs.model_play.specs.Play.{is_card_line}
+use Rattle.law_histories.specs.law_explore.specs.Rules as rule
+use Rattle.law_histories.specs.law_explore.specs.Matching.{fits, matches, plain, some_rest}
+use Rattle.law_histories.specs.model_play.specs.DeckGrammar.{DeckLine}
 use Rattle.lab_rules.specs.declared.reading.Exploration.{Exploration}
 use Rattle.lab_rules.specs.declared.rules.Move.{Move}
 use Rattle.lab_rules.specs.declared.rules.OnRule.{OnRule}

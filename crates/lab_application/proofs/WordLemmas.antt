@@ -4,11 +4,11 @@ use Rattle.std.specs.Prelude.{slice_index_or}
 use Rattle.std.specs.List.{AllByRecursion}
 use Rattle.std.specs.Result.{IsErrAnd}
 use Rattle.std.proofs.lemmas.List.{length-reverse}
-use Rattle.model_play.specs.Play.{State}
-use Rattle.law_explore.specs.Rules as rule
-use Rattle.law_explore.specs.Search.{Ending, All, AtDepth, Broken, TooMany, statements_to}
-use Rattle.law_explore.specs.Tries.{Try}
-use Rattle.law_explore_text.specs.Report.{depth_lines, silent_lines, sums_text}
+use Rattle.law_histories.specs.model_play.specs.Play.{State}
+use Rattle.law_histories.specs.law_explore.specs.Rules as rule
+use Rattle.law_histories.specs.law_explore.specs.Search.{Ending, All, AtDepth, Broken, TooMany, statements_to}
+use Rattle.law_histories.specs.law_explore.specs.Tries.{Try}
+use Rattle.law_histories.specs.law_explore_text.specs.Report.{depth_lines, silent_lines, sums_text}
 use Rattle.law_histories.specs.Searches.{Search as Found, ending_text, silent_of, way, with_depth}
 use Rattle.lab_rules.specs.Meanings.{AlikeLists}
 use Rattle.mc_text.specs.Texts.{Sunk, Writes, Fails}

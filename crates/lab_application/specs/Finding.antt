@@ -1,11 +1,11 @@
 -- What the tries of a search come to: nodes that are found, and what ends the search.
 use Rattle.std.specs.Prelude.{◌≡◌, ℕ, ◌≤◌, true, List, length, slice_get, Option, Some, None}
 use Rattle.std.specs.List.{AllByRecursion}
-use Rattle.model_play.specs.Family.{is_running}
-use Rattle.law_explore.specs.Rules as rule
-use Rattle.law_explore.specs.States as model
-use Rattle.law_explore.specs.Search.{Node}
-use Rattle.law_explore.specs.Tries.{Try}
+use Rattle.law_histories.specs.model_play.specs.Family.{is_running}
+use Rattle.law_histories.specs.law_explore.specs.Rules as rule
+use Rattle.law_histories.specs.law_explore.specs.States as model
+use Rattle.law_histories.specs.law_explore.specs.Search.{Node}
+use Rattle.law_histories.specs.law_explore.specs.Tries.{Try}
 use Rattle.lab_key.specs.declared.kept.Rosters.{Rosters}
 use Rattle.lab_key.specs.declared.state.CardState.{CardState}
 use Rattle.lab_rules.specs.declared.rules.Rules.{Rules}

@@ -1,10 +1,10 @@
 -- The moves of a deck with the rules of one application, as an exploration of moves alone.
 use Rattle.std.specs.Prelude.{◌≡◌, ℕ, zero, suc, true, List, [], ◌∷◌, codes, map, replicate}
 use Rattle.std.specs.List.{AllByRecursion}
-use Rattle.model_play.specs.DeckGrammar.{DeckLine}
-use Rattle.model_play.specs.Play.{is_card_line}
-use Rattle.law_explore.specs.Rules as rule
-use Rattle.law_explore.specs.Matching.{fits}
+use Rattle.law_histories.specs.model_play.specs.DeckGrammar.{DeckLine}
+use Rattle.law_histories.specs.model_play.specs.Play.{is_card_line}
+use Rattle.law_histories.specs.law_explore.specs.Rules as rule
+use Rattle.law_histories.specs.law_explore.specs.Matching.{fits}
 use Rattle.lab_rules.specs.declared.reading.Exploration.{Exploration}
 use Rattle.lab_rules.specs.declared.rules.Rules.{Rules}
 use Rattle.lab_rules.specs.Meanings.{AlikeLists, AreDistinct, AreRules, IsMove, IsOn}

@@ -1,8 +1,8 @@
 -- The start of an exploration of a deck with the rules of one application.
 use Rattle.std.specs.Prelude.{ℕ, List, [], ◌∷◌}
-use Rattle.model_play.specs.DeckGrammar.{DeckLine}
-use Rattle.law_explore.specs.Rules as rule
-use Rattle.law_explore.specs.Search.{Node}
+use Rattle.law_histories.specs.model_play.specs.DeckGrammar.{DeckLine}
+use Rattle.law_histories.specs.law_explore.specs.Rules as rule
+use Rattle.law_histories.specs.law_explore.specs.Search.{Node}
 use Rattle.lab_search.specs.declared.endings.Start.{Start}
 use Rattle.lab_search.specs.declared.rounds.Search.{Search}
 use Rattle.lab_search.specs.Endings.{StartIs}

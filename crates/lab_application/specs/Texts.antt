@@ -1,12 +1,12 @@
 -- What an exploration writes of a deck with the rules of one application, and what it returns.
 use Rattle.std.specs.Prelude.{◌≡◌, ℕ, suc, ◌+◌, ◌≤◌, Bool, List, [], ◌∷◌, ◌++◌, length, reverse, slice_get, slice_index_or, true, Some, Result, IfOk}
 use Rattle.std.specs.List.{AllByRecursion}
-use Rattle.model_play.specs.DeckGrammar.{DeckLine}
-use Rattle.model_play.specs.Play.{State}
-use Rattle.law_explore.specs.Rules as rule
-use Rattle.law_explore.specs.Search.{Ending, All, AtDepth, TooMany, Broken, statements_to}
-use Rattle.law_explore.specs.Tries.{Try}
-use Rattle.law_explore_text.specs.Report.{broken_text, depth_lines, sums_text}
+use Rattle.law_histories.specs.model_play.specs.DeckGrammar.{DeckLine}
+use Rattle.law_histories.specs.model_play.specs.Play.{State}
+use Rattle.law_histories.specs.law_explore.specs.Rules as rule
+use Rattle.law_histories.specs.law_explore.specs.Search.{Ending, All, AtDepth, TooMany, Broken, statements_to}
+use Rattle.law_histories.specs.law_explore.specs.Tries.{Try}
+use Rattle.law_histories.specs.law_explore_text.specs.Report.{broken_text, depth_lines, sums_text}
 use Rattle.law_histories.specs.Searches.{Search as Found, ending_text, text_of_search}
 use Rattle.mc_text.specs.Texts.{Sunk}
 use Rattle.lab_search.specs.declared.endings.Explored.{Explored}
@@ -23,8 +23,8 @@ use Rattle.lab_application.specs.declared.attempts.Halt.{Halt}
 use Rattle.lab_application.specs.declared.attempts.Halt.TheVariants as halt
 use Rattle.lab_history.specs.declared.standing.Break.{Break}
 use Rattle.lab_application.specs.Names.{broken_name}
-use Rattle.law_explore.specs.Search as model
-use Rattle.law_explore.specs.States.{play_of_deck}
+use Rattle.law_histories.specs.law_explore.specs.Search as model
+use Rattle.law_histories.specs.law_explore.specs.States.{play_of_deck}
 use Rattle.lab_application.specs.Shadows.{shadow}
 
 -- ---- lines

@@ -1,7 +1,7 @@
 // A move that is tried from a state, and what is counted of each try.
 ghost use Rattle.std.specs.Prelude.{◌≡◌, ℕ, IfOk, List, OnOk, length, slice_get, Some};
-ghost use Rattle.law_explore.specs.Rules as rule;
-ghost use Rattle.law_explore.specs.Search.{Node};
+ghost use Rattle.law_histories.specs.law_explore.specs.Rules as rule;
+ghost use Rattle.law_histories.specs.law_explore.specs.Search.{Node};
 ghost use Rattle.lab_search.specs.Kept.{names_in, KeepsKept};
 ghost use Rattle.lab_search.specs.Rounds.{CanStep, Depth, IsFrom, TriesMove};
 ghost use Rattle.lab_search.specs.Trying.{CanCut};

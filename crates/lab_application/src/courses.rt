@@ -1,6 +1,6 @@
 // What happens to an application while a move is made whole from a state.
 ghost use Rattle.std.specs.Prelude.{◌≡◌, List, OnOk, true};
-ghost use Rattle.law_explore.specs.Search.{Node};
+ghost use Rattle.law_histories.specs.law_explore.specs.Search.{Node};
 ghost use Rattle.mc_deck.specs.Lines.{line_of, GoodLine};
 ghost use Rattle.mc_script.specs.Players.{IsUnfused};
 ghost use Rattle.lab_key.specs.Shown.{ShowsSome};

@@ -1,8 +1,8 @@
 // A move that is tried from a state: whole, and cut at each of its device writes.
 ghost use Rattle.std.specs.Prelude.{◌≡◌, ◌+◌, ◌<◌, ◌^◌, IfOk, List, OnOk, length, true};
-ghost use Rattle.model_play.specs.Family.{is_running};
-ghost use Rattle.law_explore.specs.Rules as rule;
-ghost use Rattle.law_explore.specs.Search.{Node};
+ghost use Rattle.law_histories.specs.model_play.specs.Family.{is_running};
+ghost use Rattle.law_histories.specs.law_explore.specs.Rules as rule;
+ghost use Rattle.law_histories.specs.law_explore.specs.Search.{Node};
 ghost use Rattle.lab_search.specs.Kept.{names_in, KeepsKept};
 ghost use Rattle.lab_search.specs.Rounds.{CanCutMove, CanTryMove, Depth, TriesMove};
 ghost use Rattle.lab_application.specs.Finding.{AreKeptWith, CanTakeCut, ComesTo, IsKeptWith, IsSameSearch};

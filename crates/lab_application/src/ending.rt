@@ -1,10 +1,10 @@
 // What an exploration writes when it ends, and what it returns.
 ghost use Rattle.std.specs.Prelude.{◌≡◌, ℕ, List, [], ◌∷◌, reverse, slice_index_or, true, Some, IfOk};
-ghost use Rattle.law_explore.specs.Rules as rule;
-ghost use Rattle.law_explore.specs.Search.{statements_to, Ending, Node};
-ghost use Rattle.law_explore.specs.States.{play_of_deck};
-ghost use Rattle.law_explore.specs.Tries.{Try};
-ghost use Rattle.law_explore_text.specs.Report.{broken_text};
+ghost use Rattle.law_histories.specs.law_explore.specs.Rules as rule;
+ghost use Rattle.law_histories.specs.law_explore.specs.Search.{statements_to, Ending, Node};
+ghost use Rattle.law_histories.specs.law_explore.specs.States.{play_of_deck};
+ghost use Rattle.law_histories.specs.law_explore.specs.Tries.{Try};
+ghost use Rattle.law_histories.specs.law_explore_text.specs.Report.{broken_text};
 ghost use Rattle.mc_text.specs.Texts.{sunk, Puts};
 ghost use Rattle.lab_rules.specs.Meanings.{AlikeLists, IsMove};
 ghost use Rattle.lab_search.specs.Endings.{explored_as, kept_as, IsExplored, IsPut, StartIs};

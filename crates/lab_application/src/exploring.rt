@@ -1,8 +1,8 @@
 // The search through all states, breadth first.
 ghost use Rattle.std.specs.Prelude.{◌≡◌, ◌&&◌, ℕ, suc, List, length, not, IfOk};
-ghost use Rattle.model_play.specs.DeckGrammar.{DeckLine};
-ghost use Rattle.law_explore.specs.Rules as rule;
-ghost use Rattle.law_explore.specs.States.{play_of_deck};
+ghost use Rattle.law_histories.specs.model_play.specs.DeckGrammar.{DeckLine};
+ghost use Rattle.law_histories.specs.law_explore.specs.Rules as rule;
+ghost use Rattle.law_histories.specs.law_explore.specs.States.{play_of_deck};
 ghost use Rattle.mc_text.specs.Texts.{sunk};
 ghost use Rattle.lab_application.specs.Shadows.{AreMovesOf};
 ghost use Rattle.lab_application.specs.Starts.{StartsWith};

@@ -1,6 +1,6 @@
 // The tries of a depth: each move from each state.
 ghost use Rattle.std.specs.Prelude.{◌≡◌, ◌≤◌, IfOk, length, List};
-ghost use Rattle.law_explore.specs.Search.{Node};
+ghost use Rattle.law_histories.specs.law_explore.specs.Search.{Node};
 ghost use Rattle.lab_search.specs.Rounds.{Depth, Holds, IsFrom};
 ghost use Rattle.lab_application.specs.Finding.{CanTryAll, CanTryFrom, ComesTo};
 ghost use Rattle.lab_application.specs.Shadows.{AreShadows};

@@ -1,7 +1,7 @@
 // The static bytes of an application on the card of a state.
 ghost use Rattle.std.specs.Prelude.{◌≡◌, None, OnOk};
-ghost use Rattle.model_device.specs.Image.{image_with};
-ghost use Rattle.model_device.specs.Layout.{words_fault};
+ghost use Rattle.law_histories.specs.model_device.specs.Image.{image_with};
+ghost use Rattle.law_histories.specs.model_device.specs.Layout.{words_fault};
 ghost use Rattle.lab_key.specs.Keys.{IsReadable};
 ghost use Rattle.lab_application.specs.Finding.{IsKept};
 

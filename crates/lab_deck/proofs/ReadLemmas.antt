@@ -1,17 +1,17 @@
 -- A deck with its moves and its rules, as the code reads it and refuses it.
 use Rattle.std.proofs.Common.{◌≡◌, ℕ, List, [], ◌∷◌, Bool, true, false, cond, not, length, map, Option, Some, None, Result, Ok, Err, arith, refl, sym, ap, subst, ◌∙◌}
 use Rattle.std.specs.Prelude.{nat_lt, ◌==◌, ◌||◌, is_some}
-use Rattle.model_text.specs.Text.{◌>>=◌, only_if}
-use Rattle.model_play.specs.declared.deck.DeckCause.{DeckCause}
-use Rattle.model_play.specs.DeckGrammar.{deck_read, DeckLine}
+use Rattle.mc_text.specs.model_text.specs.Text.{◌>>=◌, only_if}
+use Rattle.lab_match.specs.model_play.specs.declared.deck.DeckCause.{DeckCause}
+use Rattle.lab_match.specs.model_play.specs.DeckGrammar.{deck_read, DeckLine}
 use Rattle.mc_deck.specs.declared.refusal.DeckRefusal.{DeckRefusal}
 use Rattle.mc_deck.specs.declared.refusal.DeckRefusal.TheVariants as refusal
 use Rattle.mc_deck.specs.Refused.{DeckRefuses}
-use Rattle.law_explore.specs.Rules as model
-use Rattle.law_explore.specs.Rules.{is_some_of}
-use Rattle.model_rules.specs.Rules.{AppRules, OnLine, SumLine, Target, Total}
-use Rattle.model_rules.specs.Reading.{Deck, app_rules_read}
-use Rattle.law_histories.specs.Histories.{app_exploration_read, can_break, line_fault, tested, AppExploration, AppFault, NoMove, NoRule}
+use Rattle.lab_match.specs.law_explore.specs.Rules as model
+use Rattle.lab_match.specs.law_explore.specs.Rules.{is_some_of}
+use Rattle.prove_facts.specs.model_rules.specs.Rules.{AppRules, OnLine, SumLine, Target, Total}
+use Rattle.prove_facts.specs.model_rules.specs.Reading.{Deck, app_rules_read}
+use Rattle.lab_moves.specs.law_histories.specs.Histories.{app_exploration_read, can_break, line_fault, tested, AppExploration, AppFault, NoMove, NoRule}
 use Rattle.prove_events.specs.declared.rules.Always.{Always}
 use Rattle.prove_events.specs.declared.rules.Balance.{Balance}
 use Rattle.prove_events.specs.declared.rules.Effect.{Effect}

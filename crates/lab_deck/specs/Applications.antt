@@ -1,11 +1,11 @@
 -- A deck with the rules of one application, as the code has it.
 use Rattle.std.specs.Prelude.{◌≡◌, ℕ, cond, nat_lt, ◌==◌, ◌||◌, List, [], ◌∷◌, codes, Option, Some, None, Result, Ok, Err, ⊤}
-use Rattle.model_play.specs.declared.deck.DeckCause.{DeckCause}
+use Rattle.lab_match.specs.model_play.specs.declared.deck.DeckCause.{DeckCause}
 use Rattle.mc_deck.specs.declared.refusal.DeckRefusal.{DeckRefusal}
 use Rattle.mc_deck.specs.declared.refusal.DeckRefusal.TheVariants as refusal
 use Rattle.mc_deck.specs.Refused.{DeckRefuses}
-use Rattle.law_explore.specs.Rules as model
-use Rattle.law_histories.specs.Histories.{AppExploration, AppFault, LineFault, NoMove, NoRule}
+use Rattle.lab_match.specs.law_explore.specs.Rules as model
+use Rattle.lab_moves.specs.law_histories.specs.Histories.{AppExploration, AppFault, LineFault, NoMove, NoRule}
 use Rattle.prove_events.specs.Rules.{AreRules as AreAppRules}
 use Rattle.prove_rules.specs.declared.fault.RuleCause.TheVariants as cause
 use Rattle.prove_rules.specs.declared.fault.RuleRefusal.{RuleRefusal}

@@ -1,11 +1,11 @@
 // A deck with the rules of one application, and its moves.
 ghost use Rattle.std.specs.Prelude.{◌≡◌, ◌≤◌, ◌||◌, ℕ, length, IfErr, IfOk, List, Ok};
-ghost use Rattle.model_text.specs.Text.{lines};
-ghost use Rattle.model_play.specs.DeckGrammar.{deck_read, DeckLine};
-ghost use Rattle.model_rules.specs.Reading.{app_rules_read};
-ghost use Rattle.model_rules.specs.Rules.{AppRules, Target};
-ghost use Rattle.law_explore.specs.Rules.{is_some_of};
-ghost use Rattle.law_histories.specs.Histories.{app_exploration_read, can_break};
+ghost use Rattle.mc_text.specs.model_text.specs.Text.{lines};
+ghost use Rattle.lab_match.specs.model_play.specs.DeckGrammar.{deck_read, DeckLine};
+ghost use Rattle.prove_facts.specs.model_rules.specs.Reading.{app_rules_read};
+ghost use Rattle.prove_facts.specs.model_rules.specs.Rules.{AppRules, Target};
+ghost use Rattle.lab_match.specs.law_explore.specs.Rules.{is_some_of};
+ghost use Rattle.lab_moves.specs.law_histories.specs.Histories.{app_exploration_read, can_break};
 ghost use Rattle.prove_events.specs.Rules.{AreRules};
 ghost use Rattle.prove_rules.specs.Refused.{RefusesRules};
 ghost use Rattle.prove_rules.specs.Sums.{AreSums};

@@ -1,6 +1,6 @@
 -- What the events of a line do to the amounts of the allowances.
 use Rattle.std.specs.Prelude.{◌≡◌, ℕ, ◌+◌, Bool, true, false, List, [], ◌∷◌, slice_get, Option, Some, None, Result, Ok, Err}
-use Rattle.model_text.specs.Text.{◌>>=◌}
+use Rattle.prove_events.specs.model_text.specs.Text.{◌>>=◌}
 use Rattle.prove_events.specs.declared.rules.Event.{Event}
 use Rattle.prove_events.specs.declared.rules.Event.TheVariants as event
 use Rattle.prove_events.specs.declared.rules.On.{On}

@@ -1,6 +1,6 @@
 // What the rules of an application count.
 ghost use Rattle.std.specs.Prelude.{◌≡◌, length, map, vec_len, IfOk};
-ghost use Rattle.model_device.specs.Bytes.{num};
+ghost use Rattle.mc_base.specs.model_device.specs.Bytes.{num};
 ghost use Rattle.lab_history.specs.Moves.{AreMoved};
 ghost use Rattle.lab_history.specs.Standings.{blocks_of, first_of, is_within, AreFirst, IsFirstBlock, IsFirstBroken, IsFirstRange};
 

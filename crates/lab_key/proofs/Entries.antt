@@ -5,9 +5,9 @@ use Rattle.std.specs.Prelude.{◌==◌}
 use Rattle.std.specs.List.{AllByRecursion, IsDistinct, position_or_len}
 use Rattle.std.specs.Map.{keys_of}
 use Rattle.indexmap.specs.IndexMap.{insert_entry}
-use Rattle.model_device.specs.Image.{image_with}
-use Rattle.model_device.specs.PowerUp.{Base, OnCard, AtFault}
-use Rattle.model_play.specs.Play as play
+use Rattle.law_explore.specs.model_device.specs.Image.{image_with}
+use Rattle.law_explore.specs.model_device.specs.PowerUp.{Base, OnCard, AtFault}
+use Rattle.law_explore.specs.model_play.specs.Play as play
 use Rattle.law_explore.specs.States.{is_same_base, is_same_live}
 use Rattle.lab_branch.specs.declared.roster.Roster.{Roster}
 use Rattle.lab_key.specs.declared.key.CardKey.{CardKey}

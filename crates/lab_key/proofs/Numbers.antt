@@ -1,8 +1,8 @@
 -- Rosters that were found keep their numbers, and keys that were read stay those of their cards.
 use Rattle.std.proofs.Common.{◌≡◌, ℕ, zero, suc, Bool, true, false, List, [], ◌∷◌, ◌++◌, Some, slice_get, if◌then◌else◌}
 use Rattle.std.specs.List.{IsDistinct}
-use Rattle.model_device.specs.PowerUp.{Base}
-use Rattle.model_play.specs.Play as play
+use Rattle.law_explore.specs.model_device.specs.PowerUp.{Base}
+use Rattle.law_explore.specs.model_play.specs.Play as play
 use Rattle.lab_branch.specs.declared.roster.Roster.{Roster}
 use Rattle.lab_branch.specs.Rosters.{roster_eq}
 use Rattle.lab_key.specs.declared.key.CardKey.{CardKey}

@@ -2,12 +2,12 @@
 use Rattle.std.proofs.Common.{◌≡◌, ℕ, true, List, [], ◌∷◌, Option, Some, None, refl}
 use Rattle.std.specs.Prelude.{◌==◌, bytes_eq}
 use Rattle.std.proofs.lemmas.Bool.{eq-eqb}
-use Rattle.model_device.specs.Card.{App}
-use Rattle.model_device.specs.PowerUp.{Base, OnCard, AtFault}
-use Rattle.model_device.specs.Words.{cause_text}
-use Rattle.model_card.specs.declared.card.Sizes.{Sizes}
-use Rattle.model_card.specs.Manager.{Selected, Got, Open}
-use Rattle.model_play.specs.Play.{Live, Running, Unpowered, Muted}
+use Rattle.law_explore.specs.model_device.specs.Card.{App}
+use Rattle.law_explore.specs.model_device.specs.PowerUp.{Base, OnCard, AtFault}
+use Rattle.law_explore.specs.model_device.specs.Words.{cause_text}
+use Rattle.law_explore.specs.model_card.specs.declared.card.Sizes.{Sizes}
+use Rattle.law_explore.specs.model_card.specs.Manager.{Selected, Got, Open}
+use Rattle.law_explore.specs.model_play.specs.Play.{Live, Running, Unpowered, Muted}
 use Rattle.law_explore.specs.States.{is_same_app, are_same_apps, is_same_base, is_same_selection, are_same_sizes, is_same_got, is_same_load, is_same_live}
 use Rattle.lab_key.proofs.SameSessions.{both, equal_bytes}
 

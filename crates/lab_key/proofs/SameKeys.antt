@@ -2,11 +2,11 @@
 use Rattle.std.proofs.Common.{◌≡◌, ℕ, Bool, true, false, ◌&&◌, List, [], Some, refl, sym, ◌∙◌, ap, subst, slice_get}
 use Rattle.std.specs.Prelude.{◌==◌, bytes_eq}
 use Rattle.std.proofs.lemmas.Bool.{and_parts, eqb-true, eq-eqb}
-use Rattle.model_device.specs.Card.{App}
-use Rattle.model_device.specs.PowerUp.{Base, OnCard, AtFault}
-use Rattle.model_card.specs.Manager.{SessionState}
-use Rattle.model_play.specs.Play as play
-use Rattle.model_play.specs.Play.{Running, Unpowered, Muted}
+use Rattle.law_explore.specs.model_device.specs.Card.{App}
+use Rattle.law_explore.specs.model_device.specs.PowerUp.{Base, OnCard, AtFault}
+use Rattle.law_explore.specs.model_card.specs.Manager.{SessionState}
+use Rattle.law_explore.specs.model_play.specs.Play as play
+use Rattle.law_explore.specs.model_play.specs.Play.{Running, Unpowered, Muted}
 use Rattle.law_explore.specs.States as state
 use Rattle.law_explore.specs.States.{is_same_base, is_same_live, is_same_state}
 use Rattle.law_explore.proofs.SameStates.{state_is}

@@ -5,7 +5,7 @@ use Rattle.std.specs.declared.alloc.Global.{Global}
 use Rattle.std.specs.Option.{option_eq}
 use Rattle.std.proofs.lemmas.Bool.{and_parts, eqb-true, eq-eqb}
 use Rattle.std.proofs.lemmas.Slice.Eq.{bytes_eq-Decides}
-use Rattle.model_card.specs.Manager.{Selected, Open, SessionState}
+use Rattle.law_explore.specs.model_card.specs.Manager.{Selected, Open, SessionState}
 use Rattle.lab_key.specs.declared.session.SelectedKey.{SelectedKey}
 use Rattle.lab_key.specs.declared.session.LoadKey.{LoadKey}
 use Rattle.lab_key.specs.declared.session.SessionKey.{SessionKey}

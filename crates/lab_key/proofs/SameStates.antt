@@ -3,7 +3,7 @@ use Rattle.std.proofs.Common.{◌≡◌, ℕ, Bool, true, false, ◌&&◌, List,
 use Rattle.std.specs.Prelude.{◌==◌, bytes_eq}
 use Rattle.std.proofs.lemmas.Bool.{and_parts, eq-eqb}
 use Rattle.std.proofs.Math.Bool.{beq}
-use Rattle.model_play.specs.Family.{is_running}
+use Rattle.law_explore.specs.model_play.specs.Family.{is_running}
 use Rattle.law_explore.specs.States as model
 use Rattle.law_explore.specs.States.{is_same_base, is_same_live, is_same_state, are_same_allowances}
 use Rattle.law_explore.proofs.SameStates.{state_is}

@@ -1,14 +1,14 @@
 -- What words show can be read from them, and a key that shows it is the key of the base.
 use Rattle.std.proofs.Common.{◌≡◌, ℕ, ◌+◌, List, length, Option, Some, None, refl, sym, ◌∙◌, ap, subst, arith}
 use Rattle.std.specs.List.{IsDistinct}
-use Rattle.model_device.specs.Image.{Look, Refused, Closed, Pending, look, debt}
-use Rattle.model_device.specs.Card.{App, Card, means}
-use Rattle.model_device.specs.PowerUp.{Base, OnCard, AtFault, base_of}
-use Rattle.model_device.specs.Layout.{fault, fault_of, words_fault}
-use Rattle.model_device.specs.declared.cause.Cause.{Cause}
-use Rattle.model_device.proofs.LayoutLemmas.{closed_fault, closed_means}
-use Rattle.model_play.specs.Play as play
-use Rattle.model_play.specs.Play.{Running, Unpowered, Muted}
+use Rattle.law_explore.specs.model_device.specs.Image.{Look, Refused, Closed, Pending, look, debt}
+use Rattle.law_explore.specs.model_device.specs.Card.{App, Card, means}
+use Rattle.law_explore.specs.model_device.specs.PowerUp.{Base, OnCard, AtFault, base_of}
+use Rattle.law_explore.specs.model_device.specs.Layout.{fault, fault_of, words_fault}
+use Rattle.law_explore.specs.model_device.specs.declared.cause.Cause.{Cause}
+use Rattle.law_explore.specs.model_device.proofs.LayoutLemmas.{closed_fault, closed_means}
+use Rattle.law_explore.specs.model_play.specs.Play as play
+use Rattle.law_explore.specs.model_play.specs.Play.{Running, Unpowered, Muted}
 use Rattle.mc_store.specs.Power.{base_of_words}
 use Rattle.lab_branch.specs.declared.roster.Roster.{Roster}
 use Rattle.lab_branch.specs.Rosters.{roster_eq}

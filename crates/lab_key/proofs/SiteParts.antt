@@ -1,13 +1,13 @@
 -- What a section of an open load has received is the front of its place in the words.
 use Rattle.std.proofs.Common.{◌≡◌, ℕ, ◌+◌, ◌≤◌, List, length, take, None, refl, sym, ◌∙◌, ap, subst, arith}
-use Rattle.model_card.specs.declared.card.Part.{Part}
-use Rattle.model_card.specs.declared.card.Part.TheVariants.{Code, Data, Dir, Fci}
-use Rattle.model_device.specs.Bytes.{up}
-use Rattle.model_device.specs.Card.{App, means, section}
-use Rattle.model_device.specs.Device.{IsSized}
-use Rattle.model_device.specs.Layout.{fault, gaps, first_fitting}
-use Rattle.model_device.proofs.LayoutLemmas.{closed_fault}
-use Rattle.model_card.specs.Items.{Site}
+use Rattle.law_explore.specs.model_card.specs.declared.card.Part.{Part}
+use Rattle.law_explore.specs.model_card.specs.declared.card.Part.TheVariants.{Code, Data, Dir, Fci}
+use Rattle.law_explore.specs.model_device.specs.Bytes.{up}
+use Rattle.law_explore.specs.model_device.specs.Card.{App, means, section}
+use Rattle.law_explore.specs.model_device.specs.Device.{IsSized}
+use Rattle.law_explore.specs.model_device.specs.Layout.{fault, gaps, first_fitting}
+use Rattle.law_explore.specs.model_device.proofs.LayoutLemmas.{closed_fault}
+use Rattle.law_explore.specs.model_card.specs.Items.{Site}
 use Rattle.mc_bank.specs.Bank.{part_len, IsGoodSite}
 use Rattle.mc_blocks.proofs.Sections.{section_front}
 use Rattle.mc_store.specs.Store.{part_from, part_in, store_site_bytes, words_of_sizes, IsGoodIn}

@@ -3,9 +3,9 @@ use Rattle.std.specs.Prelude.{◌≡◌, ℕ, List, length, slice_get, Option, S
 use Rattle.std.specs.Borrow.{Bor}
 use Rattle.std.specs.List.{IsDistinct}
 use Rattle.std.specs.Map.{keys_of}
-use Rattle.model_device.specs.Image.{image_with}
-use Rattle.model_device.specs.PowerUp.{Base, OnCard, AtFault}
-use Rattle.model_play.specs.Play as play
+use Rattle.law_explore.specs.model_device.specs.Image.{image_with}
+use Rattle.law_explore.specs.model_device.specs.PowerUp.{Base, OnCard, AtFault}
+use Rattle.law_explore.specs.model_play.specs.Play as play
 use Rattle.mc_store.specs.Power.{base_of_words}
 use Rattle.lab_key.specs.declared.key.CardKey.{CardKey}
 use Rattle.lab_key.specs.declared.kept.Saved.{Saved}

@@ -1,6 +1,6 @@
 -- When a state of an exploration that is kept is a state of the definition.
 use Rattle.std.specs.Prelude.{◌≡◌, ℕ, Bool, List, map}
-use Rattle.model_play.specs.Family.{is_running}
+use Rattle.law_explore.specs.model_play.specs.Family.{is_running}
 use Rattle.law_explore.specs.States as model
 use Rattle.lab_key.specs.declared.kept.Rosters.{Rosters}
 use Rattle.lab_key.specs.declared.state.CardState.{CardState}

@@ -1,9 +1,9 @@
 -- When a key is that of a base and of what runs on it.
 use Rattle.std.specs.Prelude.{◌≡◌, ⊤, ℕ, Bool, List, []}
 use Rattle.std.specs.List.{IsDistinct}
-use Rattle.model_device.specs.Card.{App}
-use Rattle.model_device.specs.PowerUp.{Base, OnCard, AtFault}
-use Rattle.model_play.specs.Play as play
+use Rattle.law_explore.specs.model_device.specs.Card.{App}
+use Rattle.law_explore.specs.model_device.specs.PowerUp.{Base, OnCard, AtFault}
+use Rattle.law_explore.specs.model_play.specs.Play as play
 use Rattle.lab_branch.specs.declared.roster.Roster.{Roster}
 use Rattle.lab_branch.specs.Rosters.{roster_eq}
 use Rattle.lab_key.specs.declared.key.CardKey.{CardKey}

@@ -1,8 +1,8 @@
 -- What the key of a card shows: applications, and what runs.
 use Rattle.std.specs.Prelude.{◌≡◌, ℕ, ⊤, List, [], slice_get, Some}
-use Rattle.model_device.specs.Card.{App, card_of}
-use Rattle.model_play.specs.Play as play
-use Rattle.model_play.specs.Play.{Running, Unpowered, Muted}
+use Rattle.law_explore.specs.model_device.specs.Card.{App, card_of}
+use Rattle.law_explore.specs.model_play.specs.Play as play
+use Rattle.law_explore.specs.model_play.specs.Play.{Running, Unpowered, Muted}
 use Rattle.lab_branch.specs.declared.roster.Roster.{Roster}
 use Rattle.lab_branch.specs.Rosters.{roster_value, roster_of, statics_of}
 use Rattle.mc_script.specs.declared.live.Live.{Live}

@@ -1,7 +1,7 @@
 -- What the key of a card is for, as a statement.
 use Rattle.std.specs.Prelude.{◌≡◌, ℕ, ◌&&◌, ◌==◌, List}
-use Rattle.model_device.specs.PowerUp.{Base}
-use Rattle.model_play.specs.Play.{Live}
+use Rattle.law_explore.specs.model_device.specs.PowerUp.{Base}
+use Rattle.law_explore.specs.model_play.specs.Play.{Live}
 use Rattle.law_explore.specs.States as model
 use Rattle.law_explore.specs.States.{is_same_base, is_same_live, is_same_state}
 use Rattle.lab_branch.specs.declared.roster.Roster.{Roster}

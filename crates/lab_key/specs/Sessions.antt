@@ -1,8 +1,8 @@
 -- The values of the keys of session states, and the words that they are read from.
 use Rattle.std.specs.Prelude.{◌≡◌, ℕ, List, option_map, None}
-use Rattle.model_device.specs.Image.{look, Closed}
-use Rattle.model_device.specs.Layout.{words_fault}
-use Rattle.model_card.specs.Manager.{Selected, Open, SessionState}
+use Rattle.law_explore.specs.model_device.specs.Image.{look, Closed}
+use Rattle.law_explore.specs.model_device.specs.Layout.{words_fault}
+use Rattle.law_explore.specs.model_card.specs.Manager.{Selected, Open, SessionState}
 use Rattle.std.specs.declared.boxed.Box.{Box}
 use Rattle.std.specs.declared.alloc.Global.{Global}
 use Rattle.lab_key.specs.declared.session.SelectedKey.{SelectedKey}

@@ -1,9 +1,9 @@
 -- A card, or a fault, in words without writes that recovery still has to make, and what runs on it.
 use Rattle.std.specs.Prelude.{◌≡◌, ℕ, List, ⊤}
-use Rattle.model_device.specs.Image.{Two}
-use Rattle.model_device.specs.PowerUp.{Base, OnCard, AtFault}
-use Rattle.model_play.specs.Play as play
-use Rattle.model_play.specs.Play.{Running, Unpowered, Muted}
+use Rattle.law_explore.specs.model_device.specs.Image.{Two}
+use Rattle.law_explore.specs.model_device.specs.PowerUp.{Base, OnCard, AtFault}
+use Rattle.law_explore.specs.model_play.specs.Play as play
+use Rattle.law_explore.specs.model_play.specs.Play.{Running, Unpowered, Muted}
 use Rattle.mc_store.specs.Power.{HoldsBase}
 use Rattle.mc_script.specs.declared.live.Live.{Live}
 use Rattle.mc_script.specs.Lives.{LiveShows}

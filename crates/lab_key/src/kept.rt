@@ -1,7 +1,7 @@
 // The cards of an exploration, each once, with what puts it back on a device.
 ghost use Rattle.std.specs.Prelude.{◌≡◌, ℕ, List, IfOk};
-ghost use Rattle.model_device.specs.PowerUp.{Base};
-ghost use Rattle.model_play.specs.Play as play;
+ghost use Rattle.law_explore.specs.model_device.specs.PowerUp.{Base};
+ghost use Rattle.law_explore.specs.model_play.specs.Play as play;
 ghost use Rattle.lab_key.specs.Shown.{IsShown, ShowsSome};
 ghost use Rattle.lab_key.specs.Kept.{IsKeptCard, IsOfDevice, IsSavedOf};
 

@@ -1,8 +1,8 @@
 // The key of a card and of what runs on it.
 ghost use Rattle.std.specs.Prelude.{◌≡◌, ℕ, ⊤, Some, IfOk, OnOk, slice_get};
 ghost use Rattle.std.specs.List.{IsDistinct};
-ghost use Rattle.model_device.specs.PowerUp.{Base};
-ghost use Rattle.model_play.specs.Play as play;
+ghost use Rattle.law_explore.specs.model_device.specs.PowerUp.{Base};
+ghost use Rattle.law_explore.specs.model_play.specs.Play as play;
 ghost use Rattle.lab_branch.specs.Rosters.{roster_value, roster_eq};
 ghost use Rattle.lab_key.specs.Keys.{IsReadable, apps_on, live_on, live_value, KeyShows};
 ghost use Rattle.lab_key.specs.Shown.{IsShown, ShowsSome};

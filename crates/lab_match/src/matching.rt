@@ -1,6 +1,6 @@
 // Patterns matched against texts.
 ghost use Rattle.std.specs.Prelude.{◌≡◌, ◌<◌, ◌≤◌, ◌||◌, ◌==◌, ◌∷◌, ℕ, List, [], length, IfSome, MatchOption};
-ghost use Rattle.model_play.specs.Patterns.{is_any};
+ghost use Rattle.law_explore.specs.model_play.specs.Patterns.{is_any};
 ghost use Rattle.law_explore.specs.Matching.{fits, matches, plain, small, some_rest};
 ghost use Rattle.lab_match.specs.Walks.{WalkEnds, WalkIs};
 

@@ -2,11 +2,11 @@
 use Rattle.std.proofs.Common.{◌≡◌, ◌+◌, ℕ, List, [], ◌∷◌, ◌++◌, Bool, true, false, cond, not, Some, None, Result, Ok, Err, add-one, refl, sym, ap, subst, ◌∙◌}
 use Rattle.std.specs.Prelude.{◌&&◌, bytes_eq, codes}
 use Rattle.std.proofs.lemmas.Slice.Eq.{bytes_eq-Decides}
-use Rattle.model_text.specs.Text.{◌>>=◌, err_as, fields, lines, ok_as, with_numbers}
-use Rattle.model_play.specs.declared.deck.DeckCause.{DeckCause}
-use Rattle.model_play.specs.DeckGrammar.{DeckLine}
-use Rattle.law_explore.specs.Rules as model
-use Rattle.law_explore.specs.Rules.{begins_with, is_marked, line_if, marked_lines, move_line, stays_inside, with_line, with_rule, without_field}
+use Rattle.law_histories.specs.model_text.specs.Text.{◌>>=◌, err_as, fields, lines, ok_as, with_numbers}
+use Rattle.law_histories.specs.model_play.specs.declared.deck.DeckCause.{DeckCause}
+use Rattle.law_histories.specs.model_play.specs.DeckGrammar.{DeckLine}
+use Rattle.law_histories.specs.law_explore.specs.Rules as model
+use Rattle.law_histories.specs.law_explore.specs.Rules.{begins_with, is_marked, line_if, marked_lines, move_line, stays_inside, with_line, with_rule, without_field}
 use Rattle.law_histories.specs.Histories.{is_rule_of}
 use Rattle.mc_text.specs.Reading.{next_line}
 use Rattle.mc_text.proofs.ReadingLemmas.{lines_at, lines_from}

@@ -1,7 +1,7 @@
 // The moves of a deck.
 ghost use Rattle.std.specs.Prelude.{◌≡◌, ◌≤◌, ◌&&◌, List, codes, length, not, IfErr, IfOk, OnOk};
-ghost use Rattle.model_text.specs.Text.{fields, lines};
-ghost use Rattle.law_explore.specs.Rules as model;
+ghost use Rattle.law_histories.specs.model_text.specs.Text.{fields, lines};
+ghost use Rattle.law_histories.specs.law_explore.specs.Rules as model;
 ghost use Rattle.law_histories.specs.Histories.{is_rule_of};
 ghost use Rattle.mc_deck.specs.Refused.{DeckRefuses};
 ghost use Rattle.lab_rules.specs.Fields.{IsOneLine};

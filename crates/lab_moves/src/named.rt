@@ -1,6 +1,6 @@
 // The words of rules, and whether the rules of a deck speak of one application.
 ghost use Rattle.std.specs.Prelude.{◌≡◌, ◌&&◌, codes, not};
-ghost use Rattle.model_text.specs.Text.{fields};
+ghost use Rattle.law_histories.specs.model_text.specs.Text.{fields};
 ghost use Rattle.law_histories.specs.Histories.{is_rule_of, names_application};
 
 use lab_match::{begins_with, first_field, stays_inside};

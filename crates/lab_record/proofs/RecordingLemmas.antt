@@ -2,12 +2,12 @@
 use Rattle.std.proofs.Common.{◌≡◌, ℕ, Bool, false, List, Option, Some, None, option_map, sym, ap, subst, ◌∙◌}
 use Rattle.std.specs.Prelude.{is_some}
 use Rattle.std.specs.Borrow.{Bor}
-use Rattle.model_device.specs.Device.{DeviceState, BenchState}
-use Rattle.model_machine.specs.Chain.{Outcome}
-use Rattle.model_play.specs.DeckGrammar.{DeckLine}
-use Rattle.model_play.specs.Play.{FailedWrite, LineResult, State, step}
-use Rattle.model_play.proofs.PlayLemmas.{step_is}
-use Rattle.law_promise.specs.History.{is_selected_in}
+use Rattle.mc_base.specs.model_device.specs.Device.{DeviceState, BenchState}
+use Rattle.mc_apdu.specs.model_machine.specs.Chain.{Outcome}
+use Rattle.lab_match.specs.model_play.specs.DeckGrammar.{DeckLine}
+use Rattle.lab_match.specs.model_play.specs.Play.{FailedWrite, LineResult, State, step}
+use Rattle.lab_match.specs.model_play.proofs.PlayLemmas.{step_is}
+use Rattle.prove_events.specs.law_promise.specs.History.{is_selected_in}
 use Rattle.mc_script.specs.declared.answer.Answer.{Answer}
 use Rattle.mc_script.specs.declared.player.Player.{Player}
 use Rattle.mc_script.specs.Lines.{LineDone}

@@ -1,14 +1,14 @@
 -- What a line does to what is counted of an application besides its instructions: the command that reaches it, the answer,
 -- and the session that begins or ends.
 use Rattle.std.specs.Prelude.{ℕ, ◌+◌, Bool, true, false, cond, ◌&&◌, ◌||◌, ◌==◌, List, [], ◌∷◌, Option, Some, None}
-use Rattle.model_machine.specs.Chain.{Outcome, Reply}
-use Rattle.model_card.specs.Manager.{Route, ToSelect, ToApplication, route}
-use Rattle.model_text.specs.Listing.{hex_text}
-use Rattle.model_play.specs.DeckGrammar.{DeckLine}
-use Rattle.model_play.specs.DeckGrammar as line
-use Rattle.model_play.specs.Play.{LineResult, Answered, OffAt, FailureStop}
-use Rattle.model_play.specs.Transcript.{outcome_text}
-use Rattle.law_explore.specs.Matching.{fits}
+use Rattle.mc_apdu.specs.model_machine.specs.Chain.{Outcome, Reply}
+use Rattle.mc_bank.specs.model_card.specs.Manager.{Route, ToSelect, ToApplication, route}
+use Rattle.mc_isa.specs.model_text.specs.Listing.{hex_text}
+use Rattle.lab_match.specs.model_play.specs.DeckGrammar.{DeckLine}
+use Rattle.lab_match.specs.model_play.specs.DeckGrammar as line
+use Rattle.lab_match.specs.model_play.specs.Play.{LineResult, Answered, OffAt, FailureStop}
+use Rattle.lab_match.specs.model_play.specs.Transcript.{outcome_text}
+use Rattle.lab_match.specs.law_explore.specs.Matching.{fits}
 use Rattle.mc_machine.specs.Turns.{outcome_value}
 use Rattle.mc_script.specs.declared.answer.Answer.{Answer}
 use Rattle.mc_script.specs.declared.answer.Answer.TheVariants as answer

@@ -1,12 +1,12 @@
 -- What is recorded of the instructions of a command: what each of them does to what is counted of one application.
 use Rattle.std.specs.Prelude.{ℕ, ◌+◌, Bool, true, false, cond, not, ◌&&◌, ◌||◌, ◌==◌, nat_le, nat_lt, min, List, [], ◌∷◌, ◌++◌, bytes_eq, is_none, slice_get, Option, Some, None}
-use Rattle.model_device.specs.Bytes.{num}
-use Rattle.model_machine.specs.declared.instruction.Ins.{Ins}
-use Rattle.model_machine.specs.declared.machine.Abend.{Abend}
-use Rattle.model_machine.specs.declared.machine.Abend.TheVariants as abend
-use Rattle.model_machine.specs.Chain.{Chain, Turn, Outcome, Reply, Abended, turn_of}
-use Rattle.law_explore.specs.Tries.{turn_text}
-use Rattle.model_rules.specs.Keeping.{mode_of}
+use Rattle.mc_base.specs.model_device.specs.Bytes.{num}
+use Rattle.mc_apdu.specs.model_machine.specs.declared.instruction.Ins.{Ins}
+use Rattle.mc_apdu.specs.model_machine.specs.declared.machine.Abend.{Abend}
+use Rattle.mc_apdu.specs.model_machine.specs.declared.machine.Abend.TheVariants as abend
+use Rattle.mc_apdu.specs.model_machine.specs.Chain.{Chain, Turn, Outcome, Reply, Abended, turn_of}
+use Rattle.lab_match.specs.law_explore.specs.Tries.{turn_text}
+use Rattle.prove_events.specs.model_rules.specs.Keeping.{mode_of}
 use Rattle.prove_events.specs.declared.rules.Effect.{Effect}
 use Rattle.prove_events.specs.declared.rules.Effect.TheVariants as effect
 use Rattle.prove_events.specs.declared.rules.Event.TheVariants as event

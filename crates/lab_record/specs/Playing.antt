@@ -1,11 +1,11 @@
 -- A line that was played, and what it did to what is counted of an application.
 use Rattle.std.specs.Prelude.{◌≡◌, ℕ, Bool, List, [], length, take, is_some, Option}
-use Rattle.model_device.specs.PowerUp.{Base, OnCard, AtFault}
-use Rattle.model_machine.specs.Chain.{Outcome}
-use Rattle.model_play.specs.DeckGrammar.{DeckLine}
-use Rattle.model_play.specs.Play.{State, BeforePower, AfterPower, Live, Running, Unpowered, Muted, Step}
-use Rattle.model_play.specs.TraceText.{shown_turns}
-use Rattle.law_promise.specs.History.{is_selected_in}
+use Rattle.mc_base.specs.model_device.specs.PowerUp.{Base, OnCard, AtFault}
+use Rattle.mc_apdu.specs.model_machine.specs.Chain.{Outcome}
+use Rattle.lab_match.specs.model_play.specs.DeckGrammar.{DeckLine}
+use Rattle.lab_match.specs.model_play.specs.Play.{State, BeforePower, AfterPower, Live, Running, Unpowered, Muted, Step}
+use Rattle.lab_match.specs.model_play.specs.TraceText.{shown_turns}
+use Rattle.prove_events.specs.law_promise.specs.History.{is_selected_in}
 use Rattle.mc_script.specs.Runs.{line_bytes}
 use Rattle.mc_script.specs.Watching.{seen_of}
 use Rattle.prove_events.specs.declared.rules.Rules.{Rules}

@@ -1,7 +1,7 @@
 // The `on` lines that fit an event, and what they move.
 ghost use Rattle.std.specs.Prelude.{◌≡◌, IfOk};
-ghost use Rattle.model_device.specs.Bytes.{num};
-ghost use Rattle.model_text.specs.Listing.{hex_text};
+ghost use Rattle.mc_base.specs.model_device.specs.Bytes.{num};
+ghost use Rattle.mc_isa.specs.model_text.specs.Listing.{hex_text};
 ghost use Rattle.prove_events.specs.declared.rules.Amount.TheVariants as amount;
 ghost use Rattle.lab_record.specs.Fitting.{amount_of, are_sums, fitting_from, is_fitting, moves_sum};
 

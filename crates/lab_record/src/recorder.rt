@@ -1,7 +1,7 @@
 // What the instructions of a line do to what is counted of an application, recorded.
 ghost use Rattle.std.specs.Prelude.{◌≡◌, ◌≤◌, ◌∷◌, ℕ, [], bytes_eq, false, slice_get, true, IfSome, OnOk};
-ghost use Rattle.model_machine.specs.Chain.{Chain};
-ghost use Rattle.model_machine.specs.Code.{Shaped};
+ghost use Rattle.mc_apdu.specs.model_machine.specs.Chain.{Chain};
+ghost use Rattle.mc_apdu.specs.model_machine.specs.Code.{Shaped};
 ghost use Rattle.mc_card.specs.Parts.{IsRunning, RunsChain};
 ghost use Rattle.mc_machine.specs.Turns.{turn_value};
 ghost use Rattle.lab_record.specs.Fitting.{amount_of};

@@ -1,6 +1,6 @@
 // The command of a line, and how it ended.
 ghost use Rattle.std.specs.Prelude.{◌≡◌, option_map, Some};
-ghost use Rattle.model_card.specs.Manager.{route};
+ghost use Rattle.mc_bank.specs.model_card.specs.Manager.{route};
 ghost use Rattle.mc_deck.specs.Lines.{line_of};
 ghost use Rattle.mc_machine.specs.Turns.{outcome_value};
 ghost use Rattle.lab_record.specs.Courses.{ended_by, is_done, is_outcome, is_power, is_selection, is_to_application, is_to_select, passed_command, stop_in};

@@ -1,9 +1,9 @@
 // What is read of an instruction that was done.
 ghost use Rattle.std.specs.Prelude.{◌≡◌, ◌≤◌, ◌==◌, ℕ, bytes_eq, drop, Option, option_map, IfOk, IfSome};
-ghost use Rattle.model_machine.specs.Code.{Shaped};
-ghost use Rattle.model_text.specs.Text.{first_cut};
-ghost use Rattle.model_rules.specs.Keeping.{mode_of_primitive};
-ghost use Rattle.law_explore.specs.Tries.{turn_text};
+ghost use Rattle.mc_apdu.specs.model_machine.specs.Code.{Shaped};
+ghost use Rattle.mc_isa.specs.model_text.specs.Text.{first_cut};
+ghost use Rattle.prove_events.specs.model_rules.specs.Keeping.{mode_of_primitive};
+ghost use Rattle.lab_match.specs.law_explore.specs.Tries.{turn_text};
 ghost use Rattle.mc_bank.specs.Bank.{name_or};
 ghost use Rattle.mc_machine.specs.Turns.{turn_value};
 ghost use Rattle.mc_prims.specs.Table.{primitive_of};

@@ -1,13 +1,13 @@
 // Names and numbers in the lines of rules.
 ghost use Rattle.std.specs.Prelude.{◌≡◌, Ok, Err, MatchResult};
-ghost use Rattle.model_text.specs.Text.{fields};
-ghost use Rattle.law_explore.specs.Rules.{name_and_amount};
-ghost use Rattle.model_play.specs.DeckGrammar.{name_field};
+ghost use Rattle.mc_text.specs.model_text.specs.Text.{fields};
+ghost use Rattle.lab_match.specs.law_explore.specs.Rules.{name_and_amount};
+ghost use Rattle.lab_match.specs.model_play.specs.DeckGrammar.{name_field};
 
 use lab_match::first_field;
+use lab_match::model_play::DeckCause;
 use mc_deck::number_field;
 use mc_text::has_name_characters;
-use model_play::DeckCause;
 
 // Returns a name: 1 to 32 letters, digits and underscores.
 fn name_field(text: &[u8]) -> Result<&[u8], DeckCause>

@@ -1,10 +1,10 @@
 // The rules of a deck, read from its comments that begin with `#@`.
 ghost use Rattle.std.specs.Prelude.{◌≡◌, ◌≤◌, ℕ, List, false, true, is_some, length, option_map, Ok, IfErr, IfNone, IfOk, IfSome, MatchResult, OnOk};
-ghost use Rattle.model_device.specs.Bytes.{lookup};
-ghost use Rattle.model_text.specs.Text.{fields, lines, trim};
-ghost use Rattle.law_explore.specs.Rules as model;
-ghost use Rattle.law_explore.specs.Rules.{exploration_read, is_marked, move_line, move_words, rule_words, rules_read, with_rule, AllowWord, MoveWord, OnWord};
-ghost use Rattle.model_play.specs.declared.deck.DeckCause.TheVariants.{BadLine};
+ghost use Rattle.mc_base.specs.model_device.specs.Bytes.{lookup};
+ghost use Rattle.mc_text.specs.model_text.specs.Text.{fields, lines, trim};
+ghost use Rattle.lab_match.specs.law_explore.specs.Rules as model;
+ghost use Rattle.lab_match.specs.law_explore.specs.Rules.{exploration_read, is_marked, move_line, move_words, rule_words, rules_read, with_rule, AllowWord, MoveWord, OnWord};
+ghost use Rattle.lab_match.specs.model_play.specs.declared.deck.DeckCause.TheVariants.{BadLine};
 ghost use Rattle.lab_rules.specs.declared.fault.Fault.TheVariants.{Cause};
 ghost use Rattle.mc_deck.specs.Refused.{DeckRefuses};
 ghost use Rattle.lab_rules.specs.Fields.{is_move, IsOneLine};

@@ -1,18 +1,18 @@
 -- What a try came to, by the definition, and what stays kept.
 use Rattle.std.specs.Prelude.{◌≡◌, ◌≢◌, ℕ, Bool, true, List, length, map, replicate, slice_get, Option, Some, None, Result, Ok, Err, refl}
 use Rattle.std.proofs.Common.{ap, sym, subst, ◌∙◌}
-use Rattle.model_text.specs.Text.{ok_as}
-use Rattle.model_device.specs.PowerUp.{Base}
-use Rattle.model_play.specs.Play as play
-use Rattle.model_play.specs.Play.{Running, Unpowered, Muted, Step}
-use Rattle.model_play.specs.Family.{is_running}
-use Rattle.model_play.specs.TraceText.{shown_turns}
-use Rattle.law_explore.specs.Rules as rule
-use Rattle.law_explore.specs.Rules.{AtResult}
-use Rattle.law_explore.specs.Matching.{plain}
-use Rattle.law_explore.specs.States as model
-use Rattle.law_explore.specs.States.{play_of, state_in}
-use Rattle.law_explore.specs.Tries.{outcome, allowances_after, step_of, result_text}
+use Rattle.law_explore_text.specs.model_text.specs.Text.{ok_as}
+use Rattle.law_explore_text.specs.model_device.specs.PowerUp.{Base}
+use Rattle.law_explore_text.specs.model_play.specs.Play as play
+use Rattle.law_explore_text.specs.model_play.specs.Play.{Running, Unpowered, Muted, Step}
+use Rattle.law_explore_text.specs.model_play.specs.Family.{is_running}
+use Rattle.law_explore_text.specs.model_play.specs.TraceText.{shown_turns}
+use Rattle.law_explore_text.specs.law_explore.specs.Rules as rule
+use Rattle.law_explore_text.specs.law_explore.specs.Rules.{AtResult}
+use Rattle.law_explore_text.specs.law_explore.specs.Matching.{plain}
+use Rattle.law_explore_text.specs.law_explore.specs.States as model
+use Rattle.law_explore_text.specs.law_explore.specs.States.{play_of, state_in}
+use Rattle.law_explore_text.specs.law_explore.specs.Tries.{outcome, allowances_after, step_of, result_text}
 use Rattle.lab_rules.specs.Occasions.{amounts_of, counts_after, counts_after_turns, names_of, AreSpent, CountsMove}
 use Rattle.lab_rules.proofs.CountLemmas.{counts_are_times}
 use Rattle.mc_script.specs.declared.live.Live.{Live}

@@ -1,18 +1,18 @@
 -- The device of a try stays the same one: after a move a card is one of its size, and a fault is the same fault.
 use Rattle.std.specs.Prelude.{◌≡◌, ℕ, ◌-◌, Bool, true, false, cond, nat_le, List, Option, Some, None, refl}
 use Rattle.std.proofs.Common.{sym, subst, ◌∙◌}
-use Rattle.model_device.specs.Stopped.{stands}
-use Rattle.model_device.specs.Image.{Two, One}
-use Rattle.model_device.specs.PowerUp.{Base, OnCard, AtFault, base_after_migration}
-use Rattle.model_card.specs.Items.{StopAt, moves}
-use Rattle.model_play.specs.DeckGrammar.{DeckLine}
-use Rattle.model_play.specs.DeckGrammar as line
-use Rattle.model_card.specs.Commands.{Command}
-use Rattle.model_device.specs.Card.{Card}
-use Rattle.model_play.specs.Play.{Live, Running, Unpowered, Muted, Warm, State, AfterPower, ArmedCut, Unarmed, step, is_card_line, hit_of, power_moves, power_after, stopped_power, command_step, line_command, card_line}
-use Rattle.law_explore.specs.Rules.{Move}
-use Rattle.law_explore.specs.States.{CardState, play_of, state_in, warm_in}
-use Rattle.law_explore.specs.Tries.{Manner, Whole, CutAt, step_of, recovery, next}
+use Rattle.law_explore_text.specs.model_device.specs.Stopped.{stands}
+use Rattle.law_explore_text.specs.model_device.specs.Image.{Two, One}
+use Rattle.law_explore_text.specs.model_device.specs.PowerUp.{Base, OnCard, AtFault, base_after_migration}
+use Rattle.law_explore_text.specs.model_card.specs.Items.{StopAt, moves}
+use Rattle.law_explore_text.specs.model_play.specs.DeckGrammar.{DeckLine}
+use Rattle.law_explore_text.specs.model_play.specs.DeckGrammar as line
+use Rattle.law_explore_text.specs.model_card.specs.Commands.{Command}
+use Rattle.law_explore_text.specs.model_device.specs.Card.{Card}
+use Rattle.law_explore_text.specs.model_play.specs.Play.{Live, Running, Unpowered, Muted, Warm, State, AfterPower, ArmedCut, Unarmed, step, is_card_line, hit_of, power_moves, power_after, stopped_power, command_step, line_command, card_line}
+use Rattle.law_explore_text.specs.law_explore.specs.Rules.{Move}
+use Rattle.law_explore_text.specs.law_explore.specs.States.{CardState, play_of, state_in, warm_in}
+use Rattle.law_explore_text.specs.law_explore.specs.Tries.{Manner, Whole, CutAt, step_of, recovery, next}
 use Rattle.lab_key.specs.Kept.{IsOfDevice}
 use Rattle.lab_search.proofs.MoveLemmas.{card_line_leaves}
 

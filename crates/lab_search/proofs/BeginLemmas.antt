@@ -2,29 +2,29 @@
 use Rattle.std.specs.Prelude.{◌≡◌, ℕ, ◌≤◌, Bool, true, false, cond, nat_le, List, [], ◌∷◌, ◌++◌, length, map, Option, Some, None, option_map, refl}
 use Rattle.std.proofs.Common.{ap, sym, subst, ◌∙◌}
 use Rattle.std.proofs.lemmas.Bool.{lt-leb}
-use Rattle.model_device.specs.declared.device.Stop.TheVariants as stop
-use Rattle.model_device.specs.Bytes.{zeros, lookup}
-use Rattle.model_device.specs.Device.{DeviceState, BenchState, blank_words, device_words}
-use Rattle.model_device.specs.Image.{Journal, Look, Refused, Closed, Pending, gate, image_after_replay, look, shut_word}
-use Rattle.model_device.specs.Card.{App, means, words_after, Card as ModelCard}
-use Rattle.model_device.proofs.ImageLemmas.{length_laid}
-use Rattle.model_device.specs.PowerUp.{Base, OnCard, AtFault, base_of}
-use Rattle.model_card.specs.Items.{StopAt}
-use Rattle.model_card.specs.Commands.{command, refusal}
-use Rattle.model_machine.specs.Apdu.{apdu_read}
-use Rattle.model_machine.specs.Chain.{Turn}
-use Rattle.model_play.specs.DeckGrammar.{DeckLine}
-use Rattle.model_play.specs.DeckGrammar as line
-use Rattle.model_play.specs.Play as play
-use Rattle.model_play.specs.Play.{Unarmed, ArmedCut, ArmedFail, Running, Unpowered, Muted, LineResult, Ready, Warm, State, BeforePower, AfterPower, FailedWrite, step, plays, last_state, steady_failures, steady_at, moves_of, armed_stop_in, card_line, line_after, play_at_power, start, power_after, power_says, static_of}
-use Rattle.model_play.specs.Family.{is_running, live_in}
-use Rattle.law_explore.specs.Safety.{CountsFromOne, IsSettled}
-use Rattle.law_explore.specs.Rules as rule
-use Rattle.law_explore.specs.Search.{first_state}
-use Rattle.law_explore.specs.States.{first_play, first_warm, play_of_deck, warm_in}
-use Rattle.law_explore.proofs.Starts.{first_law}
-use Rattle.model_device.specs.declared.cause.Cause.{Cause}
-use Rattle.model_device.specs.Layout.{fault}
+use Rattle.law_explore_text.specs.model_device.specs.declared.device.Stop.TheVariants as stop
+use Rattle.law_explore_text.specs.model_device.specs.Bytes.{zeros, lookup}
+use Rattle.law_explore_text.specs.model_device.specs.Device.{DeviceState, BenchState, blank_words, device_words}
+use Rattle.law_explore_text.specs.model_device.specs.Image.{Journal, Look, Refused, Closed, Pending, gate, image_after_replay, look, shut_word}
+use Rattle.law_explore_text.specs.model_device.specs.Card.{App, means, words_after, Card as ModelCard}
+use Rattle.law_explore_text.specs.model_device.proofs.ImageLemmas.{length_laid}
+use Rattle.law_explore_text.specs.model_device.specs.PowerUp.{Base, OnCard, AtFault, base_of}
+use Rattle.law_explore_text.specs.model_card.specs.Items.{StopAt}
+use Rattle.law_explore_text.specs.model_card.specs.Commands.{command, refusal}
+use Rattle.law_explore_text.specs.model_machine.specs.Apdu.{apdu_read}
+use Rattle.law_explore_text.specs.model_machine.specs.Chain.{Turn}
+use Rattle.law_explore_text.specs.model_play.specs.DeckGrammar.{DeckLine}
+use Rattle.law_explore_text.specs.model_play.specs.DeckGrammar as line
+use Rattle.law_explore_text.specs.model_play.specs.Play as play
+use Rattle.law_explore_text.specs.model_play.specs.Play.{Unarmed, ArmedCut, ArmedFail, Running, Unpowered, Muted, LineResult, Ready, Warm, State, BeforePower, AfterPower, FailedWrite, step, plays, last_state, steady_failures, steady_at, moves_of, armed_stop_in, card_line, line_after, play_at_power, start, power_after, power_says, static_of}
+use Rattle.law_explore_text.specs.model_play.specs.Family.{is_running, live_in}
+use Rattle.law_explore_text.specs.law_explore.specs.Safety.{CountsFromOne, IsSettled}
+use Rattle.law_explore_text.specs.law_explore.specs.Rules as rule
+use Rattle.law_explore_text.specs.law_explore.specs.Search.{first_state}
+use Rattle.law_explore_text.specs.law_explore.specs.States.{first_play, first_warm, play_of_deck, warm_in}
+use Rattle.law_explore_text.specs.law_explore.proofs.Starts.{first_law}
+use Rattle.law_explore_text.specs.model_device.specs.declared.cause.Cause.{Cause}
+use Rattle.law_explore_text.specs.model_device.specs.Layout.{fault}
 use Rattle.lab_key.specs.declared.kept.Rosters.{Rosters}
 use Rattle.lab_key.specs.declared.state.CardState.{CardState}
 use Rattle.lab_key.specs.Kept.{IsKeptCard, IsOfDevice}
@@ -51,7 +51,7 @@ use Rattle.lab_key.specs.Shown.{IsShown}
 use Rattle.lab_search.specs.Kept.{is_armed, names_in, needs_power, runs_now, LeadIs}
 use Rattle.lab_search.specs.Playing.{state_after, FailsNot, PlayedAs}
 use Rattle.lab_search.specs.Beginnings.{is_ready_answer, without_stop, IsFirst, IsPowered}
-use Rattle.model_play.proofs.LineKinds.{past_power}
+use Rattle.law_explore_text.specs.model_play.proofs.LineKinds.{past_power}
 
 -- ---- stops
 

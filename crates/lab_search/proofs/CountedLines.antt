@@ -1,10 +1,10 @@
 -- Lines that were played by a counter, or without one.
 use Rattle.std.proofs.Common.{◌≡◌, ℕ, List, Bool, false, Option, sym}
-use Rattle.model_device.specs.Device.{DeviceState, BenchState}
-use Rattle.model_machine.specs.Chain.{Turn}
-use Rattle.model_play.specs.DeckGrammar.{DeckLine}
-use Rattle.model_play.specs.Play.{step}
-use Rattle.model_play.specs.TraceText.{shown_turns}
+use Rattle.law_explore_text.specs.model_device.specs.Device.{DeviceState, BenchState}
+use Rattle.law_explore_text.specs.model_machine.specs.Chain.{Turn}
+use Rattle.law_explore_text.specs.model_play.specs.DeckGrammar.{DeckLine}
+use Rattle.law_explore_text.specs.model_play.specs.Play.{step}
+use Rattle.law_explore_text.specs.model_play.specs.TraceText.{shown_turns}
 use Rattle.mc_script.specs.declared.answer.Answer.{Answer}
 use Rattle.mc_script.specs.declared.player.Player.{Player}
 use Rattle.mc_script.specs.Lines.{LineDone}

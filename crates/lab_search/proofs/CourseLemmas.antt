@@ -3,15 +3,15 @@ use Rattle.std.specs.Prelude.{Vec, is_some, ⊤}
 use Rattle.std.specs.declared.alloc.Global.{Global}
 use Rattle.std.proofs.Common.{◌≡◌, ◌≢◌, ℕ, suc, ◌+◌, ◌-◌, ◌<◌, ◌≤◌, Bool, true, false, List, [], ◌∷◌, ◌++◌, drop, length, Option, Some, None, Result, Ok, Err, IfOk, refl, arith, sym, ap, subst, ◌∙◌, map, get_or, slice_get}
 use Rattle.std.proofs.lemmas.Option.{slice_get-get_or, slice_get_read}
-use Rattle.model_text.specs.Text.{◌>>=◌}
-use Rattle.model_play.specs.Play.{Live, Running, Unpowered, Muted, is_card_line}
-use Rattle.model_play.specs.Family.{is_running}
-use Rattle.law_explore.specs.Matching.{fits}
-use Rattle.law_explore.specs.Rules as rule
-use Rattle.law_explore.specs.States.{play_of}
-use Rattle.law_explore.specs.Tries.{Manner as TryManner, Try, Whole, cuts_from, manners, tries_of, tries_with, writes_of}
-use Rattle.law_explore.specs.Search.{Node, Round, HaltedRound, round_of_states, round_of_tries}
-use Rattle.law_explore.proofs.Searches.{tried_append}
+use Rattle.law_explore_text.specs.model_text.specs.Text.{◌>>=◌}
+use Rattle.law_explore_text.specs.model_play.specs.Play.{Live, Running, Unpowered, Muted, is_card_line}
+use Rattle.law_explore_text.specs.model_play.specs.Family.{is_running}
+use Rattle.law_explore_text.specs.law_explore.specs.Matching.{fits}
+use Rattle.law_explore_text.specs.law_explore.specs.Rules as rule
+use Rattle.law_explore_text.specs.law_explore.specs.States.{play_of}
+use Rattle.law_explore_text.specs.law_explore.specs.Tries.{Manner as TryManner, Try, Whole, cuts_from, manners, tries_of, tries_with, writes_of}
+use Rattle.law_explore_text.specs.law_explore.specs.Search.{Node, Round, HaltedRound, round_of_states, round_of_tries}
+use Rattle.law_explore_text.specs.law_explore.proofs.Searches.{tried_append}
 use Rattle.lab_rules.specs.Meanings.{AlikeLists, IsMove, IsOn}
 use Rattle.lab_rules.specs.Occasions.{IsRow}
 use Rattle.lab_rules.specs.declared.rules.Move.{Move}

@@ -3,11 +3,11 @@ use Rattle.std.specs.Prelude.{Vec}
 use Rattle.std.specs.declared.alloc.Global.{Global}
 use Rattle.std.proofs.Common.{◌≡◌, ◌≢◌, ℕ, zero, suc, ◌+◌, ◌-◌, ◌<◌, ◌≤◌, Bool, List, [], ◌∷◌, ◌++◌, codes, decimal, drop, length, Option, Some, None, Result, Ok, Err, IsErr, refl, arith, sym, ap, subst, ◌∙◌, append_assoc, length-drop}
 use Rattle.std.specs.Result.{IsErrAnd}
-use Rattle.model_play.specs.Play.{State}
-use Rattle.law_explore.specs.Rules as rule
-use Rattle.law_explore.specs.States as model
-use Rattle.law_explore.specs.States.{play_of_deck}
-use Rattle.law_explore.specs.Search.{Ending, All, AtDepth, Broken, TooMany, HaltedRound, Node, Round, Search as Found, after_depth, after_round, ending_of, first_state, round_of_states, search_end, search_from, search_of, search_on, with_depth, no_tries, Tally}
+use Rattle.law_explore_text.specs.model_play.specs.Play.{State}
+use Rattle.law_explore_text.specs.law_explore.specs.Rules as rule
+use Rattle.law_explore_text.specs.law_explore.specs.States as model
+use Rattle.law_explore_text.specs.law_explore.specs.States.{play_of_deck}
+use Rattle.law_explore_text.specs.law_explore.specs.Search.{Ending, All, AtDepth, Broken, TooMany, HaltedRound, Node, Round, Search as Found, after_depth, after_round, ending_of, first_state, round_of_states, search_end, search_from, search_of, search_on, with_depth, no_tries, Tally}
 use Rattle.law_explore_text.specs.Report.{depth_lines, ending_text, kept_text, text_within}
 use Rattle.lab_rules.specs.Meanings.{AlikeLists, AreRules}
 use Rattle.lab_rules.specs.Occasions.{IsRow}

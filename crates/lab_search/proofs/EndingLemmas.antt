@@ -5,13 +5,13 @@ use Rattle.std.specs.Result.{IsErrAnd}
 use Rattle.std.proofs.lemmas.List.{append-nil}
 use Rattle.std.proofs.lemmas.Option.{slice_get-get_or, slice_get_past}
 use Rattle.mc_streams.specs.declared.refusals.WriteFault.{WriteFault}
-use Rattle.model_device.specs.PowerUp.{Base, OnCard, AtFault}
-use Rattle.model_play.specs.Play.{Armed, Unarmed, ArmedCut, ArmedFail, Live, Running, Unpowered, Muted, armed_stop_in}
-use Rattle.model_play.specs.Family.{is_running}
-use Rattle.law_explore.specs.Rules as rule
-use Rattle.law_explore.specs.States.{warm_in, play_of_deck}
-use Rattle.law_explore.specs.Tries.{Try}
-use Rattle.law_explore.specs.Search.{Statement, begins_cut, lead_statements, move_statements, path_statements, statements_to}
+use Rattle.law_explore_text.specs.model_device.specs.PowerUp.{Base, OnCard, AtFault}
+use Rattle.law_explore_text.specs.model_play.specs.Play.{Armed, Unarmed, ArmedCut, ArmedFail, Live, Running, Unpowered, Muted, armed_stop_in}
+use Rattle.law_explore_text.specs.model_play.specs.Family.{is_running}
+use Rattle.law_explore_text.specs.law_explore.specs.Rules as rule
+use Rattle.law_explore_text.specs.law_explore.specs.States.{warm_in, play_of_deck}
+use Rattle.law_explore_text.specs.law_explore.specs.Tries.{Try}
+use Rattle.law_explore_text.specs.law_explore.specs.Search.{Statement, begins_cut, lead_statements, move_statements, path_statements, statements_to}
 use Rattle.law_explore_text.specs.Report.{broken_text, statements_text}
 use Rattle.lab_rules.specs.Meanings.{allowance_values, AlikeLists, IsMove}
 use Rattle.lab_rules.specs.declared.reading.Exploration.{Exploration}

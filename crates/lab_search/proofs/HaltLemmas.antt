@@ -1,10 +1,10 @@
 -- How an exploration ends within a depth.
 use Rattle.std.proofs.Common.{◌≡◌, ℕ, List, [], ◌∷◌, ◌++◌, codes, decimal, length, reverse, Result, Ok, Err, IsErr, refl, sym, subst, ◌∙◌}
 use Rattle.std.specs.Result.{IsErrAnd}
-use Rattle.model_play.specs.Play.{State}
-use Rattle.law_explore.specs.Rules as rule
-use Rattle.law_explore.specs.Tries.{Try}
-use Rattle.law_explore.specs.Search.{Ending, HaltedRound, Node, Halt as SearchHalt, Full, RuleBroken, Broken, TooMany, ending_of, search_end, statements_to, Tally}
+use Rattle.law_explore_text.specs.model_play.specs.Play.{State}
+use Rattle.law_explore_text.specs.law_explore.specs.Rules as rule
+use Rattle.law_explore_text.specs.law_explore.specs.Tries.{Try}
+use Rattle.law_explore_text.specs.law_explore.specs.Search.{Ending, HaltedRound, Node, Halt as SearchHalt, Full, RuleBroken, Broken, TooMany, ending_of, search_end, statements_to, Tally}
 use Rattle.law_explore_text.specs.Report.{broken_text, kept_text}
 use Rattle.lab_rules.specs.Meanings.{AlikeLists}
 use Rattle.mc_text.specs.Texts.{Sunk}

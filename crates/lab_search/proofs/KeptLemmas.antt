@@ -1,8 +1,8 @@
 -- The end of an exploration that broke no rule: the rules that applied to no try, and the sums.
 use Rattle.std.specs.Prelude.{◌≡◌, ℕ, Bool, List}
 use Rattle.std.proofs.Common.{ap, subst, ◌∙◌}
-use Rattle.law_explore.specs.Rules as rule
-use Rattle.law_explore.specs.Search as found
+use Rattle.law_explore_text.specs.law_explore.specs.Rules as rule
+use Rattle.law_explore_text.specs.law_explore.specs.Search as found
 use Rattle.law_explore_text.specs.Report.{kept_text, silent_lines, silent_numbers, sums_text}
 use Rattle.lab_rules.specs.Meanings.{AlikeLists, IsOn}
 use Rattle.lab_rules.specs.declared.rules.OnRule.{OnRule}

@@ -1,22 +1,22 @@
 -- What a card line of a play does, as a try needs it.
 use Rattle.std.specs.Prelude.{◌≡◌, ℕ, ◌+◌, Bool, true, false, cond, nat_le, List, Option, Some, None, ⊤, refl}
 use Rattle.std.proofs.Common.{arith, ap, sym, ◌∙◌}
-use Rattle.model_device.specs.declared.device.Stop.TheVariants as stop
-use Rattle.model_device.specs.Image.{Two}
-use Rattle.model_device.specs.Card.{Card}
-use Rattle.model_device.specs.PowerUp.{Base, OnCard, AtFault, migration}
-use Rattle.model_card.specs.Items.{moves, StopAt}
-use Rattle.model_card.specs.Manager.{SessionState}
-use Rattle.model_card.specs.Commands.{Command}
-use Rattle.model_play.specs.DeckGrammar.{DeckLine}
-use Rattle.model_play.specs.DeckGrammar as line
-use Rattle.model_play.specs.Play.{Armed, Unarmed, ArmedCut, Live, Running, Unpowered, Muted, Warm, State, AfterPower, step, is_card_line, moves_of, hit_of, power_moves, power_result, power_says, power_after, stopped_power, card_line, command_step, line_command, line_says, line_after}
-use Rattle.model_play.specs.Family.{is_running}
+use Rattle.law_explore_text.specs.model_device.specs.declared.device.Stop.TheVariants as stop
+use Rattle.law_explore_text.specs.model_device.specs.Image.{Two}
+use Rattle.law_explore_text.specs.model_device.specs.Card.{Card}
+use Rattle.law_explore_text.specs.model_device.specs.PowerUp.{Base, OnCard, AtFault, migration}
+use Rattle.law_explore_text.specs.model_card.specs.Items.{moves, StopAt}
+use Rattle.law_explore_text.specs.model_card.specs.Manager.{SessionState}
+use Rattle.law_explore_text.specs.model_card.specs.Commands.{Command}
+use Rattle.law_explore_text.specs.model_play.specs.DeckGrammar.{DeckLine}
+use Rattle.law_explore_text.specs.model_play.specs.DeckGrammar as line
+use Rattle.law_explore_text.specs.model_play.specs.Play.{Armed, Unarmed, ArmedCut, Live, Running, Unpowered, Muted, Warm, State, AfterPower, step, is_card_line, moves_of, hit_of, power_moves, power_result, power_says, power_after, stopped_power, card_line, command_step, line_command, line_says, line_after}
+use Rattle.law_explore_text.specs.model_play.specs.Family.{is_running}
 use Rattle.mc_script.specs.Cuts.{is_off}
-use Rattle.law_explore.specs.Rules.{Move}
-use Rattle.law_explore.specs.States.{CardState, play_of}
-use Rattle.law_explore.specs.Tries.{Manner, Whole, CutAt, writes_of, next, step_of, recovery}
-use Rattle.law_explore.proofs.Recoveries.{whole_power}
+use Rattle.law_explore_text.specs.law_explore.specs.Rules.{Move}
+use Rattle.law_explore_text.specs.law_explore.specs.States.{CardState, play_of}
+use Rattle.law_explore_text.specs.law_explore.specs.Tries.{Manner, Whole, CutAt, writes_of, next, step_of, recovery}
+use Rattle.law_explore_text.specs.law_explore.proofs.Recoveries.{whole_power}
 
 -- ---- what a card line leaves
 

@@ -1,9 +1,9 @@
 -- The steps from the first state to a last one.
 use Rattle.std.proofs.Common.{◌≡◌, ℕ, ◌+◌, ◌-◌, ◌<◌, ◌≤◌, min, List, [], ◌∷◌, ◌++◌, drop, length, reverse, take, Some, refl, arith, sym, ap, subst, ◌∙◌, slice_get, append_assoc}
 use Rattle.std.proofs.lemmas.List.{append-nil, length-reverse, reverse-append}
-use Rattle.law_explore.specs.Rules as rule
-use Rattle.law_explore.specs.Search.{Node}
-use Rattle.law_explore.specs.Tries.{Try}
+use Rattle.law_explore_text.specs.law_explore.specs.Rules as rule
+use Rattle.law_explore_text.specs.law_explore.specs.Search.{Node}
+use Rattle.law_explore_text.specs.law_explore.specs.Tries.{Try}
 use Rattle.lab_rules.specs.Meanings.{AlikeLists}
 use Rattle.lab_search.specs.declared.journey.Step.{Step}
 use Rattle.lab_search.specs.Rounds.{AreReached, IsTry}

@@ -1,11 +1,11 @@
 -- A player that plays a line, or a deck, goes on playing; and without a failed write it plays as the definition has it.
 use Rattle.std.proofs.Common.{◌≡◌, ap, sym, subst, ◌∙◌, refl}
 use Rattle.std.specs.Prelude.{ℕ, true, List, [], ◌∷◌, length, Option, None}
-use Rattle.model_device.specs.Device.{DeviceState, BenchState, Entry}
-use Rattle.model_machine.specs.Chain.{Turn}
-use Rattle.model_play.specs.DeckGrammar.{DeckLine}
-use Rattle.model_play.specs.Play.{Armed, Unarmed, ArmedCut, ArmedFail, Warm, State, AfterPower, FailedWrite, Step, armed_stop_in, step, steady_at, moves_of, words_left}
-use Rattle.model_play.specs.TraceText.{shown_turns}
+use Rattle.law_explore_text.specs.model_device.specs.Device.{DeviceState, BenchState, Entry}
+use Rattle.law_explore_text.specs.model_machine.specs.Chain.{Turn}
+use Rattle.law_explore_text.specs.model_play.specs.DeckGrammar.{DeckLine}
+use Rattle.law_explore_text.specs.model_play.specs.Play.{Armed, Unarmed, ArmedCut, ArmedFail, Warm, State, AfterPower, FailedWrite, Step, armed_stop_in, step, steady_at, moves_of, words_left}
+use Rattle.law_explore_text.specs.model_play.specs.TraceText.{shown_turns}
 use Rattle.mc_script.specs.declared.answer.Answer.{Answer}
 use Rattle.mc_script.specs.declared.player.Player.{Player}
 use Rattle.mc_script.specs.Players.{device_of, IsPlayerAt, IsPlaying, IsUnfused}

@@ -1,11 +1,11 @@
 -- The power line that finds the words of a state that was kept.
 use Rattle.std.specs.Prelude.{◌≡◌, ℕ, cond, ◌==◌, List, None, refl}
 use Rattle.std.proofs.Common.{arith, ap, sym, ◌∙◌}
-use Rattle.model_device.specs.Image.{Two}
-use Rattle.model_device.specs.PowerUp.{Base, OnCard, AtFault, migration, base_after_migration}
-use Rattle.model_play.specs.DeckGrammar as line
-use Rattle.model_play.specs.Play.{Unarmed, Live, Running, Unpowered, Muted, Warm, BeforePower, AfterPower, step, play_at_power, power_after, power_live}
-use Rattle.model_play.specs.Family.{is_running}
+use Rattle.law_explore_text.specs.model_device.specs.Image.{Two}
+use Rattle.law_explore_text.specs.model_device.specs.PowerUp.{Base, OnCard, AtFault, migration, base_after_migration}
+use Rattle.law_explore_text.specs.model_play.specs.DeckGrammar as line
+use Rattle.law_explore_text.specs.model_play.specs.Play.{Unarmed, Live, Running, Unpowered, Muted, Warm, BeforePower, AfterPower, step, play_at_power, power_after, power_live}
+use Rattle.law_explore_text.specs.model_play.specs.Family.{is_running}
 use Rattle.mc_store.specs.Power.{HoldsBase, base_of_words}
 use Rattle.lab_key.specs.Shown.{IsKeptBase}
 

@@ -1,13 +1,13 @@
 -- A player that is put back: a budget line and a power line on words that show a state, and what was saved.
 use Rattle.std.proofs.Common.{◌≡◌, ap, sym, subst, ◌∙◌, refl}
 use Rattle.std.specs.Prelude.{ℕ, true, List, Option}
-use Rattle.model_device.specs.Device.{DeviceState, BenchState}
-use Rattle.model_device.specs.Image.{Two, Journal}
-use Rattle.model_device.specs.PowerUp.{Base}
-use Rattle.model_play.specs.DeckGrammar as line
-use Rattle.model_play.specs.Play as play
-use Rattle.model_play.specs.Play.{Armed, Unarmed, Warm, State, BeforePower, AfterPower, start, step, Running, Unpowered, Muted}
-use Rattle.model_play.specs.Family.{is_running}
+use Rattle.law_explore_text.specs.model_device.specs.Device.{DeviceState, BenchState}
+use Rattle.law_explore_text.specs.model_device.specs.Image.{Two, Journal}
+use Rattle.law_explore_text.specs.model_device.specs.PowerUp.{Base}
+use Rattle.law_explore_text.specs.model_play.specs.DeckGrammar as line
+use Rattle.law_explore_text.specs.model_play.specs.Play as play
+use Rattle.law_explore_text.specs.model_play.specs.Play.{Armed, Unarmed, Warm, State, BeforePower, AfterPower, start, step, Running, Unpowered, Muted}
+use Rattle.law_explore_text.specs.model_play.specs.Family.{is_running}
 use Rattle.mc_script.specs.declared.answer.Answer.{Answer}
 use Rattle.mc_script.specs.declared.live.Live.{Live}
 use Rattle.mc_script.specs.declared.live.Live.TheVariants as live

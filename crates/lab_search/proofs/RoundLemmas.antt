@@ -3,12 +3,12 @@ use Rattle.std.proofs.Common.{◌≡◌, ◌≢◌, ◌⊎◌, inl, inr, ℕ, �
 use Rattle.std.specs.List.{list_any}
 use Rattle.std.proofs.lemmas.List.{append-nil, reverse-append, map-append, drop-append-le}
 use Rattle.std.proofs.lemmas.Option.{slice_get_within}
-use Rattle.model_text.specs.Text.{◌>>=◌}
-use Rattle.law_explore.specs.Rules as rule
-use Rattle.law_explore.specs.States as model
-use Rattle.law_explore.specs.States.{is_known, is_same_state}
-use Rattle.law_explore.specs.Tries.{Try, outcome}
-use Rattle.law_explore.specs.Search.{Node, Round, HaltedRound, RuleBroken, after_outcome, round_of_tries, with_new, with_reached, with_try, tally_with, Tally}
+use Rattle.law_explore_text.specs.model_text.specs.Text.{◌>>=◌}
+use Rattle.law_explore_text.specs.law_explore.specs.Rules as rule
+use Rattle.law_explore_text.specs.law_explore.specs.States as model
+use Rattle.law_explore_text.specs.law_explore.specs.States.{is_known, is_same_state}
+use Rattle.law_explore_text.specs.law_explore.specs.Tries.{Try, outcome}
+use Rattle.law_explore_text.specs.law_explore.specs.Search.{Node, Round, HaltedRound, RuleBroken, after_outcome, round_of_tries, with_new, with_reached, with_try, tally_with, Tally}
 use Rattle.lab_rules.specs.Meanings.{AlikeLists}
 use Rattle.lab_search.specs.declared.journey.Manner.{Manner}
 use Rattle.lab_search.specs.declared.journey.Step.{Step}

@@ -1,7 +1,7 @@
 -- Two kept states are equal exactly if they are one state of the definition.
 use Rattle.std.specs.Prelude.{◌≡◌, ℕ, List}
-use Rattle.law_explore.specs.States as model
-use Rattle.law_explore.specs.States.{is_same_state}
+use Rattle.law_explore_text.specs.law_explore.specs.States as model
+use Rattle.law_explore_text.specs.law_explore.specs.States.{is_same_state}
 use Rattle.lab_key.specs.declared.kept.Rosters.{Rosters}
 use Rattle.lab_key.specs.declared.state.CardState.{CardState}
 use Rattle.lab_key.proofs.SameStates.{state_same}

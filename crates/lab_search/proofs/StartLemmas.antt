@@ -1,11 +1,11 @@
 -- The start of a search.
 use Rattle.std.proofs.Common.{◌≡◌, Bool, true, false, not, ◌&&◌, refl, ap, ◌∙◌}
-use Rattle.model_device.specs.PowerUp.{Base, OnCard, AtFault}
-use Rattle.model_play.specs.Play.{Live, Running, Unpowered, Muted, Warm, Unarmed}
-use Rattle.model_play.specs.Family.{is_running}
-use Rattle.law_explore.specs.Rules as rule
-use Rattle.law_explore.specs.States.{first_play, play_of_deck, running_or_powered, warm_in}
-use Rattle.law_explore.specs.Search.{first_state}
+use Rattle.law_explore_text.specs.model_device.specs.PowerUp.{Base, OnCard, AtFault}
+use Rattle.law_explore_text.specs.model_play.specs.Play.{Live, Running, Unpowered, Muted, Warm, Unarmed}
+use Rattle.law_explore_text.specs.model_play.specs.Family.{is_running}
+use Rattle.law_explore_text.specs.law_explore.specs.Rules as rule
+use Rattle.law_explore_text.specs.law_explore.specs.States.{first_play, play_of_deck, running_or_powered, warm_in}
+use Rattle.law_explore_text.specs.law_explore.specs.Search.{first_state}
 use Rattle.lab_search.specs.Kept.{needs_power}
 
 and_false : (a : Bool) → (a && false) ≡ false

@@ -1,13 +1,13 @@
 -- What tries came to, as the code counts it, is what they come to by the definition.
 use Rattle.std.specs.Prelude.{◌≡◌, ◌+◌, ◌≤◌, ℕ, suc, ◌||◌, drop, slice_get, Some, Bool, true, false, nat_lt, List, [], ◌∷◌, ◌++◌, length, map, replicate, slice_index_or, refl}
 use Rattle.std.proofs.Common.{arith, add-one, ap, sym, subst, ◌∙◌}
-use Rattle.model_play.specs.Play.{Step}
-use Rattle.law_explore.specs.Rules as rule
-use Rattle.law_explore.specs.States as model
-use Rattle.law_explore.specs.States.{play_of}
-use Rattle.law_explore.specs.Tries.{heard_after, heard_with, step_of, times}
-use Rattle.law_explore.specs.Search as found
-use Rattle.law_explore.specs.Search.{no_tries, tally_with}
+use Rattle.law_explore_text.specs.model_play.specs.Play.{Step}
+use Rattle.law_explore_text.specs.law_explore.specs.Rules as rule
+use Rattle.law_explore_text.specs.law_explore.specs.States as model
+use Rattle.law_explore_text.specs.law_explore.specs.States.{play_of}
+use Rattle.law_explore_text.specs.law_explore.specs.Tries.{heard_after, heard_with, step_of, times}
+use Rattle.law_explore_text.specs.law_explore.specs.Search as found
+use Rattle.law_explore_text.specs.law_explore.specs.Search.{no_tries, tally_with}
 use Rattle.law_explore_text.specs.Report.{silent_lines, silent_numbers}
 use Rattle.lab_rules.specs.Meanings.{AlikeLists, AreRules, IsOn}
 use Rattle.lab_rules.specs.Occasions.{capped}

@@ -2,20 +2,20 @@
 use Rattle.std.proofs.Common.{◌≡◌, ap, sym, subst, ◌∙◌, refl, arith}
 use Rattle.std.specs.Prelude.{ℕ, ◌+◌, ◌<◌, ◌≤◌, Bool, true, false, nat_le, List, Option, None, Some, option_map, Result, Ok, Err, IfOk}
 use Rattle.std.proofs.lemmas.Bool.{leb-true, leb-false, not-true, not-false}
-use Rattle.model_device.specs.Device.{DeviceState, BenchState}
-use Rattle.model_device.specs.PowerUp.{Base, OnCard, AtFault}
-use Rattle.model_play.specs.DeckGrammar.{DeckLine}
-use Rattle.model_play.specs.DeckGrammar as line
-use Rattle.model_play.specs.Play as play
-use Rattle.model_play.specs.Play.{Armed, Unarmed, ArmedCut, Warm, State, BeforePower, AfterPower, LineResult, Step, Running, Unpowered, Muted, armed_stop_in, step, is_card_line, static_of, NoCard}
-use Rattle.model_play.specs.Family.{is_running, live_in}
-use Rattle.model_play.specs.TraceText.{shown_turns}
-use Rattle.law_explore.specs.Rules.{Move}
-use Rattle.law_explore.specs.States.{CardState, play_of, state_in}
-use Rattle.law_explore.specs.Tries.{writes_of, step_of, recovery, result_text}
-use Rattle.law_explore.specs.Safety.{CanMake}
-use Rattle.law_explore.proofs.Actions.{IsStarted, Agrees}
-use Rattle.law_explore.proofs.Decisions.{done_same}
+use Rattle.law_explore_text.specs.model_device.specs.Device.{DeviceState, BenchState}
+use Rattle.law_explore_text.specs.model_device.specs.PowerUp.{Base, OnCard, AtFault}
+use Rattle.law_explore_text.specs.model_play.specs.DeckGrammar.{DeckLine}
+use Rattle.law_explore_text.specs.model_play.specs.DeckGrammar as line
+use Rattle.law_explore_text.specs.model_play.specs.Play as play
+use Rattle.law_explore_text.specs.model_play.specs.Play.{Armed, Unarmed, ArmedCut, Warm, State, BeforePower, AfterPower, LineResult, Step, Running, Unpowered, Muted, armed_stop_in, step, is_card_line, static_of, NoCard}
+use Rattle.law_explore_text.specs.model_play.specs.Family.{is_running, live_in}
+use Rattle.law_explore_text.specs.model_play.specs.TraceText.{shown_turns}
+use Rattle.law_explore_text.specs.law_explore.specs.Rules.{Move}
+use Rattle.law_explore_text.specs.law_explore.specs.States.{CardState, play_of, state_in}
+use Rattle.law_explore_text.specs.law_explore.specs.Tries.{writes_of, step_of, recovery, result_text}
+use Rattle.law_explore_text.specs.law_explore.specs.Safety.{CanMake}
+use Rattle.law_explore_text.specs.law_explore.proofs.Actions.{IsStarted, Agrees}
+use Rattle.law_explore_text.specs.law_explore.proofs.Decisions.{done_same}
 use Rattle.lab_rules.specs.declared.rules.OnRule.{OnRule}
 use Rattle.lab_rules.specs.Occasions.{counts_after_turns}
 use Rattle.mc_script.specs.declared.answer.Answer.{Answer}

@@ -1,8 +1,8 @@
 -- The first state of an exploration, as the code comes to it from the end of a deck.
 use Rattle.std.specs.Prelude.{◌≡◌, ℕ, Bool, true, false, List, Option, Some}
-use Rattle.model_play.specs.DeckGrammar.{DeckLine}
-use Rattle.model_play.specs.Play.{Unarmed, Warm, State, BeforePower, AfterPower, armed_stop_in}
-use Rattle.law_explore.specs.States.{first_play, first_warm, play_of_deck, warm_in}
+use Rattle.law_explore_text.specs.model_play.specs.DeckGrammar.{DeckLine}
+use Rattle.law_explore_text.specs.model_play.specs.Play.{Unarmed, Warm, State, BeforePower, AfterPower, armed_stop_in}
+use Rattle.law_explore_text.specs.law_explore.specs.States.{first_play, first_warm, play_of_deck, warm_in}
 use Rattle.mc_script.specs.declared.answer.Answer.{Answer}
 use Rattle.mc_script.specs.declared.answer.Answer.TheVariants as answer
 use Rattle.mc_script.specs.declared.live.Live.{Live}

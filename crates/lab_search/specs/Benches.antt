@@ -1,9 +1,9 @@
 -- The relations of the moves of an exploration by the bench of their player as a whole, as contracts cite them. Each is
 -- that of the same name in `Playing` or `Trying`, which lemmas cite by the functions of the bench.
 use Rattle.std.specs.Prelude.{ℕ, Bool, List, Option}
-use Rattle.model_play.specs.DeckGrammar.{DeckLine}
-use Rattle.law_explore.specs.Rules as rule
-use Rattle.law_explore.specs.States as model
+use Rattle.law_explore_text.specs.model_play.specs.DeckGrammar.{DeckLine}
+use Rattle.law_explore_text.specs.law_explore.specs.Rules as rule
+use Rattle.law_explore_text.specs.law_explore.specs.States as model
 use Rattle.lab_rules.specs.declared.rules.OnRule.{OnRule}
 use Rattle.mc_script.specs.declared.answer.Answer.{Answer}
 use Rattle.mc_script.specs.declared.live.Live.{Live}

@@ -1,7 +1,7 @@
 -- Counts of executed instructions.
 use Rattle.std.specs.Prelude.{◌≡◌, ℕ, Bool, List, [], ◌++◌, refl}
 use Rattle.std.proofs.Common.{◌∙◌, ap}
-use Rattle.model_machine.specs.Chain.{Turn}
+use Rattle.law_explore_text.specs.model_machine.specs.Chain.{Turn}
 use Rattle.lab_rules.specs.declared.rules.OnRule.{OnRule}
 use Rattle.lab_rules.specs.Occasions.{counts_after_turns}
 use Rattle.lab_rules.proofs.CountLemmas.{turns_then}

@@ -1,11 +1,11 @@
 -- What an exploration writes, and what it returns.
 use Rattle.std.specs.Prelude.{◌≡◌, ℕ, ◌+◌, ◌-◌, Bool, true, false, List, [], ◌∷◌, ◌++◌, drop, Option, Some, None, Result, Ok, Err}
-use Rattle.model_play.specs.Play.{State}
-use Rattle.model_play.specs.Family.{is_running}
-use Rattle.law_explore.specs.Rules as rule
-use Rattle.law_explore.specs.States.{warm_in, play_of_deck}
-use Rattle.law_explore.specs.Search as found
-use Rattle.law_explore.specs.Search.{Ending, All, AtDepth, TooMany, Node, Statement, first_state, idle_statement, no_tries, path_statements, power_statement, search_of, search_on}
+use Rattle.law_explore_text.specs.model_play.specs.Play.{State}
+use Rattle.law_explore_text.specs.model_play.specs.Family.{is_running}
+use Rattle.law_explore_text.specs.law_explore.specs.Rules as rule
+use Rattle.law_explore_text.specs.law_explore.specs.States.{warm_in, play_of_deck}
+use Rattle.law_explore_text.specs.law_explore.specs.Search as found
+use Rattle.law_explore_text.specs.law_explore.specs.Search.{Ending, All, AtDepth, TooMany, Node, Statement, first_state, idle_statement, no_tries, path_statements, power_statement, search_of, search_on}
 use Rattle.law_explore_text.specs.Report.{depth_lines, ending_text, text_within}
 use Rattle.mc_text.specs.Texts.{Sunk, Writes, Fails}
 use Rattle.lab_search.specs.declared.beginning.Lead.{Lead}

@@ -1,15 +1,15 @@
 -- When a state of an exploration that is kept is a state of the definition.
 use Rattle.std.specs.Prelude.{◌≡◌, ℕ, Bool, true, false, List, length, map, replicate, slice_get, Some, Ok, Err}
 use Rattle.std.specs.List.{AllByRecursion}
-use Rattle.model_device.specs.PowerUp.{Base, OnCard, AtFault}
-use Rattle.model_play.specs.Play as play
-use Rattle.model_play.specs.Play.{Running, Unpowered, Muted, Step, Armed, Unarmed, ArmedCut, ArmedFail, armed_stop_in, is_card_line}
-use Rattle.law_explore.specs.Rules as rule
-use Rattle.law_explore.specs.Matching.{fits}
-use Rattle.law_explore.specs.States as model
-use Rattle.law_explore.specs.States.{warm_in, play_of_deck}
-use Rattle.law_explore.specs.Search.{first_state}
-use Rattle.law_explore.specs.Tries.{outcome, result_text}
+use Rattle.law_explore_text.specs.model_device.specs.PowerUp.{Base, OnCard, AtFault}
+use Rattle.law_explore_text.specs.model_play.specs.Play as play
+use Rattle.law_explore_text.specs.model_play.specs.Play.{Running, Unpowered, Muted, Step, Armed, Unarmed, ArmedCut, ArmedFail, armed_stop_in, is_card_line}
+use Rattle.law_explore_text.specs.law_explore.specs.Rules as rule
+use Rattle.law_explore_text.specs.law_explore.specs.Matching.{fits}
+use Rattle.law_explore_text.specs.law_explore.specs.States as model
+use Rattle.law_explore_text.specs.law_explore.specs.States.{warm_in, play_of_deck}
+use Rattle.law_explore_text.specs.law_explore.specs.Search.{first_state}
+use Rattle.law_explore_text.specs.law_explore.specs.Tries.{outcome, result_text}
 use Rattle.lab_rules.specs.Meanings.{AlikeLists, AreDistinct, AreRules, IsMove, IsOn}
 use Rattle.lab_rules.specs.declared.reading.Exploration.{Exploration}
 use Rattle.lab_key.specs.declared.kept.Rosters.{Rosters}
@@ -25,7 +25,7 @@ use Rattle.lab_search.specs.declared.trying.Tried.TheVariants as tried
 use Rattle.lab_search.specs.Reports.{manner_value}
 use Rattle.lab_search.specs.Trying.{CanCut, IsMade, IsMissed}
 use Rattle.lab_rules.specs.Occasions.{amounts_of, counts_after_turns, names_of}
-use Rattle.model_play.specs.TraceText.{shown_turns}
+use Rattle.law_explore_text.specs.model_play.specs.TraceText.{shown_turns}
 use Rattle.mc_script.specs.declared.live.Live.{Live}
 use Rattle.mc_script.specs.declared.live.Live.TheVariants as live
 

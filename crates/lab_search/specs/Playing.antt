@@ -1,9 +1,9 @@
 -- A line that is played without a failed write, as the definition has it.
 use Rattle.std.specs.Prelude.{◌≡◌, ℕ, true, List, Bool, Option, None, option_map, ⊤}
-use Rattle.model_device.specs.Device.{DeviceState, BenchState}
-use Rattle.model_play.specs.DeckGrammar.{DeckLine}
-use Rattle.model_play.specs.Play.{Armed, Unarmed, ArmedCut, ArmedFail, Warm, State, AfterPower, armed_stop_in, last_state, plays, steady_failures, step}
-use Rattle.model_play.specs.TraceText.{shown_turns}
+use Rattle.law_explore_text.specs.model_device.specs.Device.{DeviceState, BenchState}
+use Rattle.law_explore_text.specs.model_play.specs.DeckGrammar.{DeckLine}
+use Rattle.law_explore_text.specs.model_play.specs.Play.{Armed, Unarmed, ArmedCut, ArmedFail, Warm, State, AfterPower, armed_stop_in, last_state, plays, steady_failures, step}
+use Rattle.law_explore_text.specs.model_play.specs.TraceText.{shown_turns}
 use Rattle.mc_script.specs.declared.answer.Answer.{Answer}
 use Rattle.mc_script.specs.declared.player.Player.{Player}
 use Rattle.mc_script.specs.Players.{answer_value, device_of, IsPlayerAt}

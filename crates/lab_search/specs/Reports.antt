@@ -1,10 +1,10 @@
 -- The text of an exploration, line by line.
 use Rattle.std.specs.Prelude.{◌+◌, ℕ, List, ◌++◌, codes, decimal, Option, Some, None}
-use Rattle.model_device.specs.Bytes.{zeros}
-use Rattle.model_device.specs.Image.{Two, opening}
-use Rattle.model_text.specs.Listing.{hex_text}
-use Rattle.law_explore.specs.Tries as model
-use Rattle.law_explore.specs.Tries.{ones}
+use Rattle.law_explore_text.specs.model_device.specs.Bytes.{zeros}
+use Rattle.law_explore_text.specs.model_device.specs.Image.{Two, opening}
+use Rattle.law_explore_text.specs.model_text.specs.Listing.{hex_text}
+use Rattle.law_explore_text.specs.law_explore.specs.Tries as model
+use Rattle.law_explore_text.specs.law_explore.specs.Tries.{ones}
 use Rattle.lab_search.specs.declared.journey.Fill.{Fill}
 use Rattle.lab_search.specs.declared.journey.Fill.TheVariants as fill
 use Rattle.lab_search.specs.declared.journey.Manner.{Manner}

@@ -2,14 +2,14 @@
 use Rattle.std.specs.Prelude.{◌≡◌, ℕ, ◌+◌, ◌≤◌, Bool, true, List, [], ◌∷◌, ◌++◌, length, drop, map, reverse, slice_get, Vec, Option, Some, None, Result, Ok, Err, ⊤}
 use Rattle.std.specs.List.{AllByRecursion}
 use Rattle.std.specs.declared.alloc.Global.{Global}
-use Rattle.model_device.specs.Bytes.{zeros}
-use Rattle.model_device.specs.Image.{Two, opening}
-use Rattle.model_play.specs.Family.{is_running}
-use Rattle.model_play.specs.Play.{is_card_line}
-use Rattle.law_explore.specs.Rules as rule
-use Rattle.law_explore.specs.Search.{Node, Round, Tally, HaltedRound, Halt as SearchHalt, Full, RuleBroken, round_of_tries}
-use Rattle.law_explore.specs.States as model
-use Rattle.law_explore.specs.Tries.{Try, Manner as TryManner, CutAt, ones}
+use Rattle.law_explore_text.specs.model_device.specs.Bytes.{zeros}
+use Rattle.law_explore_text.specs.model_device.specs.Image.{Two, opening}
+use Rattle.law_explore_text.specs.model_play.specs.Family.{is_running}
+use Rattle.law_explore_text.specs.model_play.specs.Play.{is_card_line}
+use Rattle.law_explore_text.specs.law_explore.specs.Rules as rule
+use Rattle.law_explore_text.specs.law_explore.specs.Search.{Node, Round, Tally, HaltedRound, Halt as SearchHalt, Full, RuleBroken, round_of_tries}
+use Rattle.law_explore_text.specs.law_explore.specs.States as model
+use Rattle.law_explore_text.specs.law_explore.specs.Tries.{Try, Manner as TryManner, CutAt, ones}
 use Rattle.lab_rules.specs.Meanings.{AlikeLists, AreRules}
 use Rattle.lab_rules.specs.Occasions.{IsRow}
 use Rattle.lab_rules.specs.declared.rules.Rules.{Rules}

@@ -1,10 +1,10 @@
 -- What tries came to, as the code counts it, and the `on` lines that applied to none.
 use Rattle.std.specs.Prelude.{◌≡◌, ℕ, suc, Bool, true, false, nat_lt, List, [], ◌∷◌, ◌++◌, codes, decimal, map, slice_index_or, slice_set}
-use Rattle.law_explore.specs.Search as found
-use Rattle.law_explore.specs.Rules as rule
-use Rattle.law_explore.specs.States as model
-use Rattle.law_explore.specs.States.{play_of}
-use Rattle.law_explore.specs.Tries.{step_of, times}
+use Rattle.law_explore_text.specs.law_explore.specs.Search as found
+use Rattle.law_explore_text.specs.law_explore.specs.Rules as rule
+use Rattle.law_explore_text.specs.law_explore.specs.States as model
+use Rattle.law_explore_text.specs.law_explore.specs.States.{play_of}
+use Rattle.law_explore_text.specs.law_explore.specs.Tries.{step_of, times}
 use Rattle.lab_rules.specs.Occasions.{capped}
 use Rattle.lab_rules.specs.declared.rules.OnRule.{OnRule}
 use Rattle.lab_search.specs.declared.journey.Manner.{Manner}

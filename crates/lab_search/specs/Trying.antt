@@ -1,14 +1,14 @@
 -- A try: a move from a state, whole or cut.
 use Rattle.std.specs.Prelude.{◌≡◌, ℕ, ◌+◌, ◌<◌, ◌≤◌, ◌^◌, Bool, true, false, not, List, Option, Some, None, Result, IfOk, ⊤}
-use Rattle.model_device.specs.Device.{DeviceState, BenchState}
-use Rattle.model_play.specs.DeckGrammar as line
-use Rattle.model_play.specs.Play.{State}
-use Rattle.model_play.specs.Family.{is_running, live_in}
-use Rattle.model_play.specs.TraceText.{shown_turns}
-use Rattle.law_explore.specs.Rules as rule
-use Rattle.law_explore.specs.States as model
-use Rattle.law_explore.specs.States.{play_of, state_in}
-use Rattle.law_explore.specs.Tries.{writes_of, step_of, recovery, next, result_text}
+use Rattle.law_explore_text.specs.model_device.specs.Device.{DeviceState, BenchState}
+use Rattle.law_explore_text.specs.model_play.specs.DeckGrammar as line
+use Rattle.law_explore_text.specs.model_play.specs.Play.{State}
+use Rattle.law_explore_text.specs.model_play.specs.Family.{is_running, live_in}
+use Rattle.law_explore_text.specs.model_play.specs.TraceText.{shown_turns}
+use Rattle.law_explore_text.specs.law_explore.specs.Rules as rule
+use Rattle.law_explore_text.specs.law_explore.specs.States as model
+use Rattle.law_explore_text.specs.law_explore.specs.States.{play_of, state_in}
+use Rattle.law_explore_text.specs.law_explore.specs.Tries.{writes_of, step_of, recovery, next, result_text}
 use Rattle.lab_rules.specs.declared.rules.OnRule.{OnRule}
 use Rattle.lab_rules.specs.Occasions.{counts_after_turns}
 use Rattle.mc_script.specs.declared.answer.Answer.{Answer}

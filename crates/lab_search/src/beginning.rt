@@ -1,12 +1,12 @@
 // The beginning of an exploration: its deck is played, and leads to the first state.
 ghost use Rattle.std.specs.Prelude.{◌≡◌, ℕ, true, List, IfOk};
-ghost use Rattle.model_device.specs.Device.{blank_words, device_words};
-ghost use Rattle.model_play.specs.Play.{Unarmed, State, armed_stop_in};
-ghost use Rattle.law_explore.specs.Rules as rule;
-ghost use Rattle.law_explore.specs.Safety.{IsSettled};
-ghost use Rattle.law_explore.specs.States.{first_warm, play_of_deck, warm_in};
+ghost use Rattle.law_explore_text.specs.model_device.specs.Device.{blank_words, device_words};
+ghost use Rattle.law_explore_text.specs.model_play.specs.Play.{Unarmed, State, armed_stop_in};
+ghost use Rattle.law_explore_text.specs.law_explore.specs.Rules as rule;
+ghost use Rattle.law_explore_text.specs.law_explore.specs.Safety.{IsSettled};
+ghost use Rattle.law_explore_text.specs.law_explore.specs.States.{first_warm, play_of_deck, warm_in};
 ghost use Rattle.lab_branch.specs.Branches.{blank_branch};
-ghost use Rattle.model_play.specs.DeckGrammar.{DeckLine};
+ghost use Rattle.law_explore_text.specs.model_play.specs.DeckGrammar.{DeckLine};
 ghost use Rattle.mc_script.specs.Players.{device_of, IsUnfused};
 ghost use Rattle.mc_script.specs.Benches.{IsPlayerAt, IsPlaying};
 ghost use Rattle.lab_search.specs.Kept.{is_armed, Begins, IsExplorationOf};

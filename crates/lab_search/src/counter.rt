@@ -1,7 +1,7 @@
 // Executed instructions that are counted while a line of a deck is played.
 ghost use Rattle.std.specs.Prelude.{◌≡◌, ◌≤◌, ◌∷◌, [], ℕ, Option, IfSome};
-ghost use Rattle.model_machine.specs.Chain.{Turn as ModelTurn};
-ghost use Rattle.model_machine.specs.Code.{Shaped};
+ghost use Rattle.law_explore_text.specs.model_machine.specs.Chain.{Turn as ModelTurn};
+ghost use Rattle.law_explore_text.specs.model_machine.specs.Code.{Shaped};
 ghost use Rattle.mc_machine.specs.Turns.{turn_value};
 ghost use Rattle.mc_deck.specs.Lines.{line_of, GoodLine};
 ghost use Rattle.mc_script.specs.Arming.{on_after_answer};

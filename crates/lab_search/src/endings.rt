@@ -1,13 +1,13 @@
 // What an exploration writes when it ends, and what it returns.
 ghost use Rattle.std.specs.Prelude.{◌≡◌, ◌+◌, ℕ, false, not, ◌&&◌, List, [], ◌∷◌, ◌++◌, reverse, slice_get, Some, IfOk};
 ghost use Rattle.indexmap.specs.IndexSet.{index_set_len};
-ghost use Rattle.model_play.specs.Play.{State};
-ghost use Rattle.law_explore.specs.Rules as rule;
-ghost use Rattle.law_explore.specs.States.{play_of_deck};
-ghost use Rattle.law_explore.specs.Tries.{Try};
-ghost use Rattle.law_explore.specs.Search.{ending_of, move_statements, path_statements, search_end, statements_to};
+ghost use Rattle.law_explore_text.specs.model_play.specs.Play.{State};
+ghost use Rattle.law_explore_text.specs.law_explore.specs.Rules as rule;
+ghost use Rattle.law_explore_text.specs.law_explore.specs.States.{play_of_deck};
+ghost use Rattle.law_explore_text.specs.law_explore.specs.Tries.{Try};
+ghost use Rattle.law_explore_text.specs.law_explore.specs.Search.{ending_of, move_statements, path_statements, search_end, statements_to};
 ghost use Rattle.law_explore_text.specs.Report.{broken_text, kept_text, statements_text};
-ghost use Rattle.law_explore.specs.Search.{begins_cut, Ending, HaltedRound, Node};
+ghost use Rattle.law_explore_text.specs.law_explore.specs.Search.{begins_cut, Ending, HaltedRound, Node};
 ghost use Rattle.lab_rules.specs.Meanings.{AlikeLists, IsMove};
 ghost use Rattle.mc_text.specs.Texts.{sunk, Puts};
 ghost use Rattle.lab_search.specs.Kept.{names_in, IsExplorationOf};

@@ -1,15 +1,15 @@
 // A move made on a player that a state was put back on: whole, or cut and recovered.
 ghost use Rattle.std.specs.Prelude.{◌≡◌, ◌≤◌, ℕ, true, None, option_map, IfOk};
-ghost use Rattle.model_play.specs.DeckGrammar as line;
+ghost use Rattle.law_explore_text.specs.model_play.specs.DeckGrammar as line;
 ghost use Rattle.arrayvec.specs.ArrayVec.{array_vec_len};
-ghost use Rattle.model_play.specs.DeckGrammar.{DeckLine};
-ghost use Rattle.model_play.specs.Play as play;
-ghost use Rattle.model_play.specs.Play.{State, AfterPower, start, is_card_line, armed_stop_in};
-ghost use Rattle.model_device.specs.PowerUp.{Base};
-ghost use Rattle.law_explore.specs.Rules as rule;
-ghost use Rattle.law_explore.specs.States as model;
-ghost use Rattle.law_explore.specs.States.{play_of};
-ghost use Rattle.law_explore.specs.Tries.{recovery, result_text};
+ghost use Rattle.law_explore_text.specs.model_play.specs.DeckGrammar.{DeckLine};
+ghost use Rattle.law_explore_text.specs.model_play.specs.Play as play;
+ghost use Rattle.law_explore_text.specs.model_play.specs.Play.{State, AfterPower, start, is_card_line, armed_stop_in};
+ghost use Rattle.law_explore_text.specs.model_device.specs.PowerUp.{Base};
+ghost use Rattle.law_explore_text.specs.law_explore.specs.Rules as rule;
+ghost use Rattle.law_explore_text.specs.law_explore.specs.States as model;
+ghost use Rattle.law_explore_text.specs.law_explore.specs.States.{play_of};
+ghost use Rattle.law_explore_text.specs.law_explore.specs.Tries.{recovery, result_text};
 ghost use Rattle.lab_rules.specs.Moves.{move_deck};
 ghost use Rattle.lab_rules.specs.Meanings.{IsMove};
 ghost use Rattle.mc_script.specs.Players.{answer_value, device_of, IsUnfused};

@@ -1,8 +1,8 @@
 // Lines of a play, one by one, and the budget of their commands.
 ghost use Rattle.std.specs.Prelude.{◌≡◌, ◌≤◌, ℕ, true};
 ghost use Rattle.mc_deck.specs.Lines.{line_of, GoodLine};
-ghost use Rattle.model_play.specs.DeckGrammar as line;
-ghost use Rattle.model_play.specs.Play.{State};
+ghost use Rattle.law_explore_text.specs.model_play.specs.DeckGrammar as line;
+ghost use Rattle.law_explore_text.specs.model_play.specs.Play.{State};
 ghost use Rattle.mc_script.specs.Players.{device_of};
 ghost use Rattle.mc_script.specs.Benches.{IsPlayerAt, IsPlaying};
 ghost use Rattle.lab_search.specs.Playing.{state_after};

@@ -1,6 +1,6 @@
 // The text of an exploration.
 ghost use Rattle.std.specs.Prelude.{◌≡◌, ◌++◌, codes, decimal, slice_index_or, true};
-ghost use Rattle.model_text.specs.Listing.{hex_text};
+ghost use Rattle.law_explore_text.specs.model_text.specs.Listing.{hex_text};
 ghost use Rattle.law_explore_text.specs.Report.{sums_text};
 ghost use Rattle.mc_text.specs.Texts.{sunk, Puts};
 ghost use Rattle.lab_search.specs.Tallies.{silent_from, silent_if, silent_line};

@@ -1,11 +1,11 @@
 // What was found so far, and the tries of a depth.
 ghost use Rattle.std.specs.Prelude.{◌≡◌, ◌+◌, ◌<◌, ◌≤◌, ◌^◌, ℕ, true, List, [], ◌∷◌, drop, false, length, replicate, slice_get, IfOk};
-ghost use Rattle.model_play.specs.Family.{is_running};
-ghost use Rattle.law_explore.specs.Rules as rule;
-ghost use Rattle.law_explore.specs.States as model;
-ghost use Rattle.law_explore.specs.States.{is_known, play_of};
-ghost use Rattle.law_explore.specs.Tries.{cuts_from, tries_of, tries_with, writes_of, Try};
-ghost use Rattle.law_explore.specs.Search.{round_of_states, with_reached, Node};
+ghost use Rattle.law_explore_text.specs.model_play.specs.Family.{is_running};
+ghost use Rattle.law_explore_text.specs.law_explore.specs.Rules as rule;
+ghost use Rattle.law_explore_text.specs.law_explore.specs.States as model;
+ghost use Rattle.law_explore_text.specs.law_explore.specs.States.{is_known, play_of};
+ghost use Rattle.law_explore_text.specs.law_explore.specs.Tries.{cuts_from, tries_of, tries_with, writes_of, Try};
+ghost use Rattle.law_explore_text.specs.law_explore.specs.Search.{round_of_states, with_reached, Node};
 ghost use Rattle.lab_search.specs.Kept.{names_in, Kept};
 ghost use Rattle.lab_search.specs.Rounds.{cuts_at, known_in, round_in, tally_of, tries_from, tries_in, try_value};
 ghost use Rattle.lab_search.specs.Trying.{CanCut, IsMade, IsMissed};

@@ -1,8 +1,8 @@
 // The search through all states, breadth first.
 ghost use Rattle.std.specs.Prelude.{◌≡◌, not, ◌&&◌, IfOk};
-ghost use Rattle.law_explore.specs.Rules as rule;
-ghost use Rattle.law_explore.specs.States.{play_of_deck};
-ghost use Rattle.law_explore.specs.Search.{most_states, search_of};
+ghost use Rattle.law_explore_text.specs.law_explore.specs.Rules as rule;
+ghost use Rattle.law_explore_text.specs.law_explore.specs.States.{play_of_deck};
+ghost use Rattle.law_explore_text.specs.law_explore.specs.Search.{most_states, search_of};
 ghost use Rattle.law_explore_text.specs.Report.{text_within};
 ghost use Rattle.law_explore_text.specs.Report.{explore_text};
 ghost use Rattle.mc_text.specs.Texts.{sunk};

@@ -1,16 +1,16 @@
 // One try: a move from a state, whole or cut.
 ghost use Rattle.std.specs.Prelude.{◌≡◌, ◌≤◌, ℕ, true, List, map, replicate, vec_len, IfOk, OnOk};
 ghost use Rattle.arrayvec.specs.ArrayVec.{array_vec_len};
-ghost use Rattle.model_device.specs.Image.{image_with};
-ghost use Rattle.model_play.specs.Play.{is_card_line};
-ghost use Rattle.law_explore.specs.Rules as rule;
-ghost use Rattle.law_explore.specs.States as model;
+ghost use Rattle.law_explore_text.specs.model_device.specs.Image.{image_with};
+ghost use Rattle.law_explore_text.specs.model_play.specs.Play.{is_card_line};
+ghost use Rattle.law_explore_text.specs.law_explore.specs.Rules as rule;
+ghost use Rattle.law_explore_text.specs.law_explore.specs.States as model;
 ghost use Rattle.lab_rules.specs.Meanings.{IsMove};
 ghost use Rattle.lab_key.specs.Shown.{IsShown, ShowsSome};
-ghost use Rattle.model_play.specs.Play.{Step};
-ghost use Rattle.law_explore.specs.Rules.{AtResult};
-ghost use Rattle.law_explore.specs.Matching.{plain};
-ghost use Rattle.law_explore.specs.Tries.{allowances_after, times};
+ghost use Rattle.law_explore_text.specs.model_play.specs.Play.{Step};
+ghost use Rattle.law_explore_text.specs.law_explore.specs.Rules.{AtResult};
+ghost use Rattle.law_explore_text.specs.law_explore.specs.Matching.{plain};
+ghost use Rattle.law_explore_text.specs.law_explore.specs.Tries.{allowances_after, times};
 ghost use Rattle.lab_rules.specs.Occasions.{capped, counts_after, AreSpent};
 ghost use Rattle.lab_search.specs.Kept.{CanBeTried, IsCandidate, Kept, KeepsKept, SpendsFrom, TryIs, runs_now};
 ghost use Rattle.lab_search.specs.Tallies.{CountsTry};

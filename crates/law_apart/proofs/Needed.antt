@@ -1,12 +1,12 @@
 -- The card of its own does the same without the losses of a selection that it does not have.
 use Rattle.std.proofs.Common.{◌≡◌, ℕ, Bool, true, false, cond, List, [], ◌∷◌, ◌++◌, Option, Some, None, refl, sym, ap, subst, ◌∙◌}
 use Rattle.std.specs.Prelude.{is_some}
-use Rattle.model_device.specs.Card.{App}
-use Rattle.model_card.specs.Manager.{Selected}
-use Rattle.model_play.specs.Given.{Event, Arrives, Departs, Commands, Dumps, Leaves, Given, given_of_play}
-use Rattle.model_play.specs.Play.{Step, start}
-use Rattle.model_play.specs.Solo.{Heard, Solo, heard_before, hears, hears_all, solo}
-use Rattle.model_play.specs.View.{View, IsIsolated, rest_of, view}
+use Rattle.law_family.specs.model_device.specs.Card.{App}
+use Rattle.law_family.specs.model_card.specs.Manager.{Selected}
+use Rattle.law_family.specs.model_play.specs.Given.{Event, Arrives, Departs, Commands, Dumps, Leaves, Given, given_of_play}
+use Rattle.law_family.specs.model_play.specs.Play.{Step, start}
+use Rattle.law_family.specs.model_play.specs.Solo.{Heard, Solo, heard_before, hears, hears_all, solo}
+use Rattle.law_family.specs.model_play.specs.View.{View, IsIsolated, rest_of, view}
 use Rattle.law_family.proofs.PlayLaw.{isolation_law}
 use Rattle.law_apart.specs.Needed.{needed, needed_first, needed_of, solo_at}
 use Rattle.law_apart.specs.Laws.{NeededLaw, SameNeededLaw, SeesTheSame, front_of_play}

@@ -1,22 +1,22 @@
 -- Two decks of a counter and a stranger, which differ in what the stranger is sent and in how often power goes.
 use Rattle.std.specs.Prelude.{ℕ, List, [], ◌∷◌, ◌++◌, length}
-use Rattle.model_device.specs.Card.{blocks_from, apps_of}
-use Rattle.model_device.specs.Image.{targets_1, targets_2, pairs}
-use Rattle.model_device.specs.Layout.{layout, step_of, bad_block, bad_record}
-use Rattle.model_device.specs.Pieces.{touched_words}
-use Rattle.model_machine.specs.Apdu.{apdu_read}
-use Rattle.model_machine.specs.Chain.{turn_of_chain, run_of_chain}
-use Rattle.model_machine.specs.Frame.{bytes_at, write_effect, too_many}
-use Rattle.model_machine.specs.Primitives.{later_causes, prim_effect}
-use Rattle.model_machine.specs.Row.{causes, effect, row}
-use Rattle.model_card.specs.Commands.{command}
-use Rattle.model_card.specs.Manager.{manage}
-use Rattle.model_card.specs.Units.{name_of}
-use Rattle.model_play.specs.DeckGrammar.{DeckLine}
-use Rattle.model_play.specs.DeckGrammar as line
-use Rattle.model_play.specs.Given.{Event, events, given_of_play}
-use Rattle.model_play.specs.Play.{moves_of, play_at_power, plays, send, start, steady_failures, step}
-use Rattle.model_play.specs.Solo.{hears, solo_command}
+use Rattle.law_family.specs.model_device.specs.Card.{blocks_from, apps_of}
+use Rattle.law_family.specs.model_device.specs.Image.{targets_1, targets_2, pairs}
+use Rattle.law_family.specs.model_device.specs.Layout.{layout, step_of, bad_block, bad_record}
+use Rattle.law_family.specs.model_device.specs.Pieces.{touched_words}
+use Rattle.law_family.specs.model_machine.specs.Apdu.{apdu_read}
+use Rattle.law_family.specs.model_machine.specs.Chain.{turn_of_chain, run_of_chain}
+use Rattle.law_family.specs.model_machine.specs.Frame.{bytes_at, write_effect, too_many}
+use Rattle.law_family.specs.model_machine.specs.Primitives.{later_causes, prim_effect}
+use Rattle.law_family.specs.model_machine.specs.Row.{causes, effect, row}
+use Rattle.law_family.specs.model_card.specs.Commands.{command}
+use Rattle.law_family.specs.model_card.specs.Manager.{manage}
+use Rattle.law_family.specs.model_card.specs.Units.{name_of}
+use Rattle.law_family.specs.model_play.specs.DeckGrammar.{DeckLine}
+use Rattle.law_family.specs.model_play.specs.DeckGrammar as line
+use Rattle.law_family.specs.model_play.specs.Given.{Event, events, given_of_play}
+use Rattle.law_family.specs.model_play.specs.Play.{moves_of, play_at_power, plays, send, start, steady_failures, step}
+use Rattle.law_family.specs.model_play.specs.Solo.{hears, solo_command}
 use Rattle.law_family.specs.Worked.{blank, count, counter, first, second}
 use Rattle.law_apart.specs.Needed.{needed, needed_of}
 

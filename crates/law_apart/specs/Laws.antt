@@ -1,11 +1,11 @@
 -- A neighbour's number of commands is no input.
 use Rattle.std.specs.Prelude.{◌≡◌, ℕ, List, take, Option}
-use Rattle.model_play.specs.DeckGrammar.{DeckLine}
-use Rattle.model_play.specs.Family.{Closed}
-use Rattle.model_play.specs.Given.{Given, apps_in, given_of_play}
-use Rattle.model_play.specs.Play.{FailedWrite, Step, Possible, last_state, plays, start}
-use Rattle.model_play.specs.Solo.{solo}
-use Rattle.model_play.specs.View.{answers, rest_of, work}
+use Rattle.law_family.specs.model_play.specs.DeckGrammar.{DeckLine}
+use Rattle.law_family.specs.model_play.specs.Family.{Closed}
+use Rattle.law_family.specs.model_play.specs.Given.{Given, apps_in, given_of_play}
+use Rattle.law_family.specs.model_play.specs.Play.{FailedWrite, Step, Possible, last_state, plays, start}
+use Rattle.law_family.specs.model_play.specs.Solo.{solo}
+use Rattle.law_family.specs.model_play.specs.View.{answers, rest_of, work}
 use Rattle.law_apart.specs.Needed.{needed_of}
 
 -- The card of its own does the same on what is needed as on all that is given.

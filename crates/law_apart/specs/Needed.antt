@@ -1,8 +1,8 @@
 -- What a family is given of a play, without the losses of a selection that it does not have.
 use Rattle.std.specs.Prelude.{ℕ, cond, List, [], ◌∷◌, is_some, Option, None}
-use Rattle.model_device.specs.Card.{App}
-use Rattle.model_play.specs.Given.{Event, Arrives, Departs, Commands, Dumps, Leaves, Given}
-use Rattle.model_play.specs.Solo.{Solo, hears}
+use Rattle.law_family.specs.model_device.specs.Card.{App}
+use Rattle.law_family.specs.model_play.specs.Given.{Event, Arrives, Departs, Commands, Dumps, Leaves, Given}
+use Rattle.law_family.specs.model_play.specs.Solo.{Solo, hears}
 
 -- an event on the card of its own, before those that are needed after it: a loss counts if an application is selected
 abbrev pub needed_first : Solo → Event → List Event → List Event

@@ -3,13 +3,13 @@ use Rattle.std.proofs.Common.{◌≡◌, ℕ, zero, suc, ◌+◌, ◌-◌, ◌/�
 use Rattle.std.specs.Prelude.{◌==◌, slice_index, position, unwrap_or, bit_and, bit_or, bit_xor}
 use Rattle.std.proofs.lemmas.Nat.{and_le_l, or_lt, xor_lt}
 use Rattle.std.proofs.lemmas.List.Quantifiers.{position-Some}
-use Rattle.model_device.specs.Bytes.{AreBytes, bytes, num, zeros, splice}
-use Rattle.model_device.specs.Pieces.{laid_pieces}
-use Rattle.model_device.proofs.ImageLemmas.{all_append}
-use Rattle.model_device.proofs.ListLemmas.{bytes_from}
-use Rattle.model_machine.specs.Blocks.{each_byte, not_block}
-use Rattle.model_machine.specs.Modes.{AllBelow}
-use Rattle.model_machine.specs.Frame.{Frame, Place, Static, Dynamic, Public, where_is, static_bytes, bytes_in, bytes_at}
+use Rattle.law_family.specs.model_device.specs.Bytes.{AreBytes, bytes, num, zeros, splice}
+use Rattle.law_family.specs.model_device.specs.Pieces.{laid_pieces}
+use Rattle.law_family.specs.model_device.proofs.ImageLemmas.{all_append}
+use Rattle.law_family.specs.model_device.proofs.ListLemmas.{bytes_from}
+use Rattle.law_family.specs.model_machine.specs.Blocks.{each_byte, not_block}
+use Rattle.law_family.specs.model_machine.specs.Modes.{AllBelow}
+use Rattle.law_family.specs.model_machine.specs.Frame.{Frame, Place, Static, Dynamic, Public, where_is, static_bytes, bytes_in, bytes_at}
 use Rattle.law_bytes.specs.OfBytes.{ArePieces, IsByteFrame}
 
 -- ---- parts

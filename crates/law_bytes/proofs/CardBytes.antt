@@ -4,17 +4,17 @@ use Rattle.std.specs.Prelude.{⊤, ◌==◌, ◌&&◌, nat_lt, nat_le, bytes_eq,
 use Rattle.std.specs.List.{AllByRecursion, concat}
 use Rattle.std.proofs.lemmas.Bool.{and_parts, leb-true}
 use Rattle.std.proofs.lemmas.List.{length-take-le}
-use Rattle.model_device.specs.Bytes.{AreBytes, insert, up, be2, zeros, has_name}
-use Rattle.model_device.specs.Device.{IsImage}
-use Rattle.model_device.specs.Image.{Two, look, after}
-use Rattle.model_device.specs.Stopped.{cost, stands}
-use Rattle.model_device.specs.Card.{App, Block, words_of_lengths, record_at, name_in, name_at, app_at, apps_of, blocks, cells, section, words_after, means}
-use Rattle.model_device.specs.Layout.{is_record, bad_record, fault}
-use Rattle.model_machine.specs.Chain.{Write}
-use Rattle.model_card.specs.Items.{Change, Fixed, Created, Deleted, Item, Plain, Atomic, apps_after_change, apps_after_items, write_items, Stopped, at_stop, in_flight, with_item}
-use Rattle.model_device.proofs.ImageBytes.{image_settled}
-use Rattle.model_device.proofs.LayoutLemmas.{sound_after}
-use Rattle.model_device.proofs.MapLemmas.{each_inserted, each_removed}
+use Rattle.law_family.specs.model_device.specs.Bytes.{AreBytes, insert, up, be2, zeros, has_name}
+use Rattle.law_family.specs.model_device.specs.Device.{IsImage}
+use Rattle.law_family.specs.model_device.specs.Image.{Two, look, after}
+use Rattle.law_family.specs.model_device.specs.Stopped.{cost, stands}
+use Rattle.law_family.specs.model_device.specs.Card.{App, Block, words_of_lengths, record_at, name_in, name_at, app_at, apps_of, blocks, cells, section, words_after, means}
+use Rattle.law_family.specs.model_device.specs.Layout.{is_record, bad_record, fault}
+use Rattle.law_family.specs.model_machine.specs.Chain.{Write}
+use Rattle.law_family.specs.model_card.specs.Items.{Change, Fixed, Created, Deleted, Item, Plain, Atomic, apps_after_change, apps_after_items, write_items, Stopped, at_stop, in_flight, with_item}
+use Rattle.law_family.specs.model_device.proofs.ImageBytes.{image_settled}
+use Rattle.law_family.specs.model_device.proofs.LayoutLemmas.{sound_after}
+use Rattle.law_family.specs.model_device.proofs.MapLemmas.{each_inserted, each_removed}
 use Rattle.law_family.proofs.CardFacts.{all_take, all_drop}
 use Rattle.law_family.proofs.PlaySizes.{good_records}
 use Rattle.law_bytes.specs.OfBytes.{ArePieces}

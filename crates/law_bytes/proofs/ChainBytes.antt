@@ -2,23 +2,23 @@
 use Rattle.std.proofs.Common.{◌≡◌, ℕ, zero, suc, ◌+◌, ◌-◌, ◌≤◌, Bool, true, false, cond, List, [], ◌∷◌, ◌++◌, length, Option, Some, None, Result, Ok, Err, refl, sym, subst, arith}
 use Rattle.std.specs.Prelude.{◌||◌, nat_le, nat_lt, unwrap_or}
 use Rattle.std.specs.List.{AllByRecursion}
-use Rattle.model_device.specs.Bytes.{AreBytes, bytes2, zeros, lookup}
-use Rattle.model_device.specs.Card.{App}
-use Rattle.model_device.proofs.ImageLemmas.{all_append}
-use Rattle.model_device.proofs.ListLemmas.{pair_bytes}
-use Rattle.model_device.proofs.MapLemmas.{each_found, each_inserted}
-use Rattle.model_machine.specs.declared.instruction.Ins.{Ins}
-use Rattle.model_machine.specs.declared.instruction.DecodeFault.{DecodeFault}
-use Rattle.model_machine.specs.declared.instruction.DecodeFault.TheVariants.{Undefined, Past}
-use Rattle.model_machine.specs.declared.machine.Abend.TheVariants.{A09}
-use Rattle.model_machine.specs.Apdu.{ApduParts}
-use Rattle.model_machine.specs.Code.{DecodesTo, instruction_at}
-use Rattle.model_machine.specs.Frame.{Frame, Effect, new_frame, new_public, with_sw, la_of}
-use Rattle.model_machine.specs.Primitives.{Then, Goes, Exits, Delegates}
-use Rattle.model_machine.specs.Row.{RowEnd, Abends, Does, row}
-use Rattle.model_machine.specs.Chain.{Chain, Outcome, Abended, Follows, Continues, Ends, Acted, Ran, code_in, delegator_in, around, first_frame, chain_session, with_pieces, changed_app, map_changed, write_of, chain_after_effect, is_active, depth_of, called_app, chain_after_call, after_exit, reply_of, follows, row_turn, turn_of_fetch, turn_of_chain, frame_at, run_after_turn, run_of_chain, start_app, no_app}
-use Rattle.law_rows.specs.Keeping.{Keeps, OnDone}
-use Rattle.law_rows.proofs.Keeping.{row_keeps}
+use Rattle.law_family.specs.model_device.specs.Bytes.{AreBytes, bytes2, zeros, lookup}
+use Rattle.law_family.specs.model_device.specs.Card.{App}
+use Rattle.law_family.specs.model_device.proofs.ImageLemmas.{all_append}
+use Rattle.law_family.specs.model_device.proofs.ListLemmas.{pair_bytes}
+use Rattle.law_family.specs.model_device.proofs.MapLemmas.{each_found, each_inserted}
+use Rattle.law_family.specs.model_machine.specs.declared.instruction.Ins.{Ins}
+use Rattle.law_family.specs.model_machine.specs.declared.instruction.DecodeFault.{DecodeFault}
+use Rattle.law_family.specs.model_machine.specs.declared.instruction.DecodeFault.TheVariants.{Undefined, Past}
+use Rattle.law_family.specs.model_machine.specs.declared.machine.Abend.TheVariants.{A09}
+use Rattle.law_family.specs.model_machine.specs.Apdu.{ApduParts}
+use Rattle.law_family.specs.model_machine.specs.Code.{DecodesTo, instruction_at}
+use Rattle.law_family.specs.model_machine.specs.Frame.{Frame, Effect, new_frame, new_public, with_sw, la_of}
+use Rattle.law_family.specs.model_machine.specs.Primitives.{Then, Goes, Exits, Delegates}
+use Rattle.law_family.specs.model_machine.specs.Row.{RowEnd, Abends, Does, row}
+use Rattle.law_family.specs.model_machine.specs.Chain.{Chain, Outcome, Abended, Follows, Continues, Ends, Acted, Ran, code_in, delegator_in, around, first_frame, chain_session, with_pieces, changed_app, map_changed, write_of, chain_after_effect, is_active, depth_of, called_app, chain_after_call, after_exit, reply_of, follows, row_turn, turn_of_fetch, turn_of_chain, frame_at, run_after_turn, run_of_chain, start_app, no_app}
+use Rattle.law_family.specs.law_rows.specs.Keeping.{Keeps, OnDone}
+use Rattle.law_family.specs.law_rows.proofs.Keeping.{row_keeps}
 use Rattle.mc_isa.proofs.PlaceLemmas.{decoded_stands}
 use Rattle.law_bytes.specs.OfBytes.{ArePieces, IsChange, IsByteFrame, IsByteEffect, IsCaller}
 use Rattle.law_bytes.specs.OfChains.{IsName, IsByteApp, AreByteApps, IsNamedFrame, IsByteChain, IsByteCommand, OnGoing, AreByteWrites, IsByteTurn, IsByteRun, TurnBytesLaw, RunBytesLaw, StartBytesLaw}

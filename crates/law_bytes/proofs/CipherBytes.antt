@@ -7,13 +7,13 @@ use Rattle.std.proofs.Math.Pow.{pow_mono}
 use Rattle.std.proofs.lemmas.Nat.{xor_lt}
 use Rattle.std.proofs.lemmas.List.{reverse-append}
 use Rattle.sha1.specs.Sha1.{sha1, digest_bytes, hash_after, padded_message}
-use Rattle.model_device.specs.Bytes.{AreBytes}
-use Rattle.model_device.proofs.ListLemmas.{bit_cases, bytes_from}
-use Rattle.model_machine.specs.Modes.{bit_sum, AllBelow, each, ecb, blocks_of, last_of_chain}
-use Rattle.model_machine.specs.Des as des
-use Rattle.model_machine.specs.Aes as aes
-use Rattle.model_machine.specs.Primitives.{Cipher, Des, TripleDes, Aes, encipherment, decipherment, signature}
-use Rattle.model_machine.proofs.ModesLemmas.{all_below_append, all_below_take, all_below_drop, all_below_at, all_below_added}
+use Rattle.law_family.specs.model_device.specs.Bytes.{AreBytes}
+use Rattle.law_family.specs.model_device.proofs.ListLemmas.{bit_cases, bytes_from}
+use Rattle.law_family.specs.model_machine.specs.Modes.{bit_sum, AllBelow, each, ecb, blocks_of, last_of_chain}
+use Rattle.law_family.specs.model_machine.specs.Des as des
+use Rattle.law_family.specs.model_machine.specs.Aes as aes
+use Rattle.law_family.specs.model_machine.specs.Primitives.{Cipher, Des, TripleDes, Aes, encipherment, decipherment, signature}
+use Rattle.law_family.specs.model_machine.proofs.ModesLemmas.{all_below_append, all_below_take, all_below_drop, all_below_at, all_below_added}
 use Rattle.law_bytes.proofs.ByteLists.{joined, taken, short_take, below, of_below, remainder}
 
 -- ---- bits

@@ -3,28 +3,28 @@ use Rattle.std.proofs.Common.{◌≡◌, ℕ, zero, suc, ◌+◌, ◌-◌, ◌*�
 use Rattle.std.specs.Prelude.{⊤, ◌==◌, ◌&&◌, nat_lt, nat_le, option_map, option_and_then, bytes_eq}
 use Rattle.std.specs.List.{AllByRecursion}
 use Rattle.std.proofs.lemmas.Bool.{leb-true}
-use Rattle.model_card.specs.declared.card.Part.{Part}
-use Rattle.model_card.specs.declared.card.Part.TheVariants as part
-use Rattle.model_card.specs.declared.unit.AidFault.TheVariants.{AidLength}
-use Rattle.model_device.specs.Bytes.{AreBytes, zeros}
-use Rattle.model_device.specs.Card.{Card}
-use Rattle.model_device.proofs.ImageLemmas.{all_append}
-use Rattle.model_device.proofs.ListLemmas.{bytes_from}
-use Rattle.model_device.proofs.MapLemmas.{each_found}
-use Rattle.model_machine.specs.Apdu.{ApduParts, Rest, rest_read, short_rest, extended_rest, extended_body, apdu_read}
-use Rattle.model_machine.specs.Chain.{run, start}
-use Rattle.model_card.specs.Units.{name_of, checked_name, template_of, name_among, object_at, Object, value_at, size_at, tag_len}
-use Rattle.model_card.specs.Items.{Created, Item, card_done}
-use Rattle.model_card.specs.Manager.{Selected, Open, SessionState, Route, WrongLength, WrongClass, ToSelect, ToManager, ToApplication, route, route_of_parts, p1p2, select, word_parts, with_got, fresh, manage, room_on}
-use Rattle.model_card.specs.Commands.{Command, atomic_of, manager_command, application_command, by_route, command}
-use Rattle.law_manager.specs.Orders.{Order, order_of}
-use Rattle.law_manager.specs.Answers.{IsQuiet}
-use Rattle.law_manager.specs.Answers as quiet
-use Rattle.law_manager.specs.OnCard.{IsCommand, IsSelect, plains, blank_words}
-use Rattle.law_manager.specs.OnCard as made
-use Rattle.law_manager.proofs.OnCard.{command_made, selects_law}
-use Rattle.law_manager.proofs.Plains.{plains_are}
-use Rattle.model_play.specs.Play.{is_done, command_with_rest, send}
+use Rattle.law_family.specs.model_card.specs.declared.card.Part.{Part}
+use Rattle.law_family.specs.model_card.specs.declared.card.Part.TheVariants as part
+use Rattle.law_family.specs.model_card.specs.declared.unit.AidFault.TheVariants.{AidLength}
+use Rattle.law_family.specs.model_device.specs.Bytes.{AreBytes, zeros}
+use Rattle.law_family.specs.model_device.specs.Card.{Card}
+use Rattle.law_family.specs.model_device.proofs.ImageLemmas.{all_append}
+use Rattle.law_family.specs.model_device.proofs.ListLemmas.{bytes_from}
+use Rattle.law_family.specs.model_device.proofs.MapLemmas.{each_found}
+use Rattle.law_family.specs.model_machine.specs.Apdu.{ApduParts, Rest, rest_read, short_rest, extended_rest, extended_body, apdu_read}
+use Rattle.law_family.specs.model_machine.specs.Chain.{run, start}
+use Rattle.law_family.specs.model_card.specs.Units.{name_of, checked_name, template_of, name_among, object_at, Object, value_at, size_at, tag_len}
+use Rattle.law_family.specs.model_card.specs.Items.{Created, Item, card_done}
+use Rattle.law_family.specs.model_card.specs.Manager.{Selected, Open, SessionState, Route, WrongLength, WrongClass, ToSelect, ToManager, ToApplication, route, route_of_parts, p1p2, select, word_parts, with_got, fresh, manage, room_on}
+use Rattle.law_family.specs.model_card.specs.Commands.{Command, atomic_of, manager_command, application_command, by_route, command}
+use Rattle.law_family.specs.law_manager.specs.Orders.{Order, order_of}
+use Rattle.law_family.specs.law_manager.specs.Answers.{IsQuiet}
+use Rattle.law_family.specs.law_manager.specs.Answers as quiet
+use Rattle.law_family.specs.law_manager.specs.OnCard.{IsCommand, IsSelect, plains, blank_words}
+use Rattle.law_family.specs.law_manager.specs.OnCard as made
+use Rattle.law_family.specs.law_manager.proofs.OnCard.{command_made, selects_law}
+use Rattle.law_family.specs.law_manager.proofs.Plains.{plains_are}
+use Rattle.law_family.specs.model_play.specs.Play.{is_done, command_with_rest, send}
 use Rattle.law_bytes.specs.OfChains.{IsName, IsByteApp, AreByteApps, IsByteCommand, IsByteRun}
 use Rattle.law_bytes.specs.OfPlays.{IsSelection, IsLoad, IsByteSession}
 use Rattle.law_bytes.proofs.ByteLists.{taken, joined, zero_bytes}

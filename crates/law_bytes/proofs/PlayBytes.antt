@@ -2,34 +2,34 @@
 use Rattle.std.proofs.Common.{◌≡◌, ℕ, zero, suc, ◌+◌, ◌-◌, ◌/◌, ◌%◌, Bool, true, false, cond, List, [], ◌∷◌, ◌++◌, take, drop, length, Option, Some, None, refl}
 use Rattle.std.specs.Prelude.{◌==◌, nat_le}
 use Rattle.std.specs.List.{AllByRecursion}
-use Rattle.model_device.specs.declared.cause.Cause.{Cause}
-use Rattle.model_device.specs.declared.device.Stop.{Stop}
-use Rattle.model_device.specs.declared.device.Stop.TheVariants as stop
-use Rattle.model_device.specs.Bytes.{AreBytes, bytes2}
-use Rattle.model_device.specs.Device.{IsImage}
-use Rattle.model_device.specs.Image.{One}
-use Rattle.model_device.specs.Stopped.{stands}
-use Rattle.model_device.specs.Card.{Card}
-use Rattle.model_device.specs.Layout.{fault}
-use Rattle.model_device.specs.PowerUp.{Base, OnCard, AtFault, base_after_migration, base_of}
-use Rattle.model_device.proofs.ImageLemmas.{all_append}
-use Rattle.model_device.proofs.ListLemmas.{pair_bytes}
-use Rattle.model_card.specs.Units.{UnitParts}
-use Rattle.model_card.specs.Items.{moves, StopAt, at_stop}
-use Rattle.model_card.specs.Manager.{SessionState, route}
-use Rattle.model_card.specs.Commands.{Command}
-use Rattle.model_play.specs.DeckGrammar.{DeckLine}
-use Rattle.model_play.specs.DeckGrammar as line
-use Rattle.model_play.specs.Play.{Armed, Live, Running, Unpowered, Warm, State, BeforePower, AfterPower, Step, select_bytes, delete_bytes, piece_commands, section_commands, load_commands, line_command, hit_of, FailedWrite, live_after, power_live, power_after, stopped_power, line_after, step, play_at_power, plays, first_failure, start}
-use Rattle.model_play.specs.ReadyAgain.{IsLine}
-use Rattle.model_play.proofs.LineKinds.{past_power, StepKind, Early, Quiet, Powers, Sends, by_kind}
+use Rattle.law_family.specs.model_device.specs.declared.cause.Cause.{Cause}
+use Rattle.law_family.specs.model_device.specs.declared.device.Stop.{Stop}
+use Rattle.law_family.specs.model_device.specs.declared.device.Stop.TheVariants as stop
+use Rattle.law_family.specs.model_device.specs.Bytes.{AreBytes, bytes2}
+use Rattle.law_family.specs.model_device.specs.Device.{IsImage}
+use Rattle.law_family.specs.model_device.specs.Image.{One}
+use Rattle.law_family.specs.model_device.specs.Stopped.{stands}
+use Rattle.law_family.specs.model_device.specs.Card.{Card}
+use Rattle.law_family.specs.model_device.specs.Layout.{fault}
+use Rattle.law_family.specs.model_device.specs.PowerUp.{Base, OnCard, AtFault, base_after_migration, base_of}
+use Rattle.law_family.specs.model_device.proofs.ImageLemmas.{all_append}
+use Rattle.law_family.specs.model_device.proofs.ListLemmas.{pair_bytes}
+use Rattle.law_family.specs.model_card.specs.Units.{UnitParts}
+use Rattle.law_family.specs.model_card.specs.Items.{moves, StopAt, at_stop}
+use Rattle.law_family.specs.model_card.specs.Manager.{SessionState, route}
+use Rattle.law_family.specs.model_card.specs.Commands.{Command}
+use Rattle.law_family.specs.model_play.specs.DeckGrammar.{DeckLine}
+use Rattle.law_family.specs.model_play.specs.DeckGrammar as line
+use Rattle.law_family.specs.model_play.specs.Play.{Armed, Live, Running, Unpowered, Warm, State, BeforePower, AfterPower, Step, select_bytes, delete_bytes, piece_commands, section_commands, load_commands, line_command, hit_of, FailedWrite, live_after, power_live, power_after, stopped_power, line_after, step, play_at_power, plays, first_failure, start}
+use Rattle.law_family.specs.model_play.specs.ReadyAgain.{IsLine}
+use Rattle.law_family.specs.model_play.proofs.LineKinds.{past_power, StepKind, Early, Quiet, Powers, Sends, by_kind}
 use Rattle.law_family.proofs.FewLines.{with_pair, early_stands}
 use Rattle.law_bytes.specs.OfChains.{AreByteApps}
 use Rattle.law_bytes.specs.OfPlays.{IsByteSession, IsByteLive, IsByteBase, IsByteState, AreByteStates, PlayBytesLaw}
 use Rattle.law_bytes.proofs.ByteLists.{taken}
 use Rattle.law_bytes.proofs.CardBytes.{means_bytes, items_bytes, whole_bytes}
 use Rattle.law_bytes.proofs.CommandBytes.{IsByteRoute, route_bytes, managers_bytes, selects_bytes, IsByteResult, commanded, sent_bytes}
-use Rattle.model_device.proofs.ListLemmas.{bytes_from}
+use Rattle.law_family.specs.model_device.proofs.ListLemmas.{bytes_from}
 
 -- ---- the commands of a line
 

@@ -1,19 +1,19 @@
 -- Each act of bytes keeps bytes, and each row is such an act.
 use Rattle.std.proofs.Common.{◌≡◌, ℕ, ◌+◌, ◌-◌, ◌*◌, ◌<◌, ◌≤◌, Bool, true, false, cond, List, [], ◌∷◌, ◌++◌, length, take, drop, Option, Some, None, refl, sym, subst, arith}
 use Rattle.std.specs.Prelude.{⊤, ◌||◌, ◌==◌, nat_le, slice_index}
-use Rattle.model_device.specs.Bytes.{AreBytes, bytes2, num, splice}
-use Rattle.model_device.proofs.ImageLemmas.{all_append}
-use Rattle.model_device.proofs.ListLemmas.{pair_bytes, bytes_from}
-use Rattle.model_machine.specs.declared.instruction.Ins.{Ins}
-use Rattle.model_machine.specs.declared.instruction.Ins.TheVariants as ins
-use Rattle.model_machine.specs.Code.{Shaped}
-use Rattle.model_machine.specs.Blocks.{and_blocks, or_blocks, xor_blocks, not_block}
-use Rattle.model_machine.specs.Frame.{Frame, Effect, Place, Static, Dynamic, Public, where_is, dynamic_base, static_bytes, bytes_at, static_written, write_effect_at, write_effect, frame_after_pop, stack_bytes, top, protect, pending_change}
-use Rattle.model_machine.specs.Primitives.{Around, Done, frame_effect, Primitive, LoadCcr, Lookup, MemoryCopy, DelegatorAid, Digest, CopyFixed, Encipher, Decipher, Sign, BitByte, ShiftLeft, ShiftRight, BitWord, primitive, block_len, key_len, encipherment, decipherment, number_below_top, count_at, masked_bytes}
-use Rattle.model_machine.specs.Row.{causes, effect, first_cause, row, place_of, value_of, first_of, address_or_zero, indexed_address}
-use Rattle.law_rows.specs.Shapes.{Act, Stays, Answers, Jumps, Calls, Returns, Pushes, Replaces, Writes, Protects, with_status, with_length, act_effect, with_flags, Shape, meaning, delegator_shape, prim_shape, pair_shape, shape}
-use Rattle.law_rows.proofs.RowShapes.{shapes}
-use Rattle.law_rows.proofs.Keeping.{on_done}
+use Rattle.law_family.specs.model_device.specs.Bytes.{AreBytes, bytes2, num, splice}
+use Rattle.law_family.specs.model_device.proofs.ImageLemmas.{all_append}
+use Rattle.law_family.specs.model_device.proofs.ListLemmas.{pair_bytes, bytes_from}
+use Rattle.law_family.specs.model_machine.specs.declared.instruction.Ins.{Ins}
+use Rattle.law_family.specs.model_machine.specs.declared.instruction.Ins.TheVariants as ins
+use Rattle.law_family.specs.model_machine.specs.Code.{Shaped}
+use Rattle.law_family.specs.model_machine.specs.Blocks.{and_blocks, or_blocks, xor_blocks, not_block}
+use Rattle.law_family.specs.model_machine.specs.Frame.{Frame, Effect, Place, Static, Dynamic, Public, where_is, dynamic_base, static_bytes, bytes_at, static_written, write_effect_at, write_effect, frame_after_pop, stack_bytes, top, protect, pending_change}
+use Rattle.law_family.specs.model_machine.specs.Primitives.{Around, Done, frame_effect, Primitive, LoadCcr, Lookup, MemoryCopy, DelegatorAid, Digest, CopyFixed, Encipher, Decipher, Sign, BitByte, ShiftLeft, ShiftRight, BitWord, primitive, block_len, key_len, encipherment, decipherment, number_below_top, count_at, masked_bytes}
+use Rattle.law_family.specs.model_machine.specs.Row.{causes, effect, first_cause, row, place_of, value_of, first_of, address_or_zero, indexed_address}
+use Rattle.law_family.specs.law_rows.specs.Shapes.{Act, Stays, Answers, Jumps, Calls, Returns, Pushes, Replaces, Writes, Protects, with_status, with_length, act_effect, with_flags, Shape, meaning, delegator_shape, prim_shape, pair_shape, shape}
+use Rattle.law_family.specs.law_rows.proofs.RowShapes.{shapes}
+use Rattle.law_family.specs.law_rows.proofs.Keeping.{on_done}
 use Rattle.law_bytes.specs.OfBytes.{ArePieces, IsChange, IsByteFrame, IsByteEffect, IsCaller, RowBytesLaw}
 use Rattle.law_bytes.proofs.ByteLists.{taken, joined, spliced, laid, zero_bytes, number_bytes, anded, xored, ored, inverted, in_cond, read_bytes, short_read, small_number, found_low}
 use Rattle.law_bytes.proofs.CipherBytes.{message_bytes, enciphered, deciphered, signed, digested}

@@ -1,13 +1,13 @@
 -- What is of bytes: frames, effects, and what every row keeps so.
 use Rattle.std.specs.Prelude.{◌<◌, ℕ, List, length, Option, Some, None, ⊤}
 use Rattle.std.specs.List.{AllByRecursion}
-use Rattle.model_device.specs.Bytes.{AreBytes}
-use Rattle.model_machine.specs.declared.instruction.Ins.{Ins}
-use Rattle.model_machine.specs.Code.{Shaped}
-use Rattle.model_machine.specs.Frame.{Frame, Effect}
-use Rattle.model_machine.specs.Primitives.{Around}
-use Rattle.model_machine.specs.Row.{row}
-use Rattle.law_rows.specs.Keeping.{OnDone}
+use Rattle.law_family.specs.model_device.specs.Bytes.{AreBytes}
+use Rattle.law_family.specs.model_machine.specs.declared.instruction.Ins.{Ins}
+use Rattle.law_family.specs.model_machine.specs.Code.{Shaped}
+use Rattle.law_family.specs.model_machine.specs.Frame.{Frame, Effect}
+use Rattle.law_family.specs.model_machine.specs.Primitives.{Around}
+use Rattle.law_family.specs.model_machine.specs.Row.{row}
+use Rattle.law_family.specs.law_rows.specs.Keeping.{OnDone}
 
 -- pieces of bytes
 abbrev pub ArePieces : List (ℕ × List ℕ) → Type 0

@@ -1,11 +1,11 @@
 -- What is of bytes in a chain: its applications, its frames and the public segment. Names have 5 to 16 bytes.
 use Rattle.std.specs.Prelude.{◌≤◌, ℕ, List, [], ◌∷◌, length, ⊤}
 use Rattle.std.specs.List.{AllByRecursion}
-use Rattle.model_device.specs.Bytes.{AreBytes}
-use Rattle.model_device.specs.Card.{App}
-use Rattle.model_machine.specs.Apdu.{ApduParts}
-use Rattle.model_machine.specs.Frame.{Frame}
-use Rattle.model_machine.specs.Chain.{Chain, Write, Follows, Continues, Ends, Acted, Ran, turn_of_chain, run_of_chain, start}
+use Rattle.law_family.specs.model_device.specs.Bytes.{AreBytes}
+use Rattle.law_family.specs.model_device.specs.Card.{App}
+use Rattle.law_family.specs.model_machine.specs.Apdu.{ApduParts}
+use Rattle.law_family.specs.model_machine.specs.Frame.{Frame}
+use Rattle.law_family.specs.model_machine.specs.Chain.{Chain, Write, Follows, Continues, Ends, Acted, Ran, turn_of_chain, run_of_chain, start}
 use Rattle.law_bytes.specs.OfBytes.{ArePieces, IsByteFrame}
 
 -- a name: 5 to 16 bytes

@@ -1,13 +1,13 @@
 -- What is of bytes in a play: the applications of its card, the session and the open load of a running card.
 use Rattle.std.specs.Prelude.{ℕ, List, [], ◌∷◌, Option, Some, None, ⊤}
 use Rattle.std.specs.List.{AllByRecursion}
-use Rattle.model_device.specs.Bytes.{AreBytes}
-use Rattle.model_device.specs.Device.{IsImage}
-use Rattle.model_device.specs.PowerUp.{Base, OnCard, AtFault}
-use Rattle.model_card.specs.Manager.{Selected, Open, SessionState}
-use Rattle.model_play.specs.DeckGrammar.{DeckLine}
-use Rattle.model_play.specs.Play.{Live, Running, Unpowered, Muted, State, BeforePower, AfterPower, FailedWrite, Step, plays, start}
-use Rattle.model_play.specs.ReadyAgain.{IsLine}
+use Rattle.law_family.specs.model_device.specs.Bytes.{AreBytes}
+use Rattle.law_family.specs.model_device.specs.Device.{IsImage}
+use Rattle.law_family.specs.model_device.specs.PowerUp.{Base, OnCard, AtFault}
+use Rattle.law_family.specs.model_card.specs.Manager.{Selected, Open, SessionState}
+use Rattle.law_family.specs.model_play.specs.DeckGrammar.{DeckLine}
+use Rattle.law_family.specs.model_play.specs.Play.{Live, Running, Unpowered, Muted, State, BeforePower, AfterPower, FailedWrite, Step, plays, start}
+use Rattle.law_family.specs.model_play.specs.ReadyAgain.{IsLine}
 use Rattle.law_bytes.specs.OfChains.{IsName, AreByteApps}
 
 -- a selection, if there is one: a name, and session bytes that are bytes

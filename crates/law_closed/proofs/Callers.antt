@@ -1,20 +1,20 @@
 -- In every play each delegation comes from an application that was on the card before the line, and that can delegate.
 use Rattle.std.proofs.Common.{◌≡◌, ℕ, zero, suc, List, [], ◌∷◌, take, drop, Option, Some, None, sym, subst}
 use Rattle.std.specs.List.{AllByRecursion}
-use Rattle.model_device.specs.Card.{App, Card}
-use Rattle.model_machine.specs.Apdu.{ApduParts}
-use Rattle.model_card.specs.Manager.{Selected, SessionState, Route, WrongLength, WrongClass, ToSelect, ToManager, ToApplication, route, select, manage, room_on}
-use Rattle.model_card.specs.Commands.{application_command, by_route, command}
-use Rattle.model_play.specs.DeckGrammar.{DeckLine}
-use Rattle.model_play.specs.DeckGrammar as line
-use Rattle.model_play.specs.Given.{apps_in}
-use Rattle.model_play.specs.Play.{State, Step, FailedWrite, line_command, step, plays, first_failure, select_bytes, delete_bytes, load_commands}
+use Rattle.law_family.specs.model_device.specs.Card.{App, Card}
+use Rattle.law_family.specs.model_machine.specs.Apdu.{ApduParts}
+use Rattle.law_family.specs.model_card.specs.Manager.{Selected, SessionState, Route, WrongLength, WrongClass, ToSelect, ToManager, ToApplication, route, select, manage, room_on}
+use Rattle.law_family.specs.model_card.specs.Commands.{application_command, by_route, command}
+use Rattle.law_family.specs.model_play.specs.DeckGrammar.{DeckLine}
+use Rattle.law_family.specs.model_play.specs.DeckGrammar as line
+use Rattle.law_family.specs.model_play.specs.Given.{apps_in}
+use Rattle.law_family.specs.model_play.specs.Play.{State, Step, FailedWrite, line_command, step, plays, first_failure, select_bytes, delete_bytes, load_commands}
 use Rattle.law_family.proofs.LoadCommands.{load_managers, delete_manager}
 use Rattle.law_closed.specs.Delegations.{CanCall}
 use Rattle.law_closed.specs.Laws.{EachCallerCan}
 use Rattle.law_closed.proofs.Runs.{runs_law}
 use Rattle.law_closed.proofs.Commands.{managed_none, command_none, sent_none}
-use Rattle.model_play.proofs.LineKinds.{StepKind, Early, Quiet, Powers, Sends, by_kind}
+use Rattle.law_family.specs.model_play.proofs.LineKinds.{StepKind, Early, Quiet, Powers, Sends, by_kind}
 
 abbrev Callers : List (List ℕ × App) → List (List ℕ × List ℕ) → Type 0
 Callers m = AllByRecursion (λ p. CanCall m p.0)

@@ -2,19 +2,19 @@
 -- family, and only its own commands have any.
 use Rattle.std.proofs.Common.{◌≡◌, ℕ, Bool, true, false, List, [], ◌∷◌, ◌++◌, Option, Some, None, refl, sym, ap, subst, ◌∙◌}
 use Rattle.std.specs.List.{AllByRecursion}
-use Rattle.model_device.specs.Bytes.{has_name}
-use Rattle.model_device.specs.Card.{App, Card}
-use Rattle.model_device.proofs.ImageLemmas.{all_map}
-use Rattle.model_device.proofs.MapLemmas.{each_found}
-use Rattle.model_machine.specs.Apdu.{ApduParts}
-use Rattle.model_machine.specs.Chain.{run}
-use Rattle.model_card.specs.Items.{card_done}
-use Rattle.model_card.specs.Manager.{Selected, SessionState, Route, WrongLength, WrongClass, ToSelect, ToManager, ToApplication, route, Managed, Declines, Accepts, select, manage, room_on}
-use Rattle.model_card.specs.Commands.{Command, manager_command, application_command, by_route, command}
-use Rattle.model_play.specs.DeckGrammar.{DeckLine}
-use Rattle.model_play.specs.DeckGrammar as line
-use Rattle.model_play.specs.Family.{routes_in, selects_in, command_of, is_own_command}
-use Rattle.model_play.specs.Play.{Running, command_with_rest, is_done, send, line_command, select_bytes, delete_bytes, load_commands}
+use Rattle.law_family.specs.model_device.specs.Bytes.{has_name}
+use Rattle.law_family.specs.model_device.specs.Card.{App, Card}
+use Rattle.law_family.specs.model_device.proofs.ImageLemmas.{all_map}
+use Rattle.law_family.specs.model_device.proofs.MapLemmas.{each_found}
+use Rattle.law_family.specs.model_machine.specs.Apdu.{ApduParts}
+use Rattle.law_family.specs.model_machine.specs.Chain.{run}
+use Rattle.law_family.specs.model_card.specs.Items.{card_done}
+use Rattle.law_family.specs.model_card.specs.Manager.{Selected, SessionState, Route, WrongLength, WrongClass, ToSelect, ToManager, ToApplication, route, Managed, Declines, Accepts, select, manage, room_on}
+use Rattle.law_family.specs.model_card.specs.Commands.{Command, manager_command, application_command, by_route, command}
+use Rattle.law_family.specs.model_play.specs.DeckGrammar.{DeckLine}
+use Rattle.law_family.specs.model_play.specs.DeckGrammar as line
+use Rattle.law_family.specs.model_play.specs.Family.{routes_in, selects_in, command_of, is_own_command}
+use Rattle.law_family.specs.model_play.specs.Play.{Running, command_with_rest, is_done, send, line_command, select_bytes, delete_bytes, load_commands}
 use Rattle.law_family.proofs.OtherCommand.{IsManagers, AreManagers}
 use Rattle.law_family.proofs.LoadCommands.{load_managers, delete_manager}
 use Rattle.law_closed.specs.Delegations.{can_delegate, CanCall, NoneOutsideCan}

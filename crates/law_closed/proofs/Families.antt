@@ -1,11 +1,11 @@
 -- A family is closed if its names are known by whether they are in two closed families.
 use Rattle.std.proofs.Common.{◌≡◌, ℕ, Bool, true, false, cond, List, [], ◌∷◌, ◌++◌, refl, sym, ap, ◌∙◌}
 use Rattle.std.specs.Prelude.{not, ◌&&◌, ◌||◌, bytes_eq, filter}
-use Rattle.model_device.specs.Bytes.{has_name}
-use Rattle.model_device.proofs.MapLemmas.{same_name}
-use Rattle.model_device.proofs.BoolLemmas.{and_false}
-use Rattle.model_play.specs.Family.{ClosedPairs, Closed}
-use Rattle.model_play.specs.Play.{Step}
+use Rattle.law_family.specs.model_device.specs.Bytes.{has_name}
+use Rattle.law_family.specs.model_device.proofs.MapLemmas.{same_name}
+use Rattle.law_family.specs.model_device.proofs.BoolLemmas.{and_false}
+use Rattle.law_family.specs.model_play.specs.Family.{ClosedPairs, Closed}
+use Rattle.law_family.specs.model_play.specs.Play.{Step}
 use Rattle.law_closed.specs.Families.{in_either, in_both, in_first_alone}
 use Rattle.law_closed.specs.Laws.{AreNamesOf, AreClosed, FamiliesLaw}
 

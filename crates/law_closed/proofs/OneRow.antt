@@ -1,11 +1,11 @@
 -- The one row after which another application is called: the primitive that delegates, if it is not denied.
 use Rattle.std.proofs.Common.{◌≡◌, ℕ, true, false, List, Option, Some, None, refl, ap, subst}
-use Rattle.model_machine.specs.declared.instruction.Ins.{Ins}
-use Rattle.model_machine.specs.declared.instruction.Ins.TheVariants as ins
-use Rattle.model_machine.specs.Frame.{Frame}
-use Rattle.model_machine.specs.Primitives.{Around, Delegates, Primitive, DelegateTo, primitive, is_denied, prim_causes, prim_effect, prim_done}
-use Rattle.model_machine.specs.Row.{causes, effect}
-use Rattle.law_machine.proofs.RowWords.{NoneHolds}
+use Rattle.law_family.specs.model_machine.specs.declared.instruction.Ins.{Ins}
+use Rattle.law_family.specs.model_machine.specs.declared.instruction.Ins.TheVariants as ins
+use Rattle.law_family.specs.model_machine.specs.Frame.{Frame}
+use Rattle.law_family.specs.model_machine.specs.Primitives.{Around, Delegates, Primitive, DelegateTo, primitive, is_denied, prim_causes, prim_effect, prim_done}
+use Rattle.law_family.specs.model_machine.specs.Row.{causes, effect}
+use Rattle.law_family.specs.law_machine.proofs.RowWords.{NoneHolds}
 use Rattle.law_closed.specs.Delegations.{is_delegate, is_delegation}
 
 prim_delegates : (p : Primitive) (args : List ℕ) (f : Frame) (public : List ℕ) (x : Around) (n : List ℕ) → (prim_effect p args f public x).next ≡ Delegates n → p ≡ DelegateTo

@@ -2,12 +2,12 @@
 use Rattle.std.proofs.Common.{◌≡◌, ℕ, zero, suc, Bool, true, false, List, [], ◌∷◌, drop, Result, Ok, Err, refl, sym, ap, ◌∙◌, inl, inr, ◌⊎◌}
 use Rattle.std.specs.Prelude.{◌↔◌, not, ◌&&◌, ◌||◌}
 use Rattle.std.proofs.lemmas.Bool.{false_from_ne_true, or_left, or_right}
-use Rattle.model_device.specs.Card.{App}
-use Rattle.model_device.proofs.BoolLemmas.{and_false}
-use Rattle.model_machine.specs.declared.instruction.DecodeFault.{DecodeFault}
-use Rattle.model_machine.specs.declared.instruction.Ins.{Ins}
-use Rattle.model_machine.specs.Code.{front, from_place, instruction_at}
-use Rattle.model_machine.specs.Primitives.{DelegateTo, is_denied}
+use Rattle.law_family.specs.model_device.specs.Card.{App}
+use Rattle.law_family.specs.model_device.proofs.BoolLemmas.{and_false}
+use Rattle.law_family.specs.model_machine.specs.declared.instruction.DecodeFault.{DecodeFault}
+use Rattle.law_family.specs.model_machine.specs.declared.instruction.Ins.{Ins}
+use Rattle.law_family.specs.model_machine.specs.Code.{front, from_place, instruction_at}
+use Rattle.law_family.specs.model_machine.specs.Primitives.{DelegateTo, is_denied}
 use Rattle.law_closed.specs.Delegations.{is_decoded_delegation, HasNoDelegation, CannotDelegate, begins_delegation, has_delegation, can_delegate}
 
 -- ---- places

@@ -2,26 +2,26 @@
 use Rattle.std.proofs.Common.{◌≡◌, ◌⊎◌, ℕ, zero, suc, Bool, true, false, cond, List, [], ◌∷◌, take, drop, Option, Some, None, refl, sym, subst, ◌∙◌, inl, inr}
 use Rattle.std.specs.Prelude.{⊤}
 use Rattle.std.specs.List.{AllByRecursion}
-use Rattle.model_device.specs.Bytes.{has_name, lookup, insert}
-use Rattle.model_device.specs.Card.{App, Card}
-use Rattle.model_device.specs.Image.{Journal}
-use Rattle.model_device.specs.PowerUp.{OnCard}
-use Rattle.model_device.proofs.MapLemmas.{each_found, each_inserted, each_removed}
-use Rattle.model_machine.specs.Chain.{with_pieces, changed_app}
-use Rattle.model_card.specs.Items.{Fixed, Created, Deleted, Item, Plain, Atomic, moves, apps_after_change, apps_after_items, StopAt, at_stop}
-use Rattle.model_card.specs.Manager.{Selected, SessionState, Route, WrongLength, WrongClass, ToSelect, ToManager, ToApplication, route}
-use Rattle.model_play.specs.DeckGrammar.{DeckLine}
-use Rattle.model_play.specs.DeckGrammar as line
-use Rattle.model_play.specs.Family.{ClosedPairs, Closed, routes_in, selects_in, command_of, live_in, is_own_command, is_own}
-use Rattle.model_play.specs.Given.{apps_on, apps_in, is_power, first_apps}
-use Rattle.model_play.specs.Laws.{creations_among}
-use Rattle.model_play.specs.Play.{Armed, Live, Running, Unpowered, Muted, Warm, State, BeforePower, AfterPower, Step, FailedWrite, hit_of, power_moves, command_step, line_command, step, plays, first_failure, start}
+use Rattle.law_family.specs.model_device.specs.Bytes.{has_name, lookup, insert}
+use Rattle.law_family.specs.model_device.specs.Card.{App, Card}
+use Rattle.law_family.specs.model_device.specs.Image.{Journal}
+use Rattle.law_family.specs.model_device.specs.PowerUp.{OnCard}
+use Rattle.law_family.specs.model_device.proofs.MapLemmas.{each_found, each_inserted, each_removed}
+use Rattle.law_family.specs.model_machine.specs.Chain.{with_pieces, changed_app}
+use Rattle.law_family.specs.model_card.specs.Items.{Fixed, Created, Deleted, Item, Plain, Atomic, moves, apps_after_change, apps_after_items, StopAt, at_stop}
+use Rattle.law_family.specs.model_card.specs.Manager.{Selected, SessionState, Route, WrongLength, WrongClass, ToSelect, ToManager, ToApplication, route}
+use Rattle.law_family.specs.model_play.specs.DeckGrammar.{DeckLine}
+use Rattle.law_family.specs.model_play.specs.DeckGrammar as line
+use Rattle.law_family.specs.model_play.specs.Family.{ClosedPairs, Closed, routes_in, selects_in, command_of, live_in, is_own_command, is_own}
+use Rattle.law_family.specs.model_play.specs.Given.{apps_on, apps_in, is_power, first_apps}
+use Rattle.law_family.specs.model_play.specs.Laws.{creations_among}
+use Rattle.law_family.specs.model_play.specs.Play.{Armed, Live, Running, Unpowered, Muted, Warm, State, BeforePower, AfterPower, Step, FailedWrite, hit_of, power_moves, command_step, line_command, step, plays, first_failure, start}
 use Rattle.law_family.proofs.AfterPowerLines.{powered}
 use Rattle.law_family.proofs.PlayLaw.{isolation_law}
 use Rattle.law_closed.specs.Delegations.{can_delegate, NoneOutsideCan}
 use Rattle.law_closed.specs.Laws.{front_of_play, NoneNewCan, NoPairs, OwnPairsStay, ClosedByCodeLaw}
 use Rattle.law_closed.proofs.Commands.{PairsOf, no_pairs, line_pairs}
-use Rattle.model_play.proofs.LineKinds.{past_power, StepKind, Early, Quiet, Powers, Sends, by_kind}
+use Rattle.law_family.specs.model_play.proofs.LineKinds.{past_power, StepKind, Early, Quiet, Powers, Sends, by_kind}
 
 -- whether the first power line was played
 abbrev IsAfterPower : State → Type 0

@@ -2,23 +2,23 @@
 use Rattle.std.proofs.Common.{◌≡◌, ℕ, zero, suc, Bool, true, false, cond, List, [], ◌∷◌, ◌++◌, Option, Some, None, Result, Ok, Err, refl, sym, ap, subst, ◌∙◌}
 use Rattle.std.specs.Prelude.{⊤, ◌||◌, nat_lt, nat_le, bytes_eq, unwrap_or}
 use Rattle.std.specs.List.{AllByRecursion}
-use Rattle.model_device.specs.Bytes.{lookup, insert}
-use Rattle.model_device.specs.Card.{App}
-use Rattle.model_device.proofs.ImageLemmas.{all_append}
-use Rattle.model_device.proofs.MapLemmas.{same_name, lookup_inserted_lem, lookup_beside}
-use Rattle.model_machine.specs.declared.instruction.DecodeFault.{DecodeFault}
-use Rattle.model_machine.specs.declared.instruction.DecodeFault.TheVariants.{Undefined, Past}
-use Rattle.model_machine.specs.declared.instruction.Ins.{Ins}
-use Rattle.model_machine.specs.declared.machine.Abend.{Abend}
-use Rattle.model_machine.specs.Apdu.{ApduParts}
-use Rattle.model_machine.specs.Code.{instruction_at}
-use Rattle.model_machine.specs.Frame.{Frame, la_of}
-use Rattle.model_machine.specs.Primitives.{Then, Goes, Exits, Delegates, DelegateTo, Done, is_denied}
-use Rattle.model_machine.specs.Row.{Does, causes, effect, first_cause, row_end, row}
-use Rattle.model_machine.specs.Chain.{Outcome, Chain, Ran, Acted, Follows, Continues, Ends, code_in, with_pieces, changed_app, map_changed, chain_after_effect, chain_session, is_active, depth_of, called_app, chain_after_call, after_exit, follows, pair_of, row_turn, turn_of_fetch, frame_at, around, turn_of_chain, run_after_turn, run_of_chain, start_app, start, no_app, run}
-use Rattle.law_rows.specs.Keeping.{Keeps}
-use Rattle.law_rows.proofs.Keeping.{effect_keeps}
-use Rattle.law_machine.proofs.RowWords.{none_holds}
+use Rattle.law_family.specs.model_device.specs.Bytes.{lookup, insert}
+use Rattle.law_family.specs.model_device.specs.Card.{App}
+use Rattle.law_family.specs.model_device.proofs.ImageLemmas.{all_append}
+use Rattle.law_family.specs.model_device.proofs.MapLemmas.{same_name, lookup_inserted_lem, lookup_beside}
+use Rattle.law_family.specs.model_machine.specs.declared.instruction.DecodeFault.{DecodeFault}
+use Rattle.law_family.specs.model_machine.specs.declared.instruction.DecodeFault.TheVariants.{Undefined, Past}
+use Rattle.law_family.specs.model_machine.specs.declared.instruction.Ins.{Ins}
+use Rattle.law_family.specs.model_machine.specs.declared.machine.Abend.{Abend}
+use Rattle.law_family.specs.model_machine.specs.Apdu.{ApduParts}
+use Rattle.law_family.specs.model_machine.specs.Code.{instruction_at}
+use Rattle.law_family.specs.model_machine.specs.Frame.{Frame, la_of}
+use Rattle.law_family.specs.model_machine.specs.Primitives.{Then, Goes, Exits, Delegates, DelegateTo, Done, is_denied}
+use Rattle.law_family.specs.model_machine.specs.Row.{Does, causes, effect, first_cause, row_end, row}
+use Rattle.law_family.specs.model_machine.specs.Chain.{Outcome, Chain, Ran, Acted, Follows, Continues, Ends, code_in, with_pieces, changed_app, map_changed, chain_after_effect, chain_session, is_active, depth_of, called_app, chain_after_call, after_exit, follows, pair_of, row_turn, turn_of_fetch, frame_at, around, turn_of_chain, run_after_turn, run_of_chain, start_app, start, no_app, run}
+use Rattle.law_family.specs.law_rows.specs.Keeping.{Keeps}
+use Rattle.law_family.specs.law_rows.proofs.Keeping.{effect_keeps}
+use Rattle.law_family.specs.law_machine.proofs.RowWords.{none_holds}
 use Rattle.law_closed.specs.Delegations.{is_decoded_delegation, can_delegate, has_delegation, CanCall}
 use Rattle.law_closed.specs.Laws.{DelegatesByCode}
 use Rattle.law_closed.proofs.Places.{has_from_place, can_by_place}

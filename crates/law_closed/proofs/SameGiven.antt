@@ -1,9 +1,9 @@
 -- Two plays that give a closed family the same show it the same: both are the card of its own on what is given.
 use Rattle.std.proofs.Common.{◌≡◌, ℕ, List, sym, ap, ◌∙◌}
-use Rattle.model_play.specs.Given.{Given, given_of_play}
-use Rattle.model_play.specs.Play.{Step, start}
-use Rattle.model_play.specs.Solo.{solo}
-use Rattle.model_play.specs.View.{View, view, solo_view, IsIsolated}
+use Rattle.law_family.specs.model_play.specs.Given.{Given, given_of_play}
+use Rattle.law_family.specs.model_play.specs.Play.{Step, start}
+use Rattle.law_family.specs.model_play.specs.Solo.{solo}
+use Rattle.law_family.specs.model_play.specs.View.{View, view, solo_view, IsIsolated}
 use Rattle.law_family.proofs.PlayLaw.{isolation_law}
 use Rattle.law_closed.specs.Laws.{SeesTheSame, SameGivenLaw, front_of_play}
 

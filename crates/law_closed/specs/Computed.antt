@@ -1,22 +1,22 @@
 -- Worked applications, and plays of two of them on one card.
 use Rattle.std.specs.Prelude.{ℕ, Bool, cond, List, [], ◌∷◌, flat_map}
-use Rattle.model_device.specs.Bytes.{zeros}
-use Rattle.model_device.specs.Card.{App, blocks_from, apps_of}
-use Rattle.model_device.specs.Image.{targets_1, targets_2, pairs}
-use Rattle.model_device.specs.Layout.{layout, step_of, bad_block, bad_record}
-use Rattle.model_device.specs.Pieces.{touched_words}
-use Rattle.model_machine.specs.Apdu.{apdu_read}
-use Rattle.model_machine.specs.Chain.{no_app, turn_of_chain, run_of_chain}
-use Rattle.model_machine.specs.Frame.{bytes_at, write_effect, too_many}
-use Rattle.model_machine.specs.Primitives.{later_causes, prim_effect}
-use Rattle.model_machine.specs.Row.{causes, effect, row}
-use Rattle.model_card.specs.Commands.{command}
-use Rattle.model_card.specs.Manager.{manage}
-use Rattle.model_card.specs.Units.{UnitParts, name_of, made_dir, made_fci}
-use Rattle.model_play.specs.DeckGrammar.{DeckLine}
-use Rattle.model_play.specs.DeckGrammar as line
-use Rattle.model_play.specs.Given.{apps_in}
-use Rattle.model_play.specs.Play.{Step, start, send, play_at_power, step, plays, moves_of, steady_failures, last_state}
+use Rattle.law_family.specs.model_device.specs.Bytes.{zeros}
+use Rattle.law_family.specs.model_device.specs.Card.{App, blocks_from, apps_of}
+use Rattle.law_family.specs.model_device.specs.Image.{targets_1, targets_2, pairs}
+use Rattle.law_family.specs.model_device.specs.Layout.{layout, step_of, bad_block, bad_record}
+use Rattle.law_family.specs.model_device.specs.Pieces.{touched_words}
+use Rattle.law_family.specs.model_machine.specs.Apdu.{apdu_read}
+use Rattle.law_family.specs.model_machine.specs.Chain.{no_app, turn_of_chain, run_of_chain}
+use Rattle.law_family.specs.model_machine.specs.Frame.{bytes_at, write_effect, too_many}
+use Rattle.law_family.specs.model_machine.specs.Primitives.{later_causes, prim_effect}
+use Rattle.law_family.specs.model_machine.specs.Row.{causes, effect, row}
+use Rattle.law_family.specs.model_card.specs.Commands.{command}
+use Rattle.law_family.specs.model_card.specs.Manager.{manage}
+use Rattle.law_family.specs.model_card.specs.Units.{UnitParts, name_of, made_dir, made_fci}
+use Rattle.law_family.specs.model_play.specs.DeckGrammar.{DeckLine}
+use Rattle.law_family.specs.model_play.specs.DeckGrammar as line
+use Rattle.law_family.specs.model_play.specs.Given.{apps_in}
+use Rattle.law_family.specs.model_play.specs.Play.{Step, start, send, play_at_power, step, plays, moves_of, steady_failures, last_state}
 use Rattle.law_family.specs.Worked.{first, second, counter, count, blank}
 use Rattle.law_closed.specs.Delegations.{begins_delegation, can_delegate}
 

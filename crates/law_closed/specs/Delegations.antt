@@ -2,13 +2,13 @@
 -- deny it.
 use Rattle.std.specs.Prelude.{◌≡◌, ◌⊎◌, ℕ, Bool, true, false, not, ◌&&◌, ◌||◌, List, [], ◌∷◌, Option, Some, Result, Ok, Err}
 use Rattle.std.specs.List.{AllByRecursion}
-use Rattle.model_device.specs.Bytes.{has_name, lookup}
-use Rattle.model_device.specs.Card.{App}
-use Rattle.model_machine.specs.declared.instruction.DecodeFault.{DecodeFault}
-use Rattle.model_machine.specs.declared.instruction.Ins.{Ins}
-use Rattle.model_machine.specs.declared.instruction.Ins.TheVariants as ins
-use Rattle.model_machine.specs.Code.{front, instruction_at}
-use Rattle.model_machine.specs.Primitives.{Primitive, DelegateTo, primitive, is_denied}
+use Rattle.law_family.specs.model_device.specs.Bytes.{has_name, lookup}
+use Rattle.law_family.specs.model_device.specs.Card.{App}
+use Rattle.law_family.specs.model_machine.specs.declared.instruction.DecodeFault.{DecodeFault}
+use Rattle.law_family.specs.model_machine.specs.declared.instruction.Ins.{Ins}
+use Rattle.law_family.specs.model_machine.specs.declared.instruction.Ins.TheVariants as ins
+use Rattle.law_family.specs.model_machine.specs.Code.{front, instruction_at}
+use Rattle.law_family.specs.model_machine.specs.Primitives.{Primitive, DelegateTo, primitive, is_denied}
 
 -- ---- code
 

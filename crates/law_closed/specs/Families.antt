@@ -1,6 +1,6 @@
 -- Families made of two others.
 use Rattle.std.specs.Prelude.{ℕ, not, List, ◌++◌, filter}
-use Rattle.model_device.specs.Bytes.{has_name}
+use Rattle.law_family.specs.model_device.specs.Bytes.{has_name}
 
 -- the names that at least one of two families has
 abbrev pub in_either : List (List ℕ) → List (List ℕ) → List (List ℕ)

@@ -1,16 +1,16 @@
 -- The laws of closed families: how they combine, what they see, and which ones are closed whatever is played.
 use Rattle.std.specs.Prelude.{◌≡◌, ◌↔◌, ℕ, true, false, not, ◌&&◌, ◌||◌, List, [], ◌∷◌, take, Option, ⊤}
 use Rattle.std.specs.List.{AllByRecursion}
-use Rattle.model_device.specs.Bytes.{has_name}
-use Rattle.model_device.specs.Card.{App}
-use Rattle.model_machine.specs.Apdu.{ApduParts}
-use Rattle.model_machine.specs.Chain.{run}
-use Rattle.model_play.specs.DeckGrammar.{DeckLine}
-use Rattle.model_play.specs.Family.{Closed, is_own}
-use Rattle.model_play.specs.Given.{apps_in, first_apps, given_of_play}
-use Rattle.model_play.specs.Laws.{creations_among}
-use Rattle.model_play.specs.Play.{FailedWrite, Step, Possible, last_state, plays, start}
-use Rattle.model_play.specs.View.{answers, rest_of, work, IsIsolated}
+use Rattle.law_family.specs.model_device.specs.Bytes.{has_name}
+use Rattle.law_family.specs.model_device.specs.Card.{App}
+use Rattle.law_family.specs.model_machine.specs.Apdu.{ApduParts}
+use Rattle.law_family.specs.model_machine.specs.Chain.{run}
+use Rattle.law_family.specs.model_play.specs.DeckGrammar.{DeckLine}
+use Rattle.law_family.specs.model_play.specs.Family.{Closed, is_own}
+use Rattle.law_family.specs.model_play.specs.Given.{apps_in, first_apps, given_of_play}
+use Rattle.law_family.specs.model_play.specs.Laws.{creations_among}
+use Rattle.law_family.specs.model_play.specs.Play.{FailedWrite, Step, Possible, last_state, plays, start}
+use Rattle.law_family.specs.model_play.specs.View.{answers, rest_of, work, IsIsolated}
 use Rattle.law_closed.specs.Families.{in_either, in_both, in_first_alone}
 use Rattle.law_closed.specs.Delegations.{CannotDelegate, can_delegate, CanCall, NoneOutsideCan}
 

@@ -2,7 +2,7 @@
 #![tactic(auto, unfolding(crate::specs::Computed::can_with, crate::specs::Computed::pairs_of, crate::specs::Computed::callers_of, crate::specs::Computed::steps_of))]
 
 ghost use Rattle.std.specs.Prelude.{◌≡◌, true, false, List, [], ◌∷◌, ℕ};
-ghost use Rattle.model_play.specs.Family.{Closed};
+ghost use Rattle.law_family.specs.model_play.specs.Family.{Closed};
 ghost use Rattle.law_family.specs.Worked.{counter, first, second};
 ghost use Rattle.law_closed.specs.Laws.{NoStrangerCan, OwnPairsStay};
 ghost use Rattle.law_closed.specs.Computed.{calling_code, caller, callers_of, can_with, counter_code, pairs_of, spelling_code, steps_of};

@@ -3,10 +3,10 @@ use Rattle.std.proofs.Common.{◌≡◌, ◌⊎◌, ℕ, zero, suc, ◌+◌, ◌
 use Rattle.std.specs.Prelude.{◌==◌, bytes_eq}
 use Rattle.std.specs.List.{AllByRecursion}
 use Rattle.std.proofs.lemmas.List.{length-append}
-use Rattle.model_device.specs.Image.{within, look, look_at, look_j, image_with, count_of_recovery_writes, is_open, debt, gate, opening, word_at, which, which_of, shut_word, Journal, One, Two, Look, Closed, Pending, Refused, Which, Both, Only, Neither}
-use Rattle.model_device.specs.Stopped.{image_after_stop, owed_writes, replay, InJournal}
-use Rattle.model_device.proofs.LookLemmas.{gate_inside, good_pending, look_same, GoodPending, SameInside}
-use Rattle.model_device.proofs.StoppedLemmas.{length_torn, targets_outside, torn_other, torn_within}
+use Rattle.model_play.specs.model_device.specs.Image.{within, look, look_at, look_j, image_with, count_of_recovery_writes, is_open, debt, gate, opening, word_at, which, which_of, shut_word, Journal, One, Two, Look, Closed, Pending, Refused, Which, Both, Only, Neither}
+use Rattle.model_play.specs.model_device.specs.Stopped.{image_after_stop, owed_writes, replay, InJournal}
+use Rattle.model_play.specs.model_device.proofs.LookLemmas.{gate_inside, good_pending, look_same, GoodPending, SameInside}
+use Rattle.model_play.specs.model_device.proofs.StoppedLemmas.{length_torn, targets_outside, torn_other, torn_within}
 use Rattle.mc_store.specs.Power.{base_of_words, migration_writes, power_writes}
 use Rattle.mc_store.specs.Store.{settled_words}
 use Rattle.law_dead_word.specs.Powers.{after_power, after_powers, first_to, stops_at, words_by}

@@ -3,14 +3,14 @@ use Rattle.std.proofs.Common.{◌≡◌, ◌⊎◌, ℕ, zero, suc, ◌+◌, ◌
 use Rattle.std.specs.Prelude.{◌==◌, ◌||◌, nat_le, bytes_eq}
 use Rattle.std.proofs.lemmas.Bool.{cases_lt, lt-leb}
 use Rattle.std.proofs.lemmas.Bool.Decides.{eqb_tells}
-use Rattle.model_device.specs.declared.cause.Cause.{Cause}
-use Rattle.model_device.specs.Card.{Card, means}
-use Rattle.model_device.specs.Image.{look, image_with, count_of_recovery_writes, opening, which, Journal, One}
-use Rattle.model_device.specs.Layout.{fault, IsWellLaid}
-use Rattle.model_device.specs.PowerUp.{Base, OnCard, AtFault, base_after_migration, base_of, migration, pending_journal}
-use Rattle.model_device.specs.Stopped.{image_after_stop, owed_writes, remains, stands, writes}
-use Rattle.model_device.proofs.ImageLemmas.{length_laid}
-use Rattle.model_device.proofs.StoppedLemmas.{length_torn}
+use Rattle.model_play.specs.model_device.specs.declared.cause.Cause.{Cause}
+use Rattle.model_play.specs.model_device.specs.Card.{Card, means}
+use Rattle.model_play.specs.model_device.specs.Image.{look, image_with, count_of_recovery_writes, opening, which, Journal, One}
+use Rattle.model_play.specs.model_device.specs.Layout.{fault, IsWellLaid}
+use Rattle.model_play.specs.model_device.specs.PowerUp.{Base, OnCard, AtFault, base_after_migration, base_of, migration, pending_journal}
+use Rattle.model_play.specs.model_device.specs.Stopped.{image_after_stop, owed_writes, remains, stands, writes}
+use Rattle.model_play.specs.model_device.proofs.ImageLemmas.{length_laid}
+use Rattle.model_play.specs.model_device.proofs.StoppedLemmas.{length_torn}
 use Rattle.model_play.specs.Play.{Unarmed, Warm, FailedWrite, StandsForBase, hit_of, power_moves, power_result, power_says}
 use Rattle.mc_store.specs.Power.{base_of_words, migration_writes, new_root, power_count, power_writes, HoldsBase, IsHalted}
 use Rattle.mc_store.specs.Store.{settled_words}

@@ -1,10 +1,10 @@
 -- Computed power-ups: a small card with one word in its open journal, and a word that fails.
 use Rattle.std.specs.Prelude.{ℕ, List, [], ◌∷◌, replicate, slice_set, Option}
-use Rattle.model_device.specs.Bytes.{zeros}
-use Rattle.model_device.specs.Card.{blocks_from, apps_of}
-use Rattle.model_device.specs.Image.{Two, gate, opening, targets_1, targets_2, pairs}
-use Rattle.model_device.specs.Layout.{layout, bad_block, bad_record}
-use Rattle.model_device.specs.Stopped.{word_of_number, four_targets}
+use Rattle.model_play.specs.model_device.specs.Bytes.{zeros}
+use Rattle.model_play.specs.model_device.specs.Card.{blocks_from, apps_of}
+use Rattle.model_play.specs.model_device.specs.Image.{Two, gate, opening, targets_1, targets_2, pairs}
+use Rattle.model_play.specs.model_device.specs.Layout.{layout, bad_block, bad_record}
+use Rattle.model_play.specs.model_device.specs.Stopped.{word_of_number, four_targets}
 use Rattle.model_play.specs.Play.{LineResult, formatted_image}
 use Rattle.mc_store.specs.Power.{power_writes}
 use Rattle.law_dead_word.specs.Powers.{after_powers, answer_by, stops_at}

@@ -1,9 +1,9 @@
 -- What a word that fails for ever costs.
 use Rattle.std.specs.Prelude.{◌≡◌, ℕ, ◌<◌, ◌≤◌, false, List, [], length, bytes_eq, Option, Some, None}
-use Rattle.model_device.specs.Image.{count_of_recovery_writes, opening, which}
-use Rattle.model_device.specs.Card.{means}
-use Rattle.model_device.specs.Layout.{IsWellLaid}
-use Rattle.model_device.specs.PowerUp.{base_after_migration, pending_journal}
+use Rattle.model_play.specs.model_device.specs.Image.{count_of_recovery_writes, opening, which}
+use Rattle.model_play.specs.model_device.specs.Card.{means}
+use Rattle.model_play.specs.model_device.specs.Layout.{IsWellLaid}
+use Rattle.model_play.specs.model_device.specs.PowerUp.{base_after_migration, pending_journal}
 use Rattle.model_play.specs.Play.{Unarmed, Warm, StandsForBase, hit_of, power_moves, power_says}
 use Rattle.mc_store.specs.Power.{base_of_words, power_count, power_writes}
 use Rattle.law_dead_word.specs.Powers.{after_power, after_powers, answer_by, failure_by, stops_at}

@@ -2,8 +2,8 @@
 #![tactic(auto, unfolding(crate::specs::Computed::answer_after))]
 
 ghost use Rattle.std.specs.Prelude.{◌≡◌, [], ◌∷◌};
-ghost use Rattle.model_device.specs.Bytes.{zeros};
-ghost use Rattle.model_device.specs.Image.{Two, gate, opening};
+ghost use Rattle.model_play.specs.model_device.specs.Bytes.{zeros};
+ghost use Rattle.model_play.specs.model_device.specs.Image.{Two, gate, opening};
 ghost use Rattle.model_play.specs.Play.{FailureStop, Ready};
 ghost use Rattle.law_dead_word.specs.Computed.{answer_after};
 

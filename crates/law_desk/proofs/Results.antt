@@ -1,12 +1,12 @@
 -- Results that are no refusals, and what a list has under a name.
 use Rattle.std.proofs.Common.{◌≡◌, ℕ, suc, Bool, true, false, cond, List, [], ◌∷◌, Option, Some, None, Result, Ok, Err, refl, subst}
 use Rattle.std.specs.Prelude.{◌&&◌, bytes_eq, ok_or, ⊤}
-use Rattle.model_device.specs.Bytes.{lookup}
-use Rattle.model_device.proofs.BoolLemmas.{and_first, and_second}
-use Rattle.model_device.proofs.MapLemmas.{same_name}
-use Rattle.model_text.specs.Text.{◌>>=◌, err_as, ok_as, only_if}
-use Rattle.model_text.specs.Assembly.{both, place_among}
-use Rattle.model_text.specs.declared.assembler.AsmCause.{AsmCause}
+use Rattle.mc_text.specs.model_device.specs.Bytes.{lookup}
+use Rattle.mc_text.specs.model_device.proofs.BoolLemmas.{and_first, and_second}
+use Rattle.mc_text.specs.model_device.proofs.MapLemmas.{same_name}
+use Rattle.mc_text.specs.model_text.specs.Text.{◌>>=◌, err_as, ok_as, only_if}
+use Rattle.mc_text.specs.model_text.specs.Assembly.{both, place_among}
+use Rattle.mc_text.specs.model_text.specs.declared.assembler.AsmCause.{AsmCause}
 
 -- ---- results
 

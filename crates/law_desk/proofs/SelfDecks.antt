@@ -1,17 +1,17 @@
 -- A deck is a draft that makes itself, line by line.
 use Rattle.std.proofs.Common.{◌≡◌, ℕ, suc, ◌+◌, Bool, true, false, cond, List, [], ◌∷◌, ◌++◌, map, Option, Some, None, Result, Ok, Err, refl, sym, ap, subst, ◌∙◌}
 use Rattle.std.specs.Prelude.{◌==◌, ◌&&◌, ◌||◌, bytes_eq, not, ok_or, unwrap_or, ⊤}
-use Rattle.model_device.specs.Bytes.{lookup}
-use Rattle.model_device.proofs.MapLemmas.{name_is_itself}
-use Rattle.model_text.specs.Text.{◌>>=◌, begins, err_as, fields, is_empty, ok_as, only_if, trim, with_numbers}
-use Rattle.model_text.specs.declared.assembler.AsmCause.{AsmCause}
-use Rattle.model_text.specs.Assembly.{assembled_lines, joined_code, laid_lines, line_laid, line_read, size, with_label}
-use Rattle.model_play.specs.declared.deck.DeckCause.{DeckCause}
-use Rattle.model_play.specs.declared.deck.DeckCause.TheVariants.{BadLine}
-use Rattle.model_play.specs.declared.deck.DeckCause.TheVariants as causes
-use Rattle.model_card.specs.Units.{UnitParts}
-use Rattle.model_play.specs.DeckGrammar.{between, lines_at_end, AppWord, Context, DeckLine, LineTurn, Opens, Says, Section, Stated, Word, deck_lines, deck_read, deck_words, is_data, is_end, section_data, section_program, section_unit, statement_of, turn_at, turn_in, turn_of, with_unit, within, Named}
-use Rattle.model_play.specs.DeckGrammar
+use Rattle.mc_text.specs.model_device.specs.Bytes.{lookup}
+use Rattle.mc_text.specs.model_device.proofs.MapLemmas.{name_is_itself}
+use Rattle.mc_text.specs.model_text.specs.Text.{◌>>=◌, begins, err_as, fields, is_empty, ok_as, only_if, trim, with_numbers}
+use Rattle.mc_text.specs.model_text.specs.declared.assembler.AsmCause.{AsmCause}
+use Rattle.mc_text.specs.model_text.specs.Assembly.{assembled_lines, joined_code, laid_lines, line_laid, line_read, size, with_label}
+use Rattle.desk_draft.specs.model_play.specs.declared.deck.DeckCause.{DeckCause}
+use Rattle.desk_draft.specs.model_play.specs.declared.deck.DeckCause.TheVariants.{BadLine}
+use Rattle.desk_draft.specs.model_play.specs.declared.deck.DeckCause.TheVariants as causes
+use Rattle.desk_draft.specs.model_card.specs.Units.{UnitParts}
+use Rattle.desk_draft.specs.model_play.specs.DeckGrammar.{between, lines_at_end, AppWord, Context, DeckLine, LineTurn, Opens, Says, Section, Stated, Word, deck_lines, deck_read, deck_words, is_data, is_end, section_data, section_program, section_unit, statement_of, turn_at, turn_in, turn_of, with_unit, within, Named}
+use Rattle.desk_draft.specs.model_play.specs.DeckGrammar
 use Rattle.desk_draft.specs.Parts.{EndedLine, after_word, ended_lines}
 use Rattle.desk_draft.specs.Declarations.{Scope, data_count, data_scope, empty_scope, gives_later, header_names}
 use Rattle.desk_draft.specs.Operands.{instruction_text}

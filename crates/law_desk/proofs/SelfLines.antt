@@ -3,7 +3,7 @@ use Rattle.std.proofs.Common.{◌≡◌, ℕ, zero, suc, ◌-◌, ◌<◌, ◌�
 use Rattle.std.specs.Prelude.{◌==◌, slice_index}
 use Rattle.std.proofs.Math.Seq.{take-length}
 use Rattle.std.proofs.lemmas.List.{take-append-drop, length-take-le}
-use Rattle.model_text.specs.Text.{first_cut, halves_with_character, is_empty, lines, pieces, pieces_with_character}
+use Rattle.mc_text.specs.model_text.specs.Text.{first_cut, halves_with_character, is_empty, lines, pieces, pieces_with_character}
 use Rattle.mc_text.specs.Reading.{line_cut, without_return}
 use Rattle.mc_text.proofs.ReadingLemmas.{lines_at, lines_from, pieces_at, pieces_cut}
 use Rattle.desk_draft.specs.Parts.{EndedLine, ended_lines, ended_pieces}

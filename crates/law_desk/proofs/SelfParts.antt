@@ -2,7 +2,7 @@
 use Rattle.std.proofs.Common.{◌≡◌, ℕ, ◌-◌, Bool, true, false, cond, List, [], ◌∷◌, ◌++◌, length, take, drop, refl, sym, ap, ◌∙◌, append_assoc, arith}
 use Rattle.std.proofs.Math.Seq.{take-append_seam, drop-append_seam}
 use Rattle.std.proofs.lemmas.List.{take-append-drop, length-append}
-use Rattle.model_text.specs.Text.{before_trimmed, is_blank, trim, trim_end, trim_front}
+use Rattle.mc_text.specs.model_text.specs.Text.{before_trimmed, is_blank, trim, trim_end, trim_front}
 use Rattle.desk_draft.specs.Parts.{after_word, before_rest, first_word, part_in, part_of, with_core}
 
 -- a text ends with this one

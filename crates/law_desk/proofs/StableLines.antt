@@ -2,11 +2,11 @@
 use Rattle.std.proofs.Common.{◌≡◌, ℕ, Bool, true, false, cond, List, [], ◌∷◌, ◌++◌, append-nil, length, map, drop, Option, Some, None, Ok, Err, refl, sym, ap, subst, ◌∙◌, arith}
 use Rattle.std.specs.Prelude.{◌==◌, ◌&&◌, ◌||◌, is_none, not, ok_or, option_map}
 use Rattle.std.proofs.Math.Seq.{drop-append_seam, drop-length}
-use Rattle.model_device.specs.Bytes.{has_name, lookup}
-use Rattle.model_device.proofs.BoolLemmas.{and_false, and_first, and_second}
-use Rattle.model_text.specs.Text.{◌>>=◌, before_trimmed, every, fields, first_cut, halves_with_character, is_blank, is_digit, is_empty, is_name, is_name_character, is_within, ok_as, pieces, pieces_with_character, trim, trim_end, trim_front}
-use Rattle.model_text.specs.Assembly.{CodeItem, Line, WordForm, is_label, item_of_word, label_and_rest, line_read, operands, word_and_operands, words}
-use Rattle.model_text.specs.declared.assembler.AsmCause.TheVariants.{UnknownWord}
+use Rattle.mc_text.specs.model_device.specs.Bytes.{has_name, lookup}
+use Rattle.mc_text.specs.model_device.proofs.BoolLemmas.{and_false, and_first, and_second}
+use Rattle.mc_text.specs.model_text.specs.Text.{◌>>=◌, before_trimmed, every, fields, first_cut, halves_with_character, is_blank, is_digit, is_empty, is_name, is_name_character, is_within, ok_as, pieces, pieces_with_character, trim, trim_end, trim_front}
+use Rattle.mc_text.specs.model_text.specs.Assembly.{CodeItem, Line, WordForm, is_label, item_of_word, label_and_rest, line_read, operands, word_and_operands, words}
+use Rattle.mc_text.specs.model_text.specs.declared.assembler.AsmCause.TheVariants.{UnknownWord}
 use Rattle.desk_draft.specs.Parts.{after_word, before_rest, first_word, part_of, with_core, without_comment}
 use Rattle.desk_draft.specs.Declarations.{declaration_in, declaration_of, declaration_words, header_names, is_labelled}
 use Rattle.desk_draft.specs.Operands.{body_text, instruction_text, jump_words, labelled_text, later_text, operands_text, pieces_text, sized_words}

@@ -2,14 +2,14 @@
 use Rattle.std.proofs.Common.{◌≡◌, ℕ, Bool, true, false, cond, List, [], ◌∷◌, ◌++◌, append-nil, length, take, drop, Option, Some, None, Ok, Err, refl, sym, ap, subst, ◌∙◌, append_assoc, arith}
 use Rattle.std.specs.Prelude.{◌==◌, ◌&&◌, bytes_eq, codes, nat_le, not, ok_or, ⊤}
 use Rattle.std.proofs.lemmas.Bool.{not-true}
-use Rattle.model_device.specs.Bytes.{lookup}
-use Rattle.model_device.proofs.BoolLemmas.{and_false, and_first, and_second}
-use Rattle.model_device.proofs.MapLemmas.{same_name}
-use Rattle.model_text.specs.declared.assembler.AsmCause.TheVariants.{BadNumber, BadOperands, OutOfRange}
-use Rattle.model_text.specs.Text.{decimal_number, every, first_cut, halves_with_character, is_digit, is_empty, ok_as, only_if, pieces}
-use Rattle.model_text.specs.Listing.{register_names}
-use Rattle.model_text.specs.Assembly.{Addressed, AddressedByte, AddressedWord, Bare, ByDistance, ByPlace, OfByte, OfBytes, OfWord, OfWords, Primitive, RawByte, WordForm, address, all_bytes, both, byte, hex_number, item_of_word, natural, number_operand, offset_and_end, place_among, primitive, register_and_rest, word}
-use Rattle.model_text.proofs.TextLemmas.{every_append}
+use Rattle.mc_text.specs.model_device.specs.Bytes.{lookup}
+use Rattle.mc_text.specs.model_device.proofs.BoolLemmas.{and_false, and_first, and_second}
+use Rattle.mc_text.specs.model_device.proofs.MapLemmas.{same_name}
+use Rattle.mc_text.specs.model_text.specs.declared.assembler.AsmCause.TheVariants.{BadNumber, BadOperands, OutOfRange}
+use Rattle.mc_text.specs.model_text.specs.Text.{decimal_number, every, first_cut, halves_with_character, is_digit, is_empty, ok_as, only_if, pieces}
+use Rattle.mc_text.specs.model_text.specs.Listing.{register_names}
+use Rattle.mc_text.specs.model_text.specs.Assembly.{Addressed, AddressedByte, AddressedWord, Bare, ByDistance, ByPlace, OfByte, OfBytes, OfWord, OfWords, Primitive, RawByte, WordForm, address, all_bytes, both, byte, hex_number, item_of_word, natural, number_operand, offset_and_end, place_among, primitive, register_and_rest, word}
+use Rattle.mc_text.specs.model_text.proofs.TextLemmas.{every_append}
 use Rattle.desk_draft.specs.Declarations.{header_names}
 use Rattle.desk_draft.specs.Operands.{named_text, operand_by_parts, operand_text, plain_operand, shifted_text, size_text}
 use Rattle.law_desk.proofs.Results.{Fine, among, fine_as, fine_both, fine_ok, fine_or, fine_then, unknown}

@@ -2,14 +2,14 @@
 use Rattle.std.proofs.Common.{◌≡◌, ℕ, ◌-◌, Bool, true, false, cond, List, [], ◌∷◌, ◌++◌, append-nil, length, take, drop, Option, Some, None, Result, Ok, Err, refl, sym, ap, subst, ◌∙◌, arith}
 use Rattle.std.specs.Prelude.{◌==◌, bytes_eq, codes, ok_or, slice_index, unwrap_or, ⊤}
 use Rattle.std.proofs.lemmas.List.{take-append-drop}
-use Rattle.model_device.specs.Bytes.{lookup}
-use Rattle.model_device.proofs.MapLemmas.{same_name}
-use Rattle.model_text.specs.Text.{◌>>=◌, begins, err_as, fields, hex_bytes, is_within, ok_as, only_if, trim}
-use Rattle.model_card.specs.Units.{unit_read}
-use Rattle.model_play.specs.declared.deck.DeckCause.{DeckCause}
-use Rattle.model_play.specs.declared.deck.DeckCause.TheVariants.{BadHex, OutOfRange, UnknownName}
-use Rattle.model_play.specs.declared.deck.DeckCause.TheVariants as causes
-use Rattle.model_play.specs.DeckGrammar.{AppWord, ApduWord, BudgetWord, Context, CutWord, DeleteWord, DumpWord, FailWord, FormatWord, LoadWord, Opens, PokeWord, PowerWord, Says, SelectWord, Stated, UnitWord, Word, aid_field, deck_words, fill_field, hex_field, name_field, new_name, number_field, statement_of}
+use Rattle.mc_text.specs.model_device.specs.Bytes.{lookup}
+use Rattle.mc_text.specs.model_device.proofs.MapLemmas.{same_name}
+use Rattle.mc_text.specs.model_text.specs.Text.{◌>>=◌, begins, err_as, fields, hex_bytes, is_within, ok_as, only_if, trim}
+use Rattle.desk_draft.specs.model_card.specs.Units.{unit_read}
+use Rattle.desk_draft.specs.model_play.specs.declared.deck.DeckCause.{DeckCause}
+use Rattle.desk_draft.specs.model_play.specs.declared.deck.DeckCause.TheVariants.{BadHex, OutOfRange, UnknownName}
+use Rattle.desk_draft.specs.model_play.specs.declared.deck.DeckCause.TheVariants as causes
+use Rattle.desk_draft.specs.model_play.specs.DeckGrammar.{AppWord, ApduWord, BudgetWord, Context, CutWord, DeleteWord, DumpWord, FailWord, FormatWord, LoadWord, Opens, PokeWord, PowerWord, Says, SelectWord, Stated, UnitWord, Word, aid_field, deck_words, fill_field, hex_field, name_field, new_name, number_field, statement_of}
 use Rattle.desk_draft.specs.Parts.{after_word, part_in, with_core}
 use Rattle.desk_draft.specs.Statements.{Loadable, after_open, aid_text, command_field, command_text, field_by, is_aid, plain_hex, statement_text, stated_text, text_in_brackets}
 use Rattle.desk_draft.specs.Drafts.{new_section}

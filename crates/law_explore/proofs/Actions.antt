@@ -2,14 +2,14 @@
 use Rattle.std.specs.Prelude.{◌≡◌, ℕ, ◌+◌, ◌≤◌, Bool, true, cond, ◌==◌, List, Some, None, ⊤, refl}
 use Rattle.std.proofs.Common.{arith, ap, sym, subst, inl, inr, ◌∙◌}
 use Rattle.std.proofs.lemmas.Bool.{le-leb}
-use Rattle.model_device.specs.declared.device.Stop.TheVariants as stop
-use Rattle.model_device.specs.Bytes.{zeros}
-use Rattle.model_device.specs.Image.{Journal, Two}
-use Rattle.model_device.specs.Card.{Card}
-use Rattle.model_device.specs.PowerUp.{Base, OnCard, AtFault, migration, base_after_migration}
-use Rattle.model_card.specs.Items.{Item, moves, StopAt, at_stop, card_done}
-use Rattle.model_card.specs.Manager.{SessionState}
-use Rattle.model_card.specs.Commands.{Command}
+use Rattle.model_play.specs.model_device.specs.declared.device.Stop.TheVariants as stop
+use Rattle.model_play.specs.model_device.specs.Bytes.{zeros}
+use Rattle.model_play.specs.model_device.specs.Image.{Journal, Two}
+use Rattle.model_play.specs.model_device.specs.Card.{Card}
+use Rattle.model_play.specs.model_device.specs.PowerUp.{Base, OnCard, AtFault, migration, base_after_migration}
+use Rattle.model_play.specs.model_card.specs.Items.{Item, moves, StopAt, at_stop, card_done}
+use Rattle.model_play.specs.model_card.specs.Manager.{SessionState}
+use Rattle.model_play.specs.model_card.specs.Commands.{Command}
 use Rattle.model_play.specs.DeckGrammar.{DeckLine, DeckCommand}
 use Rattle.model_play.specs.DeckGrammar as line
 use Rattle.model_play.specs.Play.{Armed, Unarmed, ArmedCut, Live, Running, Unpowered, Muted, Warm, State, AfterPower, Step, step, is_card_line, moves_of, power_result, power_live, power_after, power_step, card_line, command_step, line_command, stopped_line}

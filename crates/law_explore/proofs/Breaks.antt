@@ -3,8 +3,8 @@ use Rattle.std.specs.Prelude.{◌≡◌, ℕ, zero, suc, ◌+◌, ◌≤◌, Boo
 use Rattle.std.specs.List.{AllByRecursion}
 use Rattle.std.proofs.Common.{arith, ap, sym, subst, inl, inr, ◌∙◌}
 use Rattle.std.proofs.lemmas.List.{append-nil, append_assoc, reverse-append}
-use Rattle.model_device.proofs.ImageLemmas.{all_append, all_map}
-use Rattle.model_text.specs.Text.{◌>>=◌, ok_as}
+use Rattle.model_play.specs.model_device.proofs.ImageLemmas.{all_append, all_map}
+use Rattle.model_play.specs.model_text.specs.Text.{◌>>=◌, ok_as}
 use Rattle.model_play.specs.Play.{Live, Running, Unpowered, Muted, State, AfterPower, is_card_line}
 use Rattle.model_play.specs.Family.{live_in, is_running}
 use Rattle.law_explore.specs.Rules.{Move, Rules}

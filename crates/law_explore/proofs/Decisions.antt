@@ -1,11 +1,11 @@
 -- A state decides the answers, and what the words of a device mean decides the state.
 use Rattle.std.specs.Prelude.{◌≡◌, ℕ, ◌≤◌, true, List, [], Option, Some, None, refl}
 use Rattle.std.proofs.Common.{ap, sym, subst, ◌∙◌}
-use Rattle.model_device.specs.declared.cause.Cause.{Cause}
-use Rattle.model_device.specs.Bytes.{zeros}
-use Rattle.model_device.specs.Card.{Card, means}
-use Rattle.model_device.specs.Layout.{fault}
-use Rattle.model_device.specs.PowerUp.{Base, OnCard, AtFault, base_after_migration, base_of}
+use Rattle.model_play.specs.model_device.specs.declared.cause.Cause.{Cause}
+use Rattle.model_play.specs.model_device.specs.Bytes.{zeros}
+use Rattle.model_play.specs.model_device.specs.Card.{Card, means}
+use Rattle.model_play.specs.model_device.specs.Layout.{fault}
+use Rattle.model_play.specs.model_device.specs.PowerUp.{Base, OnCard, AtFault, base_after_migration, base_of}
 use Rattle.model_play.specs.DeckGrammar as line
 use Rattle.model_play.specs.Family.{is_running}
 use Rattle.model_play.specs.Play.{Unarmed, is_card_line, Live, Running, Unpowered, Muted, Warm, State, BeforePower, AfterPower, Step, step, play_at_power, power_live}

@@ -2,10 +2,10 @@
 use Rattle.std.specs.Prelude.{◌≡◌, ℕ, ◌+◌, ◌-◌, ◌<◌, ◌≤◌, zero, suc, Bool, true, false, cond, ◌&&◌, ◌||◌, nat_lt, nat_le, ◌==◌, bytes_eq, List, [], ◌∷◌, refl}
 use Rattle.std.proofs.Common.{arith, ap, sym, subst, inl, inr}
 use Rattle.std.proofs.Math.Nat.{eq-or-lt_of_le}
-use Rattle.model_device.specs.Bytes.{zeros}
-use Rattle.model_device.specs.Image.{Two, opening}
-use Rattle.model_device.specs.Stopped.{cost, opens_at, stands}
-use Rattle.model_card.specs.Items.{Item, Plain, Atomic, at_stop, Stopped}
+use Rattle.model_play.specs.model_device.specs.Bytes.{zeros}
+use Rattle.model_play.specs.model_device.specs.Image.{Two, opening}
+use Rattle.model_play.specs.model_device.specs.Stopped.{cost, opens_at, stands}
+use Rattle.model_play.specs.model_card.specs.Items.{Item, Plain, Atomic, at_stop, Stopped}
 use Rattle.law_explore.specs.Tries.{Manner, CutAt, ones, cuts_from}
 use Rattle.law_explore.specs.Safety.{Among, IsFill}
 

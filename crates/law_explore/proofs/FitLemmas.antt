@@ -2,7 +2,7 @@
 use Rattle.std.specs.Prelude.{◌≡◌, ℕ, ◌+◌, ◌≤◌, Bool, true, false, cond, not, ◌&&◌, ◌||◌, nat_le, ◌==◌, List, [], ◌∷◌, map, refl}
 use Rattle.std.proofs.Common.{arith, ap, sym, ◌∙◌}
 use Rattle.std.proofs.lemmas.Bool.{leb-true, ne_eqb, and_parts}
-use Rattle.model_text.specs.Text.{is_blank, is_empty, is_within}
+use Rattle.model_play.specs.model_text.specs.Text.{is_blank, is_empty, is_within}
 use Rattle.model_play.specs.Patterns.{is_star, is_any, without_blanks, holds}
 use Rattle.model_play.specs.Patterns as shared
 use Rattle.law_explore.specs.Matching.{some_rest, first_and_rest, matches, small, plain, fits}

@@ -1,10 +1,10 @@
 -- Cuts in power lines lead to no other state once a power line is whole.
 use Rattle.std.specs.Prelude.{◌≡◌, ℕ, ◌-◌, Bool, true, false, cond, nat_le, List, [], ◌∷◌, Option, Some, None, refl}
 use Rattle.std.proofs.Common.{ap, sym, ◌∙◌}
-use Rattle.model_device.specs.Image.{One}
-use Rattle.model_device.specs.Stopped.{stands}
-use Rattle.model_device.specs.PowerUp.{Base, OnCard, AtFault, base_after_migration}
-use Rattle.model_card.specs.Items.{StopAt}
+use Rattle.model_play.specs.model_device.specs.Image.{One}
+use Rattle.model_play.specs.model_device.specs.Stopped.{stands}
+use Rattle.model_play.specs.model_device.specs.PowerUp.{Base, OnCard, AtFault, base_after_migration}
+use Rattle.model_play.specs.model_card.specs.Items.{StopAt}
 use Rattle.model_play.specs.DeckGrammar as line
 use Rattle.model_play.specs.Play.{Armed, Unarmed, ArmedCut, Live, Warm, State, AfterPower, step, hit_of, power_moves, power_live, power_after, stopped_power}
 use Rattle.law_explore.specs.States.{CardState, state_in}

@@ -1,7 +1,7 @@
 -- If a search promises a number of tries in a row, no list of as many actions spends an allowance below zero.
 use Rattle.std.specs.Prelude.{◌≡◌, ℕ, true, List, [], ◌∷◌, ◌++◌, length, map, flat_map, Result, Ok, Err, refl}
 use Rattle.std.proofs.Common.{arith, ap, sym, subst, inl, inr, ◌∙◌}
-use Rattle.model_text.specs.Text.{ok_as}
+use Rattle.model_play.specs.model_text.specs.Text.{ok_as}
 use Rattle.model_play.specs.Play.{State, AfterPower, is_card_line}
 use Rattle.law_explore.specs.Rules.{Move, OnRule, Rules, Exploration, exploration_read}
 use Rattle.law_explore.specs.States.{CardState, play_of, state_in, first_play}

@@ -3,13 +3,13 @@ use Rattle.std.specs.Prelude.{◌≡◌, ℕ, Bool, true, false, ◌&&◌, ◌||
 use Rattle.std.proofs.Common.{inl, inr}
 use Rattle.std.proofs.lemmas.Bool.{eqb-true, and_parts}
 use Rattle.std.proofs.lemmas.Slice.Eq.{bytes_eq-Decides}
-use Rattle.model_device.specs.Card.{App}
-use Rattle.model_device.specs.PowerUp.{Base, OnCard, AtFault}
-use Rattle.model_device.specs.Words.{cause_text}
-use Rattle.model_device.specs.declared.cause.Cause.{Cause}
-use Rattle.model_device.specs.declared.cause.Cause.TheVariants.{BadJournal, NoRoot, BadBlock, BadRecord, BadChain}
-use Rattle.model_card.specs.declared.card.Sizes.{Sizes}
-use Rattle.model_card.specs.Manager.{Selected, Got, Open}
+use Rattle.model_play.specs.model_device.specs.Card.{App}
+use Rattle.model_play.specs.model_device.specs.PowerUp.{Base, OnCard, AtFault}
+use Rattle.model_play.specs.model_device.specs.Words.{cause_text}
+use Rattle.model_play.specs.model_device.specs.declared.cause.Cause.{Cause}
+use Rattle.model_play.specs.model_device.specs.declared.cause.Cause.TheVariants.{BadJournal, NoRoot, BadBlock, BadRecord, BadChain}
+use Rattle.model_play.specs.model_card.specs.declared.card.Sizes.{Sizes}
+use Rattle.model_play.specs.model_card.specs.Manager.{Selected, Got, Open}
 use Rattle.model_play.specs.Play.{Live, Running, Unpowered, Muted}
 use Rattle.law_explore.specs.States.{CardState, is_same_app, are_same_apps, is_same_base, is_same_selection, are_same_sizes, is_same_got, is_same_load, is_same_live, are_same_allowances, is_same_state, is_known}
 use Rattle.law_explore.specs.Safety.{Among}

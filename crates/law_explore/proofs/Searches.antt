@@ -2,8 +2,8 @@
 use Rattle.std.specs.Prelude.{◌≡◌, ◌⊎◌, ℕ, zero, suc, ◌+◌, ◌<◌, ◌≤◌, Bool, true, false, nat_lt, List, [], ◌∷◌, ◌++◌, length, Result, Ok, Err, ⊤, refl}
 use Rattle.std.specs.List.{AllByRecursion}
 use Rattle.std.proofs.Common.{arith, sym, subst, inl, inr, ◌∙◌}
-use Rattle.model_device.proofs.ImageLemmas.{all_map}
-use Rattle.model_text.specs.Text.{◌>>=◌}
+use Rattle.model_play.specs.model_device.proofs.ImageLemmas.{all_map}
+use Rattle.model_play.specs.model_text.specs.Text.{◌>>=◌}
 use Rattle.law_explore.specs.Rules.{OnRule, Rules}
 use Rattle.law_explore.specs.States.{CardState, is_known}
 use Rattle.law_explore.specs.Tries.{Try, tries_of, outcome}

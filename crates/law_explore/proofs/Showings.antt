@@ -1,8 +1,8 @@
 -- Two moves that tell the same do the same to allowances.
 use Rattle.std.specs.Prelude.{◌≡◌, ℕ, cond, List, [], ◌∷◌, length, filter, Option, Result, Ok, Err, refl}
 use Rattle.std.proofs.Common.{ap, ◌∙◌}
-use Rattle.model_text.specs.Text.{◌>>=◌}
-use Rattle.model_machine.specs.Chain.{Turn}
+use Rattle.model_play.specs.model_text.specs.Text.{◌>>=◌}
+use Rattle.model_play.specs.model_machine.specs.Chain.{Turn}
 use Rattle.model_play.specs.Play.{LineResult, Step}
 use Rattle.law_explore.specs.Rules.{Move, Occasion, AtResult, AtTurn, OnRule}
 use Rattle.law_explore.specs.Matching.{fits}

@@ -1,14 +1,14 @@
 -- Every play from a blank device has its running card settled, and so an exploration begins with a settled card or with
 -- none.
 use Rattle.std.specs.Prelude.{◌≡◌, ℕ, nat_le, Bool, true, false, List, [], ◌∷◌, drop, Option, Some, None, ⊤, refl}
-use Rattle.model_device.specs.declared.device.Stop.{Stop}
-use Rattle.model_device.specs.declared.device.Stop.TheVariants as stop
-use Rattle.model_device.specs.Image.{Journal}
-use Rattle.model_device.specs.Card.{Card}
-use Rattle.model_device.specs.Device.{blank_words, device_words}
-use Rattle.model_device.specs.PowerUp.{Base, OnCard, AtFault, base_after_migration}
-use Rattle.model_card.specs.Items.{moves, StopAt}
-use Rattle.model_card.specs.Commands.{Command}
+use Rattle.model_play.specs.model_device.specs.declared.device.Stop.{Stop}
+use Rattle.model_play.specs.model_device.specs.declared.device.Stop.TheVariants as stop
+use Rattle.model_play.specs.model_device.specs.Image.{Journal}
+use Rattle.model_play.specs.model_device.specs.Card.{Card}
+use Rattle.model_play.specs.model_device.specs.Device.{blank_words, device_words}
+use Rattle.model_play.specs.model_device.specs.PowerUp.{Base, OnCard, AtFault, base_after_migration}
+use Rattle.model_play.specs.model_card.specs.Items.{moves, StopAt}
+use Rattle.model_play.specs.model_card.specs.Commands.{Command}
 use Rattle.model_play.specs.DeckGrammar.{DeckLine}
 use Rattle.model_play.specs.DeckGrammar as line
 use Rattle.model_play.specs.Play.{Armed, Unarmed, Live, Running, Unpowered, Muted, Warm, State, BeforePower, AfterPower, FailedWrite, step, command_step, line_command, hit_of, live_after, power_live, power_after, stopped_power, play_at_power, start, plays, steady_failures, first_failure, last_state, Step}

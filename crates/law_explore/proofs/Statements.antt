@@ -4,16 +4,16 @@ use Rattle.std.specs.List.{AllByRecursion}
 use Rattle.std.proofs.Common.{ap, sym, ◌∙◌}
 use Rattle.std.proofs.lemmas.Bool.{lt-leb}
 use Rattle.std.proofs.lemmas.List.{append_assoc}
-use Rattle.model_device.specs.declared.device.Stop.TheVariants as stop
-use Rattle.model_device.specs.Bytes.{zeros}
-use Rattle.model_device.specs.Image.{Journal}
-use Rattle.model_device.specs.Device.{blank_words, device_words}
-use Rattle.model_device.specs.Card.{Card}
-use Rattle.model_device.specs.Layout.{fault}
-use Rattle.model_device.specs.PowerUp.{Base, OnCard, AtFault, base_of}
-use Rattle.model_card.specs.Items.{moves, StopAt}
-use Rattle.model_card.specs.Commands.{Command, refusal, command}
-use Rattle.model_machine.specs.Apdu.{apdu_read}
+use Rattle.model_play.specs.model_device.specs.declared.device.Stop.TheVariants as stop
+use Rattle.model_play.specs.model_device.specs.Bytes.{zeros}
+use Rattle.model_play.specs.model_device.specs.Image.{Journal}
+use Rattle.model_play.specs.model_device.specs.Device.{blank_words, device_words}
+use Rattle.model_play.specs.model_device.specs.Card.{Card}
+use Rattle.model_play.specs.model_device.specs.Layout.{fault}
+use Rattle.model_play.specs.model_device.specs.PowerUp.{Base, OnCard, AtFault, base_of}
+use Rattle.model_play.specs.model_card.specs.Items.{moves, StopAt}
+use Rattle.model_play.specs.model_card.specs.Commands.{Command, refusal, command}
+use Rattle.model_play.specs.model_machine.specs.Apdu.{apdu_read}
 use Rattle.model_play.specs.DeckGrammar.{DeckLine}
 use Rattle.model_play.specs.DeckGrammar as line
 use Rattle.model_play.specs.Family.{is_running}

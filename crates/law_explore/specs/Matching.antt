@@ -1,6 +1,6 @@
 -- Patterns against texts, letters in either case, in a form that computes in few steps.
 use Rattle.std.specs.Prelude.{ℕ, ◌+◌, Bool, false, cond, not, ◌&&◌, ◌||◌, ◌==◌, List, [], ◌∷◌, map}
-use Rattle.model_text.specs.Text.{is_empty, is_within}
+use Rattle.model_play.specs.model_text.specs.Text.{is_empty, is_within}
 use Rattle.model_play.specs.Patterns.{is_star, is_any, without_blanks}
 
 -- whether what is left of a text after some front of it passes a test

@@ -1,8 +1,8 @@
 -- The rules of a deck: its comments that begin with `#@`. They name the moves of a terminal, the allowances of an
 -- application, and what a move does to an allowance.
 use Rattle.std.specs.Prelude.{ℕ, Bool, true, false, not, cond, ◌&&◌, ◌==◌, List, [], ◌∷◌, ◌++◌, bytes_eq, codes, is_none, is_some, ok_or, Option, Some, None, Result, Ok, Err}
-use Rattle.model_device.specs.Bytes.{lookup}
-use Rattle.model_text.specs.Text.{◌>>=◌, ok_as, err_as, only_if, is_blank, is_empty, begins, first_cut, trim, trim_front, lines, with_numbers, fields}
+use Rattle.model_play.specs.model_device.specs.Bytes.{lookup}
+use Rattle.model_play.specs.model_text.specs.Text.{◌>>=◌, ok_as, err_as, only_if, is_blank, is_empty, begins, first_cut, trim, trim_front, lines, with_numbers, fields}
 use Rattle.model_play.specs.declared.deck.DeckCause.{DeckCause}
 use Rattle.model_play.specs.declared.deck.DeckCause.TheVariants.{BadLine, NameTwice, UnknownName}
 use Rattle.model_play.specs.DeckGrammar.{DeckLine, Stated, Says, Opens, Word, PowerWord, SelectWord, DeleteWord, ApduWord, statement_of, name_field, number_field, is_end, deck_read}

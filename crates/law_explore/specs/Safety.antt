@@ -1,11 +1,11 @@
 -- What an exploration promises: the laws of its fills, of its recoveries, and of every sequence of moves and cuts.
 use Rattle.std.specs.Prelude.{◌≡◌, ◌⊎◌, ℕ, ◌<◌, ◌≤◌, true, List, [], ◌∷◌, ◌++◌, length, map, reverse, Ok, Err, ⊤}
 use Rattle.std.specs.List.{AllByRecursion}
-use Rattle.model_device.specs.Bytes.{zeros}
-use Rattle.model_device.specs.Image.{Two, opening}
-use Rattle.model_device.specs.Card.{means}
-use Rattle.model_device.specs.Layout.{fault}
-use Rattle.model_device.specs.PowerUp.{Base, OnCard, AtFault}
+use Rattle.model_play.specs.model_device.specs.Bytes.{zeros}
+use Rattle.model_play.specs.model_device.specs.Image.{Two, opening}
+use Rattle.model_play.specs.model_device.specs.Card.{means}
+use Rattle.model_play.specs.model_device.specs.Layout.{fault}
+use Rattle.model_play.specs.model_device.specs.PowerUp.{Base, OnCard, AtFault}
 use Rattle.model_play.specs.DeckGrammar.{DeckLine}
 use Rattle.model_play.specs.DeckGrammar as line
 use Rattle.model_play.specs.Play.{Armed, Unarmed, ArmedCut, ArmedFail, armed_stop_in, Live, Running, Unpowered, Muted, Warm, State, BeforePower, AfterPower, Step, is_card_line}

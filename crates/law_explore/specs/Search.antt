@@ -1,8 +1,8 @@
 -- The search through all states, breadth first.
 use Rattle.std.specs.Prelude.{ℕ, zero, suc, ◌+◌, Bool, true, false, nat_lt, List, [], ◌∷◌, ◌++◌, length, map, codes, decimal, Result, Ok, Err}
-use Rattle.model_text.specs.Text.{◌>>=◌}
-use Rattle.model_text.specs.Listing.{hex_text}
-use Rattle.model_device.specs.PowerUp.{Base, OnCard, AtFault}
+use Rattle.model_play.specs.model_text.specs.Text.{◌>>=◌}
+use Rattle.model_play.specs.model_text.specs.Listing.{hex_text}
+use Rattle.model_play.specs.model_device.specs.PowerUp.{Base, OnCard, AtFault}
 use Rattle.model_play.specs.DeckGrammar.{DeckLine}
 use Rattle.model_play.specs.DeckGrammar as line
 use Rattle.model_play.specs.Play.{Armed, Unarmed, ArmedCut, ArmedFail, Live, Running, armed_stop_in, State}

@@ -1,12 +1,12 @@
 -- The states of an exploration: a card, what it holds besides its applications, and the allowances.
 use Rattle.std.specs.Prelude.{ℕ, Bool, true, false, ◌&&◌, ◌||◌, ◌==◌, List, [], ◌∷◌, bytes_eq, Option, Some, None}
-use Rattle.model_device.specs.Image.{Two}
-use Rattle.model_device.specs.Device.{blank_words, device_words}
-use Rattle.model_device.specs.Card.{App}
-use Rattle.model_device.specs.PowerUp.{Base, OnCard, AtFault}
-use Rattle.model_device.specs.Words.{cause_text}
-use Rattle.model_card.specs.declared.card.Sizes.{Sizes}
-use Rattle.model_card.specs.Manager.{Selected, Got, Open}
+use Rattle.model_play.specs.model_device.specs.Image.{Two}
+use Rattle.model_play.specs.model_device.specs.Device.{blank_words, device_words}
+use Rattle.model_play.specs.model_device.specs.Card.{App}
+use Rattle.model_play.specs.model_device.specs.PowerUp.{Base, OnCard, AtFault}
+use Rattle.model_play.specs.model_device.specs.Words.{cause_text}
+use Rattle.model_play.specs.model_card.specs.declared.card.Sizes.{Sizes}
+use Rattle.model_play.specs.model_card.specs.Manager.{Selected, Got, Open}
 use Rattle.model_play.specs.DeckGrammar.{DeckLine}
 use Rattle.model_play.specs.Play.{Unarmed, Live, Running, Unpowered, Muted, Warm, State, BeforePower, AfterPower, start, plays, steady_failures, last_state, play_at_power, power_after}
 

@@ -1,11 +1,11 @@
 -- What is tried in a state: each move whole, and cut in each of its device writes; and what a try does to the card and
 -- the allowances.
 use Rattle.std.specs.Prelude.{ℕ, zero, suc, ◌+◌, ◌-◌, Bool, true, false, cond, ◌||◌, nat_le, nat_lt, ◌==◌, List, [], ◌∷◌, length, drop, filter, map, flat_map, replicate, bytes_eq, unwrap_or, Option, Some, None, Result, Ok, Err}
-use Rattle.model_device.specs.Bytes.{zeros, lookup}
-use Rattle.model_device.specs.Image.{Two, opening}
-use Rattle.model_text.specs.Text.{◌>>=◌, ok_as, first_cut}
-use Rattle.model_machine.specs.Chain.{Turn}
-use Rattle.model_text.specs.TurnText.{turn_line}
+use Rattle.model_play.specs.model_device.specs.Bytes.{zeros, lookup}
+use Rattle.model_play.specs.model_device.specs.Image.{Two, opening}
+use Rattle.model_play.specs.model_text.specs.Text.{◌>>=◌, ok_as, first_cut}
+use Rattle.model_play.specs.model_machine.specs.Chain.{Turn}
+use Rattle.model_play.specs.model_text.specs.TurnText.{turn_line}
 use Rattle.model_play.specs.DeckGrammar.{DeckLine}
 use Rattle.model_play.specs.DeckGrammar as line
 use Rattle.model_play.specs.Play.{Live, Running, Unpowered, Muted, State, Step, LineResult, step, moves_of}

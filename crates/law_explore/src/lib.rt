@@ -3,3 +3,6 @@
 #![tactic(auto)]
 
 mod laws;
+
+pub use model_play;
+pub use model_play::model_machine;

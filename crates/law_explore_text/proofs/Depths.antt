@@ -4,8 +4,8 @@ use Rattle.std.proofs.Common.{arith, ap, sym, ◌∙◌}
 use Rattle.std.proofs.lemmas.Bool.{and_parts, ltb-true, ltb-false, eq-eqb, cond_both}
 use Rattle.std.proofs.lemmas.Fmt.{decimal_injective}
 use Rattle.std.proofs.lemmas.List.{append_assoc}
-use Rattle.model_text.specs.Text.{every}
-use Rattle.model_play.specs.Play.{State}
+use Rattle.law_explore.specs.model_text.specs.Text.{every}
+use Rattle.law_explore.specs.model_play.specs.Play.{State}
 use Rattle.law_explore.specs.Rules.{OnRule, Rules, no_rules, Exploration}
 use Rattle.law_explore.specs.States.{CardState, is_known, play_of_deck}
 use Rattle.law_explore.specs.Tries.{Try, tries_of, outcome}

@@ -4,8 +4,8 @@ use Rattle.std.specs.Fmt.{digits, digits_onto, digit_glyph}
 use Rattle.std.proofs.Common.{arith, ap, sym, ◌∙◌}
 use Rattle.std.proofs.lemmas.Bool.{and_from, and_parts, lt-ltb, eq-eqb, ne_eqb, cond_both}
 use Rattle.std.proofs.lemmas.List.{append_assoc}
-use Rattle.model_text.specs.Text.{every}
-use Rattle.model_play.specs.Play.{State}
+use Rattle.law_explore.specs.model_text.specs.Text.{every}
+use Rattle.law_explore.specs.model_play.specs.Play.{State}
 use Rattle.law_explore.specs.Rules.{OnRule}
 use Rattle.law_explore.specs.States.{play_of_deck}
 use Rattle.law_explore.specs.Search.{Ending, All, AtDepth, Broken, TooMany, Search, search_of}

@@ -2,26 +2,26 @@
 use Rattle.std.specs.Prelude.{◌++◌, codes, ℕ, List, Result, Ok, Err}
 use Rattle.std.specs.Fmt.{digits}
 use Rattle.sha1.specs.Sha1.{sha1, digest_bytes, hash_after, compress, rounds, schedule, first_words}
-use Rattle.model_play.specs.declared.deck.DeckCause.{DeckCause}
-use Rattle.model_card.specs.Units.{name_of}
-use Rattle.model_machine.specs.Apdu.{apdu_read}
-use Rattle.model_device.specs.Pieces.{touched_words}
-use Rattle.model_machine.specs.Des.{des_encipher, des_decipher, tdes_encipher, tdes_decipher, des_signature, tdes_signature}
-use Rattle.model_machine.specs.Aes.{aes_encipher, aes_decipher, aes_signature}
-use Rattle.model_device.specs.Image.{targets_1, targets_2, pairs}
-use Rattle.model_device.specs.Card.{blocks_from, apps_of}
-use Rattle.model_device.specs.Layout.{layout, step_of, bad_block, bad_record}
-use Rattle.model_machine.specs.Frame.{bytes_at, write_effect, too_many}
-use Rattle.model_machine.specs.Primitives.{later_causes, prim_effect}
-use Rattle.model_machine.specs.Row.{causes, effect, row}
-use Rattle.model_machine.specs.Chain.{turn_of_chain, run_of_chain}
-use Rattle.model_text.specs.TurnText.{turn_line}
-use Rattle.model_card.specs.Manager.{manage}
-use Rattle.model_card.specs.Commands.{command}
-use Rattle.model_play.specs.Play.{send, play_at_power, step, plays, moves_of, steady_failures}
+use Rattle.law_explore.specs.model_play.specs.declared.deck.DeckCause.{DeckCause}
+use Rattle.law_explore.specs.model_card.specs.Units.{name_of}
+use Rattle.law_explore.specs.model_machine.specs.Apdu.{apdu_read}
+use Rattle.law_explore.specs.model_device.specs.Pieces.{touched_words}
+use Rattle.law_explore.specs.model_machine.specs.Des.{des_encipher, des_decipher, tdes_encipher, tdes_decipher, des_signature, tdes_signature}
+use Rattle.law_explore.specs.model_machine.specs.Aes.{aes_encipher, aes_decipher, aes_signature}
+use Rattle.law_explore.specs.model_device.specs.Image.{targets_1, targets_2, pairs}
+use Rattle.law_explore.specs.model_device.specs.Card.{blocks_from, apps_of}
+use Rattle.law_explore.specs.model_device.specs.Layout.{layout, step_of, bad_block, bad_record}
+use Rattle.law_explore.specs.model_machine.specs.Frame.{bytes_at, write_effect, too_many}
+use Rattle.law_explore.specs.model_machine.specs.Primitives.{later_causes, prim_effect}
+use Rattle.law_explore.specs.model_machine.specs.Row.{causes, effect, row}
+use Rattle.law_explore.specs.model_machine.specs.Chain.{turn_of_chain, run_of_chain}
+use Rattle.law_explore.specs.model_text.specs.TurnText.{turn_line}
+use Rattle.law_explore.specs.model_card.specs.Manager.{manage}
+use Rattle.law_explore.specs.model_card.specs.Commands.{command}
+use Rattle.law_explore.specs.model_play.specs.Play.{send, play_at_power, step, plays, moves_of, steady_failures}
 use Rattle.law_explore.specs.Matching.{fits}
 use Rattle.law_explore.specs.Rules.{Exploration, ExplorationFault, exploration_read}
-use Rattle.model_play.specs.DeckGrammar.{DeckLine, deck_read}
+use Rattle.law_explore.specs.model_play.specs.DeckGrammar.{DeckLine, deck_read}
 use Rattle.law_explore.specs.Search.{Statement, most_states}
 use Rattle.law_explore_text.specs.Report.{statements_text, text_within}
 

@@ -1,6 +1,6 @@
 -- The text that the search through all states writes.
 use Rattle.std.specs.Prelude.{ℕ, ◌+◌, Bool, true, false, List, [], ◌∷◌, ◌++◌, length, reverse, codes, decimal}
-use Rattle.model_play.specs.Play.{State}
+use Rattle.law_explore.specs.model_play.specs.Play.{State}
 use Rattle.law_explore.specs.Rules.{OnRule, Exploration}
 use Rattle.law_explore.specs.States.{play_of_deck}
 use Rattle.law_explore.specs.Search.{Ending, All, AtDepth, TooMany, Broken, Search, Tally, Statement, statements_to, most_states, search_of}

@@ -2,7 +2,7 @@
 
 // Worked rows: what is refused of rules, and in which order.
 ghost use Rattle.std.specs.Prelude.{◌≡◌, ◌++◌, [], codes, Ok, Err};
-ghost use Rattle.model_play.specs.declared.deck.DeckCause.TheVariants.{
+ghost use Rattle.law_explore.specs.model_play.specs.declared.deck.DeckCause.TheVariants.{
   BadHex,
   BadLine,
   BadName,

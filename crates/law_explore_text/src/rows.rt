@@ -2,8 +2,8 @@
 
 // Worked rows: what small decks with their rules come to.
 ghost use Rattle.std.specs.Prelude.{◌≡◌, ◌++◌, ◌∷◌, [], codes, Ok};
-ghost use Rattle.model_device.specs.Image.{opening, Two};
-ghost use Rattle.model_play.specs.DeckGrammar as line;
+ghost use Rattle.law_explore.specs.model_device.specs.Image.{opening, Two};
+ghost use Rattle.law_explore.specs.model_play.specs.DeckGrammar as line;
 ghost use Rattle.law_explore.specs.Tries.{ones};
 ghost use Rattle.law_explore.specs.Search.{cut_statement, idle_statement, power_statement};
 ghost use Rattle.law_explore_text.specs.Computed.{explored_deck, explored_within, statements_read};

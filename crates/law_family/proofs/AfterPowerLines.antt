@@ -1,15 +1,15 @@
 -- Every line of a play after its first power line keeps the relation: a case for each kind of line.
 use Rattle.std.specs.Prelude.{◌≡◌, ℕ, ◌-◌, ◌≤◌, Bool, true, false, cond, ◌&&◌, nat_le, List, [], ◌∷◌, Option, Some, None}
 use Rattle.std.proofs.Common.{refl, ap, sym, subst, ◌∙◌, arith}
-use Rattle.model_device.specs.Bytes.{has_name, lookup}
-use Rattle.model_device.specs.Image.{Journal, One}
-use Rattle.model_device.specs.Stopped.{stands}
-use Rattle.model_device.specs.Card.{App, Card}
-use Rattle.model_card.specs.Items.{moves, StopAt}
-use Rattle.model_card.specs.Manager.{SessionState, route}
+use Rattle.model_play.specs.model_device.specs.Bytes.{has_name, lookup}
+use Rattle.model_play.specs.model_device.specs.Image.{Journal, One}
+use Rattle.model_play.specs.model_device.specs.Stopped.{stands}
+use Rattle.model_play.specs.model_device.specs.Card.{App, Card}
+use Rattle.model_play.specs.model_card.specs.Items.{moves, StopAt}
+use Rattle.model_play.specs.model_card.specs.Manager.{SessionState, route}
 use Rattle.model_play.specs.Play.{Armed, Unarmed, Live, Running, Unpowered, Muted, Warm, State, AfterPower, LineResult, NoCard, Silenced, Step, select_bytes, delete_bytes, load_commands, send, hit_of, FailedWrite, MayHit, moves_of, step, after_power_step, quiet, power_step, power_after, stopped_power, power_live, power_moves, without_card, static_of}
-use Rattle.model_device.specs.PowerUp.{Base, OnCard, AtFault, base_after_migration}
-use Rattle.model_card.specs.Commands.{command}
+use Rattle.model_play.specs.model_device.specs.PowerUp.{Base, OnCard, AtFault, base_after_migration}
+use Rattle.model_play.specs.model_card.specs.Commands.{command}
 use Rattle.model_play.specs.Family.{ClosedPairs, routes_in, command_of, is_own, is_own_command, live_in, is_running}
 use Rattle.model_play.specs.Given.{Event, Dumps, Leaves, apps_on, leave_event_if, line_events, dump_events, is_done_reply, is_foreign_select}
 use Rattle.model_play.specs.Solo.{Solo, Heard, silent, hears, hears_all}
@@ -22,7 +22,7 @@ use Rattle.law_family.proofs.Stops.{FailsWithin}
 use Rattle.law_family.proofs.OtherCommand.{aside_other, command_aside, send_aside}
 use Rattle.law_family.proofs.LoadCommands.{load_managers, delete_manager}
 use Rattle.law_family.proofs.Lines.{stopped_runs, no_selection, running, command_keeps, other_keeps}
-use Rattle.model_device.proofs.BoolLemmas.{and_first}
+use Rattle.model_play.specs.model_device.proofs.BoolLemmas.{and_first}
 use Rattle.model_play.proofs.LineKinds.{past_power}
 
 -- ---- lines that change nothing that is related

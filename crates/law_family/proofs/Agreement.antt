@@ -1,11 +1,11 @@
 -- Two maps that agree on one side of a family, and that changes keep the agreement.
 use Rattle.std.specs.Prelude.{◌≡◌, ℕ, Bool, true, false, not, List, [], ◌∷◌, bytes_eq, Option, Some, None}
 use Rattle.std.proofs.Common.{refl, ap, sym, subst, ◌∙◌}
-use Rattle.model_device.specs.Bytes.{has_name, lookup, insert, remove}
-use Rattle.model_device.specs.Card.{App, app_at_place}
-use Rattle.model_machine.specs.Chain.{with_pieces, changed_app, map_changed}
-use Rattle.model_card.specs.Items.{Change, Fixed, Created, Deleted, Item, Plain, Atomic, apps_after_change, apps_after_items}
-use Rattle.model_device.proofs.MapLemmas.{same_name, apart, lookup_inserted_lem, lookup_beside, lookup_removed_lem, lookup_left}
+use Rattle.model_play.specs.model_device.specs.Bytes.{has_name, lookup, insert, remove}
+use Rattle.model_play.specs.model_device.specs.Card.{App, app_at_place}
+use Rattle.model_play.specs.model_machine.specs.Chain.{with_pieces, changed_app, map_changed}
+use Rattle.model_play.specs.model_card.specs.Items.{Change, Fixed, Created, Deleted, Item, Plain, Atomic, apps_after_change, apps_after_items}
+use Rattle.model_play.specs.model_device.proofs.MapLemmas.{same_name, apart, lookup_inserted_lem, lookup_beside, lookup_removed_lem, lookup_left}
 
 -- an application without its place, if there is one
 abbrev pub bare : Option App → Option App

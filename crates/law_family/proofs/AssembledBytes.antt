@@ -5,17 +5,17 @@ use Rattle.std.specs.List.{AllByRecursion}
 use Rattle.std.specs.Int.{w8, w16, cast_unsigned}
 use Rattle.std.proofs.lemmas.Int.{ints}
 use Rattle.std.proofs.lemmas.Bool.{leb-true}
-use Rattle.model_text.specs.declared.assembler.AsmCause.{AsmCause}
-use Rattle.model_text.specs.declared.assembler.AsmCause.TheVariants.{UnknownWord, BadOperands, BadNumber, OutOfRange, LabelTwice, TooLong, UnknownLabel, FarBranch}
-use Rattle.model_machine.specs.declared.instruction.Ins.{Ins}
-use Rattle.model_device.specs.Bytes.{AreBytes, bytes2, zeros, lookup}
-use Rattle.model_text.specs.Text.{◌>>=◌, ok_as, err_as, only_if, first_cut, is_blank, is_empty, trim, pieces}
-use Rattle.model_machine.specs.Code.{spell, target, offset}
-use Rattle.model_text.specs.Listing.{condition_names, register_names}
-use Rattle.model_text.specs.Assembly.{fits_signed, number_operand, byte, word, signed_operand, natural, signed_number, place_among, condition, offset_and_end, register_and_rest, address, both, all_bytes, CodeItem, Nothing, Raw, Plain, ToPlace, ToDistance, WordForm, Bare, OfByte, OfBytes, OfWord, OfWords, RawByte, ByDistance, ByPlace, Primitive, Addressed, AddressedByte, AddressedWord, words, Given, label_or_given, is_label, by_distance, by_place, primitive, item_of_word, operands, word_and_operands, Line, label_and_rest, line_read, size, Placed, Laid, is_new, with_label, line_laid, laid_lines, bytes_of_item, joined_code, assembled_lines}
-use Rattle.model_device.proofs.ImageLemmas.{all_append}
+use Rattle.model_play.specs.model_text.specs.declared.assembler.AsmCause.{AsmCause}
+use Rattle.model_play.specs.model_text.specs.declared.assembler.AsmCause.TheVariants.{UnknownWord, BadOperands, BadNumber, OutOfRange, LabelTwice, TooLong, UnknownLabel, FarBranch}
+use Rattle.model_play.specs.model_machine.specs.declared.instruction.Ins.{Ins}
+use Rattle.model_play.specs.model_device.specs.Bytes.{AreBytes, bytes2, zeros, lookup}
+use Rattle.model_play.specs.model_text.specs.Text.{◌>>=◌, ok_as, err_as, only_if, first_cut, is_blank, is_empty, trim, pieces}
+use Rattle.model_play.specs.model_machine.specs.Code.{spell, target, offset}
+use Rattle.model_play.specs.model_text.specs.Listing.{condition_names, register_names}
+use Rattle.model_play.specs.model_text.specs.Assembly.{fits_signed, number_operand, byte, word, signed_operand, natural, signed_number, place_among, condition, offset_and_end, register_and_rest, address, both, all_bytes, CodeItem, Nothing, Raw, Plain, ToPlace, ToDistance, WordForm, Bare, OfByte, OfBytes, OfWord, OfWords, RawByte, ByDistance, ByPlace, Primitive, Addressed, AddressedByte, AddressedWord, words, Given, label_or_given, is_label, by_distance, by_place, primitive, item_of_word, operands, word_and_operands, Line, label_and_rest, line_read, size, Placed, Laid, is_new, with_label, line_laid, laid_lines, bytes_of_item, joined_code, assembled_lines}
+use Rattle.model_play.specs.model_device.proofs.ImageLemmas.{all_append}
 use Rattle.law_family.proofs.CardFacts.{all_take}
-use Rattle.model_device.proofs.ListLemmas.{pair_bytes}
+use Rattle.model_play.specs.model_device.proofs.ListLemmas.{pair_bytes}
 
 -- ---- results in turn
 

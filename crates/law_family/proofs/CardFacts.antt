@@ -5,24 +5,24 @@ use Rattle.std.specs.Prelude.{⊤, ◌==◌, ◌&&◌, nat_lt, nat_le, bytes_eq,
 use Rattle.std.specs.List.{AllByRecursion, concat}
 use Rattle.std.proofs.lemmas.Bool.{and_parts, leb-true, ltb-true}
 use Rattle.std.proofs.lemmas.List.{length-take}
-use Rattle.model_device.specs.Bytes.{AreBytes, lookup, insert, remove, up, be2, zeros, has_name, AscendByName}
-use Rattle.model_machine.specs.Code.{DecodesTo}
-use Rattle.model_device.specs.Device.{IsImage}
-use Rattle.model_device.specs.Image.{Two, look, after}
-use Rattle.model_device.specs.Stopped.{cost, stands}
-use Rattle.model_device.specs.Card.{App, Block, words_of_lengths, record_at, name_in, name_at, app_at, apps_of, blocks, cells, section, words_after, means}
-use Rattle.model_device.specs.Layout.{is_record, bad_record, fault}
-use Rattle.model_machine.specs.Chain.{code_in, with_pieces, changed_app}
-use Rattle.model_card.specs.Items.{Change, Fixed, Created, Deleted, Item, Plain, Atomic, apps_after_change, apps_after_items, Stopped, at_stop, in_flight, with_item}
-use Rattle.model_device.proofs.ImageLemmas.{all_append}
-use Rattle.model_device.proofs.ImageBytes.{image_settled}
+use Rattle.model_play.specs.model_device.specs.Bytes.{AreBytes, lookup, insert, remove, up, be2, zeros, has_name, AscendByName}
+use Rattle.model_play.specs.model_machine.specs.Code.{DecodesTo}
+use Rattle.model_play.specs.model_device.specs.Device.{IsImage}
+use Rattle.model_play.specs.model_device.specs.Image.{Two, look, after}
+use Rattle.model_play.specs.model_device.specs.Stopped.{cost, stands}
+use Rattle.model_play.specs.model_device.specs.Card.{App, Block, words_of_lengths, record_at, name_in, name_at, app_at, apps_of, blocks, cells, section, words_after, means}
+use Rattle.model_play.specs.model_device.specs.Layout.{is_record, bad_record, fault}
+use Rattle.model_play.specs.model_machine.specs.Chain.{code_in, with_pieces, changed_app}
+use Rattle.model_play.specs.model_card.specs.Items.{Change, Fixed, Created, Deleted, Item, Plain, Atomic, apps_after_change, apps_after_items, Stopped, at_stop, in_flight, with_item}
+use Rattle.model_play.specs.model_device.proofs.ImageLemmas.{all_append}
+use Rattle.model_play.specs.model_device.proofs.ImageBytes.{image_settled}
 use Rattle.mc_isa.proofs.PlaceLemmas.{decoded_stands}
 use Rattle.law_machine.specs.FewRuns.{AreCoded}
 use Rattle.law_machine.proofs.AppSizes.{Limited, are_limited}
 use Rattle.law_machine.proofs.FewHeaders.{insert_length, remove_length}
 use Rattle.law_family.proofs.PlaySizes.{good_records}
-use Rattle.model_device.proofs.MapLemmas.{each_found, each_inserted, each_removed, ascending_inserted, ascending_removed, length_again}
-use Rattle.model_device.proofs.LayoutLemmas.{sound_after}
+use Rattle.model_play.specs.model_device.proofs.MapLemmas.{each_found, each_inserted, each_removed, ascending_inserted, ascending_removed, length_again}
+use Rattle.model_play.specs.model_device.proofs.LayoutLemmas.{sound_after}
 
 -- ---- lists of bytes
 

@@ -1,16 +1,16 @@
 -- A creation is the last item of its line, so if it is durable the map has it.
 use Rattle.std.specs.Prelude.{◌≡◌, ℕ, ◌-◌, Bool, true, false, cond, nat_le, ◌==◌, List, [], ◌∷◌, ◌++◌, length, Option, Some, None, ⊤}
 use Rattle.std.proofs.Common.{refl, ap, sym, subst, ◌∙◌}
-use Rattle.model_device.specs.Bytes.{insert, remove}
-use Rattle.model_device.specs.Image.{Two}
-use Rattle.model_device.specs.Stopped.{cost, stands}
-use Rattle.model_machine.specs.Apdu.{ApduParts}
-use Rattle.model_device.specs.Card.{App, Card}
-use Rattle.model_machine.specs.Chain.{Write, map_changed, run}
-use Rattle.model_card.specs.Items.{Change, Fixed, Created, Deleted, Item, Plain, Atomic, apps_after_items, Stopped, with_item, in_flight, at_stop, Site, BankItem, Piece, Blank, Note, Commit, Enter, Remove, write_items}
-use Rattle.model_card.specs.Items as items
-use Rattle.model_card.specs.Manager.{Selected, SessionState, Route, WrongLength, WrongClass, ToSelect, ToManager, ToApplication, route, select, p1p2, fresh, word_parts, manage, room_on}
-use Rattle.model_card.specs.Commands.{Command, atomic_of, manager_command, application_command, by_route, command, refusal}
+use Rattle.model_play.specs.model_device.specs.Bytes.{insert, remove}
+use Rattle.model_play.specs.model_device.specs.Image.{Two}
+use Rattle.model_play.specs.model_device.specs.Stopped.{cost, stands}
+use Rattle.model_play.specs.model_machine.specs.Apdu.{ApduParts}
+use Rattle.model_play.specs.model_device.specs.Card.{App, Card}
+use Rattle.model_play.specs.model_machine.specs.Chain.{Write, map_changed, run}
+use Rattle.model_play.specs.model_card.specs.Items.{Change, Fixed, Created, Deleted, Item, Plain, Atomic, apps_after_items, Stopped, with_item, in_flight, at_stop, Site, BankItem, Piece, Blank, Note, Commit, Enter, Remove, write_items}
+use Rattle.model_play.specs.model_card.specs.Items as items
+use Rattle.model_play.specs.model_card.specs.Manager.{Selected, SessionState, Route, WrongLength, WrongClass, ToSelect, ToManager, ToApplication, route, select, p1p2, fresh, word_parts, manage, room_on}
+use Rattle.model_play.specs.model_card.specs.Commands.{Command, atomic_of, manager_command, application_command, by_route, command, refusal}
 use Rattle.law_manager.specs.Orders.{Order, order_of}
 use Rattle.law_manager.specs.OnCard.{IsCommand, IsSelect, plains, blank_words}
 use Rattle.law_manager.specs.OnCard as made
@@ -20,7 +20,7 @@ use Rattle.model_play.specs.Play.{is_done, send, command_with_rest}
 use Rattle.model_play.specs.Laws.{Sent, creation_of_command, made_of, creations_among, without_places, AllAreIn}
 use Rattle.law_family.proofs.LoadCommands.{IsFiller, AreFillers}
 use Rattle.law_family.proofs.FreshCommands.{load_sent, made_at, command_fresh}
-use Rattle.model_device.proofs.MapLemmas.{lookup_inserted_lem}
+use Rattle.model_play.specs.model_device.proofs.MapLemmas.{lookup_inserted_lem}
 
 -- ---- a creation is the last item of its line
 

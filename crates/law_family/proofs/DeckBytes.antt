@@ -7,23 +7,23 @@ use Rattle.std.proofs.Math.Seq.{take-length}
 use Rattle.model_play.specs.declared.deck.DeckCause.{DeckCause}
 use Rattle.model_play.specs.declared.deck.DeckCause.TheVariants.{BadLine, BadHex, OutOfRange, UnknownName, LateLine}
 use Rattle.model_play.specs.declared.deck.DeckCause.TheVariants as causes
-use Rattle.model_card.specs.declared.unit.UnitRefusal.TheVariants.{NoCode, TooLarge}
-use Rattle.model_device.specs.Bytes.{AreBytes, lookup}
-use Rattle.model_text.specs.Text.{◌>>=◌, ok_as, err_as, only_if, begins, lines, with_numbers, fields, is_within, is_digit, hex_value, before_values, hex_values, bytes_of_digits, hex_bytes}
-use Rattle.model_card.specs.Units.{UnitParts, unit_read}
-use Rattle.model_text.specs.Assembly.{assembled_lines}
+use Rattle.model_play.specs.model_card.specs.declared.unit.UnitRefusal.TheVariants.{NoCode, TooLarge}
+use Rattle.model_play.specs.model_device.specs.Bytes.{AreBytes, lookup}
+use Rattle.model_play.specs.model_text.specs.Text.{◌>>=◌, ok_as, err_as, only_if, begins, lines, with_numbers, fields, is_within, is_digit, hex_value, before_values, hex_values, bytes_of_digits, hex_bytes}
+use Rattle.model_play.specs.model_card.specs.Units.{UnitParts, unit_read}
+use Rattle.model_play.specs.model_text.specs.Assembly.{assembled_lines}
 use Rattle.model_play.specs.DeckGrammar.{DeckLine, hex_field, bytes_field, aid_field, fill_field, name_field, number_field, Context, Section, Stated, Says, Opens, Word, FormatWord, PowerWord, UnitWord, AppWord, LoadWord, SelectWord, DeleteWord, DumpWord, ApduWord, BudgetWord, CutWord, FailWord, PokeWord, deck_words, new_name, early, with_unit, statement_of, made_unit, unit_within, is_data, is_end, data_hex, data_of_line, section_data, section_program, section_unit, Mode, Between, Within, LineTurn, turn_of, between, within, turn_in, turn_at, lines_at_end, deck_lines, deck_read}
 use Rattle.model_play.specs.DeckGrammar as line
 use Rattle.model_play.specs.Play.{FailedWrite, State, step, plays, first_failure, start}
 use Rattle.model_play.specs.ReadyAgain.{AllFitJournal, IsLine, AreLines}
-use Rattle.model_device.proofs.ImageLemmas.{all_append}
+use Rattle.model_play.specs.model_device.proofs.ImageLemmas.{all_append}
 use Rattle.law_family.specs.ReadDecks.{ReadLinesLaw, ReadDecksLaw}
 use Rattle.law_family.proofs.AssembledBytes.{bind_ok, as_ok, err_ok, only_ok, cond_ok, any_ok, assembled_ok}
 use Rattle.law_family.proofs.UnitBytes.{UnitBytes, unit_ok}
 use Rattle.model_play.proofs.PlayLemmas.{step_is}
 use Rattle.law_family.proofs.FewLines.{few_words}
 use Rattle.law_family.proofs.ReadyLines.{ready_again}
-use Rattle.model_device.proofs.MapLemmas.{each_found}
+use Rattle.model_play.specs.model_device.proofs.MapLemmas.{each_found}
 
 -- ---- fields
 

@@ -2,14 +2,14 @@
 use Rattle.std.specs.Prelude.{◌≡◌, ℕ, zero, suc, ◌+◌, ◌-◌, ◌<◌, ◌≤◌, Bool, true, false, cond, ◌==◌, nat_le, List, [], ◌∷◌, ◌++◌, refl, Result, Ok, Err}
 use Rattle.std.proofs.Common.{arith, ap, sym, ◌∙◌}
 use Rattle.std.proofs.lemmas.Bool.Decides.{nat_tests}
-use Rattle.model_machine.specs.declared.instruction.Ins.{Ins}
-use Rattle.model_machine.specs.declared.instruction.DecodeFault.{DecodeFault}
-use Rattle.model_machine.specs.declared.instruction.DecodeFault.TheVariants.{Undefined, Past}
-use Rattle.model_device.specs.Image.{Two}
-use Rattle.model_device.specs.Stopped.{cost}
-use Rattle.model_card.specs.Items.{Item, Plain, Atomic, moves, at_stop, with_item, Stopped}
-use Rattle.model_machine.specs.Row.{RowEnd, Abends, Does}
-use Rattle.model_machine.specs.Chain.{Chain, Ran, Acted, Follows, Continues, Ends, turn_of_chain, turn_of_fetch, row_turn, run_of_chain, run_after_turn}
+use Rattle.model_play.specs.model_machine.specs.declared.instruction.Ins.{Ins}
+use Rattle.model_play.specs.model_machine.specs.declared.instruction.DecodeFault.{DecodeFault}
+use Rattle.model_play.specs.model_machine.specs.declared.instruction.DecodeFault.TheVariants.{Undefined, Past}
+use Rattle.model_play.specs.model_device.specs.Image.{Two}
+use Rattle.model_play.specs.model_device.specs.Stopped.{cost}
+use Rattle.model_play.specs.model_card.specs.Items.{Item, Plain, Atomic, moves, at_stop, with_item, Stopped}
+use Rattle.model_play.specs.model_machine.specs.Row.{RowEnd, Abends, Does}
+use Rattle.model_play.specs.model_machine.specs.Chain.{Chain, Ran, Acted, Follows, Continues, Ends, turn_of_chain, turn_of_fetch, row_turn, run_of_chain, run_after_turn}
 use Rattle.law_family.specs.Split.{with_whole}
 
 passed : (b : Bool) (s t u : Stopped) → b ≡ false → t ≡ u → cond b s t ≡ u

@@ -1,14 +1,14 @@
 -- What holds of every run that begins well holds of every run of a play.
 use Rattle.std.proofs.Common.{ℕ, Bool, true, false, List, [], ◌∷◌, Option, Some, None}
-use Rattle.model_machine.specs.Apdu.{ApduParts}
-use Rattle.model_device.specs.Card.{App, Card}
-use Rattle.model_machine.specs.Chain.{Chain}
-use Rattle.model_card.specs.Items.{card_done}
-use Rattle.model_card.specs.Manager.{Selected, SessionState, Route, WrongLength, WrongClass, ToSelect, ToManager, ToApplication, route}
+use Rattle.model_play.specs.model_machine.specs.Apdu.{ApduParts}
+use Rattle.model_play.specs.model_device.specs.Card.{App, Card}
+use Rattle.model_play.specs.model_machine.specs.Chain.{Chain}
+use Rattle.model_play.specs.model_card.specs.Items.{card_done}
+use Rattle.model_play.specs.model_card.specs.Manager.{Selected, SessionState, Route, WrongLength, WrongClass, ToSelect, ToManager, ToApplication, route}
 use Rattle.model_play.specs.DeckGrammar.{DeckLine}
 use Rattle.model_play.specs.Play.{FailedWrite, Live, Running, Unpowered, Muted, State, BeforePower, AfterPower, Step, is_done, plays, start}
-use Rattle.model_device.specs.PowerUp.{Base, OnCard, AtFault}
-use Rattle.model_card.specs.Commands.{command}
+use Rattle.model_play.specs.model_device.specs.PowerUp.{Base, OnCard, AtFault}
+use Rattle.model_play.specs.model_card.specs.Commands.{command}
 use Rattle.model_play.specs.Laws.{bytes_of}
 use Rattle.law_family.specs.Begins.{PassedWell, RoutedWell, BehindDone, SentWell, TakenWell, LineWell, BeginWell, OnPassed, OnRouted, OnSent, OnTaken, OnLine, OnEachRun, HoldsWherever}
 use Rattle.law_family.proofs.PlaySizes.{begins_law}

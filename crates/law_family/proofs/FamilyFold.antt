@@ -1,9 +1,9 @@
 -- The law of isolation for a family, by induction on the lines of a play.
 use Rattle.std.specs.Prelude.{◌≡◌, ◌⊎◌, ℕ, zero, suc, Bool, true, false, cond, ◌&&◌, List, [], ◌∷◌, ◌++◌, take, bytes_eq, Option, Some, None, ⊤}
 use Rattle.std.proofs.Common.{refl, ap, sym, subst, ◌∙◌, inl, inr}
-use Rattle.model_device.specs.Bytes.{has_name, lookup}
-use Rattle.model_device.specs.Card.{App, app_at_place}
-use Rattle.model_card.specs.Items.{Item, StopAt}
+use Rattle.model_play.specs.model_device.specs.Bytes.{has_name, lookup}
+use Rattle.model_play.specs.model_device.specs.Card.{App, app_at_place}
+use Rattle.model_play.specs.model_card.specs.Items.{Item, StopAt}
 use Rattle.model_play.specs.Play.{Armed, State, BeforePower, AfterPower, LineResult, Step, FailedWrite, MayHit, Possible, step, before_power_step, hit_of, power_moves, power_after, play_at_power, plays, last_state, start}
 use Rattle.model_play.specs.Family.{ClosedPairs, Closed, is_own}
 use Rattle.model_play.specs.Given.{Event, own_apps, apps_in, is_power, first_apps, events_of, events, given_of_play, dump_events}
@@ -14,8 +14,8 @@ use Rattle.model_play.specs.DeckGrammar as line
 use Rattle.law_family.proofs.Agreement.{bare, MapsAgree}
 use Rattle.law_family.proofs.Sim.{Simulates, LineKeepsSimulation, hears_all_append, hears_none, rest_alike}
 use Rattle.law_family.proofs.AfterPowerLines.{after_power_kept, SameAfterPower, powered, power_keeps}
-use Rattle.model_device.proofs.MapLemmas.{same_name}
-use Rattle.model_device.proofs.BoolLemmas.{and_false}
+use Rattle.model_play.specs.model_device.proofs.MapLemmas.{same_name}
+use Rattle.model_play.specs.model_device.proofs.BoolLemmas.{and_false}
 
 -- the lone card hears of these lines what the play has of them, and the maps agree after them
 record HearsAlike (K : List (List ℕ)) (t : Solo) (s : State) (us : List Step) : Type 0 where

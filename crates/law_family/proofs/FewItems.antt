@@ -2,18 +2,18 @@
 use Rattle.std.proofs.Common.{◌≡◌, ℕ, ◌+◌, ◌*◌, ◌≤◌, ◌<◌, Bool, true, false, cond, List, [], ◌∷◌, take, drop, length, Option, Some, None, Ok, Err, refl, sym, subst, ◌∙◌, arith}
 use Rattle.std.specs.Prelude.{⊤, ◌==◌, ◌&&◌, nat_le, option_map, option_and_then}
 use Rattle.std.specs.List.{AllByRecursion}
-use Rattle.model_card.specs.declared.card.Part.{Part}
-use Rattle.model_card.specs.declared.card.Part.TheVariants as part
-use Rattle.model_card.specs.declared.unit.AidFault.TheVariants.{AidLength}
-use Rattle.model_device.specs.Bytes.{AreBytes, insert, remove}
-use Rattle.model_machine.specs.Apdu.{ApduParts, Rest, rest_read, short_rest, extended_rest, extended_body, apdu_read}
-use Rattle.model_card.specs.Units.{name_of, checked_name, template_of, name_among}
-use Rattle.model_device.specs.Card.{App, Card}
-use Rattle.model_device.specs.Layout.{step_of}
-use Rattle.model_machine.specs.Chain.{Write, no_app, run}
-use Rattle.model_card.specs.Items.{Fixed, Created, Item, apps_after_change, apps_after_items, card_done, write_items}
-use Rattle.model_card.specs.Manager.{Selected, Open, SessionState, Route, WrongLength, WrongClass, ToSelect, ToManager, ToApplication, route, route_of_parts, p1p2, select, word_parts, with_got, Got, fresh, manage, room_on}
-use Rattle.model_card.specs.Commands.{Command, atomic_of, manager_command, application_command, by_route, command}
+use Rattle.model_play.specs.model_card.specs.declared.card.Part.{Part}
+use Rattle.model_play.specs.model_card.specs.declared.card.Part.TheVariants as part
+use Rattle.model_play.specs.model_card.specs.declared.unit.AidFault.TheVariants.{AidLength}
+use Rattle.model_play.specs.model_device.specs.Bytes.{AreBytes, insert, remove}
+use Rattle.model_play.specs.model_machine.specs.Apdu.{ApduParts, Rest, rest_read, short_rest, extended_rest, extended_body, apdu_read}
+use Rattle.model_play.specs.model_card.specs.Units.{name_of, checked_name, template_of, name_among}
+use Rattle.model_play.specs.model_device.specs.Card.{App, Card}
+use Rattle.model_play.specs.model_device.specs.Layout.{step_of}
+use Rattle.model_play.specs.model_machine.specs.Chain.{Write, no_app, run}
+use Rattle.model_play.specs.model_card.specs.Items.{Fixed, Created, Item, apps_after_change, apps_after_items, card_done, write_items}
+use Rattle.model_play.specs.model_card.specs.Manager.{Selected, Open, SessionState, Route, WrongLength, WrongClass, ToSelect, ToManager, ToApplication, route, route_of_parts, p1p2, select, word_parts, with_got, Got, fresh, manage, room_on}
+use Rattle.model_play.specs.model_card.specs.Commands.{Command, atomic_of, manager_command, application_command, by_route, command}
 use Rattle.law_manager.specs.Orders.{Order, order_of}
 use Rattle.law_manager.specs.Answers.{IsQuiet}
 use Rattle.law_manager.specs.Answers as quiet
@@ -23,13 +23,13 @@ use Rattle.law_manager.proofs.OnCard.{command_made, selects_law}
 use Rattle.law_manager.proofs.Plains.{plains_are, plains_done}
 use Rattle.model_play.specs.Play.{is_done, command_with_rest, send}
 use Rattle.model_play.specs.ReadyAgain.{FitsJournal}
-use Rattle.model_device.proofs.ImageLemmas.{all_append}
+use Rattle.model_play.specs.model_device.proofs.ImageLemmas.{all_append}
 use Rattle.law_machine.proofs.AppSizes.{Limited, limited_done}
 use Rattle.law_family.proofs.CardFacts.{all_take, AreOnCard, are_coded, name_short, ItemsStand, fixed_again, done_stands, stand_append}
 use Rattle.law_machine.proofs.FewHeaders.{few_headers_law}
 use Rattle.law_machine.proofs.FewRuns.{few_runs_law}
 use Rattle.law_family.proofs.PlaySizes.{SessionStateFits, CommandFits, command_fits}
-use Rattle.model_card.proofs.ItemLemmas.{done_append}
+use Rattle.model_play.specs.model_card.proofs.ItemLemmas.{done_append}
 
 -- ---- the bytes of a command
 

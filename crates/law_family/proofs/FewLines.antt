@@ -2,33 +2,33 @@
 use Rattle.std.proofs.Common.{◌≡◌, ℕ, zero, suc, ◌+◌, ◌-◌, ◌<◌, Bool, true, false, cond, List, [], ◌∷◌, ◌++◌, take, drop, length, Option, Some, None, refl, subst, arith}
 use Rattle.std.specs.Prelude.{⊤, ◌==◌, nat_le, slice_set}
 use Rattle.std.specs.List.{AllByRecursion}
-use Rattle.model_device.specs.declared.cause.Cause.{Cause}
-use Rattle.model_device.specs.declared.device.Stop.{Stop}
-use Rattle.model_device.specs.declared.device.Stop.TheVariants as stop
-use Rattle.model_device.specs.Bytes.{AreBytes, bytes2, zeros}
-use Rattle.model_card.specs.Units.{UnitParts}
-use Rattle.model_device.specs.Device.{IsImage}
-use Rattle.model_device.specs.Image.{One, shut_word}
-use Rattle.model_device.specs.Stopped.{stands}
-use Rattle.model_device.specs.Card.{App, Card, heap_start}
-use Rattle.model_device.specs.Layout.{root, hole_header, fault}
-use Rattle.model_card.specs.Items.{moves, apps_after_items, StopAt, at_stop}
-use Rattle.model_card.specs.Manager.{SessionState}
+use Rattle.model_play.specs.model_device.specs.declared.cause.Cause.{Cause}
+use Rattle.model_play.specs.model_device.specs.declared.device.Stop.{Stop}
+use Rattle.model_play.specs.model_device.specs.declared.device.Stop.TheVariants as stop
+use Rattle.model_play.specs.model_device.specs.Bytes.{AreBytes, bytes2, zeros}
+use Rattle.model_play.specs.model_card.specs.Units.{UnitParts}
+use Rattle.model_play.specs.model_device.specs.Device.{IsImage}
+use Rattle.model_play.specs.model_device.specs.Image.{One, shut_word}
+use Rattle.model_play.specs.model_device.specs.Stopped.{stands}
+use Rattle.model_play.specs.model_device.specs.Card.{App, Card, heap_start}
+use Rattle.model_play.specs.model_device.specs.Layout.{root, hole_header, fault}
+use Rattle.model_play.specs.model_card.specs.Items.{moves, apps_after_items, StopAt, at_stop}
+use Rattle.model_play.specs.model_card.specs.Manager.{SessionState}
 use Rattle.model_play.specs.DeckGrammar.{DeckLine}
 use Rattle.model_play.specs.DeckGrammar as line
 use Rattle.model_play.specs.Play.{Armed, Live, Running, Unpowered, Muted, Warm, State, BeforePower, AfterPower, Step, select_bytes, delete_bytes, piece_commands, section_commands, load_commands, line_command, hit_of, FailedWrite, live_after, power_live, power_after, stopped_power, line_after, step, play_at_power, plays, first_failure, start, formatted_image}
-use Rattle.model_device.specs.PowerUp.{Base, OnCard, AtFault, base_after_migration, base_of}
-use Rattle.model_card.specs.Commands.{Command}
+use Rattle.model_play.specs.model_device.specs.PowerUp.{Base, OnCard, AtFault, base_after_migration, base_of}
+use Rattle.model_play.specs.model_card.specs.Commands.{Command}
 use Rattle.model_play.specs.ReadyAgain.{FitsJournal, AllFitJournal, IsLine, AreLines}
-use Rattle.model_device.proofs.ImageLemmas.{all_append}
-use Rattle.model_device.proofs.LookLemmas.{IsFull}
+use Rattle.model_play.specs.model_device.proofs.ImageLemmas.{all_append}
+use Rattle.model_play.specs.model_device.proofs.LookLemmas.{IsFull}
 use Rattle.model_play.proofs.PlayLemmas.{step_is}
-use Rattle.model_device.proofs.ImageBytes.{image_set, shut_full}
+use Rattle.model_play.specs.model_device.proofs.ImageBytes.{image_set, shut_full}
 use Rattle.law_family.proofs.CardFacts.{all_take, all_drop, AreOnCard, done_stands, whole_stand, means_on_card}
 use Rattle.law_family.proofs.FewItems.{IsSent, SessionStateStands, CommandStands, command_stands, send_stands}
 use Rattle.law_machine.proofs.AppSizes.{Limited}
 use Rattle.law_family.proofs.PlaySizes.{SessionStateFits, StateFits, step_fits}
-use Rattle.model_device.proofs.ListLemmas.{pair_bytes}
+use Rattle.model_play.specs.model_device.proofs.ListLemmas.{pair_bytes}
 use Rattle.model_play.proofs.LineKinds.{past_power, image_after, StepKind, Early, Quiet, Powers, Sends, by_kind}
 
 -- ---- the commands of a line

@@ -3,20 +3,20 @@ use Rattle.std.proofs.Common.{◌≡◌, ℕ, zero, suc, ◌+◌, ◌-◌, ◌/�
 use Rattle.std.specs.Prelude.{ℤ, pos, negsuc, nat_lt, ◌==◌, codes, decimal, slice_index_or}
 use Rattle.std.specs.Fmt.{signed_decimal, digits, digits_onto, digit_glyph}
 use Rattle.std.proofs.lemmas.Bool.{and_from, and_parts, lt-ltb, ne_eqb, cond_both}
-use Rattle.model_device.specs.Bytes.{bytes2}
-use Rattle.model_text.specs.Text.{every}
-use Rattle.model_text.specs.Listing.{hex_digit, hex_word, condition_names, condition_name, register_names, register_name, address_text, arguments_text, byte_line, word_line, words_line, target_line, address_line, operand_line, text_of, hex_text}
-use Rattle.model_device.specs.Words.{cause_text}
-use Rattle.model_machine.specs.Words.{abend_code}
+use Rattle.model_play.specs.model_device.specs.Bytes.{bytes2}
+use Rattle.model_play.specs.model_text.specs.Text.{every}
+use Rattle.model_play.specs.model_text.specs.Listing.{hex_digit, hex_word, condition_names, condition_name, register_names, register_name, address_text, arguments_text, byte_line, word_line, words_line, target_line, address_line, operand_line, text_of, hex_text}
+use Rattle.model_play.specs.model_device.specs.Words.{cause_text}
+use Rattle.model_play.specs.model_machine.specs.Words.{abend_code}
 use Rattle.model_play.specs.Transcript.{outcome_text, static_text, text_of_result}
-use Rattle.model_text.specs.TurnText.{ins_text, bit_text}
-use Rattle.model_machine.specs.Chain.{Outcome, Reply, Abended}
+use Rattle.model_play.specs.model_text.specs.TurnText.{ins_text, bit_text}
+use Rattle.model_play.specs.model_machine.specs.Chain.{Outcome, Reply, Abended}
 use Rattle.model_play.specs.Play.{LineResult, Formatted, Ready, Unusable, OffAt, FailureStop, NoCard, Silenced, Answered, Static, Absent}
-use Rattle.model_device.specs.declared.cause.Cause.{Cause}
-use Rattle.model_device.specs.declared.cause.Cause.TheVariants.{BadJournal, NoRoot, BadBlock, BadRecord, BadChain}
-use Rattle.model_machine.specs.declared.instruction.Ins.{Ins}
-use Rattle.model_machine.specs.declared.instruction.Ins.TheVariants.{Nop, Setsw, Setla, Setswla, Exit, Exitsw, Exitla, Exitswla, Branch, Jump, Call, Pushz, Pushb, Pushw, Popn, Popb, Popw, Prim, Ret, Reti, Reto, Retio, Load, Store, Loadi, Storei, Loada, Index, Setb, Cmpb, Addb, Subb, Setw, Cmpw, Addw, Subw, Clearn, Testn, Incn, Decn, Notn, Cmpn, Addn, Subn, Andn, Orn, Xorn}
-use Rattle.model_text.proofs.TextLemmas.{every_append}
+use Rattle.model_play.specs.model_device.specs.declared.cause.Cause.{Cause}
+use Rattle.model_play.specs.model_device.specs.declared.cause.Cause.TheVariants.{BadJournal, NoRoot, BadBlock, BadRecord, BadChain}
+use Rattle.model_play.specs.model_machine.specs.declared.instruction.Ins.{Ins}
+use Rattle.model_play.specs.model_machine.specs.declared.instruction.Ins.TheVariants.{Nop, Setsw, Setla, Setswla, Exit, Exitsw, Exitla, Exitswla, Branch, Jump, Call, Pushz, Pushb, Pushw, Popn, Popb, Popw, Prim, Ret, Reti, Reto, Retio, Load, Store, Loadi, Storei, Loada, Index, Setb, Cmpb, Addb, Subb, Setw, Cmpw, Addw, Subw, Clearn, Testn, Incn, Decn, Notn, Cmpn, Addn, Subn, Andn, Orn, Xorn}
+use Rattle.model_play.specs.model_text.proofs.TextLemmas.{every_append}
 
 -- a byte other than a line feed, and other than `>`
 abbrev pub unfed : ℕ → Bool

@@ -4,13 +4,13 @@ use Rattle.std.specs.Prelude.{bytes_eq, nat_le, ◌==◌, slice_index, slice_set
 use Rattle.std.proofs.lemmas.Bool.{le-leb, le-ltb, eq-eqb, ne_eqb}
 use Rattle.std.proofs.lemmas.List.{length-set, get_or-set_same, get_or-set_other, get_or_past}
 use Rattle.std.proofs.lemmas.Slice.Eq.{bytes_eq-Decides}
-use Rattle.model_device.specs.Bytes.{be2, zeros, or_else}
-use Rattle.model_device.specs.Image.{One, Two, opening, shut_word, which_of, Closed, look, look_at, word_at, image_after_replay}
-use Rattle.model_device.specs.Card.{Block, word, header, heap_start, blocks_from, blocks, block_and, words_after, apps_of, card_of, means}
-use Rattle.model_device.specs.Layout.{root, hole_header, no_root, bad_block, bad_record, bad_chain, by_cause, words_fault, fault, fault_of}
-use Rattle.model_device.specs.declared.cause.Cause.TheVariants.{NoRoot, BadBlock, BadRecord, BadChain}
+use Rattle.model_play.specs.model_device.specs.Bytes.{be2, zeros, or_else}
+use Rattle.model_play.specs.model_device.specs.Image.{One, Two, opening, shut_word, which_of, Closed, look, look_at, word_at, image_after_replay}
+use Rattle.model_play.specs.model_device.specs.Card.{Block, word, header, heap_start, blocks_from, blocks, block_and, words_after, apps_of, card_of, means}
+use Rattle.model_play.specs.model_device.specs.Layout.{root, hole_header, no_root, bad_block, bad_record, bad_chain, by_cause, words_fault, fault, fault_of}
+use Rattle.model_play.specs.model_device.specs.declared.cause.Cause.TheVariants.{NoRoot, BadBlock, BadRecord, BadChain}
 use Rattle.model_play.specs.Play.{formatted_image}
-use Rattle.model_device.proofs.ListLemmas.{two_bytes}
+use Rattle.model_play.specs.model_device.proofs.ListLemmas.{two_bytes}
 
 -- the words of an empty card of layout 2
 record IsEmptyCard (n : ℕ) (w : List (List ℕ)) : Type 0 where

@@ -3,17 +3,17 @@ use Rattle.std.specs.Prelude.{◌≡◌, ℕ, zero, suc, ◌-◌, Bool, true, fa
 use Rattle.std.proofs.Common.{refl, ap, sym, subst, ◌∙◌}
 use Rattle.std.proofs.lemmas.Bool.{eqb-true, and_parts}
 use Rattle.std.proofs.lemmas.List.{append_assoc, append-nil}
-use Rattle.model_card.specs.declared.card.Part.{Part}
-use Rattle.model_card.specs.declared.card.Part.TheVariants as part
-use Rattle.model_card.specs.declared.unit.AidFault.{AidFault}
-use Rattle.model_device.specs.Bytes.{zeros}
-use Rattle.model_machine.specs.Apdu.{ApduParts}
-use Rattle.model_device.specs.Card.{App, Card, app_at_place}
-use Rattle.model_machine.specs.Chain.{Write, run}
-use Rattle.model_card.specs.Items.{Created, Deleted, Item, Plain, Atomic, Site, BankItem, Piece, Blank, Note, Commit, Enter, Remove, write_items}
-use Rattle.model_card.specs.Items as items
-use Rattle.model_card.specs.Manager.{Selected, Open, SessionState, Route, WrongLength, WrongClass, ToSelect, ToManager, ToApplication, route, p1p2, with_got, select, word_parts, is_complete, fresh, manage, room_on}
-use Rattle.model_card.specs.Commands.{Command, atomic_of, manager_command, application_command, by_route, command, refusal}
+use Rattle.model_play.specs.model_card.specs.declared.card.Part.{Part}
+use Rattle.model_play.specs.model_card.specs.declared.card.Part.TheVariants as part
+use Rattle.model_play.specs.model_card.specs.declared.unit.AidFault.{AidFault}
+use Rattle.model_play.specs.model_device.specs.Bytes.{zeros}
+use Rattle.model_play.specs.model_machine.specs.Apdu.{ApduParts}
+use Rattle.model_play.specs.model_device.specs.Card.{App, Card, app_at_place}
+use Rattle.model_play.specs.model_machine.specs.Chain.{Write, run}
+use Rattle.model_play.specs.model_card.specs.Items.{Created, Deleted, Item, Plain, Atomic, Site, BankItem, Piece, Blank, Note, Commit, Enter, Remove, write_items}
+use Rattle.model_play.specs.model_card.specs.Items as items
+use Rattle.model_play.specs.model_card.specs.Manager.{Selected, Open, SessionState, Route, WrongLength, WrongClass, ToSelect, ToManager, ToApplication, route, p1p2, with_got, select, word_parts, is_complete, fresh, manage, room_on}
+use Rattle.model_play.specs.model_card.specs.Commands.{Command, atomic_of, manager_command, application_command, by_route, command, refusal}
 use Rattle.law_manager.specs.Orders.{Order, order_of, HasIns, ins_of_part}
 use Rattle.law_manager.specs.Answers.{opened_load}
 use Rattle.law_manager.specs.Answers as quiet

@@ -1,15 +1,15 @@
 -- No new application has a stale byte, for every front of a play.
 use Rattle.std.specs.Prelude.{◌≡◌, ℕ, zero, suc, Bool, true, false, nat_le, List, [], ◌∷◌, take, drop, Option, Some, None, ⊤}
 use Rattle.std.proofs.Common.{refl, ap, sym, subst, ◌∙◌, inl}
-use Rattle.model_device.specs.declared.device.Stop.{Stop}
-use Rattle.model_device.specs.declared.device.Stop.TheVariants as stop
-use Rattle.model_device.specs.Image.{Journal}
-use Rattle.model_device.specs.Card.{Card}
-use Rattle.model_card.specs.Items.{Item, moves, StopAt, at_stop}
-use Rattle.model_card.specs.Manager.{SessionState}
+use Rattle.model_play.specs.model_device.specs.declared.device.Stop.{Stop}
+use Rattle.model_play.specs.model_device.specs.declared.device.Stop.TheVariants as stop
+use Rattle.model_play.specs.model_device.specs.Image.{Journal}
+use Rattle.model_play.specs.model_device.specs.Card.{Card}
+use Rattle.model_play.specs.model_card.specs.Items.{Item, moves, StopAt, at_stop}
+use Rattle.model_play.specs.model_card.specs.Manager.{SessionState}
 use Rattle.model_play.specs.Play.{Armed, Live, Running, Unpowered, Muted, Warm, State, BeforePower, AfterPower, Step, command_step, select_bytes, delete_bytes, load_commands, line_command, hit_of, live_after, FailedWrite, step, power_after, stopped_power, power_live, play_at_power, plays, first_failure, start}
-use Rattle.model_device.specs.PowerUp.{Base, OnCard, AtFault}
-use Rattle.model_card.specs.Commands.{Command}
+use Rattle.model_play.specs.model_device.specs.PowerUp.{Base, OnCard, AtFault}
+use Rattle.model_play.specs.model_card.specs.Commands.{Command}
 use Rattle.model_play.specs.Given.{is_power, apps_in}
 use Rattle.model_play.specs.Laws.{Sent, sections_after_commands, creations_of_commands, accepted_commands, bytes_of, accepted_commands_on, accepted_commands_in, kept_sent, creations_among, without_places, AllAreIn, KeepsFresh, NoStaleByte}
 use Rattle.model_play.specs.DeckGrammar.{DeckCommand, DeckLine}

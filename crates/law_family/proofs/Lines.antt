@@ -1,15 +1,15 @@
 -- One line of a play on a running card keeps the relation, and both sides have equal results and work.
 use Rattle.std.specs.Prelude.{◌≡◌, ℕ, Bool, true, false, ◌&&◌, List, [], ◌∷◌, ◌++◌, Option, Some, None}
 use Rattle.std.proofs.Common.{refl, ap, sym, subst, ◌∙◌}
-use Rattle.model_device.specs.declared.device.Stop.{Stop}
-use Rattle.model_device.specs.declared.device.Stop.TheVariants as stop
-use Rattle.model_device.specs.Image.{Journal}
-use Rattle.model_device.specs.Card.{App, Card}
-use Rattle.model_card.specs.Items.{moves, apps_after_items, card_done, StopAt, at_stop}
-use Rattle.model_card.specs.Manager.{Selected, SessionState, route}
+use Rattle.model_play.specs.model_device.specs.declared.device.Stop.{Stop}
+use Rattle.model_play.specs.model_device.specs.declared.device.Stop.TheVariants as stop
+use Rattle.model_play.specs.model_device.specs.Image.{Journal}
+use Rattle.model_play.specs.model_device.specs.Card.{App, Card}
+use Rattle.model_play.specs.model_card.specs.Items.{moves, apps_after_items, card_done, StopAt, at_stop}
+use Rattle.model_play.specs.model_card.specs.Manager.{Selected, SessionState, route}
 use Rattle.model_play.specs.Play.{Armed, Running, Warm, AfterPower, Answered, command_step, hit_of, live_after, FailedWrite}
-use Rattle.model_device.specs.PowerUp.{Base, OnCard}
-use Rattle.model_card.specs.Commands.{Command, command}
+use Rattle.model_play.specs.model_device.specs.PowerUp.{Base, OnCard}
+use Rattle.model_play.specs.model_card.specs.Commands.{Command, command}
 use Rattle.model_play.specs.Family.{ClosedPairs, routes_in, command_of}
 use Rattle.model_play.specs.Given.{Event, Commands, given_stop, events_of_items, is_left, leave_event_if, is_done_reply, is_foreign_select, line_events, command_event}
 use Rattle.model_play.specs.Solo.{Solo, SoloCommand, Heard, silent, hears, heard_before, hears_all, solo_hit, heard_command, solo_command}

@@ -1,10 +1,10 @@
 -- The commands of a load and of a deletion reach the manager, and of a load only the last one creates.
 use Rattle.std.specs.Prelude.{◌≡◌, ℕ, zero, suc, ◌+◌, Bool, true, false, cond, ◌==◌, List, [], ◌∷◌, ◌++◌, length, take, drop, option_map, Option, Some, None, ⊤}
 use Rattle.std.proofs.Common.{refl, ap, ◌∙◌}
-use Rattle.model_device.specs.Bytes.{bytes2}
-use Rattle.model_machine.specs.Apdu.{Rest, rest_read, apdu_read}
-use Rattle.model_card.specs.Units.{UnitParts}
-use Rattle.model_card.specs.Manager.{Route, WrongLength, WrongClass, ToSelect, ToManager, ToApplication, route_of_parts, route}
+use Rattle.model_play.specs.model_device.specs.Bytes.{bytes2}
+use Rattle.model_play.specs.model_machine.specs.Apdu.{Rest, rest_read, apdu_read}
+use Rattle.model_play.specs.model_card.specs.Units.{UnitParts}
+use Rattle.model_play.specs.model_card.specs.Manager.{Route, WrongLength, WrongClass, ToSelect, ToManager, ToApplication, route_of_parts, route}
 use Rattle.model_play.specs.Play.{delete_bytes, piece_commands, section_commands, load_commands}
 use Rattle.law_family.proofs.OtherCommand.{IsManagers, AreManagers}
 

@@ -2,15 +2,15 @@
 -- done.
 use Rattle.std.specs.Prelude.{◌≡◌, ℕ, Bool, true, false, cond, not, ◌&&◌, List, [], ◌∷◌, length, Option, Some, None, ⊤}
 use Rattle.std.proofs.Common.{refl, ap, sym, ◌∙◌}
-use Rattle.model_device.specs.Bytes.{zeros, has_name}
-use Rattle.model_machine.specs.Apdu.{ApduParts}
-use Rattle.model_device.specs.Card.{Card}
-use Rattle.model_machine.specs.Chain.{run}
-use Rattle.model_card.specs.Items.{Created, Item}
-use Rattle.model_card.specs.Manager.{Selected, SessionState, Route, WrongLength, WrongClass, ToSelect, ToManager, ToApplication, route, select, p1p2, word_parts, fresh, manage, room_on}
-use Rattle.model_card.specs.Commands.{Command, atomic_of, manager_command, application_command, by_route, command}
+use Rattle.model_play.specs.model_device.specs.Bytes.{zeros, has_name}
+use Rattle.model_play.specs.model_machine.specs.Apdu.{ApduParts}
+use Rattle.model_play.specs.model_device.specs.Card.{Card}
+use Rattle.model_play.specs.model_machine.specs.Chain.{run}
+use Rattle.model_play.specs.model_card.specs.Items.{Created, Item}
+use Rattle.model_play.specs.model_card.specs.Manager.{Selected, SessionState, Route, WrongLength, WrongClass, ToSelect, ToManager, ToApplication, route, select, p1p2, word_parts, fresh, manage, room_on}
+use Rattle.model_play.specs.model_card.specs.Commands.{Command, atomic_of, manager_command, application_command, by_route, command}
 use Rattle.model_play.specs.Play.{Answered, send, command_with_rest, is_done}
-use Rattle.model_card.specs.Items as items
+use Rattle.model_play.specs.model_card.specs.Items as items
 use Rattle.law_manager.specs.Orders.{Order, order_of}
 use Rattle.law_manager.specs.OnCard.{IsCommand, IsSelect, plains, blank_words}
 use Rattle.law_manager.specs.OnCard as made

@@ -1,12 +1,12 @@
 -- A command of a family does on a card of its own what it does in the play.
 use Rattle.std.specs.Prelude.{◌≡◌, ℕ, Bool, true, cond, not, ◌||◌, ◌==◌, List, [], ◌∷◌, is_none, Option, Some, None}
 use Rattle.std.proofs.Common.{refl, ap, sym, ◌∙◌}
-use Rattle.model_device.specs.Bytes.{zeros, has_name, lookup}
-use Rattle.model_machine.specs.Apdu.{ApduParts}
-use Rattle.model_device.specs.Card.{App, Card, app_at_place}
-use Rattle.model_machine.specs.Chain.{Reply, Ran, run}
-use Rattle.model_card.specs.Manager.{Selected, SessionState, Route, WrongLength, WrongClass, ToSelect, ToManager, ToApplication, route, answer_unless, first_status, is_empty, select_body, select_done, select}
-use Rattle.model_card.specs.Commands.{Command, manager_command, application_command, by_route, command}
+use Rattle.model_play.specs.model_device.specs.Bytes.{zeros, has_name, lookup}
+use Rattle.model_play.specs.model_machine.specs.Apdu.{ApduParts}
+use Rattle.model_play.specs.model_device.specs.Card.{App, Card, app_at_place}
+use Rattle.model_play.specs.model_machine.specs.Chain.{Reply, Ran, run}
+use Rattle.model_play.specs.model_card.specs.Manager.{Selected, SessionState, Route, WrongLength, WrongClass, ToSelect, ToManager, ToApplication, route, answer_unless, first_status, is_empty, select_body, select_done, select}
+use Rattle.model_play.specs.model_card.specs.Commands.{Command, manager_command, application_command, by_route, command}
 use Rattle.model_play.specs.Family.{ClosedPairs, routes_in, selects_in}
 use Rattle.model_play.specs.Solo.{Solo, SoloCommand, solo_selected, solo_ran, solo_passed, solo_routed, solo_command}
 use Rattle.law_family.proofs.Agreement.{bare, MapsAgree}

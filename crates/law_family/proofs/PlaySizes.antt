@@ -4,23 +4,23 @@ use Rattle.std.specs.Prelude.{⊤, ◌==◌, ◌&&◌, nat_lt, nat_le, bytes_eq,
 use Rattle.std.specs.List.{AllByRecursion}
 use Rattle.std.proofs.lemmas.Bool.{and_parts, leb-true, eqb-true}
 use Rattle.std.proofs.lemmas.List.{length-append, length-take, length-replicate}
-use Rattle.model_device.specs.declared.cause.Cause.{Cause}
-use Rattle.model_device.specs.declared.cause.Cause.TheVariants.{NoRoot, BadBlock, BadRecord, BadChain}
-use Rattle.model_card.specs.declared.card.Sizes.{Sizes}
-use Rattle.model_device.specs.declared.device.Stop.{Stop}
-use Rattle.model_device.specs.declared.device.Stop.TheVariants as stop
-use Rattle.model_device.specs.Bytes.{lookup, insert, remove, zeros, up, be2, has_name}
-use Rattle.model_machine.specs.Apdu.{ApduParts}
-use Rattle.model_device.specs.Image.{look, after}
-use Rattle.model_device.specs.Card.{App, Card, Block, words_of_lengths, record_at, name_in, name_at, app_at, apps_of, blocks, cells, words_after, means}
-use Rattle.model_device.specs.Layout.{is_record, no_root, bad_block, bad_record, bad_chain, by_cause, words_fault, fault}
-use Rattle.model_machine.specs.Chain.{Write, run}
-use Rattle.model_card.specs.Items.{Fixed, Created, Item, moves, apps_after_change, apps_after_items, card_done, StopAt, at_stop, write_items}
-use Rattle.model_device.specs.Limits.{most_static, most_code, most_session, most_record}
-use Rattle.model_card.specs.Manager.{Selected, Open, SessionState, Route, WrongLength, WrongClass, ToSelect, ToManager, ToApplication, route, p1p2, select, sizes_in, fits_limits, word_parts, with_got, is_complete, fresh, is_selected, manage, room_on}
+use Rattle.model_play.specs.model_device.specs.declared.cause.Cause.{Cause}
+use Rattle.model_play.specs.model_device.specs.declared.cause.Cause.TheVariants.{NoRoot, BadBlock, BadRecord, BadChain}
+use Rattle.model_play.specs.model_card.specs.declared.card.Sizes.{Sizes}
+use Rattle.model_play.specs.model_device.specs.declared.device.Stop.{Stop}
+use Rattle.model_play.specs.model_device.specs.declared.device.Stop.TheVariants as stop
+use Rattle.model_play.specs.model_device.specs.Bytes.{lookup, insert, remove, zeros, up, be2, has_name}
+use Rattle.model_play.specs.model_machine.specs.Apdu.{ApduParts}
+use Rattle.model_play.specs.model_device.specs.Image.{look, after}
+use Rattle.model_play.specs.model_device.specs.Card.{App, Card, Block, words_of_lengths, record_at, name_in, name_at, app_at, apps_of, blocks, cells, words_after, means}
+use Rattle.model_play.specs.model_device.specs.Layout.{is_record, no_root, bad_block, bad_record, bad_chain, by_cause, words_fault, fault}
+use Rattle.model_play.specs.model_machine.specs.Chain.{Write, run}
+use Rattle.model_play.specs.model_card.specs.Items.{Fixed, Created, Item, moves, apps_after_change, apps_after_items, card_done, StopAt, at_stop, write_items}
+use Rattle.model_play.specs.model_device.specs.Limits.{most_static, most_code, most_session, most_record}
+use Rattle.model_play.specs.model_card.specs.Manager.{Selected, Open, SessionState, Route, WrongLength, WrongClass, ToSelect, ToManager, ToApplication, route, p1p2, select, sizes_in, fits_limits, word_parts, with_got, is_complete, fresh, is_selected, manage, room_on}
 use Rattle.model_play.specs.Play.{Armed, Live, Running, Unpowered, Muted, Warm, State, BeforePower, AfterPower, Step, is_done, command_with_rest, send, line_command, hit_of, FailedWrite, live_after, power_live, power_after, stopped_power, line_after, step, play_at_power, plays, first_failure, start, select_bytes, delete_bytes, load_commands}
-use Rattle.model_device.specs.PowerUp.{Base, OnCard, AtFault, base_after_migration, base_of}
-use Rattle.model_card.specs.Commands.{Command, atomic_of, manager_command, application_command, by_route, command}
+use Rattle.model_play.specs.model_device.specs.PowerUp.{Base, OnCard, AtFault, base_after_migration, base_of}
+use Rattle.model_play.specs.model_card.specs.Commands.{Command, atomic_of, manager_command, application_command, by_route, command}
 use Rattle.law_manager.specs.Orders.{Order, order_of}
 use Rattle.law_manager.specs.Answers.{IsQuiet}
 use Rattle.law_manager.specs.Answers as quiet
@@ -35,10 +35,10 @@ use Rattle.law_machine.specs.Limited.{session_in}
 use Rattle.law_family.specs.Begins.{PassedWell, RoutedWell, BehindDone, SentWell, TakenWell, LineWell, BeginWell, BeginsLaw}
 use Rattle.law_machine.proofs.AppSizes.{size_of, size_in, SameSizes, changed_sizes, WriteFits, moved_writes, Limited, are_limited, limited_inserted, ItemsFit, limited_done, fit_whole, fit_append}
 use Rattle.law_machine.proofs.RunSizes.{RanFits, run_fits}
-use Rattle.model_device.proofs.MapLemmas.{same_name, name_is_itself, lookup_beside, lookup_left}
-use Rattle.model_card.proofs.ItemLemmas.{done_append}
-use Rattle.model_device.proofs.BoolLemmas.{or_else_none}
-use Rattle.model_device.proofs.LayoutLemmas.{cause_none, sound_after}
+use Rattle.model_play.specs.model_device.proofs.MapLemmas.{same_name, name_is_itself, lookup_beside, lookup_left}
+use Rattle.model_play.specs.model_card.proofs.ItemLemmas.{done_append}
+use Rattle.model_play.specs.model_device.proofs.BoolLemmas.{or_else_none}
+use Rattle.model_play.specs.model_device.proofs.LayoutLemmas.{cause_none, sound_after}
 use Rattle.model_play.proofs.LineKinds.{past_power, IsUnheard, StepKind, Early, Quiet, Powers, Sends, by_kind, unheard_bytes}
 
 -- ---- a running card

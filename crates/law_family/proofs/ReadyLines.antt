@@ -3,25 +3,25 @@ use Rattle.std.proofs.Common.{◌≡◌, ℕ, zero, suc, ◌+◌, ◌-◌, ◌�
 use Rattle.std.specs.Prelude.{⊤, nat_le, ◌==◌, slice_set}
 use Rattle.std.specs.List.{AllByRecursion}
 use Rattle.std.proofs.lemmas.List.{length-set}
-use Rattle.model_device.specs.declared.cause.Cause.{Cause}
-use Rattle.model_device.specs.declared.device.Stop.{Stop}
-use Rattle.model_device.specs.declared.device.Stop.TheVariants as stop
-use Rattle.model_device.specs.Bytes.{lookup}
-use Rattle.model_device.specs.Image.{Journal, One, Two, Which, Both, Only, Neither, look_at, look_j, debt, count_of_recovery_writes, which}
-use Rattle.model_device.specs.Stopped.{cost, stands}
-use Rattle.model_device.specs.Card.{App, Card}
-use Rattle.model_device.specs.Layout.{fault}
-use Rattle.model_card.specs.Items.{Item, Plain, Atomic, weight, moves, StopAt, Stopped, at_stop, in_flight, with_item}
+use Rattle.model_play.specs.model_device.specs.declared.cause.Cause.{Cause}
+use Rattle.model_play.specs.model_device.specs.declared.device.Stop.{Stop}
+use Rattle.model_play.specs.model_device.specs.declared.device.Stop.TheVariants as stop
+use Rattle.model_play.specs.model_device.specs.Bytes.{lookup}
+use Rattle.model_play.specs.model_device.specs.Image.{Journal, One, Two, Which, Both, Only, Neither, look_at, look_j, debt, count_of_recovery_writes, which}
+use Rattle.model_play.specs.model_device.specs.Stopped.{cost, stands}
+use Rattle.model_play.specs.model_device.specs.Card.{App, Card}
+use Rattle.model_play.specs.model_device.specs.Layout.{fault}
+use Rattle.model_play.specs.model_card.specs.Items.{Item, Plain, Atomic, weight, moves, StopAt, Stopped, at_stop, in_flight, with_item}
 use Rattle.model_play.specs.Play.{Armed, Live, Running, Unpowered, Muted, Warm, State, BeforePower, AfterPower, LineResult, Step, command_step, line_command, line_after, hit_of, result_of_stop, FailedWrite, step, power_step, stopped_power, play_at_power, plays, first_failure, start, static_of, dump_result, without_card, formatted_image}
-use Rattle.model_device.specs.PowerUp.{Base, OnCard, AtFault, base_after_migration, migration, base_of}
-use Rattle.model_card.specs.Commands.{Command}
+use Rattle.model_play.specs.model_device.specs.PowerUp.{Base, OnCard, AtFault, base_after_migration, migration, base_of}
+use Rattle.model_play.specs.model_card.specs.Commands.{Command}
 use Rattle.model_play.specs.ReadyAgain.{is_found, is_before_power, is_poke, sure_after, PowerIsReady, ReadyLine, ReadyAgain, FitsJournal, AllFitJournal}
 use Rattle.model_play.specs.DeckGrammar.{DeckLine, DeckCommand}
 use Rattle.model_play.specs.DeckGrammar as line
-use Rattle.model_device.proofs.LookLemmas.{owed_few}
-use Rattle.model_device.specs.Device.{IsImage}
+use Rattle.model_play.specs.model_device.proofs.LookLemmas.{owed_few}
+use Rattle.model_play.specs.model_device.specs.Device.{IsImage}
 use Rattle.law_family.proofs.FormattedImage.{formatted_sound, formatted_size}
-use Rattle.model_device.proofs.BoolLemmas.{cond_most}
+use Rattle.model_play.specs.model_device.proofs.BoolLemmas.{cond_most}
 use Rattle.model_play.proofs.LineKinds.{past_power, image_after, budget_after, armed_after, early_result, quiet_result, StepKind, Early, Quiet, Powers, Sends, by_kind}
 use Rattle.model_play.specs.Given.{is_power}
 

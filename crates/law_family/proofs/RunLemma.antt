@@ -2,20 +2,20 @@
 -- are equal.
 use Rattle.std.specs.Prelude.{◌≡◌, ℕ, zero, suc, Bool, true, false, cond, ◌||◌, nat_lt, nat_le, List, [], ◌∷◌, ◌++◌, unwrap_or, Option, Some, None, Result, Ok, Err, ⊤}
 use Rattle.std.proofs.Common.{refl, ap, sym, subst, ◌∙◌}
-use Rattle.model_machine.specs.declared.instruction.Ins.{Ins}
-use Rattle.model_machine.specs.declared.instruction.DecodeFault.{DecodeFault}
-use Rattle.model_machine.specs.declared.instruction.DecodeFault.TheVariants.{Undefined, Past}
-use Rattle.model_device.specs.Bytes.{has_name, lookup}
-use Rattle.model_machine.specs.Apdu.{ApduParts}
-use Rattle.model_machine.specs.Code.{instruction_at}
-use Rattle.model_device.specs.Card.{App, app_at_place}
-use Rattle.model_machine.specs.Frame.{Frame, Effect, la_of}
-use Rattle.model_machine.specs.Primitives.{Then, Goes, Exits, Delegates, Done}
-use Rattle.model_machine.specs.Row.{RowEnd, Abends, Does, row}
-use Rattle.model_machine.specs.Chain.{Outcome, Write, Chain, Ran, Acted, Follows, Continues, Ends, code_in, map_changed, write_of, chain_after_effect, is_active, depth_of, entered_app, called_app, chain_after_call, after_exit, follows, pair_of, done_turn, row_turn, turn_of_fetch, frame_at, around, turn_of_chain, ends_with, goes_on, run_after_turn, chain_session, run_of_chain, start_app, start, no_app, run}
+use Rattle.model_play.specs.model_machine.specs.declared.instruction.Ins.{Ins}
+use Rattle.model_play.specs.model_machine.specs.declared.instruction.DecodeFault.{DecodeFault}
+use Rattle.model_play.specs.model_machine.specs.declared.instruction.DecodeFault.TheVariants.{Undefined, Past}
+use Rattle.model_play.specs.model_device.specs.Bytes.{has_name, lookup}
+use Rattle.model_play.specs.model_machine.specs.Apdu.{ApduParts}
+use Rattle.model_play.specs.model_machine.specs.Code.{instruction_at}
+use Rattle.model_play.specs.model_device.specs.Card.{App, app_at_place}
+use Rattle.model_play.specs.model_machine.specs.Frame.{Frame, Effect, la_of}
+use Rattle.model_play.specs.model_machine.specs.Primitives.{Then, Goes, Exits, Delegates, Done}
+use Rattle.model_play.specs.model_machine.specs.Row.{RowEnd, Abends, Does, row}
+use Rattle.model_play.specs.model_machine.specs.Chain.{Outcome, Write, Chain, Ran, Acted, Follows, Continues, Ends, code_in, map_changed, write_of, chain_after_effect, is_active, depth_of, entered_app, called_app, chain_after_call, after_exit, follows, pair_of, done_turn, row_turn, turn_of_fetch, frame_at, around, turn_of_chain, ends_with, goes_on, run_after_turn, chain_session, run_of_chain, start_app, start, no_app, run}
 use Rattle.model_play.specs.Family.{ClosedPairs}
 use Rattle.law_family.proofs.Agreement.{bare, MapsAgree, agree_map_changed}
-use Rattle.law_rows.proofs.RowNames.{RowKeepsName, row_name}
+use Rattle.law_machine.specs.law_rows.proofs.RowNames.{RowKeepsName, row_name}
 
 -- ---- sides
 

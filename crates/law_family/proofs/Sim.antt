@@ -2,18 +2,18 @@
 use Rattle.std.specs.Prelude.{◌≡◌, ℕ, Bool, true, cond, ◌||◌, List, [], ◌∷◌, ◌++◌, bytes_eq, Option, Some, None, ⊤}
 use Rattle.std.proofs.Common.{refl, ap, sym, ◌∙◌}
 use Rattle.std.proofs.lemmas.List.{append_assoc}
-use Rattle.model_device.specs.Bytes.{has_name, lookup}
-use Rattle.model_device.specs.Card.{App}
-use Rattle.model_card.specs.Items.{Item, StopAt}
-use Rattle.model_card.specs.Manager.{Selected}
+use Rattle.model_play.specs.model_device.specs.Bytes.{has_name, lookup}
+use Rattle.model_play.specs.model_device.specs.Card.{App}
+use Rattle.model_play.specs.model_card.specs.Items.{Item, StopAt}
+use Rattle.model_play.specs.model_card.specs.Manager.{Selected}
 use Rattle.model_play.specs.Play.{Live, Running, Unpowered, Muted, State, BeforePower, AfterPower, LineResult, Step, static_of}
-use Rattle.model_device.specs.PowerUp.{Base, OnCard, AtFault}
+use Rattle.model_play.specs.model_device.specs.PowerUp.{Base, OnCard, AtFault}
 use Rattle.model_play.specs.Family.{live_in, is_own}
 use Rattle.model_play.specs.Given.{Event, Leaves, apps_in, events_of}
 use Rattle.model_play.specs.Solo.{Solo, Heard, silent, hears, heard_before, hears_all}
 use Rattle.model_play.specs.View.{is_seen, results_if, rest_of, work_if}
 use Rattle.law_family.proofs.Agreement.{bare, MapsAgree}
-use Rattle.model_device.proofs.MapLemmas.{name_is_itself}
+use Rattle.model_play.specs.model_device.proofs.MapLemmas.{name_is_itself}
 use Rattle.std.proofs.lemmas.Bool.{or_right}
 
 -- ---- the relation

@@ -3,14 +3,14 @@
 use Rattle.std.specs.Prelude.{◌≡◌, ℕ, ◌-◌, ◌≤◌, Bool, true, false, cond, nat_le, ◌==◌, List, [], ◌∷◌, ◌++◌, Option, Some, None, ⊤}
 use Rattle.std.proofs.Common.{refl, ap, ◌∙◌}
 use Rattle.std.proofs.lemmas.Bool.{le-leb}
-use Rattle.model_device.specs.declared.device.Stop.TheVariants as stop
-use Rattle.model_device.specs.Bytes.{has_name, lookup, insert, remove}
-use Rattle.model_device.specs.Image.{Two}
-use Rattle.model_device.specs.Stopped.{cost, stands}
-use Rattle.model_device.specs.Card.{App, app_at_place}
-use Rattle.model_machine.specs.Chain.{Write, map_changed}
-use Rattle.model_card.specs.Items.{Change, Fixed, Created, Deleted, Item, Plain, Atomic, apps_after_items, StopAt, Stopped, with_item, in_flight, at_stop, write_items}
-use Rattle.model_card.specs.Manager.{Selected}
+use Rattle.model_play.specs.model_device.specs.declared.device.Stop.TheVariants as stop
+use Rattle.model_play.specs.model_device.specs.Bytes.{has_name, lookup, insert, remove}
+use Rattle.model_play.specs.model_device.specs.Image.{Two}
+use Rattle.model_play.specs.model_device.specs.Stopped.{cost, stands}
+use Rattle.model_play.specs.model_device.specs.Card.{App, app_at_place}
+use Rattle.model_play.specs.model_machine.specs.Chain.{Write, map_changed}
+use Rattle.model_play.specs.model_card.specs.Items.{Change, Fixed, Created, Deleted, Item, Plain, Atomic, apps_after_items, StopAt, Stopped, with_item, in_flight, at_stop, write_items}
+use Rattle.model_play.specs.model_card.specs.Manager.{Selected}
 use Rattle.model_play.specs.Play.{Armed, Unarmed, ArmedCut, ArmedFail, FailedWrite, hit_of}
 use Rattle.model_play.specs.Given.{Event, Arrives, Departs, given_stop, events_of_items}
 use Rattle.model_play.specs.Solo.{Solo, Heard, silent, hears, heard_before, hears_all, hits}

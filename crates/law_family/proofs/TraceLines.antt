@@ -2,12 +2,12 @@
 use Rattle.std.proofs.Common.{◌≡◌, ℕ, ◌+◌, Bool, true, false, cond, not, List, [], ◌∷◌, ◌++◌, Option, Some, None, refl, sym, ◌∙◌, ap, subst, arith, append_assoc}
 use Rattle.std.specs.Prelude.{◌==◌, codes, decimal, filter}
 use Rattle.std.proofs.lemmas.Bool.{and_from, and_parts, ne_eqb, not-true}
-use Rattle.model_device.specs.Bytes.{bytes2}
-use Rattle.model_text.specs.Text.{begins, pieces, pieces_with_character, every}
-use Rattle.model_machine.specs.Chain.{Turn}
-use Rattle.model_text.specs.Listing.{hex_text}
+use Rattle.model_play.specs.model_device.specs.Bytes.{bytes2}
+use Rattle.model_play.specs.model_text.specs.Text.{begins, pieces, pieces_with_character, every}
+use Rattle.model_play.specs.model_machine.specs.Chain.{Turn}
+use Rattle.model_play.specs.model_text.specs.Listing.{hex_text}
 use Rattle.model_play.specs.Transcript.{text_of_result, line_text, transcript}
-use Rattle.model_text.specs.TurnText.{ins_text, bit_text, turn_line, turn_lines}
+use Rattle.model_play.specs.model_text.specs.TurnText.{ins_text, bit_text, turn_line, turn_lines}
 use Rattle.model_play.specs.TraceText.{shown_turns, trace_text, is_turn_line, joined_lines, TraceLaw}
 use Rattle.model_play.specs.Play.{LineResult, Step}
 use Rattle.law_family.proofs.FlatTexts.{unfed, unmarked, Flat, flat_append, flat_decimal, unmarked_decimal, flat_hex, flat_ins, flat_bit, flat_shown}

@@ -1,10 +1,10 @@
 -- The fields of a unit that was read of bytes are bytes.
 use Rattle.std.proofs.Common.{ℕ, ◌<◌, Bool, true, false, List, length, take, drop, Result, Ok, Err}
 use Rattle.std.specs.Prelude.{⊤, nat_lt, ◌==◌, if◌then◌else◌, IfOk}
-use Rattle.model_card.specs.declared.unit.UnitRefusal.{UnitRefusal}
-use Rattle.model_card.specs.declared.unit.UnitRefusal.TheVariants.{Short, NoCode, TooLarge, Signed, Enciphered}
-use Rattle.model_device.specs.Bytes.{AreBytes, be2}
-use Rattle.model_card.specs.Units.{UnitParts, ◌>>=◌, bytes_at, length_at, field_at, code_at, empty_at, end_at, refused_name, name_of, unit_read}
+use Rattle.model_play.specs.model_card.specs.declared.unit.UnitRefusal.{UnitRefusal}
+use Rattle.model_play.specs.model_card.specs.declared.unit.UnitRefusal.TheVariants.{Short, NoCode, TooLarge, Signed, Enciphered}
+use Rattle.model_play.specs.model_device.specs.Bytes.{AreBytes, be2}
+use Rattle.model_play.specs.model_card.specs.Units.{UnitParts, ◌>>=◌, bytes_at, length_at, field_at, code_at, empty_at, end_at, refused_name, name_of, unit_read}
 use Rattle.law_family.proofs.CardFacts.{all_take, all_drop}
 
 -- all fields of a unit are bytes

@@ -1,12 +1,12 @@
 -- Every line leaves the card before it with the whole items of that line, all of them if it was not stopped.
 use Rattle.std.specs.Prelude.{◌≡◌, ℕ, zero, suc, List, [], ◌∷◌, take, drop, Option, Some, None}
 use Rattle.std.proofs.Common.{refl}
-use Rattle.model_device.specs.Card.{Card}
-use Rattle.model_device.specs.Image.{Journal}
-use Rattle.model_card.specs.Items.{StopAt}
+use Rattle.model_play.specs.model_device.specs.Card.{Card}
+use Rattle.model_play.specs.model_device.specs.Image.{Journal}
+use Rattle.model_play.specs.model_card.specs.Items.{StopAt}
 use Rattle.model_play.specs.Play.{Armed, Live, Running, State, BeforePower, AfterPower, command_step, hit_of, FailedWrite, step, power_moves, plays, first_failure, Step}
-use Rattle.model_device.specs.PowerUp.{OnCard}
-use Rattle.model_card.specs.Commands.{Command}
+use Rattle.model_play.specs.model_device.specs.PowerUp.{OnCard}
+use Rattle.model_play.specs.model_card.specs.Commands.{Command}
 use Rattle.model_play.specs.Laws.{KeepsLine, KeepsLines, whole_of}
 use Rattle.model_play.specs.DeckGrammar.{DeckLine}
 use Rattle.model_play.specs.DeckGrammar as line

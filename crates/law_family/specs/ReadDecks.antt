@@ -1,7 +1,7 @@
 -- A deck that was read carries bytes, so that its plays need no premise on their lines.
 use Rattle.std.specs.Prelude.{◌≡◌, ℕ, false, List, take, Option, Ok}
 use Rattle.std.specs.List.{AllByRecursion}
-use Rattle.model_device.specs.Device.{IsImage}
+use Rattle.model_play.specs.model_device.specs.Device.{IsImage}
 use Rattle.model_play.specs.DeckGrammar.{DeckLine, deck_read}
 use Rattle.model_play.specs.Play.{FailedWrite, plays, start}
 use Rattle.model_play.specs.ReadyAgain.{AllFitJournal, IsLine, ReadyAgain}

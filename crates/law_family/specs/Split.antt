@@ -1,6 +1,6 @@
 -- Whole items before those of a stop.
 use Rattle.std.specs.Prelude.{List, ◌++◌}
-use Rattle.model_card.specs.Items.{Item, Stopped}
+use Rattle.model_play.specs.model_card.specs.Items.{Item, Stopped}
 
 -- the result of a stop with more whole items before it
 abbrev pub with_whole : List Item → Stopped → Stopped

@@ -1,19 +1,19 @@
 -- A play of two counters on one card, as a worked example of views: a family of one, and a stranger.
 use Rattle.std.specs.Prelude.{ℕ, List, [], ◌∷◌, replicate}
-use Rattle.model_device.specs.Bytes.{zeros}
-use Rattle.model_card.specs.Units.{UnitParts, name_of, made_dir, made_fci}
-use Rattle.model_machine.specs.Apdu.{apdu_read}
-use Rattle.model_device.specs.Pieces.{touched_words}
-use Rattle.model_device.specs.Image.{targets_1, targets_2, pairs, opening, Two}
-use Rattle.model_device.specs.Card.{blocks_from, apps_of}
-use Rattle.model_device.specs.Layout.{layout, step_of, bad_block, bad_record}
-use Rattle.model_machine.specs.Frame.{bytes_at, write_effect, too_many}
-use Rattle.model_machine.specs.Primitives.{later_causes, prim_effect}
-use Rattle.model_machine.specs.Row.{causes, effect, row}
-use Rattle.model_machine.specs.Chain.{turn_of_chain, run_of_chain}
-use Rattle.model_card.specs.Manager.{manage}
+use Rattle.model_play.specs.model_device.specs.Bytes.{zeros}
+use Rattle.model_play.specs.model_card.specs.Units.{UnitParts, name_of, made_dir, made_fci}
+use Rattle.model_play.specs.model_machine.specs.Apdu.{apdu_read}
+use Rattle.model_play.specs.model_device.specs.Pieces.{touched_words}
+use Rattle.model_play.specs.model_device.specs.Image.{targets_1, targets_2, pairs, opening, Two}
+use Rattle.model_play.specs.model_device.specs.Card.{blocks_from, apps_of}
+use Rattle.model_play.specs.model_device.specs.Layout.{layout, step_of, bad_block, bad_record}
+use Rattle.model_play.specs.model_machine.specs.Frame.{bytes_at, write_effect, too_many}
+use Rattle.model_play.specs.model_machine.specs.Primitives.{later_causes, prim_effect}
+use Rattle.model_play.specs.model_machine.specs.Row.{causes, effect, row}
+use Rattle.model_play.specs.model_machine.specs.Chain.{turn_of_chain, run_of_chain}
+use Rattle.model_play.specs.model_card.specs.Manager.{manage}
 use Rattle.model_play.specs.Play.{Step, start, send, play_at_power, step, plays, moves_of, steady_failures}
-use Rattle.model_card.specs.Commands.{command}
+use Rattle.model_play.specs.model_card.specs.Commands.{command}
 use Rattle.model_play.specs.Given.{events, given_of_play}
 use Rattle.model_play.specs.Solo.{solo_command, hears, hears_all}
 use Rattle.model_play.specs.View.{View, answers, view, solo_view}

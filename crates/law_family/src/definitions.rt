@@ -1,9 +1,9 @@
 //! Laws that check the definitions against each other.
 
 ghost use Rattle.std.specs.Prelude.{◌≡◌, ◌+◌, ◌-◌, ◌<◌, ◌≤◌, ℕ, List, ◌++◌};
-ghost use Rattle.model_device.specs.Image.{image_with};
-ghost use Rattle.model_card.specs.Items.{Item, moves, at_stop};
-ghost use Rattle.model_machine.specs.Chain.{Chain, run_of_chain};
+ghost use Rattle.model_play.specs.model_device.specs.Image.{image_with};
+ghost use Rattle.model_play.specs.model_card.specs.Items.{Item, moves, at_stop};
+ghost use Rattle.model_play.specs.model_machine.specs.Chain.{Chain, run_of_chain};
 ghost use Rattle.model_play.specs.TraceText.{TraceLaw};
 ghost use Rattle.law_family.specs.Begins.{BeginsLaw};
 ghost use Rattle.law_family.specs.ReadDecks.{ReadLinesLaw, ReadDecksLaw};

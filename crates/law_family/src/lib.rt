@@ -4,7 +4,7 @@
 mod definitions;
 
 ghost use Rattle.std.specs.Prelude.{◌≡◌, [], ◌∷◌};
-ghost use Rattle.model_machine.specs.Chain.{Reply};
+ghost use Rattle.model_play.specs.model_machine.specs.Chain.{Reply};
 ghost use Rattle.model_play.specs.Play.{Answered, OffAt, Static};
 ghost use Rattle.model_play.specs.View.{View};
 ghost use Rattle.model_play.specs.Laws.{IsolationLaw};
@@ -14,6 +14,7 @@ pub use definitions::{
     counts_within_budget, pairs_compose, read_decks_fit, runs_begin_well, stops_split,
     traces_hold_transcripts,
 };
+pub use model_play::{model_machine, model_text};
 
 /// The law of isolation. For every deck, image, possible list of failed writes and front of the play: what a closed
 /// family of applications observes and holds is what it observes and holds on a card of its own, each line leaves the

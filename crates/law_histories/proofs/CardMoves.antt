@@ -2,17 +2,17 @@
 use Rattle.std.specs.Prelude.{◌≡◌, ℕ, Bool, true, false, cond, List, [], ◌∷◌, ◌++◌, bytes_eq, codes, ok_or, is_some, is_none, ◌||◌, Option, Some, None, Result, Ok, Err, ⊤, refl}
 use Rattle.std.specs.List.{AllByRecursion}
 use Rattle.std.proofs.Common.{ap, subst}
-use Rattle.model_device.specs.Bytes.{lookup}
-use Rattle.model_device.proofs.ImageLemmas.{all_append}
-use Rattle.model_text.specs.Text.{◌>>=◌, ok_as, err_as, only_if, lines, with_numbers, fields}
-use Rattle.model_play.specs.declared.deck.DeckCause.{DeckCause}
-use Rattle.model_play.specs.declared.deck.DeckCause.TheVariants.{BadLine}
-use Rattle.model_play.specs.DeckGrammar.{DeckLine, Context, Says, Word, PowerWord, SelectWord, DeleteWord, ApduWord, statement_of, aid_field, hex_field, deck_read}
-use Rattle.model_play.specs.DeckGrammar as line
-use Rattle.model_play.specs.Play.{is_card_line}
-use Rattle.law_explore.specs.Rules.{Move, is_some_of, line_stated, marked_lines, move_line, move_words, without_field}
-use Rattle.law_explore.proofs.ReadRules.{AreMoves}
-use Rattle.law_explore.proofs.Searches.{IfGoesOn, goes_on}
+use Rattle.model_rules.specs.model_device.specs.Bytes.{lookup}
+use Rattle.model_rules.specs.model_device.proofs.ImageLemmas.{all_append}
+use Rattle.model_rules.specs.model_text.specs.Text.{◌>>=◌, ok_as, err_as, only_if, lines, with_numbers, fields}
+use Rattle.model_rules.specs.model_play.specs.declared.deck.DeckCause.{DeckCause}
+use Rattle.model_rules.specs.model_play.specs.declared.deck.DeckCause.TheVariants.{BadLine}
+use Rattle.model_rules.specs.model_play.specs.DeckGrammar.{DeckLine, Context, Says, Word, PowerWord, SelectWord, DeleteWord, ApduWord, statement_of, aid_field, hex_field, deck_read}
+use Rattle.model_rules.specs.model_play.specs.DeckGrammar as line
+use Rattle.model_rules.specs.model_play.specs.Play.{is_card_line}
+use Rattle.model_rules.specs.law_explore.specs.Rules.{Move, is_some_of, line_stated, marked_lines, move_line, move_words, without_field}
+use Rattle.model_rules.specs.law_explore.proofs.ReadRules.{AreMoves}
+use Rattle.model_rules.specs.law_explore.proofs.Searches.{IfGoesOn, goes_on}
 use Rattle.model_rules.specs.Rules.{AppRules, Target, no_app_rules}
 use Rattle.model_rules.specs.Reading.{Deck, LoadLine, NoApplication, RuleCause, app_line, load_names, loads_of}
 use Rattle.law_histories.specs.Histories.{AppExploration, AppFault, LineFault, NoMove, NoRule, app_exploration_read, can_break, line_fault, parts_from, tested, with_move_line}

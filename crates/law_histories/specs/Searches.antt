@@ -1,10 +1,10 @@
 -- The search through all states of a card with what the rules of one application count, breadth first, and its text.
 use Rattle.std.specs.Prelude.{ℕ, zero, suc, ◌+◌, Bool, true, false, nat_lt, List, [], ◌∷◌, ◌++◌, length, reverse, codes, decimal, Result, Ok, Err}
-use Rattle.model_text.specs.Text.{◌>>=◌, ok_as}
-use Rattle.model_play.specs.Play.{State}
-use Rattle.law_explore.specs.States.{CardState, play_of, play_of_deck, first_play, warm_state, state_in, is_known}
-use Rattle.law_explore.specs.Tries.{Try, step_of, recovery, tries_of}
-use Rattle.law_explore.specs.Search.{Ending, All, AtDepth, TooMany, Broken, Statement, statements_to, most_states}
+use Rattle.model_rules.specs.model_text.specs.Text.{◌>>=◌, ok_as}
+use Rattle.model_rules.specs.model_play.specs.Play.{State}
+use Rattle.model_rules.specs.law_explore.specs.States.{CardState, play_of, play_of_deck, first_play, warm_state, state_in, is_known}
+use Rattle.model_rules.specs.law_explore.specs.Tries.{Try, step_of, recovery, tries_of}
+use Rattle.model_rules.specs.law_explore.specs.Search.{Ending, All, AtDepth, TooMany, Broken, Statement, statements_to, most_states}
 use Rattle.law_explore_text.specs.Report.{depth_lines, broken_text, silent_lines, sums_text}
 use Rattle.model_rules.specs.Rules.{AppRules, Target}
 use Rattle.model_rules.specs.Keeping.{Standing}

@@ -3,22 +3,22 @@
 use Rattle.std.proofs.Common.{◌≡◌, ℕ, zero, suc, Bool, true, false, List, [], ◌∷◌, ◌++◌, Option, Some, None, Result, Ok, Err, refl, sym, ap, ◌∙◌}
 use Rattle.std.specs.Prelude.{nat_le, bytes_eq}
 use Rattle.std.proofs.lemmas.List.{append_assoc}
-use Rattle.model_text.specs.Text.{◌>>=◌}
-use Rattle.model_device.specs.Image.{Two}
-use Rattle.model_device.specs.Stopped.{cost, stands}
-use Rattle.model_device.specs.Card.{Card}
-use Rattle.model_device.specs.PowerUp.{Base, OnCard, AtFault}
-use Rattle.model_machine.specs.Apdu.{ApduParts}
-use Rattle.model_machine.specs.Chain.{Chain, Write, Follows, Continues, Ends, turn_of_chain, start}
-use Rattle.model_card.specs.Items.{StopAt}
-use Rattle.model_card.specs.Manager.{Selected, SessionState, Route, WrongLength, WrongClass, ToSelect, ToManager, ToApplication, route, Managed, Declines, Accepts, select, is_selected}
-use Rattle.model_play.specs.DeckGrammar.{DeckLine}
-use Rattle.model_play.specs.DeckGrammar as line
-use Rattle.model_play.specs.Play.{Live, Running, Unpowered, Muted, State, BeforePower, AfterPower, LineResult, Answered, Step}
-use Rattle.law_promise.specs.History.{Watch, CutAt, cut_of, cut_after, with_event, turn_event, last_turn, cut_turn, after_writes, after_follows, after_run, selection_event, after_select, command_event, after_passed, after_route, is_own_route, with_answer, after_items, after_stop, command_in, after_command, after_taken, is_selected_in, after_line, after_step}
-use Rattle.model_rules.specs.Rules.{AppRules}
-use Rattle.model_rules.specs.Happenings.{History}
-use Rattle.model_rules.specs.Keeping.{Standing, Break, after_event, standing_after}
+use Rattle.law_histories.specs.model_text.specs.Text.{◌>>=◌}
+use Rattle.law_histories.specs.model_device.specs.Image.{Two}
+use Rattle.law_histories.specs.model_device.specs.Stopped.{cost, stands}
+use Rattle.law_histories.specs.model_device.specs.Card.{Card}
+use Rattle.law_histories.specs.model_device.specs.PowerUp.{Base, OnCard, AtFault}
+use Rattle.law_histories.specs.model_machine.specs.Apdu.{ApduParts}
+use Rattle.law_histories.specs.model_machine.specs.Chain.{Chain, Write, Follows, Continues, Ends, turn_of_chain, start}
+use Rattle.law_histories.specs.model_card.specs.Items.{StopAt}
+use Rattle.law_histories.specs.model_card.specs.Manager.{Selected, SessionState, Route, WrongLength, WrongClass, ToSelect, ToManager, ToApplication, route, Managed, Declines, Accepts, select, is_selected}
+use Rattle.law_histories.specs.model_play.specs.DeckGrammar.{DeckLine}
+use Rattle.law_histories.specs.model_play.specs.DeckGrammar as line
+use Rattle.law_histories.specs.model_play.specs.Play.{Live, Running, Unpowered, Muted, State, BeforePower, AfterPower, LineResult, Answered, Step}
+use Rattle.law_histories.specs.law_promise.specs.History.{Watch, CutAt, cut_of, cut_after, with_event, turn_event, last_turn, cut_turn, after_writes, after_follows, after_run, selection_event, after_select, command_event, after_passed, after_route, is_own_route, with_answer, after_items, after_stop, command_in, after_command, after_taken, is_selected_in, after_line, after_step}
+use Rattle.law_histories.specs.model_rules.specs.Rules.{AppRules}
+use Rattle.law_histories.specs.model_rules.specs.Happenings.{History}
+use Rattle.law_histories.specs.model_rules.specs.Keeping.{Standing, Break, after_event, standing_after}
 use Rattle.law_histories.specs.Histories.{standing_from}
 
 -- ---- what is added

@@ -2,22 +2,22 @@
 -- application of the rules is as it was created.
 use Rattle.std.proofs.Common.{◌≡◌, ℕ, Bool, true, false, List, Option, Some, None, Result, Ok, Err, refl}
 use Rattle.std.specs.Prelude.{⊤, bytes_eq}
-use Rattle.model_machine.specs.declared.instruction.Ins.{Ins}
-use Rattle.model_machine.specs.declared.instruction.DecodeFault.{DecodeFault}
-use Rattle.model_machine.specs.declared.machine.Abend.{Abend}
-use Rattle.model_machine.specs.declared.machine.Abend.TheVariants.{A07}
-use Rattle.model_machine.specs.Apdu.{ApduParts}
-use Rattle.model_machine.specs.Code.{instruction_at}
-use Rattle.model_machine.specs.Frame.{Frame, session_of}
-use Rattle.model_machine.specs.Primitives.{Around, Then, Goes, Exits, Delegates, Done}
-use Rattle.model_machine.specs.Row.{RowEnd, Abends, Does, row}
-use Rattle.model_machine.specs.Chain.{Outcome, Reply, Abended, frame_at}
-use Rattle.model_card.specs.Manager.{Selected, is_selected}
-use Rattle.law_promise.specs.History.{Deed, with_event, is_too_long, done_event, fetch_cause}
-use Rattle.law_promise.specs.Outline.{Entry, BySelection, ByDelegation, is_direct}
-use Rattle.law_promise.specs.Domain.{Domain, IsSound, AnswerCovered, EndCovered, exit_outcome, ExitCovered, DelegationCovered, NextCovered, WriteCovered, AbendCovered, RowCovered, FetchCovered, SelectedCovered, CoveredIf}
-use Rattle.model_rules.specs.Rules.{Target}
-use Rattle.model_rules.specs.Happenings.{Event, History, rule_watch}
+use Rattle.law_histories.specs.model_machine.specs.declared.instruction.Ins.{Ins}
+use Rattle.law_histories.specs.model_machine.specs.declared.instruction.DecodeFault.{DecodeFault}
+use Rattle.law_histories.specs.model_machine.specs.declared.machine.Abend.{Abend}
+use Rattle.law_histories.specs.model_machine.specs.declared.machine.Abend.TheVariants.{A07}
+use Rattle.law_histories.specs.model_machine.specs.Apdu.{ApduParts}
+use Rattle.law_histories.specs.model_machine.specs.Code.{instruction_at}
+use Rattle.law_histories.specs.model_machine.specs.Frame.{Frame, session_of}
+use Rattle.law_histories.specs.model_machine.specs.Primitives.{Around, Then, Goes, Exits, Delegates, Done}
+use Rattle.law_histories.specs.model_machine.specs.Row.{RowEnd, Abends, Does, row}
+use Rattle.law_histories.specs.model_machine.specs.Chain.{Outcome, Reply, Abended, frame_at}
+use Rattle.law_histories.specs.model_card.specs.Manager.{Selected, is_selected}
+use Rattle.law_histories.specs.law_promise.specs.History.{Deed, with_event, is_too_long, done_event, fetch_cause}
+use Rattle.law_histories.specs.law_promise.specs.Outline.{Entry, BySelection, ByDelegation, is_direct}
+use Rattle.law_histories.specs.law_promise.specs.Domain.{Domain, IsSound, AnswerCovered, EndCovered, exit_outcome, ExitCovered, DelegationCovered, NextCovered, WriteCovered, AbendCovered, RowCovered, FetchCovered, SelectedCovered, CoveredIf}
+use Rattle.law_histories.specs.model_rules.specs.Rules.{Target}
+use Rattle.law_histories.specs.model_rules.specs.Happenings.{Event, History, rule_watch}
 
 -- it says nothing
 abbrev pub any_domain : Target → Domain Event

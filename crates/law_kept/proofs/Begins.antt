@@ -2,28 +2,28 @@
 -- line brings it, the history begins.
 use Rattle.std.proofs.Common.{◌≡◌, inl, ℕ, Bool, true, false, cond, List, [], ◌∷◌, ◌++◌, Option, Some, None, refl, sym, ap, subst, ◌∙◌}
 use Rattle.std.specs.Prelude.{nat_le, bytes_eq}
-use Rattle.model_device.specs.Bytes.{lookup}
-use Rattle.model_device.specs.Card.{App, Card}
-use Rattle.model_device.specs.PowerUp.{Base, OnCard, AtFault, base_after_migration}
-use Rattle.model_machine.specs.Apdu.{ApduParts}
-use Rattle.model_machine.specs.Chain.{map_changed, run}
-use Rattle.model_card.specs.Items.{Fixed, Created, Deleted, Item, Plain, Atomic, apps_after_items, moves, StopAt}
-use Rattle.model_card.specs.Manager.{Selected, SessionState, Route, WrongLength, WrongClass, ToSelect, ToManager, ToApplication, route, select, is_selected}
-use Rattle.model_card.specs.Commands.{Command, manager_command, application_command, by_route, command}
-use Rattle.model_play.specs.DeckGrammar.{DeckLine, DeckCommand}
-use Rattle.model_play.specs.DeckGrammar as line
-use Rattle.model_play.specs.Given.{apps_in, apps_on}
-use Rattle.model_play.specs.Play.{Running, Warm, State, BeforePower, AfterPower, LineResult, FailedWrite, Step, select_bytes, delete_bytes, line_command, whole_items, line_says, hit_of, quiet, power_moves, power_step, power_after, line_after, stopped_power, step}
-use Rattle.model_play.proofs.LineKinds.{past_power, budget_after, armed_after, quiet_result, found_by_power, sent_step, StepKind, Early, Quiet, Powers, Sends, by_kind}
-use Rattle.law_manager.specs.OnCard.{IsSelect}
-use Rattle.law_manager.specs.OnCard as made
-use Rattle.law_manager.proofs.OnCard.{selects_law}
-use Rattle.law_promise.specs.History.{cut_of, after_route, is_own_route, with_answer, after_items, after_stop, command_in, after_command, after_step}
-use Rattle.law_promise.specs.Along.{BringsOnly}
-use Rattle.law_promise.specs.Domain.{StateCovered, SelectedCovered}
-use Rattle.law_promise.proofs.ItemLists.{AllFixed, writes_fixed, whole_fixed}
-use Rattle.model_rules.specs.Rules.{Target}
-use Rattle.model_rules.specs.Happenings.{History, rule_watch}
+use Rattle.law_histories.specs.model_device.specs.Bytes.{lookup}
+use Rattle.law_histories.specs.model_device.specs.Card.{App, Card}
+use Rattle.law_histories.specs.model_device.specs.PowerUp.{Base, OnCard, AtFault, base_after_migration}
+use Rattle.law_histories.specs.model_machine.specs.Apdu.{ApduParts}
+use Rattle.law_histories.specs.model_machine.specs.Chain.{map_changed, run}
+use Rattle.law_histories.specs.model_card.specs.Items.{Fixed, Created, Deleted, Item, Plain, Atomic, apps_after_items, moves, StopAt}
+use Rattle.law_histories.specs.model_card.specs.Manager.{Selected, SessionState, Route, WrongLength, WrongClass, ToSelect, ToManager, ToApplication, route, select, is_selected}
+use Rattle.law_histories.specs.model_card.specs.Commands.{Command, manager_command, application_command, by_route, command}
+use Rattle.law_histories.specs.model_play.specs.DeckGrammar.{DeckLine, DeckCommand}
+use Rattle.law_histories.specs.model_play.specs.DeckGrammar as line
+use Rattle.law_histories.specs.model_play.specs.Given.{apps_in, apps_on}
+use Rattle.law_histories.specs.model_play.specs.Play.{Running, Warm, State, BeforePower, AfterPower, LineResult, FailedWrite, Step, select_bytes, delete_bytes, line_command, whole_items, line_says, hit_of, quiet, power_moves, power_step, power_after, line_after, stopped_power, step}
+use Rattle.law_histories.specs.model_play.proofs.LineKinds.{past_power, budget_after, armed_after, quiet_result, found_by_power, sent_step, StepKind, Early, Quiet, Powers, Sends, by_kind}
+use Rattle.law_histories.specs.law_manager.specs.OnCard.{IsSelect}
+use Rattle.law_histories.specs.law_manager.specs.OnCard as made
+use Rattle.law_histories.specs.law_manager.proofs.OnCard.{selects_law}
+use Rattle.law_histories.specs.law_promise.specs.History.{cut_of, after_route, is_own_route, with_answer, after_items, after_stop, command_in, after_command, after_step}
+use Rattle.law_histories.specs.law_promise.specs.Along.{BringsOnly}
+use Rattle.law_histories.specs.law_promise.specs.Domain.{StateCovered, SelectedCovered}
+use Rattle.law_histories.specs.law_promise.proofs.ItemLists.{AllFixed, writes_fixed, whole_fixed}
+use Rattle.law_histories.specs.model_rules.specs.Rules.{Target}
+use Rattle.law_histories.specs.model_rules.specs.Happenings.{History, rule_watch}
 use Rattle.law_kept.proofs.Adds.{step_adds}
 use Rattle.law_kept.proofs.Makings.{IsOther, whole_makes, others_history, others_made, none_beside, history_begins}
 use Rattle.law_kept.proofs.AnyDomain.{any_domain, unselected}

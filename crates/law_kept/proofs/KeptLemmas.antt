@@ -3,16 +3,16 @@ use Rattle.std.proofs.Common.{◌≡◌, ◌≢◌, ℕ, zero, suc, Bool, true, 
 use Rattle.std.specs.Prelude.{map}
 use Rattle.std.specs.List.{AllByRecursion}
 use Rattle.std.proofs.lemmas.Bool.{and_parts}
-use Rattle.model_device.proofs.ImageLemmas.{all_append}
-use Rattle.law_family.proofs.DeckBytes.{read_lines_law}
-use Rattle.law_promise.specs.Computed.{all_bring_only}
-use Rattle.law_explore.specs.Rules.{Move}
-use Rattle.law_explore.specs.States.{CardState, play_of, warm_state, play_of_deck, first_play}
-use Rattle.law_explore.specs.Tries.{Manner, Try, manners, writes_of, tries_with, tries_of, step_of}
-use Rattle.law_explore.specs.Search.{Broken}
-use Rattle.model_rules.specs.Rules.{Target}
-use Rattle.model_rules.specs.Keeping.{Standing}
-use Rattle.model_rules.specs.Law.{KeptInAll, AreKeptBy, AreKept}
+use Rattle.law_histories.specs.model_device.proofs.ImageLemmas.{all_append}
+use Rattle.law_histories.specs.law_family.proofs.DeckBytes.{read_lines_law}
+use Rattle.law_histories.specs.law_promise.specs.Computed.{all_bring_only}
+use Rattle.law_histories.specs.law_explore.specs.Rules.{Move}
+use Rattle.law_histories.specs.law_explore.specs.States.{CardState, play_of, warm_state, play_of_deck, first_play}
+use Rattle.law_histories.specs.law_explore.specs.Tries.{Manner, Try, manners, writes_of, tries_with, tries_of, step_of}
+use Rattle.law_histories.specs.law_explore.specs.Search.{Broken}
+use Rattle.law_histories.specs.model_rules.specs.Rules.{Target}
+use Rattle.law_histories.specs.model_rules.specs.Keeping.{Standing}
+use Rattle.law_histories.specs.model_rules.specs.Law.{KeptInAll, AreKeptBy, AreKept}
 use Rattle.law_histories.specs.Histories.{AppExploration, deck_steps, first_standing_of}
 use Rattle.law_histories.specs.Searches.{Node, Round, Halt, round_of_states, first_round, search_by, app_search}
 use Rattle.law_kept.specs.Kept.{leaves_none, deck_brings, try_brings, tries_bring, nodes_bring, after_brings, depths_bring, search_brings, exploration_brings, may_create, none_creates, brings_only_target, ExplorationLaw, OnlyTargetLaw}

@@ -2,29 +2,29 @@
 use Rattle.std.proofs.Common.{◌≡◌, ◌⊎◌, inl, inr, ℕ, ◌-◌, Bool, true, false, cond, List, [], ◌∷◌, ◌++◌, length, Option, Some, None, refl, sym, ap, subst, ◌∙◌}
 use Rattle.std.specs.Prelude.{⊤, ◌==◌, nat_le, bytes_eq}
 use Rattle.std.proofs.lemmas.Bool.{false_from_ne_true}
-use Rattle.model_device.specs.Bytes.{lookup, insert, remove}
-use Rattle.model_device.specs.Image.{Two}
-use Rattle.model_device.specs.Stopped.{cost, stands}
-use Rattle.model_device.specs.Card.{App, Card}
-use Rattle.model_machine.specs.Apdu.{ApduParts}
-use Rattle.model_machine.specs.Chain.{Write, changed_app, map_changed, run}
-use Rattle.model_card.specs.Items.{Change, Fixed, Created, Deleted, Item, Plain, Atomic, apps_after_items, Stopped, with_item, in_flight, StopAt, at_stop, write_items, card_done}
-use Rattle.model_card.specs.Manager.{Selected, SessionState, Route, WrongLength, WrongClass, ToSelect, ToManager, ToApplication, route, p1p2, word_parts, fresh, select, manage, room_on}
-use Rattle.model_card.specs.Commands.{Command, atomic_of, manager_command, application_command, by_route, command}
-use Rattle.model_play.specs.DeckGrammar.{DeckCommand}
-use Rattle.model_play.specs.DeckGrammar as line
-use Rattle.model_play.specs.Play.{is_done, command_with_rest, send, select_bytes, delete_bytes, line_command, whole_items}
-use Rattle.law_manager.specs.Orders.{Order, order_of, HasIns}
-use Rattle.law_manager.specs.OnCard.{IsCommand, IsSelect, plains, blank_words}
-use Rattle.law_manager.specs.OnCard as made
-use Rattle.law_manager.proofs.Orders.{order_law}
-use Rattle.law_manager.proofs.OnCard.{command_made, selects_law}
-use Rattle.law_manager.proofs.Plains.{plains_are}
-use Rattle.law_family.proofs.LoadCommands.{IsFiller, AreFillers, load_front, create_bytes, front_fillers}
-use Rattle.law_promise.specs.History.{unless_created, after_items}
-use Rattle.law_promise.specs.Along.{IsAppIf, CreatesOnly}
-use Rattle.law_promise.proofs.Chains.{beside_changed}
-use Rattle.model_device.proofs.MapLemmas.{lookup_beside, lookup_left, lookup_removed_lem, same_name}
+use Rattle.law_histories.specs.model_device.specs.Bytes.{lookup, insert, remove}
+use Rattle.law_histories.specs.model_device.specs.Image.{Two}
+use Rattle.law_histories.specs.model_device.specs.Stopped.{cost, stands}
+use Rattle.law_histories.specs.model_device.specs.Card.{App, Card}
+use Rattle.law_histories.specs.model_machine.specs.Apdu.{ApduParts}
+use Rattle.law_histories.specs.model_machine.specs.Chain.{Write, changed_app, map_changed, run}
+use Rattle.law_histories.specs.model_card.specs.Items.{Change, Fixed, Created, Deleted, Item, Plain, Atomic, apps_after_items, Stopped, with_item, in_flight, StopAt, at_stop, write_items, card_done}
+use Rattle.law_histories.specs.model_card.specs.Manager.{Selected, SessionState, Route, WrongLength, WrongClass, ToSelect, ToManager, ToApplication, route, p1p2, word_parts, fresh, select, manage, room_on}
+use Rattle.law_histories.specs.model_card.specs.Commands.{Command, atomic_of, manager_command, application_command, by_route, command}
+use Rattle.law_histories.specs.model_play.specs.DeckGrammar.{DeckCommand}
+use Rattle.law_histories.specs.model_play.specs.DeckGrammar as line
+use Rattle.law_histories.specs.model_play.specs.Play.{is_done, command_with_rest, send, select_bytes, delete_bytes, line_command, whole_items}
+use Rattle.law_histories.specs.law_manager.specs.Orders.{Order, order_of, HasIns}
+use Rattle.law_histories.specs.law_manager.specs.OnCard.{IsCommand, IsSelect, plains, blank_words}
+use Rattle.law_histories.specs.law_manager.specs.OnCard as made
+use Rattle.law_histories.specs.law_manager.proofs.Orders.{order_law}
+use Rattle.law_histories.specs.law_manager.proofs.OnCard.{command_made, selects_law}
+use Rattle.law_histories.specs.law_manager.proofs.Plains.{plains_are}
+use Rattle.law_histories.specs.law_family.proofs.LoadCommands.{IsFiller, AreFillers, load_front, create_bytes, front_fillers}
+use Rattle.law_histories.specs.law_promise.specs.History.{unless_created, after_items}
+use Rattle.law_histories.specs.law_promise.specs.Along.{IsAppIf, CreatesOnly}
+use Rattle.law_histories.specs.law_promise.proofs.Chains.{beside_changed}
+use Rattle.law_histories.specs.model_device.proofs.MapLemmas.{lookup_beside, lookup_left, lookup_removed_lem, same_name}
 
 -- ---- items that create only what has a property
 

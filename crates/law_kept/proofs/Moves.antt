@@ -4,19 +4,19 @@ use Rattle.std.proofs.Common.{◌≡◌, ℕ, ◌+◌, ◌*◌, ◌-◌, ◌≤�
 use Rattle.std.specs.Prelude.{⊤, bytes_eq, codes, ok_or, option_map, option_and_then, nat_le, IfOk, IfSome}
 use Rattle.std.specs.List.{AllByRecursion}
 use Rattle.std.proofs.lemmas.Bool.{and_parts, leb-true}
-use Rattle.model_device.specs.Bytes.{AreBytes, lookup}
-use Rattle.model_device.proofs.ImageLemmas.{all_append}
-use Rattle.model_text.specs.Text.{◌>>=◌, ok_as, err_as, only_if, lines, with_numbers, fields, is_within, is_digit, hex_value, before_values, hex_values, bytes_of_digits, hex_bytes}
-use Rattle.model_play.specs.declared.deck.DeckCause.{DeckCause}
-use Rattle.model_play.specs.declared.deck.DeckCause.TheVariants.{BadLine, BadHex, OutOfRange}
-use Rattle.model_play.specs.DeckGrammar.{DeckLine, Context, Stated, Says, Opens, Word, PowerWord, SelectWord, DeleteWord, ApduWord, statement_of, aid_field, hex_field, deck_read}
-use Rattle.model_play.specs.DeckGrammar as line
-use Rattle.model_play.specs.Play.{is_card_line}
-use Rattle.model_play.specs.ReadyAgain.{IsLine}
-use Rattle.law_family.proofs.AssembledBytes.{bind_ok, as_ok, err_ok, only_ok, cond_ok, any_ok}
-use Rattle.law_explore.specs.Rules.{Move, is_some_of, line_stated, marked_lines, move_line, move_words, without_field}
-use Rattle.model_rules.specs.Rules.{AppRules, Target, no_app_rules}
-use Rattle.model_rules.specs.Reading.{Deck, LoadLine, app_line, load_names, loads_of}
+use Rattle.law_histories.specs.model_device.specs.Bytes.{AreBytes, lookup}
+use Rattle.law_histories.specs.model_device.proofs.ImageLemmas.{all_append}
+use Rattle.law_histories.specs.model_text.specs.Text.{◌>>=◌, ok_as, err_as, only_if, lines, with_numbers, fields, is_within, is_digit, hex_value, before_values, hex_values, bytes_of_digits, hex_bytes}
+use Rattle.law_histories.specs.model_play.specs.declared.deck.DeckCause.{DeckCause}
+use Rattle.law_histories.specs.model_play.specs.declared.deck.DeckCause.TheVariants.{BadLine, BadHex, OutOfRange}
+use Rattle.law_histories.specs.model_play.specs.DeckGrammar.{DeckLine, Context, Stated, Says, Opens, Word, PowerWord, SelectWord, DeleteWord, ApduWord, statement_of, aid_field, hex_field, deck_read}
+use Rattle.law_histories.specs.model_play.specs.DeckGrammar as line
+use Rattle.law_histories.specs.model_play.specs.Play.{is_card_line}
+use Rattle.law_histories.specs.model_play.specs.ReadyAgain.{IsLine}
+use Rattle.law_histories.specs.law_family.proofs.AssembledBytes.{bind_ok, as_ok, err_ok, only_ok, cond_ok, any_ok}
+use Rattle.law_histories.specs.law_explore.specs.Rules.{Move, is_some_of, line_stated, marked_lines, move_line, move_words, without_field}
+use Rattle.law_histories.specs.model_rules.specs.Rules.{AppRules, Target, no_app_rules}
+use Rattle.law_histories.specs.model_rules.specs.Reading.{Deck, LoadLine, app_line, load_names, loads_of}
 use Rattle.law_histories.specs.Histories.{AppExploration, AppFault, LineFault, NoMove, NoRule, app_exploration_read, can_break, line_fault, parts_from, tested, with_move_line}
 
 -- ---- hexadecimal fields

@@ -2,19 +2,19 @@
 use Rattle.std.proofs.Common.{◌≡◌, ◌≢◌, ℕ, zero, suc, ◌+◌, Bool, true, false, List, [], ◌∷◌, Result, Ok, Err, refl, sym, ap, subst, arith}
 use Rattle.std.specs.Prelude.{⊤, ◌≤◌, nat_lt, map}
 use Rattle.std.specs.List.{AllByRecursion}
-use Rattle.model_device.proofs.ImageLemmas.{all_append}
-use Rattle.model_text.specs.Text.{ok_as}
-use Rattle.model_play.specs.Play.{Live, Running, Unpowered, Muted, is_card_line}
-use Rattle.model_play.specs.Family.{is_running}
-use Rattle.model_play.specs.ReadyAgain.{IsLine}
-use Rattle.law_explore.specs.Rules.{Move}
-use Rattle.law_explore.specs.States.{CardState, play_of, state_in, is_known}
-use Rattle.law_explore.specs.Tries.{CutAt, Try, cuts_from, manners, writes_of, tries_with, tries_of, step_of, recovery}
-use Rattle.law_explore.specs.Search.{Broken}
-use Rattle.law_explore.specs.Safety.{CanMake}
-use Rattle.law_explore.proofs.Breaks.{EitherWay, either_way}
-use Rattle.model_rules.specs.Rules.{Target}
-use Rattle.model_rules.specs.Keeping.{Standing}
+use Rattle.law_histories.specs.model_device.proofs.ImageLemmas.{all_append}
+use Rattle.law_histories.specs.model_text.specs.Text.{ok_as}
+use Rattle.law_histories.specs.model_play.specs.Play.{Live, Running, Unpowered, Muted, is_card_line}
+use Rattle.law_histories.specs.model_play.specs.Family.{is_running}
+use Rattle.law_histories.specs.model_play.specs.ReadyAgain.{IsLine}
+use Rattle.law_histories.specs.law_explore.specs.Rules.{Move}
+use Rattle.law_histories.specs.law_explore.specs.States.{CardState, play_of, state_in, is_known}
+use Rattle.law_histories.specs.law_explore.specs.Tries.{CutAt, Try, cuts_from, manners, writes_of, tries_with, tries_of, step_of, recovery}
+use Rattle.law_histories.specs.law_explore.specs.Search.{Broken}
+use Rattle.law_histories.specs.law_explore.specs.Safety.{CanMake}
+use Rattle.law_histories.specs.law_explore.proofs.Breaks.{EitherWay, either_way}
+use Rattle.law_histories.specs.model_rules.specs.Rules.{Target}
+use Rattle.law_histories.specs.model_rules.specs.Keeping.{Standing}
 use Rattle.law_histories.specs.Histories.{AppExploration}
 use Rattle.law_histories.specs.Searches.{Node, Round, Search, Halt, RuleBroken, Full, outcome, with_try, with_new, with_reached, after_outcome, round_of_tries, round_of_states, halted, after_depth, after_round, search_on}
 use Rattle.law_kept.proofs.Tries.{IsReached, TryReaches, MoveBrings, try_reaches}

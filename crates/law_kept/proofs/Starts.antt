@@ -4,34 +4,34 @@ use Rattle.std.specs.Prelude.{◌&&◌, ◌||◌, ◌==◌, nat_le, bytes_eq, is
 use Rattle.std.specs.List.{AllByRecursion}
 use Rattle.std.proofs.lemmas.Bool.{and_parts, eqb-true, leb-true, cases_lt}
 use Rattle.std.proofs.lemmas.List.{length-replicate, get_or-replicate, get_or_past}
-use Rattle.model_device.specs.declared.device.Stop.TheVariants as stop
-use Rattle.model_device.specs.Bytes.{AreBytes, zeros, lookup}
-use Rattle.model_device.specs.Image.{Journal}
-use Rattle.model_device.specs.Device.{IsImage, blank_words, device_words}
-use Rattle.model_device.specs.Card.{App, Card}
-use Rattle.model_device.specs.PowerUp.{Base, OnCard, AtFault}
-use Rattle.model_device.proofs.MapLemmas.{same_name}
-use Rattle.model_text.specs.Text.{◌>>=◌}
-use Rattle.model_machine.specs.Apdu.{apdu_read}
-use Rattle.model_card.specs.Items.{Fixed, Created, Deleted, Item, Plain, Atomic, moves, StopAt}
-use Rattle.model_card.specs.Commands.{Command, command}
-use Rattle.model_play.specs.DeckGrammar.{DeckLine, DeckCommand}
-use Rattle.model_play.specs.DeckGrammar as line
-use Rattle.model_play.specs.Given.{apps_in, apps_on}
-use Rattle.model_play.specs.Play.{Armed, Unarmed, ArmedCut, ArmedFail, Live, Running, Unpowered, Muted, Warm, State, BeforePower, AfterPower, FailedWrite, Step, step, plays, start, line_command, hit_of, power_moves, power_after, stopped_power, play_at_power, line_after, moves_of, armed_stop_in, steady_at, steady_failures}
-use Rattle.model_play.specs.ReadyAgain.{IsLine}
-use Rattle.model_play.proofs.LineKinds.{past_power, armed_after, found_by_power, StepKind, Early, Quiet, Powers, Sends, by_kind}
-use Rattle.law_promise.specs.History.{after_step}
-use Rattle.law_promise.specs.Along.{IsApp, IsAppIf, CreatesOnly, FindsNone, BringsOnly}
-use Rattle.law_promise.specs.Computed.{is_app, creates_only, finds_none, all_bring_only}
-use Rattle.law_promise.specs.Domain.{StopsInWrite, LineStopsInWrite, StopsAtWrite}
-use Rattle.law_explore.specs.States.{warm_state, warm_in, play_of_deck, first_warm, first_play}
-use Rattle.law_explore.specs.Safety.{CountsFromOne, IsSettled}
-use Rattle.law_explore.proofs.Starts.{first_law}
-use Rattle.model_rules.specs.Rules.{AppRules, Target}
-use Rattle.model_rules.specs.Happenings.{History, rule_watch}
-use Rattle.model_rules.specs.Keeping.{Standing, first_standing}
-use Rattle.model_rules.specs.Law.{KeptInAll}
+use Rattle.law_histories.specs.model_device.specs.declared.device.Stop.TheVariants as stop
+use Rattle.law_histories.specs.model_device.specs.Bytes.{AreBytes, zeros, lookup}
+use Rattle.law_histories.specs.model_device.specs.Image.{Journal}
+use Rattle.law_histories.specs.model_device.specs.Device.{IsImage, blank_words, device_words}
+use Rattle.law_histories.specs.model_device.specs.Card.{App, Card}
+use Rattle.law_histories.specs.model_device.specs.PowerUp.{Base, OnCard, AtFault}
+use Rattle.law_histories.specs.model_device.proofs.MapLemmas.{same_name}
+use Rattle.law_histories.specs.model_text.specs.Text.{◌>>=◌}
+use Rattle.law_histories.specs.model_machine.specs.Apdu.{apdu_read}
+use Rattle.law_histories.specs.model_card.specs.Items.{Fixed, Created, Deleted, Item, Plain, Atomic, moves, StopAt}
+use Rattle.law_histories.specs.model_card.specs.Commands.{Command, command}
+use Rattle.law_histories.specs.model_play.specs.DeckGrammar.{DeckLine, DeckCommand}
+use Rattle.law_histories.specs.model_play.specs.DeckGrammar as line
+use Rattle.law_histories.specs.model_play.specs.Given.{apps_in, apps_on}
+use Rattle.law_histories.specs.model_play.specs.Play.{Armed, Unarmed, ArmedCut, ArmedFail, Live, Running, Unpowered, Muted, Warm, State, BeforePower, AfterPower, FailedWrite, Step, step, plays, start, line_command, hit_of, power_moves, power_after, stopped_power, play_at_power, line_after, moves_of, armed_stop_in, steady_at, steady_failures}
+use Rattle.law_histories.specs.model_play.specs.ReadyAgain.{IsLine}
+use Rattle.law_histories.specs.model_play.proofs.LineKinds.{past_power, armed_after, found_by_power, StepKind, Early, Quiet, Powers, Sends, by_kind}
+use Rattle.law_histories.specs.law_promise.specs.History.{after_step}
+use Rattle.law_histories.specs.law_promise.specs.Along.{IsApp, IsAppIf, CreatesOnly, FindsNone, BringsOnly}
+use Rattle.law_histories.specs.law_promise.specs.Computed.{is_app, creates_only, finds_none, all_bring_only}
+use Rattle.law_histories.specs.law_promise.specs.Domain.{StopsInWrite, LineStopsInWrite, StopsAtWrite}
+use Rattle.law_histories.specs.law_explore.specs.States.{warm_state, warm_in, play_of_deck, first_warm, first_play}
+use Rattle.law_histories.specs.law_explore.specs.Safety.{CountsFromOne, IsSettled}
+use Rattle.law_histories.specs.law_explore.proofs.Starts.{first_law}
+use Rattle.law_histories.specs.model_rules.specs.Rules.{AppRules, Target}
+use Rattle.law_histories.specs.model_rules.specs.Happenings.{History, rule_watch}
+use Rattle.law_histories.specs.model_rules.specs.Keeping.{Standing, first_standing}
+use Rattle.law_histories.specs.model_rules.specs.Law.{KeptInAll}
 use Rattle.law_histories.specs.Histories.{AppExploration, if_always, standing_if, standing_after_step, standing_after_steps, power_step, deck_steps, first_standing_of}
 use Rattle.law_kept.specs.Kept.{leaves_none}
 use Rattle.law_kept.proofs.Begins.{power_apps}

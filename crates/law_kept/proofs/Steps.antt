@@ -3,22 +3,22 @@ use Rattle.std.proofs.Common.{◌≡◌, inr, ℕ, Bool, true, false, cond, not,
 use Rattle.std.specs.Prelude.{◌&&◌, is_ok, is_some}
 use Rattle.std.specs.List.{AllByRecursion}
 use Rattle.std.proofs.lemmas.Bool.{and_parts}
-use Rattle.model_device.specs.Bytes.{lookup}
-use Rattle.model_device.specs.Card.{App}
-use Rattle.model_text.specs.Text.{◌>>=◌, err_as}
-use Rattle.model_play.specs.DeckGrammar.{DeckLine}
-use Rattle.model_play.specs.Given.{apps_in}
-use Rattle.model_play.specs.Play.{State, FailedWrite, Step, step, plays, first_failure, last_state}
-use Rattle.model_play.specs.ReadyAgain.{IsLine}
-use Rattle.model_play.proofs.PlayLemmas.{step_is}
-use Rattle.law_promise.specs.History.{after_step}
-use Rattle.law_promise.specs.Along.{BringsOnly, OnApp}
-use Rattle.law_promise.specs.Domain.{StateCovered, StopsAtWrite}
-use Rattle.law_promise.proofs.Lines.{step_kept}
-use Rattle.model_rules.specs.Rules.{AppRules, Range, Total, Target}
-use Rattle.model_rules.specs.Happenings.{History, rule_watch}
-use Rattle.model_rules.specs.Keeping.{Standing, Break, first_standing, standing_after, is_broken, is_in_range, are_in_ranges, is_total, are_totals, are_kept, keeps_rules}
-use Rattle.model_rules.specs.Law.{StepKeeps, KeptAlong}
+use Rattle.law_histories.specs.model_device.specs.Bytes.{lookup}
+use Rattle.law_histories.specs.model_device.specs.Card.{App}
+use Rattle.law_histories.specs.model_text.specs.Text.{◌>>=◌, err_as}
+use Rattle.law_histories.specs.model_play.specs.DeckGrammar.{DeckLine}
+use Rattle.law_histories.specs.model_play.specs.Given.{apps_in}
+use Rattle.law_histories.specs.model_play.specs.Play.{State, FailedWrite, Step, step, plays, first_failure, last_state}
+use Rattle.law_histories.specs.model_play.specs.ReadyAgain.{IsLine}
+use Rattle.law_histories.specs.model_play.proofs.PlayLemmas.{step_is}
+use Rattle.law_histories.specs.law_promise.specs.History.{after_step}
+use Rattle.law_histories.specs.law_promise.specs.Along.{BringsOnly, OnApp}
+use Rattle.law_histories.specs.law_promise.specs.Domain.{StateCovered, StopsAtWrite}
+use Rattle.law_histories.specs.law_promise.proofs.Lines.{step_kept}
+use Rattle.law_histories.specs.model_rules.specs.Rules.{AppRules, Range, Total, Target}
+use Rattle.law_histories.specs.model_rules.specs.Happenings.{History, rule_watch}
+use Rattle.law_histories.specs.model_rules.specs.Keeping.{Standing, Break, first_standing, standing_after, is_broken, is_in_range, are_in_ranges, is_total, are_totals, are_kept, keeps_rules}
+use Rattle.law_histories.specs.model_rules.specs.Law.{StepKeeps, KeptAlong}
 use Rattle.law_histories.specs.Histories.{standing_from, break_name, range_name, total_name, broken_range, broken_total, first_of, unless_broken, if_always, standing_if, standing_after_step, standing_after_steps}
 use Rattle.law_kept.proofs.Adds.{standing_on}
 use Rattle.law_kept.proofs.AnyDomain.{any_domain, any_sound}

@@ -3,16 +3,16 @@ use Rattle.std.proofs.Common.{◌≡◌, ℕ, ◌≤◌, Bool, true, false, not,
 use Rattle.std.specs.Prelude.{⊤, ◌==◌, ok_or, nat_le, IfOk}
 use Rattle.std.specs.List.{AllByRecursion}
 use Rattle.std.proofs.lemmas.Bool.{and_parts, leb-true}
-use Rattle.model_device.specs.Bytes.{lookup}
-use Rattle.model_device.proofs.ImageLemmas.{all_append}
-use Rattle.model_text.specs.Text.{◌>>=◌, ok_as, err_as, only_if, begins, lines, with_numbers, fields, is_within, decimal_number}
-use Rattle.model_card.specs.Units.{unit_read}
-use Rattle.model_play.specs.declared.deck.DeckCause.{DeckCause}
-use Rattle.model_play.specs.declared.deck.DeckCause.TheVariants.{BadLine, BadNumber, OutOfRange, LateLine, UnknownName}
-use Rattle.model_play.specs.declared.deck.DeckCause.TheVariants as causes
-use Rattle.model_play.specs.DeckGrammar.{DeckLine, Context, Section, Stated, Says, Opens, Word, FormatWord, PowerWord, UnitWord, AppWord, LoadWord, SelectWord, DeleteWord, DumpWord, ApduWord, BudgetWord, CutWord, FailWord, PokeWord, statement_of, aid_field, hex_field, name_field, number_field, fill_field, new_name, with_unit, early, deck_words, Mode, Between, Within, LineTurn, turn_of, between, within, turn_at, lines_at_end, deck_lines, deck_read, is_end, section_unit}
-use Rattle.model_play.specs.DeckGrammar as line
-use Rattle.law_family.proofs.AssembledBytes.{bind_ok, as_ok, err_ok, only_ok, cond_ok, any_ok}
+use Rattle.law_histories.specs.model_device.specs.Bytes.{lookup}
+use Rattle.law_histories.specs.model_device.proofs.ImageLemmas.{all_append}
+use Rattle.law_histories.specs.model_text.specs.Text.{◌>>=◌, ok_as, err_as, only_if, begins, lines, with_numbers, fields, is_within, decimal_number}
+use Rattle.law_histories.specs.model_card.specs.Units.{unit_read}
+use Rattle.law_histories.specs.model_play.specs.declared.deck.DeckCause.{DeckCause}
+use Rattle.law_histories.specs.model_play.specs.declared.deck.DeckCause.TheVariants.{BadLine, BadNumber, OutOfRange, LateLine, UnknownName}
+use Rattle.law_histories.specs.model_play.specs.declared.deck.DeckCause.TheVariants as causes
+use Rattle.law_histories.specs.model_play.specs.DeckGrammar.{DeckLine, Context, Section, Stated, Says, Opens, Word, FormatWord, PowerWord, UnitWord, AppWord, LoadWord, SelectWord, DeleteWord, DumpWord, ApduWord, BudgetWord, CutWord, FailWord, PokeWord, statement_of, aid_field, hex_field, name_field, number_field, fill_field, new_name, with_unit, early, deck_words, Mode, Between, Within, LineTurn, turn_of, between, within, turn_at, lines_at_end, deck_lines, deck_read, is_end, section_unit}
+use Rattle.law_histories.specs.model_play.specs.DeckGrammar as line
+use Rattle.law_histories.specs.law_family.proofs.AssembledBytes.{bind_ok, as_ok, err_ok, only_ok, cond_ok, any_ok}
 
 -- ---- stops
 

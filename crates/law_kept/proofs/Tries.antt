@@ -3,33 +3,33 @@
 use Rattle.std.proofs.Common.{◌≡◌, ℕ, ◌≤◌, Bool, true, false, cond, List, [], ◌∷◌, Some, None, Result, Ok, refl, sym, ap, subst, ◌∙◌, arith}
 use Rattle.std.specs.Prelude.{◌&&◌, ◌==◌, is_some}
 use Rattle.std.proofs.lemmas.Bool.{le-leb}
-use Rattle.model_device.specs.declared.device.Stop.TheVariants as stop
-use Rattle.model_device.specs.Bytes.{lookup}
-use Rattle.model_device.specs.Image.{Journal, Two}
-use Rattle.model_device.specs.Card.{App, Card}
-use Rattle.model_device.specs.PowerUp.{Base, OnCard, AtFault, migration}
-use Rattle.model_text.specs.Text.{◌>>=◌}
-use Rattle.model_card.specs.Items.{moves, StopAt}
-use Rattle.model_card.specs.Manager.{SessionState, Route, WrongLength, WrongClass, ToSelect, ToManager, ToApplication, route}
-use Rattle.model_card.specs.Commands.{Command}
-use Rattle.model_play.specs.DeckGrammar.{DeckLine, DeckCommand}
-use Rattle.model_play.specs.DeckGrammar as line
-use Rattle.model_play.specs.Given.{apps_in}
-use Rattle.model_play.specs.Play.{Armed, Unarmed, ArmedCut, Live, Running, Unpowered, Muted, Warm, State, AfterPower, Step, step, select_bytes, delete_bytes, line_command, whole_items, hit_of, command_step, is_card_line, moves_of}
-use Rattle.model_play.specs.ReadyAgain.{IsLine}
-use Rattle.model_play.proofs.LineKinds.{past_power}
-use Rattle.law_promise.specs.History.{after_step}
-use Rattle.law_promise.specs.Along.{CreatesOnly, BringsOnly}
-use Rattle.law_promise.specs.Domain.{StopsAtWrite}
-use Rattle.law_explore.specs.Rules.{Move}
-use Rattle.law_explore.specs.States.{CardState, play_of, state_in}
-use Rattle.law_explore.specs.Tries.{Manner, Whole, CutAt, step_of, recovery, writes_of}
-use Rattle.law_explore.specs.Safety.{CanMake}
-use Rattle.law_explore.proofs.Recoveries.{state_by}
-use Rattle.law_explore.proofs.Actions.{IsStarted}
-use Rattle.model_rules.specs.Rules.{AppRules, Target}
-use Rattle.model_rules.specs.Happenings.{History, rule_watch}
-use Rattle.model_rules.specs.Keeping.{Standing}
+use Rattle.law_histories.specs.model_device.specs.declared.device.Stop.TheVariants as stop
+use Rattle.law_histories.specs.model_device.specs.Bytes.{lookup}
+use Rattle.law_histories.specs.model_device.specs.Image.{Journal, Two}
+use Rattle.law_histories.specs.model_device.specs.Card.{App, Card}
+use Rattle.law_histories.specs.model_device.specs.PowerUp.{Base, OnCard, AtFault, migration}
+use Rattle.law_histories.specs.model_text.specs.Text.{◌>>=◌}
+use Rattle.law_histories.specs.model_card.specs.Items.{moves, StopAt}
+use Rattle.law_histories.specs.model_card.specs.Manager.{SessionState, Route, WrongLength, WrongClass, ToSelect, ToManager, ToApplication, route}
+use Rattle.law_histories.specs.model_card.specs.Commands.{Command}
+use Rattle.law_histories.specs.model_play.specs.DeckGrammar.{DeckLine, DeckCommand}
+use Rattle.law_histories.specs.model_play.specs.DeckGrammar as line
+use Rattle.law_histories.specs.model_play.specs.Given.{apps_in}
+use Rattle.law_histories.specs.model_play.specs.Play.{Armed, Unarmed, ArmedCut, Live, Running, Unpowered, Muted, Warm, State, AfterPower, Step, step, select_bytes, delete_bytes, line_command, whole_items, hit_of, command_step, is_card_line, moves_of}
+use Rattle.law_histories.specs.model_play.specs.ReadyAgain.{IsLine}
+use Rattle.law_histories.specs.model_play.proofs.LineKinds.{past_power}
+use Rattle.law_histories.specs.law_promise.specs.History.{after_step}
+use Rattle.law_histories.specs.law_promise.specs.Along.{CreatesOnly, BringsOnly}
+use Rattle.law_histories.specs.law_promise.specs.Domain.{StopsAtWrite}
+use Rattle.law_histories.specs.law_explore.specs.Rules.{Move}
+use Rattle.law_histories.specs.law_explore.specs.States.{CardState, play_of, state_in}
+use Rattle.law_histories.specs.law_explore.specs.Tries.{Manner, Whole, CutAt, step_of, recovery, writes_of}
+use Rattle.law_histories.specs.law_explore.specs.Safety.{CanMake}
+use Rattle.law_histories.specs.law_explore.proofs.Recoveries.{state_by}
+use Rattle.law_histories.specs.law_explore.proofs.Actions.{IsStarted}
+use Rattle.law_histories.specs.model_rules.specs.Rules.{AppRules, Target}
+use Rattle.law_histories.specs.model_rules.specs.Happenings.{History, rule_watch}
+use Rattle.law_histories.specs.model_rules.specs.Keeping.{Standing}
 use Rattle.law_histories.specs.Histories.{if_always, standing_if, standing_after_step, standing_after_steps, steps_of_try}
 use Rattle.law_kept.specs.Kept.{is_creation, may_create}
 use Rattle.law_kept.proofs.Makings.{AllMake, IsNone, Allows, none_others, others_only, whole_makes, command_makes}

@@ -1,21 +1,21 @@
 -- Rules that are kept in every play are broken in no exploration of a deck that brings only their application: the
 -- premise as a test, and the laws.
 use Rattle.std.specs.Prelude.{◌≡◌, ◌≢◌, ℕ, zero, suc, Bool, true, false, not, ◌&&◌, ◌==◌, List, [], ◌∷◌, is_none, Option, Some, None, Result, Ok, Err}
-use Rattle.model_device.specs.Bytes.{lookup}
-use Rattle.model_card.specs.Manager.{Route, WrongLength, WrongClass, ToSelect, ToManager, ToApplication, route}
-use Rattle.model_play.specs.DeckGrammar.{DeckLine}
-use Rattle.model_play.specs.DeckGrammar as line
-use Rattle.model_play.specs.Given.{apps_in}
-use Rattle.model_play.specs.Play.{State, BeforePower, AfterPower, play_at_power}
-use Rattle.law_promise.specs.Computed.{creates_only, all_bring_only}
-use Rattle.law_promise.specs.History.{command_in}
-use Rattle.law_explore.specs.Rules.{Move}
-use Rattle.law_explore.specs.States.{CardState, play_of, warm_state, play_of_deck, first_play}
-use Rattle.law_explore.specs.Tries.{Try, tries_of, step_of}
-use Rattle.law_explore.specs.Search.{Broken}
-use Rattle.model_rules.specs.Rules.{Target}
-use Rattle.model_rules.specs.Keeping.{Standing}
-use Rattle.model_rules.specs.Law.{AreKept}
+use Rattle.law_histories.specs.model_device.specs.Bytes.{lookup}
+use Rattle.law_histories.specs.model_card.specs.Manager.{Route, WrongLength, WrongClass, ToSelect, ToManager, ToApplication, route}
+use Rattle.law_histories.specs.model_play.specs.DeckGrammar.{DeckLine}
+use Rattle.law_histories.specs.model_play.specs.DeckGrammar as line
+use Rattle.law_histories.specs.model_play.specs.Given.{apps_in}
+use Rattle.law_histories.specs.model_play.specs.Play.{State, BeforePower, AfterPower, play_at_power}
+use Rattle.law_histories.specs.law_promise.specs.Computed.{creates_only, all_bring_only}
+use Rattle.law_histories.specs.law_promise.specs.History.{command_in}
+use Rattle.law_histories.specs.law_explore.specs.Rules.{Move}
+use Rattle.law_histories.specs.law_explore.specs.States.{CardState, play_of, warm_state, play_of_deck, first_play}
+use Rattle.law_histories.specs.law_explore.specs.Tries.{Try, tries_of, step_of}
+use Rattle.law_histories.specs.law_explore.specs.Search.{Broken}
+use Rattle.law_histories.specs.model_rules.specs.Rules.{Target}
+use Rattle.law_histories.specs.model_rules.specs.Keeping.{Standing}
+use Rattle.law_histories.specs.model_rules.specs.Law.{AreKept}
 use Rattle.law_histories.specs.Histories.{AppExploration, app_exploration_read, deck_steps, first_standing_of}
 use Rattle.law_histories.specs.Searches.{Node, Round, Halt, round_of_states, first_round, app_search}
 

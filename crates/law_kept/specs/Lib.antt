@@ -1,2 +1,13 @@
 pub mod Kept
 pub mod Computed
+-- the libraries below that those above cite through this one
+pub use Rattle.law_histories.specs.model_device as model_device
+pub use Rattle.law_histories.specs.model_machine as model_machine
+pub use Rattle.law_histories.specs.model_text as model_text
+pub use Rattle.law_histories.specs.model_card as model_card
+pub use Rattle.law_histories.specs.model_play as model_play
+pub use Rattle.law_histories.specs.model_rules as model_rules
+pub use Rattle.law_histories.specs.law_family as law_family
+pub use Rattle.law_histories.specs.law_promise as law_promise
+pub use Rattle.law_histories.specs.law_explore as law_explore
+pub use Rattle.law_histories as law_histories

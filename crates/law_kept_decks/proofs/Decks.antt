@@ -1,12 +1,12 @@
 -- The law for the decks whose rules are kept, and a deck that needs its premise.
 use Rattle.std.proofs.Common.{◌≡◌, ◌≢◌, ℕ, true, List, Option, Some, None, Result, Ok, Err, refl, sym, subst, ◌∙◌}
-use Rattle.model_rules.specs.Rules.{AppRules, Target}
-use Rattle.model_rules.specs.Reading.{RuleCause}
-use Rattle.model_rules.specs.Law.{AreKeptBy, AreKept}
-use Rattle.law_explore.specs.Tries.{Try}
-use Rattle.law_explore.specs.Search.{Ending, All, AtDepth, TooMany, Broken}
-use Rattle.law_histories.specs.Histories.{AppExploration, AppFault, app_exploration_read}
-use Rattle.law_histories.specs.Searches.{app_search}
+use Rattle.law_kept.specs.model_rules.specs.Rules.{AppRules, Target}
+use Rattle.law_kept.specs.model_rules.specs.Reading.{RuleCause}
+use Rattle.law_kept.specs.model_rules.specs.Law.{AreKeptBy, AreKept}
+use Rattle.law_kept.specs.law_explore.specs.Tries.{Try}
+use Rattle.law_kept.specs.law_explore.specs.Search.{Ending, All, AtDepth, TooMany, Broken}
+use Rattle.law_kept.specs.law_histories.specs.Histories.{AppExploration, AppFault, app_exploration_read}
+use Rattle.law_kept.specs.law_histories.specs.Searches.{app_search}
 use Rattle.law_prove_closed.specs.Decks.{proves_deck, TargetIsKept, AreKeptAsRead, DeckIsKept}
 use Rattle.law_prove_closed.proofs.Decks.{deck_law}
 use Rattle.law_kept.specs.Computed.{swapped_deck}

@@ -1,14 +1,14 @@
 -- The rules of an exploration are those that are read of the same deck without its moves.
 use Rattle.std.proofs.Common.{◌≡◌, ℕ, Bool, true, false, List, [], ◌∷◌, Option, Some, None, Result, Ok, Err, refl, ap, subst, ◌∙◌}
 use Rattle.std.specs.Prelude.{⊤, is_some, IfOk}
-use Rattle.model_text.specs.Text.{◌>>=◌, err_as, only_if, lines, with_numbers, fields}
-use Rattle.model_play.specs.declared.deck.DeckCause.{DeckCause}
-use Rattle.model_play.specs.DeckGrammar.{DeckLine, deck_read}
-use Rattle.law_family.proofs.AssembledBytes.{bind_ok, err_ok, only_ok, any_ok}
-use Rattle.law_explore.specs.Rules.{Move, is_some_of, marked_lines}
-use Rattle.model_rules.specs.Rules.{AppRules, Target, no_app_rules}
-use Rattle.model_rules.specs.Reading.{RuleCause, Deck, NoApplication, LoadLine, load_names, loads_of, app_line, app_rules_from, app_rules_read, with_some_app}
-use Rattle.law_histories.specs.Histories.{AppExploration, AppFault, LineFault, NoMove, NoRule, app_exploration_read, can_break, line_fault, parts_from, tested, with_move_line}
+use Rattle.law_kept.specs.model_text.specs.Text.{◌>>=◌, err_as, only_if, lines, with_numbers, fields}
+use Rattle.law_kept.specs.model_play.specs.declared.deck.DeckCause.{DeckCause}
+use Rattle.law_kept.specs.model_play.specs.DeckGrammar.{DeckLine, deck_read}
+use Rattle.law_kept.specs.law_family.proofs.AssembledBytes.{bind_ok, err_ok, only_ok, any_ok}
+use Rattle.law_kept.specs.law_explore.specs.Rules.{Move, is_some_of, marked_lines}
+use Rattle.law_kept.specs.model_rules.specs.Rules.{AppRules, Target, no_app_rules}
+use Rattle.law_kept.specs.model_rules.specs.Reading.{RuleCause, Deck, NoApplication, LoadLine, load_names, loads_of, app_line, app_rules_from, app_rules_read, with_some_app}
+use Rattle.law_kept.specs.law_histories.specs.Histories.{AppExploration, AppFault, LineFault, NoMove, NoRule, app_exploration_read, can_break, line_fault, parts_from, tested, with_move_line}
 use Rattle.law_kept.proofs.Moves.{itself}
 
 weaker_ok : {A E : Type 0} (P Q : A → Type 0) (x : Result A E) → ((a : A) → P a → Q a) → IfOk x P → IfOk x Q

@@ -2,27 +2,27 @@
 -- since it brings another application under the name.
 use Rattle.std.specs.Prelude.{◌≡◌, ◌≢◌, ℕ, Bool, true, false, List, Result, Ok, Err}
 use Rattle.std.specs.Fmt.{digits}
-use Rattle.model_card.specs.Units.{name_of}
-use Rattle.model_machine.specs.Apdu.{apdu_read}
-use Rattle.model_device.specs.Pieces.{touched_words}
-use Rattle.model_device.specs.Image.{targets_1, targets_2, pairs}
-use Rattle.model_device.specs.Card.{blocks_from, apps_of}
-use Rattle.model_device.specs.Layout.{layout, step_of, bad_block, bad_record}
-use Rattle.model_machine.specs.Frame.{bytes_at, write_effect, too_many}
-use Rattle.model_machine.specs.Primitives.{later_causes, prim_effect}
-use Rattle.model_machine.specs.Row.{causes, effect, row}
-use Rattle.model_machine.specs.Chain.{turn_of_chain, run_of_chain}
-use Rattle.model_text.specs.TurnText.{turn_line}
-use Rattle.model_card.specs.Manager.{manage}
-use Rattle.model_card.specs.Commands.{command}
-use Rattle.model_play.specs.Play.{send, play_at_power, step, plays, moves_of, steady_failures}
-use Rattle.law_promise.specs.History.{after_run}
-use Rattle.law_explore.specs.Matching.{fits}
-use Rattle.law_explore.specs.Tries.{Try}
-use Rattle.law_explore.specs.Search.{Ending, All, AtDepth, TooMany, Broken}
-use Rattle.model_rules.specs.Law.{AreKept}
-use Rattle.law_histories.specs.Histories.{AppExploration, AppFault, app_exploration_read}
-use Rattle.law_histories.specs.Searches.{app_search}
+use Rattle.law_kept.specs.model_card.specs.Units.{name_of}
+use Rattle.law_kept.specs.model_machine.specs.Apdu.{apdu_read}
+use Rattle.law_kept.specs.model_device.specs.Pieces.{touched_words}
+use Rattle.law_kept.specs.model_device.specs.Image.{targets_1, targets_2, pairs}
+use Rattle.law_kept.specs.model_device.specs.Card.{blocks_from, apps_of}
+use Rattle.law_kept.specs.model_device.specs.Layout.{layout, step_of, bad_block, bad_record}
+use Rattle.law_kept.specs.model_machine.specs.Frame.{bytes_at, write_effect, too_many}
+use Rattle.law_kept.specs.model_machine.specs.Primitives.{later_causes, prim_effect}
+use Rattle.law_kept.specs.model_machine.specs.Row.{causes, effect, row}
+use Rattle.law_kept.specs.model_machine.specs.Chain.{turn_of_chain, run_of_chain}
+use Rattle.law_kept.specs.model_text.specs.TurnText.{turn_line}
+use Rattle.law_kept.specs.model_card.specs.Manager.{manage}
+use Rattle.law_kept.specs.model_card.specs.Commands.{command}
+use Rattle.law_kept.specs.model_play.specs.Play.{send, play_at_power, step, plays, moves_of, steady_failures}
+use Rattle.law_kept.specs.law_promise.specs.History.{after_run}
+use Rattle.law_kept.specs.law_explore.specs.Matching.{fits}
+use Rattle.law_kept.specs.law_explore.specs.Tries.{Try}
+use Rattle.law_kept.specs.law_explore.specs.Search.{Ending, All, AtDepth, TooMany, Broken}
+use Rattle.law_kept.specs.model_rules.specs.Law.{AreKept}
+use Rattle.law_kept.specs.law_histories.specs.Histories.{AppExploration, AppFault, app_exploration_read}
+use Rattle.law_kept.specs.law_histories.specs.Searches.{app_search}
 use Rattle.law_prove_closed.specs.Decks.{DeckIsKept}
 use Rattle.law_kept.specs.Kept.{exploration_brings}
 use Rattle.law_kept.specs.Computed.{swapped_deck}

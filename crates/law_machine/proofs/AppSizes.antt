@@ -2,19 +2,19 @@
 use Rattle.std.proofs.Common.{◌≡◌, ℕ, ◌-◌, ◌≤◌, Bool, true, false, cond, List, [], ◌∷◌, ◌++◌, length, Option, Some, None, refl, sym, ap, subst, ◌∙◌}
 use Rattle.std.specs.Prelude.{⊤, bytes_eq}
 use Rattle.std.specs.List.{AllByRecursion}
-use Rattle.model_device.specs.Bytes.{lookup, insert, remove}
-use Rattle.model_device.specs.Pieces.{laid_pieces}
-use Rattle.model_device.specs.Card.{App}
-use Rattle.model_machine.specs.Chain.{Write, with_pieces, changed_app, map_changed}
+use Rattle.model_card.specs.model_device.specs.Bytes.{lookup, insert, remove}
+use Rattle.model_card.specs.model_device.specs.Pieces.{laid_pieces}
+use Rattle.model_card.specs.model_device.specs.Card.{App}
+use Rattle.model_card.specs.model_machine.specs.Chain.{Write, with_pieces, changed_app, map_changed}
 use Rattle.model_card.specs.Items.{Change, Fixed, Created, Deleted, Item, Plain, Atomic, apps_after_change, apps_after_items, Stopped, at_stop, in_flight, with_item}
-use Rattle.model_device.specs.Image.{Two}
-use Rattle.model_device.specs.Stopped.{cost, stands}
-use Rattle.model_device.specs.Limits.{most_static}
+use Rattle.model_card.specs.model_device.specs.Image.{Two}
+use Rattle.model_card.specs.model_device.specs.Stopped.{cost, stands}
+use Rattle.model_card.specs.model_device.specs.Limits.{most_static}
 use Rattle.std.specs.Prelude.{nat_le, ◌==◌}
 use Rattle.law_rows.specs.Keeping.{PiecesWithin}
 use Rattle.law_machine.specs.Limited.{AreLimited}
 use Rattle.law_rows.proofs.Keeping.{length_laid}
-use Rattle.model_device.proofs.MapLemmas.{same_name, lookup_inserted_lem, lookup_beside, lookup_removed_lem, lookup_left}
+use Rattle.model_card.specs.model_device.proofs.MapLemmas.{same_name, lookup_inserted_lem, lookup_beside, lookup_removed_lem, lookup_left}
 
 -- the lengths of static and session bytes
 abbrev pub SegmentSizes : Type 0

@@ -4,17 +4,17 @@ use Rattle.std.specs.Prelude.{◌==◌, reverse, slice_index}
 use Rattle.std.specs.Int.{w32, to_be_bytes}
 use Rattle.sha1.specs.Sha1.{sha1, hash_after, padded_message, digest_bytes}
 use Rattle.std.proofs.lemmas.List.{length-append, length-take, length-map}
-use Rattle.model_device.specs.Bytes.{bytes}
-use Rattle.model_machine.specs.Blocks.{each_byte}
-use Rattle.model_machine.specs.Modes.{bit_sum, blocks_of, each, last_of_chain, ecb}
-use Rattle.model_machine.specs.Des.{bits_of, bytes_of, with_keys, des_block, des_encipher, des_decipher, tdes_encipher, tdes_decipher, des_signature, tdes_signature}
-use Rattle.model_machine.specs.Aes.{shift_rows, sub, mix_columns, columns_times_matrix, round, last_round, round_back, last_round_back, rounds, rounds_back, round_keys, aes_encipher, aes_decipher, aes_signature}
-use Rattle.model_machine.specs.Aes as aes
-use Rattle.model_machine.specs.Des as des
-use Rattle.model_machine.specs.Frame.{Frame, Place, Static, Dynamic, Public, dynamic_base, where_is, static_bytes, bytes_in, bytes_at, stack_bytes}
-use Rattle.model_machine.specs.Primitives.{Cipher, Des, TripleDes, Aes, block_len, encipherment, decipherment, signature}
-use Rattle.model_device.proofs.ListLemmas.{length_bytes}
-use Rattle.model_machine.proofs.ModesLemmas.{length_added}
+use Rattle.model_card.specs.model_device.specs.Bytes.{bytes}
+use Rattle.model_card.specs.model_machine.specs.Blocks.{each_byte}
+use Rattle.model_card.specs.model_machine.specs.Modes.{bit_sum, blocks_of, each, last_of_chain, ecb}
+use Rattle.model_card.specs.model_machine.specs.Des.{bits_of, bytes_of, with_keys, des_block, des_encipher, des_decipher, tdes_encipher, tdes_decipher, des_signature, tdes_signature}
+use Rattle.model_card.specs.model_machine.specs.Aes.{shift_rows, sub, mix_columns, columns_times_matrix, round, last_round, round_back, last_round_back, rounds, rounds_back, round_keys, aes_encipher, aes_decipher, aes_signature}
+use Rattle.model_card.specs.model_machine.specs.Aes as aes
+use Rattle.model_card.specs.model_machine.specs.Des as des
+use Rattle.model_card.specs.model_machine.specs.Frame.{Frame, Place, Static, Dynamic, Public, dynamic_base, where_is, static_bytes, bytes_in, bytes_at, stack_bytes}
+use Rattle.model_card.specs.model_machine.specs.Primitives.{Cipher, Des, TripleDes, Aes, block_len, encipherment, decipherment, signature}
+use Rattle.model_card.specs.model_device.proofs.ListLemmas.{length_bytes}
+use Rattle.model_card.specs.model_machine.proofs.ModesLemmas.{length_added}
 
 -- ---- lists
 

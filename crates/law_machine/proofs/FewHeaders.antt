@@ -5,12 +5,12 @@ use Rattle.std.specs.List.{list_any}
 use Rattle.std.proofs.lemmas.Bool.{and_from, eq-eqb, or_left, or_right}
 use Rattle.std.proofs.lemmas.List.{length-append}
 use Rattle.std.proofs.lemmas.Slice.Eq.{bytes_eq-Decides}
-use Rattle.model_device.specs.Bytes.{insert, remove, name_before}
-use Rattle.model_device.specs.Card.{App, Card, words_of_app, heap_start}
-use Rattle.model_device.specs.Layout.{put_at, spans_of, spans, gap, gaps_from, gaps, first_place, used_header, root, gap_headers, with_used, layout, same_pair, step_of}
+use Rattle.model_card.specs.model_device.specs.Bytes.{insert, remove, name_before}
+use Rattle.model_card.specs.model_device.specs.Card.{App, Card, words_of_app, heap_start}
+use Rattle.model_card.specs.model_device.specs.Layout.{put_at, spans_of, spans, gap, gaps_from, gaps, first_place, used_header, root, gap_headers, with_used, layout, same_pair, step_of}
 use Rattle.law_machine.specs.FewHeaders.{FewHeadersLaw}
-use Rattle.model_device.proofs.BoolLemmas.{or_swap}
-use Rattle.model_device.proofs.LayoutLemmas.{length_spans}
+use Rattle.model_card.specs.model_device.proofs.BoolLemmas.{or_swap}
+use Rattle.model_card.specs.model_device.proofs.LayoutLemmas.{length_spans}
 
 abbrev pub Pair : Type 0
 Pair = ℕ × List ℕ

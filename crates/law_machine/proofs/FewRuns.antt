@@ -2,27 +2,27 @@
 use Rattle.std.proofs.Common.{◌≡◌, ℕ, zero, suc, ◌≤◌, Bool, true, false, cond, List, [], ◌∷◌, length, Option, Some, None, Result, Ok, Err, refl, sym, ap, subst, ◌∙◌, arith}
 use Rattle.std.specs.Prelude.{⊤, ◌||◌, nat_lt, nat_le, bytes_eq, unwrap_or, IfSome}
 use Rattle.std.specs.List.{AllByRecursion}
-use Rattle.model_machine.specs.declared.instruction.Ins.{Ins}
-use Rattle.model_machine.specs.declared.instruction.DecodeFault.{DecodeFault}
-use Rattle.model_machine.specs.declared.instruction.DecodeFault.TheVariants.{Undefined, Past}
-use Rattle.model_machine.specs.declared.machine.Abend.{Abend}
-use Rattle.model_device.specs.Bytes.{lookup, insert, zeros}
-use Rattle.model_machine.specs.Apdu.{ApduParts}
-use Rattle.model_machine.specs.Code.{Shaped, instruction_at}
-use Rattle.model_device.specs.Card.{App}
-use Rattle.model_machine.specs.Frame.{Frame, new_frame, la_of}
-use Rattle.model_machine.specs.Primitives.{Then, Goes, Exits, Delegates}
-use Rattle.model_machine.specs.Row.{Does, causes, effect, first_cause, row_end, row}
-use Rattle.model_machine.specs.Chain.{Outcome, Write, Chain, Ran, Acted, Follows, Continues, Ends, code_in, with_pieces, changed_app, map_changed, write_of, chain_after_effect, is_active, depth_of, called_app, chain_after_call, after_exit, follows, delegator_in, row_turn, turn_of_fetch, frame_at, around, turn_of_chain, run_after_turn, run_of_chain, start_app, start, no_app}
-use Rattle.model_device.proofs.ImageLemmas.{all_append}
+use Rattle.model_card.specs.model_machine.specs.declared.instruction.Ins.{Ins}
+use Rattle.model_card.specs.model_machine.specs.declared.instruction.DecodeFault.{DecodeFault}
+use Rattle.model_card.specs.model_machine.specs.declared.instruction.DecodeFault.TheVariants.{Undefined, Past}
+use Rattle.model_card.specs.model_machine.specs.declared.machine.Abend.{Abend}
+use Rattle.model_card.specs.model_device.specs.Bytes.{lookup, insert, zeros}
+use Rattle.model_card.specs.model_machine.specs.Apdu.{ApduParts}
+use Rattle.model_card.specs.model_machine.specs.Code.{Shaped, instruction_at}
+use Rattle.model_card.specs.model_device.specs.Card.{App}
+use Rattle.model_card.specs.model_machine.specs.Frame.{Frame, new_frame, la_of}
+use Rattle.model_card.specs.model_machine.specs.Primitives.{Then, Goes, Exits, Delegates}
+use Rattle.model_card.specs.model_machine.specs.Row.{Does, causes, effect, first_cause, row_end, row}
+use Rattle.model_card.specs.model_machine.specs.Chain.{Outcome, Write, Chain, Ran, Acted, Follows, Continues, Ends, code_in, with_pieces, changed_app, map_changed, write_of, chain_after_effect, is_active, depth_of, called_app, chain_after_call, after_exit, follows, delegator_in, row_turn, turn_of_fetch, frame_at, around, turn_of_chain, run_after_turn, run_of_chain, start_app, start, no_app}
+use Rattle.model_card.specs.model_device.proofs.ImageLemmas.{all_append}
 use Rattle.law_machine.specs.FewWords.{HoldsFew, words_in, most_words}
 use Rattle.law_machine.specs.FewRuns.{AreCoded, FewRunsLaw}
 use Rattle.law_rows.proofs.Keeping.{effect_keeps}
 use Rattle.law_machine.proofs.RowWords.{none_holds, DoneRowFacts, row_few, held_after, reported_any, delegates_short, most_64}
 use Rattle.law_machine.proofs.AppSizes.{SameSizes, Limited, limited_from, are_limited, limited_same}
 use Rattle.law_machine.proofs.RunSizes.{ChainFits, changed_by, NextFits, acted_fits, start_fits}
-use Rattle.model_device.proofs.MapLemmas.{same_name, lookup_inserted_lem, lookup_beside}
-use Rattle.model_device.proofs.PieceLemmas.{none_touched}
+use Rattle.model_card.specs.model_device.proofs.MapLemmas.{same_name, lookup_inserted_lem, lookup_beside}
+use Rattle.model_card.specs.model_device.proofs.PieceLemmas.{none_touched}
 
 -- ---- code
 

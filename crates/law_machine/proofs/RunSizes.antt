@@ -3,19 +3,19 @@ use Rattle.std.proofs.Common.{◌≡◌, ℕ, zero, suc, ◌-◌, ◌≤◌, Boo
 use Rattle.std.specs.Prelude.{⊤, ◌||◌, nat_lt, nat_le, unwrap_or}
 use Rattle.std.specs.List.{AllByRecursion}
 use Rattle.std.proofs.lemmas.List.{length-append, length-take}
-use Rattle.model_machine.specs.declared.instruction.Ins.{Ins}
-use Rattle.model_machine.specs.declared.instruction.DecodeFault.{DecodeFault}
-use Rattle.model_machine.specs.declared.instruction.DecodeFault.TheVariants.{Undefined, Past}
-use Rattle.model_machine.specs.declared.machine.Abend.{Abend}
-use Rattle.model_device.specs.Bytes.{lookup, zeros}
-use Rattle.model_machine.specs.Apdu.{ApduParts}
-use Rattle.model_machine.specs.Code.{instruction_at}
-use Rattle.model_device.specs.Card.{App}
-use Rattle.model_machine.specs.Frame.{Frame, new_frame, la_of}
-use Rattle.model_machine.specs.Primitives.{Then, Goes, Exits, Delegates, Done}
-use Rattle.model_machine.specs.Row.{Does, causes, effect, first_cause, row_end, row}
-use Rattle.model_machine.specs.Chain.{Outcome, Chain, Ran, Acted, Follows, Continues, Ends, code_in, first_frame, chain_session, map_changed, write_of, chain_after_effect, is_active, depth_of, called_app, chain_after_call, reply_of, after_exit, follows, row_turn, turn_of_fetch, frame_at, around, turn_of_chain, run_after_turn, run_of_chain, start_app, start, no_app, run}
-use Rattle.model_device.proofs.ImageLemmas.{all_append}
+use Rattle.model_card.specs.model_machine.specs.declared.instruction.Ins.{Ins}
+use Rattle.model_card.specs.model_machine.specs.declared.instruction.DecodeFault.{DecodeFault}
+use Rattle.model_card.specs.model_machine.specs.declared.instruction.DecodeFault.TheVariants.{Undefined, Past}
+use Rattle.model_card.specs.model_machine.specs.declared.machine.Abend.{Abend}
+use Rattle.model_card.specs.model_device.specs.Bytes.{lookup, zeros}
+use Rattle.model_card.specs.model_machine.specs.Apdu.{ApduParts}
+use Rattle.model_card.specs.model_machine.specs.Code.{instruction_at}
+use Rattle.model_card.specs.model_device.specs.Card.{App}
+use Rattle.model_card.specs.model_machine.specs.Frame.{Frame, new_frame, la_of}
+use Rattle.model_card.specs.model_machine.specs.Primitives.{Then, Goes, Exits, Delegates, Done}
+use Rattle.model_card.specs.model_machine.specs.Row.{Does, causes, effect, first_cause, row_end, row}
+use Rattle.model_card.specs.model_machine.specs.Chain.{Outcome, Chain, Ran, Acted, Follows, Continues, Ends, code_in, first_frame, chain_session, map_changed, write_of, chain_after_effect, is_active, depth_of, called_app, chain_after_call, reply_of, after_exit, follows, row_turn, turn_of_fetch, frame_at, around, turn_of_chain, run_after_turn, run_of_chain, start_app, start, no_app, run}
+use Rattle.model_card.specs.model_device.proofs.ImageLemmas.{all_append}
 use Rattle.law_rows.specs.Keeping.{PiecesWithin, ChangeWithin, Keeps}
 use Rattle.law_rows.proofs.Keeping.{effect_keeps, fixed_length}
 use Rattle.law_machine.proofs.AppSizes.{size_of, size_in, SameSizes, InsideApp, changed_sizes, WriteFits, moved_writes}

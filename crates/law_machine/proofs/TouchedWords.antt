@@ -2,8 +2,8 @@
 use Rattle.std.proofs.Common.{◌≡◌, ℕ, zero, suc, ◌+◌, ◌*◌, ◌/◌, ◌≤◌, Bool, true, false, cond, List, [], ◌∷◌, ◌++◌, length, refl, sym, ◌∙◌, ap, subst, arith}
 use Rattle.std.specs.Prelude.{◌==◌, nat_lt}
 use Rattle.std.proofs.lemmas.Bool.{eqb-true, eqb-false, eq-eqb}
-use Rattle.model_device.specs.Bytes.{down, zeros}
-use Rattle.model_device.specs.Pieces.{with_number, with_words, with_touched, touched_words}
+use Rattle.model_card.specs.model_device.specs.Bytes.{down, zeros}
+use Rattle.model_card.specs.model_device.specs.Pieces.{with_number, with_words, with_touched, touched_words}
 
 -- ---- one number more
 

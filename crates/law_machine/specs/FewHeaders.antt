@@ -1,8 +1,8 @@
 -- The number of header words that a creation or a deletion changes.
 use Rattle.std.specs.Prelude.{ℕ, ◌+◌, ◌≤◌, List, length}
-use Rattle.model_device.specs.Bytes.{insert, remove}
-use Rattle.model_device.specs.Card.{App, Card}
-use Rattle.model_device.specs.Layout.{step_of}
+use Rattle.model_card.specs.model_device.specs.Bytes.{insert, remove}
+use Rattle.model_card.specs.model_device.specs.Card.{App, Card}
+use Rattle.model_card.specs.model_device.specs.Layout.{step_of}
 
 -- a creation or a deletion changes at most four header words more than there are applications: the root, its own
 -- header, and the gaps, of which there is at most one more than there are applications

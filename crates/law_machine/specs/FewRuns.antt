@@ -1,12 +1,12 @@
 -- The number of words that each atomic write of a command to an application touches.
 use Rattle.std.specs.Prelude.{◌≡◌, ℕ, ◌≤◌, List, length, Ok}
 use Rattle.std.specs.List.{AllByRecursion}
-use Rattle.model_machine.specs.declared.instruction.Ins.{Ins}
-use Rattle.model_device.specs.Bytes.{lookup}
-use Rattle.model_machine.specs.Apdu.{ApduParts}
-use Rattle.model_machine.specs.Code.{Shaped, instruction_at}
-use Rattle.model_device.specs.Card.{App}
-use Rattle.model_machine.specs.Chain.{code_in, run}
+use Rattle.model_card.specs.model_machine.specs.declared.instruction.Ins.{Ins}
+use Rattle.model_card.specs.model_device.specs.Bytes.{lookup}
+use Rattle.model_card.specs.model_machine.specs.Apdu.{ApduParts}
+use Rattle.model_card.specs.model_machine.specs.Code.{Shaped, instruction_at}
+use Rattle.model_card.specs.model_device.specs.Card.{App}
+use Rattle.model_card.specs.model_machine.specs.Chain.{code_in, run}
 use Rattle.law_machine.specs.Limited.{AreLimited}
 
 -- applications that keep to the most static bytes, and code of bytes: the operands of each instruction in it are in

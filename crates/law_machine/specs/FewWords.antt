@@ -1,15 +1,15 @@
 -- The number of words of static bytes that one instruction changes, and the number of device writes that this takes.
 use Rattle.std.specs.Prelude.{◌≡◌, ℕ, ◌≤◌, List, length, IfSome, Option, Some, None, ⊤}
-use Rattle.model_machine.specs.declared.instruction.Ins.{Ins}
-use Rattle.model_machine.specs.declared.instruction.Ins.TheVariants as ins
-use Rattle.model_device.specs.Image.{One, Two}
-use Rattle.model_device.specs.Stopped.{cost}
-use Rattle.model_machine.specs.Code.{Shaped}
-use Rattle.model_device.specs.Pieces.{touched_words}
-use Rattle.model_machine.specs.Frame.{Frame}
-use Rattle.model_machine.specs.Primitives.{Around, Exits, Done, Primitive, SetProtection, primitive}
-use Rattle.model_machine.specs.Row.{RowEnd, Abends, Does, row}
-use Rattle.model_device.specs.Limits.{most_static}
+use Rattle.model_card.specs.model_machine.specs.declared.instruction.Ins.{Ins}
+use Rattle.model_card.specs.model_machine.specs.declared.instruction.Ins.TheVariants as ins
+use Rattle.model_card.specs.model_device.specs.Image.{One, Two}
+use Rattle.model_card.specs.model_device.specs.Stopped.{cost}
+use Rattle.model_card.specs.model_machine.specs.Code.{Shaped}
+use Rattle.model_card.specs.model_device.specs.Pieces.{touched_words}
+use Rattle.model_card.specs.model_machine.specs.Frame.{Frame}
+use Rattle.model_card.specs.model_machine.specs.Primitives.{Around, Exits, Done, Primitive, SetProtection, primitive}
+use Rattle.model_card.specs.model_machine.specs.Row.{RowEnd, Abends, Does, row}
+use Rattle.model_card.specs.model_device.specs.Limits.{most_static}
 use Rattle.law_rows.specs.Keeping.{PiecesWithin}
 
 -- a frame within the limits: its pending pieces lie in its static bytes and touch at most 64 words

@@ -1,8 +1,8 @@
 -- Applications within the limits.
 use Rattle.std.specs.Prelude.{◌≡◌, ℕ, ◌≤◌, List, length, Option, Some, None}
-use Rattle.model_device.specs.Bytes.{lookup}
-use Rattle.model_device.specs.Card.{App}
-use Rattle.model_device.specs.Limits.{most_static}
+use Rattle.model_card.specs.model_device.specs.Bytes.{lookup}
+use Rattle.model_card.specs.model_device.specs.Card.{App}
+use Rattle.model_card.specs.model_device.specs.Limits.{most_static}
 
 -- the number of session bytes of an application, 0 if it is not there
 abbrev pub session_in : Option App → ℕ

@@ -2,9 +2,9 @@
 use Rattle.std.proofs.Common.{◌≡◌, ℕ, ◌-◌, Bool, true, false, not, List, [], ◌∷◌, ◌++◌, length, map, Option, Some, None, refl, sym, ap, subst, ◌∙◌}
 use Rattle.std.specs.Prelude.{◌==◌, ◌||◌, is_none}
 use Rattle.model_card.specs.declared.card.Part.{Part}
-use Rattle.model_device.specs.Bytes.{lookup, zeros}
-use Rattle.model_machine.specs.Apdu.{ApduParts}
-use Rattle.model_device.specs.Card.{App, Card}
+use Rattle.model_card.specs.model_device.specs.Bytes.{lookup, zeros}
+use Rattle.model_card.specs.model_machine.specs.Apdu.{ApduParts}
+use Rattle.model_card.specs.model_device.specs.Card.{App, Card}
 use Rattle.model_card.specs.Items.{Created, Item, Plain, Site, BankItem, Piece, Blank, Note, Enter}
 use Rattle.model_card.specs.Manager.{SessionState, Managed, answer_unless, first_status, is_empty, select_done, got_of, with_got, word_parts, fresh, manage, room_on}
 use Rattle.model_card.specs.Commands.{item_of, atomic_of, manager_command}

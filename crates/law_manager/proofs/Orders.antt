@@ -5,12 +5,12 @@ use Rattle.std.proofs.lemmas.Bool.{eqb-true, not-false}
 use Rattle.model_card.specs.declared.card.Part.{Part}
 use Rattle.model_card.specs.declared.card.Sizes.{Sizes}
 use Rattle.model_card.specs.declared.unit.AidFault.{AidFault}
-use Rattle.model_device.specs.Bytes.{lookup}
-use Rattle.model_machine.specs.Apdu.{ApduParts}
+use Rattle.model_card.specs.model_device.specs.Bytes.{lookup}
+use Rattle.model_card.specs.model_machine.specs.Apdu.{ApduParts}
 use Rattle.model_card.specs.Units.{name_of}
-use Rattle.model_device.specs.Card.{App}
+use Rattle.model_card.specs.model_device.specs.Card.{App}
 use Rattle.model_card.specs.Manager.{Open, SessionState, Accepted, Managed, Accepts, answer_unless, first_status, is_empty, p1p2, sizes_in, fits_limits, open_refusals, open_done, got_of, load_refusals, load_done, is_complete, dir_in, is_taken, create_refusals, create_done, delete_refusals, delete_done, manage}
-use Rattle.model_device.proofs.BoolLemmas.{no_value}
+use Rattle.model_card.specs.model_device.proofs.BoolLemmas.{no_value}
 use Rattle.law_manager.specs.Orders.{Order, Opens, Loads, Creates, Deletes, Unknown, order_of, managed, ins_of_part, HasIns}
 use Rattle.law_manager.specs.Answers.{opened_load, IsAnswer}
 use Rattle.law_manager.specs.Answers as of

@@ -1,6 +1,6 @@
 -- What holds of plain items before others, from what holds of those.
 use Rattle.std.proofs.Common.{◌≡◌, ℕ, zero, suc, ◌+◌, List, ◌∷◌, refl, arith}
-use Rattle.model_device.specs.Card.{App}
+use Rattle.model_card.specs.model_device.specs.Card.{App}
 use Rattle.model_card.specs.Items.{Item, Plain, moves, apps_after_items}
 use Rattle.law_manager.specs.OnCard.{plains}
 

@@ -2,10 +2,10 @@
 use Rattle.std.specs.Prelude.{◌≡◌, ℕ, ◌≤◌, true, false, ◌==◌, List, [], ◌∷◌, length, unwrap_or, Option, Some, None, Ok}
 use Rattle.model_card.specs.declared.card.Part.{Part}
 use Rattle.model_card.specs.declared.card.Sizes.{Sizes}
-use Rattle.model_device.specs.Bytes.{lookup}
-use Rattle.model_machine.specs.Apdu.{ApduParts}
+use Rattle.model_card.specs.model_device.specs.Bytes.{lookup}
+use Rattle.model_card.specs.model_machine.specs.Apdu.{ApduParts}
 use Rattle.model_card.specs.Units.{name_of}
-use Rattle.model_device.specs.Card.{App}
+use Rattle.model_card.specs.model_device.specs.Card.{App}
 use Rattle.model_card.specs.Manager.{Open, SessionState, Managed, Declines, Accepts, changes_nothing, p1p2, sizes_in, fits_limits, got_of, load_done, is_complete, create_done, is_selected, delete_done}
 use Rattle.law_manager.specs.Orders.{Order, Opens, Loads, Creates, Deletes}
 

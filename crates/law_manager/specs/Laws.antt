@@ -1,8 +1,8 @@
 -- The laws of the card manager by the name of a command.
 use Rattle.std.specs.Prelude.{◌≡◌, ℕ, List, Option}
 use Rattle.model_card.specs.declared.card.Sizes.{Sizes}
-use Rattle.model_machine.specs.Apdu.{ApduParts}
-use Rattle.model_device.specs.Card.{App, Card}
+use Rattle.model_card.specs.model_machine.specs.Apdu.{ApduParts}
+use Rattle.model_card.specs.model_device.specs.Card.{App, Card}
 use Rattle.model_card.specs.Manager.{SessionState, select, manage, room_on}
 use Rattle.model_card.specs.Commands.{manager_command}
 use Rattle.law_manager.specs.Orders.{Order, order_of, HasIns, managed}

@@ -1,10 +1,10 @@
 -- What each command of the card manager, and a SELECT, makes of a card.
 use Rattle.std.specs.Prelude.{◌≡◌, ℕ, zero, suc, ◌-◌, false, ◌==◌, List, [], ◌∷◌, length, Option, Some, None}
 use Rattle.model_card.specs.declared.card.Part.{Part}
-use Rattle.model_device.specs.Bytes.{zeros, lookup}
-use Rattle.model_machine.specs.Apdu.{ApduParts}
-use Rattle.model_machine.specs.Chain.{Reply}
-use Rattle.model_device.specs.Card.{App, Card}
+use Rattle.model_card.specs.model_device.specs.Bytes.{zeros, lookup}
+use Rattle.model_card.specs.model_machine.specs.Apdu.{ApduParts}
+use Rattle.model_card.specs.model_machine.specs.Chain.{Reply}
+use Rattle.model_card.specs.model_device.specs.Card.{App, Card}
 use Rattle.model_card.specs.Items.{Created, Deleted, Item, Plain, Site}
 use Rattle.model_card.specs.Manager.{Open, select_body, SessionState, p1p2, with_got, word_parts, fresh, room_on}
 use Rattle.model_card.specs.Commands.{Command, atomic_of, refusal}

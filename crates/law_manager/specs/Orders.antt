@@ -3,8 +3,8 @@ use Rattle.std.specs.Prelude.{◌≡◌, ℕ, cond, ◌==◌, List, Option, ⊤}
 use Rattle.model_card.specs.declared.card.Part.{Part}
 use Rattle.model_card.specs.declared.card.Part.TheVariants as part
 use Rattle.model_card.specs.declared.card.Sizes.{Sizes}
-use Rattle.model_machine.specs.Apdu.{ApduParts}
-use Rattle.model_device.specs.Card.{App}
+use Rattle.model_card.specs.model_machine.specs.Apdu.{ApduParts}
+use Rattle.model_card.specs.model_device.specs.Card.{App}
 use Rattle.model_card.specs.Manager.{SessionState, Managed, Declines, open_load, load_part, create, delete}
 
 -- a command of class BE: OPEN, LOAD for a section, CREATE, DELETE, or none of them

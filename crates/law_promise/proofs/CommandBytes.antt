@@ -4,10 +4,10 @@ use Rattle.std.proofs.Common.{◌≡◌, ℕ, ◌+◌, ◌-◌, ◌<◌, ◌≤�
 use Rattle.std.specs.Prelude.{◌≢◌, ◌==◌, true, false}
 use Rattle.std.proofs.lemmas.Bool.{ltb-true, ltb-false, eqb-true}
 use Rattle.std.proofs.lemmas.List.{drop-drop}
-use Rattle.model_device.specs.Bytes.{bytes, num}
-use Rattle.model_machine.specs.Apdu.{ApduParts}
-use Rattle.model_machine.specs.Blocks.{sub_blocks, is_zero}
-use Rattle.model_machine.specs.Frame.{new_public}
+use Rattle.model_text.specs.model_device.specs.Bytes.{bytes, num}
+use Rattle.model_text.specs.model_machine.specs.Apdu.{ApduParts}
+use Rattle.model_text.specs.model_machine.specs.Blocks.{sub_blocks, is_zero}
+use Rattle.model_text.specs.model_machine.specs.Frame.{new_public}
 use Rattle.law_promise.proofs.PublicBytes.{words_of, words_behind, equal_is}
 
 -- ---- bytes of a command

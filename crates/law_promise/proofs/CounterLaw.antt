@@ -1,6 +1,6 @@
 -- What the counter promises follows from its outline.
 use Rattle.std.proofs.Common.{ℕ, List, []}
-use Rattle.model_play.specs.Play.{Step, plays, start}
+use Rattle.law_bytes.specs.model_play.specs.Play.{Step, plays, start}
 use Rattle.law_promise.specs.Along.{OnFixed, OnAnswer, command_for}
 use Rattle.law_promise.specs.Kept.{LineKept}
 use Rattle.law_promise.specs.Counter.{BeginsCount, CounterFromLaw, CounterLaw, KeepsCount, counter_name, counter_watch, counter_app, AnswersCount}

@@ -1,14 +1,14 @@
 -- A card that was formatted has none of a name, whatever stop hits its first power line.
 use Rattle.std.proofs.Common.{◌≡◌, ℕ, ◌≤◌, Bool, true, false, cond, List, [], length, Option, Some, None, refl, ap, ◌∙◌}
 use Rattle.std.specs.Prelude.{nat_le}
-use Rattle.model_device.specs.declared.cause.Cause.{Cause}
-use Rattle.model_device.specs.Bytes.{lookup}
-use Rattle.model_device.specs.Card.{App}
-use Rattle.model_device.specs.PowerUp.{Base, OnCard, AtFault, base_after_migration, base_of}
-use Rattle.model_card.specs.Items.{StopAt}
-use Rattle.model_play.specs.Given.{apps_on, apps_in}
-use Rattle.model_play.specs.Play.{Armed, Warm, AfterPower, hit_of, power_moves, stopped_power, power_after, play_at_power, formatted_image, step}
-use Rattle.law_family.proofs.FormattedImage.{formatted_sound, formatted_empty}
+use Rattle.model_text.specs.model_device.specs.declared.cause.Cause.{Cause}
+use Rattle.model_text.specs.model_device.specs.Bytes.{lookup}
+use Rattle.model_text.specs.model_device.specs.Card.{App}
+use Rattle.model_text.specs.model_device.specs.PowerUp.{Base, OnCard, AtFault, base_after_migration, base_of}
+use Rattle.law_bytes.specs.model_card.specs.Items.{StopAt}
+use Rattle.law_bytes.specs.model_play.specs.Given.{apps_on, apps_in}
+use Rattle.law_bytes.specs.model_play.specs.Play.{Armed, Warm, AfterPower, hit_of, power_moves, stopped_power, power_after, play_at_power, formatted_image, step}
+use Rattle.law_bytes.specs.law_family.proofs.FormattedImage.{formatted_sound, formatted_empty}
 use Rattle.law_promise.specs.Along.{FormattedLaw}
 
 -- a power line leaves the applications of its base

@@ -2,18 +2,18 @@
 use Rattle.std.proofs.Common.{◌≡◌, ℕ, ◌-◌, Bool, true, false, cond, List, [], ◌∷◌, drop, Option, Some, None, refl, sym, ap, subst, ◌∙◌}
 use Rattle.std.specs.Prelude.{◌⊎◌, nat_le, ⊤}
 use Rattle.std.specs.List.{AllByRecursion}
-use Rattle.model_device.specs.Bytes.{lookup}
-use Rattle.model_device.specs.Card.{App}
-use Rattle.model_device.specs.Image.{One}
-use Rattle.model_device.specs.PowerUp.{Base, OnCard, AtFault, base_after_migration}
-use Rattle.model_device.specs.Stopped.{stands}
-use Rattle.model_card.specs.Items.{StopAt}
-use Rattle.model_play.specs.DeckGrammar.{DeckLine}
-use Rattle.model_play.specs.DeckGrammar as line
-use Rattle.model_play.specs.Given.{apps_on, apps_in}
-use Rattle.model_play.specs.Play.{Armed, Unpowered, Warm, State, BeforePower, AfterPower, FailedWrite, Step, hit_of, power_moves, stopped_power, power_after, before_power_step, play_at_power, step, plays, first_failure, start}
-use Rattle.model_play.specs.ReadyAgain.{IsLine}
-use Rattle.model_play.proofs.PlayLemmas.{step_is}
+use Rattle.model_text.specs.model_device.specs.Bytes.{lookup}
+use Rattle.model_text.specs.model_device.specs.Card.{App}
+use Rattle.model_text.specs.model_device.specs.Image.{One}
+use Rattle.model_text.specs.model_device.specs.PowerUp.{Base, OnCard, AtFault, base_after_migration}
+use Rattle.model_text.specs.model_device.specs.Stopped.{stands}
+use Rattle.law_bytes.specs.model_card.specs.Items.{StopAt}
+use Rattle.law_bytes.specs.model_play.specs.DeckGrammar.{DeckLine}
+use Rattle.law_bytes.specs.model_play.specs.DeckGrammar as line
+use Rattle.law_bytes.specs.model_play.specs.Given.{apps_on, apps_in}
+use Rattle.law_bytes.specs.model_play.specs.Play.{Armed, Unpowered, Warm, State, BeforePower, AfterPower, FailedWrite, Step, hit_of, power_moves, stopped_power, power_after, before_power_step, play_at_power, step, plays, first_failure, start}
+use Rattle.law_bytes.specs.model_play.specs.ReadyAgain.{IsLine}
+use Rattle.law_bytes.specs.model_play.proofs.PlayLemmas.{step_is}
 use Rattle.law_bytes.specs.OfPlays.{IsByteState}
 use Rattle.law_bytes.proofs.PlayBytes.{step_bytes}
 use Rattle.law_promise.specs.History.{with_event, after_step}

@@ -1,26 +1,26 @@
 -- A line of a play keeps what the domain covers, and so does every play.
 use Rattle.std.proofs.Common.{◌≡◌, ℕ, Bool, true, false, cond, List, [], ◌∷◌, drop, Option, Some, None, refl, sym, ap, subst, ◌∙◌}
 use Rattle.std.specs.Prelude.{◌⊎◌, nat_le, length}
-use Rattle.model_device.specs.declared.device.Stop.{Stop}
-use Rattle.model_device.specs.declared.device.Stop.TheVariants as stop
-use Rattle.model_device.specs.Bytes.{lookup}
-use Rattle.model_device.specs.Image.{Journal, One}
-use Rattle.model_device.specs.Card.{App, Card}
-use Rattle.model_device.specs.PowerUp.{Base, OnCard, AtFault, base_after_migration}
-use Rattle.model_machine.specs.Apdu.{ApduParts}
-use Rattle.model_machine.specs.Chain.{Outcome, Reply, Abended}
-use Rattle.model_card.specs.Items.{apps_after_items, moves, StopAt, at_stop}
-use Rattle.model_card.specs.Manager.{SessionState, route, is_selected}
-use Rattle.model_card.specs.Commands.{Command, command}
-use Rattle.model_play.specs.DeckGrammar.{DeckLine, DeckCommand}
-use Rattle.model_play.specs.DeckGrammar as line
-use Rattle.model_play.specs.Given.{apps_in}
-use Rattle.model_play.specs.Play.{Armed, Unarmed, Live, Running, Unpowered, Muted, Warm, State, BeforePower, AfterPower, Answered, FailedWrite, Step, select_bytes, delete_bytes, load_commands, send, hit_of, live_after, result_of_stop, power_live, power_moves, stopped_power, power_after, command_step, line_says, whole_items, card_line, after_power_step, before_power_step, play_at_power, step, plays, first_failure, start, without_card}
-use Rattle.law_family.proofs.Stops.{whole_others}
-use Rattle.law_family.proofs.OtherCommand.{AreManagers, Aside, send_aside}
-use Rattle.law_family.proofs.LoadCommands.{load_managers}
+use Rattle.model_text.specs.model_device.specs.declared.device.Stop.{Stop}
+use Rattle.model_text.specs.model_device.specs.declared.device.Stop.TheVariants as stop
+use Rattle.model_text.specs.model_device.specs.Bytes.{lookup}
+use Rattle.model_text.specs.model_device.specs.Image.{Journal, One}
+use Rattle.model_text.specs.model_device.specs.Card.{App, Card}
+use Rattle.model_text.specs.model_device.specs.PowerUp.{Base, OnCard, AtFault, base_after_migration}
+use Rattle.model_text.specs.model_machine.specs.Apdu.{ApduParts}
+use Rattle.model_text.specs.model_machine.specs.Chain.{Outcome, Reply, Abended}
+use Rattle.law_bytes.specs.model_card.specs.Items.{apps_after_items, moves, StopAt, at_stop}
+use Rattle.law_bytes.specs.model_card.specs.Manager.{SessionState, route, is_selected}
+use Rattle.law_bytes.specs.model_card.specs.Commands.{Command, command}
+use Rattle.law_bytes.specs.model_play.specs.DeckGrammar.{DeckLine, DeckCommand}
+use Rattle.law_bytes.specs.model_play.specs.DeckGrammar as line
+use Rattle.law_bytes.specs.model_play.specs.Given.{apps_in}
+use Rattle.law_bytes.specs.model_play.specs.Play.{Armed, Unarmed, Live, Running, Unpowered, Muted, Warm, State, BeforePower, AfterPower, Answered, FailedWrite, Step, select_bytes, delete_bytes, load_commands, send, hit_of, live_after, result_of_stop, power_live, power_moves, stopped_power, power_after, command_step, line_says, whole_items, card_line, after_power_step, before_power_step, play_at_power, step, plays, first_failure, start, without_card}
+use Rattle.law_bytes.specs.law_family.proofs.Stops.{whole_others}
+use Rattle.law_bytes.specs.law_family.proofs.OtherCommand.{AreManagers, Aside, send_aside}
+use Rattle.law_bytes.specs.law_family.proofs.LoadCommands.{load_managers}
 use Rattle.std.specs.List.{AllByRecursion}
-use Rattle.model_play.specs.ReadyAgain.{IsLine}
+use Rattle.law_bytes.specs.model_play.specs.ReadyAgain.{IsLine}
 use Rattle.law_bytes.specs.OfPlays.{IsByteBase, IsByteState}
 use Rattle.law_bytes.proofs.CommandBytes.{route_bytes, managers_bytes, selects_bytes}
 use Rattle.law_bytes.proofs.PlayBytes.{step_bytes}
@@ -30,8 +30,8 @@ use Rattle.law_promise.specs.Domain.{Domain, IsSound, IdleCovered, SelectedCover
 use Rattle.law_promise.proofs.ItemLists.{whole_avoids, items_kept}
 use Rattle.law_promise.proofs.SelectedStays.{send_avoids}
 use Rattle.law_promise.proofs.Commands.{IsKnown, OnParts, CommandKept, idle_end, selected_end, managed, route_kept, route_cut}
-use Rattle.model_play.proofs.LineKinds.{past_power}
-use Rattle.model_play.proofs.PlayLemmas.{step_is}
+use Rattle.law_bytes.specs.model_play.proofs.LineKinds.{past_power}
+use Rattle.law_bytes.specs.model_play.proofs.PlayLemmas.{step_is}
 
 -- the parts of a command, where its answer is looked at
 abbrev parts_if : Bool → Option ApduParts → Option ApduParts

@@ -2,31 +2,31 @@
 use Rattle.std.proofs.Common.{◌≡◌, ℕ, ◌≤◌, Bool, true, false, cond, List, [], ◌∷◌, length, Option, Some, None, Result, Ok, Err, refl, sym, subst, arith, inl}
 use Rattle.std.specs.Prelude.{⊤, bytes_eq, nat_lt}
 use Rattle.std.proofs.lemmas.List.{length-replicate}
-use Rattle.model_machine.specs.declared.instruction.Ins.{Ins}
-use Rattle.model_machine.specs.declared.instruction.DecodeFault.{DecodeFault}
-use Rattle.model_machine.specs.declared.machine.Abend.{Abend}
-use Rattle.model_machine.specs.declared.machine.Abend.TheVariants.{A09}
-use Rattle.model_device.specs.Bytes.{zeros, lookup}
-use Rattle.model_device.specs.Card.{App}
-use Rattle.model_device.specs.PowerUp.{Base, OnCard, AtFault}
-use Rattle.model_machine.specs.Apdu.{ApduParts}
-use Rattle.model_machine.specs.Code.{instruction_at}
-use Rattle.model_machine.specs.Frame.{Frame, session_of, la_of}
-use Rattle.model_machine.specs.Primitives.{Around, Then, Goes, Exits, Delegates, Done}
-use Rattle.model_machine.specs.Row.{RowEnd, Abends, Does, row}
-use Rattle.model_machine.specs.Chain.{Outcome, Abended, frame_at}
-use Rattle.model_card.specs.Manager.{Selected}
-use Rattle.model_play.specs.DeckGrammar.{DeckLine}
-use Rattle.model_play.specs.DeckGrammar as line
-use Rattle.model_play.specs.Given.{apps_in}
-use Rattle.model_play.specs.Play.{Live, Running, Unpowered, Muted, State, BeforePower, AfterPower, Step, plays, start}
+use Rattle.model_text.specs.model_machine.specs.declared.instruction.Ins.{Ins}
+use Rattle.model_text.specs.model_machine.specs.declared.instruction.DecodeFault.{DecodeFault}
+use Rattle.model_text.specs.model_machine.specs.declared.machine.Abend.{Abend}
+use Rattle.model_text.specs.model_machine.specs.declared.machine.Abend.TheVariants.{A09}
+use Rattle.model_text.specs.model_device.specs.Bytes.{zeros, lookup}
+use Rattle.model_text.specs.model_device.specs.Card.{App}
+use Rattle.model_text.specs.model_device.specs.PowerUp.{Base, OnCard, AtFault}
+use Rattle.model_text.specs.model_machine.specs.Apdu.{ApduParts}
+use Rattle.model_text.specs.model_machine.specs.Code.{instruction_at}
+use Rattle.model_text.specs.model_machine.specs.Frame.{Frame, session_of, la_of}
+use Rattle.model_text.specs.model_machine.specs.Primitives.{Around, Then, Goes, Exits, Delegates, Done}
+use Rattle.model_text.specs.model_machine.specs.Row.{RowEnd, Abends, Does, row}
+use Rattle.model_text.specs.model_machine.specs.Chain.{Outcome, Abended, frame_at}
+use Rattle.law_bytes.specs.model_card.specs.Manager.{Selected}
+use Rattle.law_bytes.specs.model_play.specs.DeckGrammar.{DeckLine}
+use Rattle.law_bytes.specs.model_play.specs.DeckGrammar as line
+use Rattle.law_bytes.specs.model_play.specs.Given.{apps_in}
+use Rattle.law_bytes.specs.model_play.specs.Play.{Live, Running, Unpowered, Muted, State, BeforePower, AfterPower, Step, plays, start}
 use Rattle.law_promise.specs.History.{Deed, with_event, is_too_long, done_event, fetch_cause, after_step}
 use Rattle.law_promise.specs.Along.{stopped_step, Along, BringsOnly, FindsNone}
 use Rattle.law_promise.specs.Outline.{Entry, BySelection, ByDelegation, Outline, is_direct, reply_to, public_size, NextShown, RowShown, FetchShown, IsShown}
 use Rattle.law_promise.specs.Kept.{KeptIn, SessionIf, SelectedKept, LiveKept, BaseKept, StateKept, LineKept, IsKept}
 use Rattle.law_promise.specs.Domain.{Domain, IsSound, AnswerCovered, EndCovered, NextCovered, WriteCovered, AbendCovered, RowCovered, FetchCovered, IdleCovered, CoveredIf, SelectedCovered, LiveCovered, BaseCovered}
-use Rattle.law_rows.specs.Keeping.{OnLeave, Leaves, OnDone}
-use Rattle.law_rows.proofs.Keeping.{row_leaves}
+use Rattle.law_bytes.specs.law_rows.specs.Keeping.{OnLeave, Leaves, OnDone}
+use Rattle.law_bytes.specs.law_rows.proofs.Keeping.{row_leaves}
 use Rattle.law_promise.specs.Found.{AlongFound, AlongFrom, BeginsIn, BringsCovered, BringsFrom, FindsCovered, FindsFrom, IsKeptFrom, LineFound, StateFound}
 use Rattle.law_promise.proofs.FoundLines.{covered_from}
 

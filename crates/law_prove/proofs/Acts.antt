@@ -3,17 +3,17 @@
 use Rattle.std.proofs.Common.{◌≡◌, ℕ, zero, suc, ◌+◌, ◌-◌, ◌<◌, ◌≤◌, Bool, true, false, cond, List, [], ◌∷◌, ◌++◌, length, take, drop, Option, Some, None, refl, sym, ap, subst, ◌∙◌, arith}
 use Rattle.std.specs.Prelude.{not, ◌&&◌, nat_lt, nat_le, is_none, slice_index, ⊤}
 use Rattle.std.proofs.lemmas.Bool.{lt-ltb, ltb-true, leb-true}
-use Rattle.model_device.specs.Bytes.{AreBytes, bytes2, splice}
-use Rattle.model_device.specs.Card.{App}
-use Rattle.model_device.specs.Pieces.{laid_pieces}
-use Rattle.model_device.proofs.ImageLemmas.{all_append}
-use Rattle.model_device.proofs.ListLemmas.{length_splice, splice_longer}
-use Rattle.model_machine.specs.Frame.{Frame, Effect, Place, Static, Dynamic, Public, where_is, dynamic_base, dynamic_end, public_base, public_end, static_written, write_effect_at, write_effect}
-use Rattle.law_rows.specs.Keeping.{PiecesWithin}
-use Rattle.law_rows.specs.Shapes as shapes
-use Rattle.law_rows.specs.Shapes.{Stays, Answers, Jumps, Calls, Pushes, Replaces, Writes, act_effect, with_status, with_length}
-use Rattle.law_rows.proofs.Keeping.{length_laid}
-use Rattle.model_rules.specs.Keeping.{Amounts}
+use Rattle.model_prove.specs.model_device.specs.Bytes.{AreBytes, bytes2, splice}
+use Rattle.model_prove.specs.model_device.specs.Card.{App}
+use Rattle.model_prove.specs.model_device.specs.Pieces.{laid_pieces}
+use Rattle.model_prove.specs.model_device.proofs.ImageLemmas.{all_append}
+use Rattle.model_prove.specs.model_device.proofs.ListLemmas.{length_splice, splice_longer}
+use Rattle.model_prove.specs.model_machine.specs.Frame.{Frame, Effect, Place, Static, Dynamic, Public, where_is, dynamic_base, dynamic_end, public_base, public_end, static_written, write_effect_at, write_effect}
+use Rattle.model_prove.specs.law_rows.specs.Keeping.{PiecesWithin}
+use Rattle.model_prove.specs.law_rows.specs.Shapes as shapes
+use Rattle.model_prove.specs.law_rows.specs.Shapes.{Stays, Answers, Jumps, Calls, Pushes, Replaces, Writes, act_effect, with_status, with_length}
+use Rattle.model_prove.specs.law_rows.proofs.Keeping.{length_laid}
+use Rattle.model_prove.specs.model_rules.specs.Keeping.{Amounts}
 use Rattle.model_prove.specs.Sets.{Set, is_in}
 use Rattle.model_prove.specs.Facts.{Facts, Memory, Holds}
 use Rattle.model_prove.specs.Keys.{Start, Call, PlaceKey, Known, calls_after_write, calls_below}

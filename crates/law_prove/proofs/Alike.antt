@@ -4,16 +4,16 @@ use Rattle.std.proofs.Common.{◌≡◌, ℕ, zero, suc, ◌+◌, ◌-◌, ◌<�
 use Rattle.std.specs.Prelude.{not, ◌==◌, ◌&&◌, nat_lt, nat_le, is_none, slice_index}
 use Rattle.std.proofs.lemmas.Bool.{ltb-true, ltb-false, lt-ltb, false_from_ne_true, and_from}
 use Rattle.std.proofs.lemmas.List.{length-replicate}
-use Rattle.model_device.specs.Bytes.{bytes2, zeros}
-use Rattle.model_device.specs.Pieces.{touched_words}
-use Rattle.model_device.proofs.ListLemmas.{length_splice}
-use Rattle.model_device.proofs.ImageLemmas.{all_append}
-use Rattle.model_machine.specs.Frame.{Frame, Place, Static, Dynamic, Public, where_is, register, moved_address, dynamic_base, dynamic_end, public_base, public_end, static_bytes, bytes_in, bytes_at, no_access, too_many, passes_limit, top}
-use Rattle.model_machine.specs.Row.{operand}
-use Rattle.law_rows.specs.Keeping.{PiecesWithin}
-use Rattle.law_rows.specs.Shapes.{Writes}
-use Rattle.law_rows.proofs.Keeping.{length_laid}
-use Rattle.law_machine.proofs.TouchedWords.{one_piece}
+use Rattle.model_prove.specs.model_device.specs.Bytes.{bytes2, zeros}
+use Rattle.model_prove.specs.model_device.specs.Pieces.{touched_words}
+use Rattle.model_prove.specs.model_device.proofs.ListLemmas.{length_splice}
+use Rattle.model_prove.specs.model_device.proofs.ImageLemmas.{all_append}
+use Rattle.model_prove.specs.model_machine.specs.Frame.{Frame, Place, Static, Dynamic, Public, where_is, register, moved_address, dynamic_base, dynamic_end, public_base, public_end, static_bytes, bytes_in, bytes_at, no_access, too_many, passes_limit, top}
+use Rattle.model_prove.specs.model_machine.specs.Row.{operand}
+use Rattle.model_prove.specs.law_rows.specs.Keeping.{PiecesWithin}
+use Rattle.model_prove.specs.law_rows.specs.Shapes.{Writes}
+use Rattle.model_prove.specs.law_rows.proofs.Keeping.{length_laid}
+use Rattle.model_prove.specs.law_machine.proofs.TouchedWords.{one_piece}
 use Rattle.model_prove.specs.Facts.{Memory}
 use Rattle.model_prove.specs.Compares.{bytes_from}
 use Rattle.model_prove.specs.Keys.{Call}

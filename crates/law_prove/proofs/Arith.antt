@@ -3,15 +3,15 @@ use Rattle.std.proofs.Common.{◌≡◌, ℕ, zero, suc, ◌+◌, ◌-◌, ◌*�
 use Rattle.std.specs.Prelude.{not, ◌&&◌, ◌||◌, ◌==◌, nat_le, is_none}
 use Rattle.std.proofs.lemmas.Bool.{and_from, le-leb}
 use Rattle.std.proofs.lemmas.List.{append_assoc}
-use Rattle.model_device.specs.Bytes.{AreBytes, num}
-use Rattle.model_machine.specs.declared.instruction.Ins.{Ins}
-use Rattle.model_machine.specs.declared.machine.Abend.{Abend}
-use Rattle.model_machine.specs.declared.machine.Abend.TheVariants.{A03, A04, A08}
-use Rattle.model_machine.specs.Frame.{Frame, where_is, dynamic_base, is_under, bytes_at, top, no_access, too_many}
-use Rattle.model_machine.specs.Primitives.{Around}
-use Rattle.model_machine.specs.Row.{causes, operand, address_or_zero, on_stack}
-use Rattle.model_machine.specs.Chain.{frame_at}
-use Rattle.law_rows.specs.Shapes.{Stays, Writes, shape}
+use Rattle.model_prove.specs.model_device.specs.Bytes.{AreBytes, num}
+use Rattle.model_prove.specs.model_machine.specs.declared.instruction.Ins.{Ins}
+use Rattle.model_prove.specs.model_machine.specs.declared.machine.Abend.{Abend}
+use Rattle.model_prove.specs.model_machine.specs.declared.machine.Abend.TheVariants.{A03, A04, A08}
+use Rattle.model_prove.specs.model_machine.specs.Frame.{Frame, where_is, dynamic_base, is_under, bytes_at, top, no_access, too_many}
+use Rattle.model_prove.specs.model_machine.specs.Primitives.{Around}
+use Rattle.model_prove.specs.model_machine.specs.Row.{causes, operand, address_or_zero, on_stack}
+use Rattle.model_prove.specs.model_machine.specs.Chain.{frame_at}
+use Rattle.model_prove.specs.law_rows.specs.Shapes.{Stays, Writes, shape}
 use Rattle.mc_arith.proofs.BlockLemmas.{num_below}
 use Rattle.model_prove.specs.Facts.{Memory}
 use Rattle.model_prove.specs.Compares.{Compare, bytes_from, has_order, IsSo, orders_of}

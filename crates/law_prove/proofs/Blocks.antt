@@ -1,19 +1,19 @@
 -- Rows that work on blocks, digit by digit: the outcome with the machine's flags is included, and leads to what is seen.
 use Rattle.std.proofs.Common.{◌≡◌, ℕ, zero, suc, ◌+◌, ◌-◌, ◌<◌, ◌≤◌, inl, inr, Bool, true, false, cond, not, List, [], ◌∷◌, ◌++◌, length, map, reverse, Option, Some, None, refl, sym, ap, subst, ◌∙◌}
 use Rattle.std.specs.Prelude.{◌&&◌, flat_map, is_none}
-use Rattle.model_machine.specs.declared.instruction.Ins.{Ins}
-use Rattle.model_machine.specs.declared.machine.Abend.{Abend}
-use Rattle.model_machine.specs.declared.machine.Abend.TheVariants.{A08}
-use Rattle.model_machine.specs.Frame.{Frame, Effect, Place, Static, Dynamic, Public, where_is, static_written, write_effect_at, write_effect, dynamic_base}
-use Rattle.model_machine.specs.Primitives.{Goes, Done, effect_and_next}
-use Rattle.model_machine.specs.Row.{causes, effect, row, row_end, first_cause, Does}
-use Rattle.model_machine.specs.Chain.{frame_at}
-use Rattle.law_rows.specs.Shapes.{Act, Stays, Replaces, Writes, Shape, act_effect, shape_effect, meaning, shape}
-use Rattle.law_rows.specs.Shapes as shapes
-use Rattle.law_rows.proofs.RowShapes.{shapes}
-use Rattle.law_bytes.specs.OfBytes.{IsByteEffect}
-use Rattle.model_rules.specs.Rules.{Target}
-use Rattle.model_rules.specs.Keeping.{Amounts}
+use Rattle.model_prove.specs.model_machine.specs.declared.instruction.Ins.{Ins}
+use Rattle.model_prove.specs.model_machine.specs.declared.machine.Abend.{Abend}
+use Rattle.model_prove.specs.model_machine.specs.declared.machine.Abend.TheVariants.{A08}
+use Rattle.model_prove.specs.model_machine.specs.Frame.{Frame, Effect, Place, Static, Dynamic, Public, where_is, static_written, write_effect_at, write_effect, dynamic_base}
+use Rattle.model_prove.specs.model_machine.specs.Primitives.{Goes, Done, effect_and_next}
+use Rattle.model_prove.specs.model_machine.specs.Row.{causes, effect, row, row_end, first_cause, Does}
+use Rattle.model_prove.specs.model_machine.specs.Chain.{frame_at}
+use Rattle.model_prove.specs.law_rows.specs.Shapes.{Act, Stays, Replaces, Writes, Shape, act_effect, shape_effect, meaning, shape}
+use Rattle.model_prove.specs.law_rows.specs.Shapes as shapes
+use Rattle.model_prove.specs.law_rows.proofs.RowShapes.{shapes}
+use Rattle.model_prove.specs.law_bytes.specs.OfBytes.{IsByteEffect}
+use Rattle.model_prove.specs.model_rules.specs.Rules.{Target}
+use Rattle.model_prove.specs.model_rules.specs.Keeping.{Amounts}
 use Rattle.model_prove.specs.Facts.{Facts, Memory, values_from, narrow_all}
 use Rattle.model_prove.specs.Compares.{bytes_from, IsSo}
 use Rattle.model_prove.specs.Digits.{Operation, Flags, Digits, arcs, digits_to}

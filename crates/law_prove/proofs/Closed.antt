@@ -2,7 +2,7 @@
 use Rattle.std.proofs.Common.{◌≡◌, ℕ, Bool, true, false, cond, List, [], ◌∷◌, ◌++◌, Option, Some, None, Result, Ok, Err, refl, ap, subst, ◌∙◌}
 use Rattle.std.specs.Prelude.{◌&&◌, unwrap_or}
 use Rattle.std.proofs.lemmas.Bool.{and_parts}
-use Rattle.model_rules.specs.Keeping.{Amounts, Break}
+use Rattle.model_prove.specs.model_rules.specs.Keeping.{Amounts, Break}
 use Rattle.model_prove.specs.Facts.{Facts, Memory, Holds}
 use Rattle.model_prove.specs.Laws.{HoldsBytes}
 use Rattle.model_prove.specs.Keys.{MomentKey, Tables, same_moments}

@@ -2,8 +2,8 @@
 use Rattle.std.proofs.Common.{◌≡◌, ℕ, Bool, true, false, List, [], ◌∷◌, refl, ap, ◌∙◌}
 use Rattle.std.specs.Prelude.{◌&&◌, ◌==◌, bytes_eq}
 use Rattle.std.proofs.lemmas.Bool.{and_parts, eqb-true}
-use Rattle.model_device.proofs.MapLemmas.{same_name}
-use Rattle.model_rules.specs.Keeping.{Amounts}
+use Rattle.model_prove.specs.model_device.proofs.MapLemmas.{same_name}
+use Rattle.model_prove.specs.model_rules.specs.Keeping.{Amounts}
 use Rattle.model_prove.specs.Digits.{same}
 use Rattle.model_prove.specs.Keys.{Start, Delegated, OfClass, Call, PlaceKey, MomentKey, same_lists, same_amounts, same_starts, same_calls, same_places, same_moments}
 

@@ -3,20 +3,20 @@ use Rattle.std.proofs.Common.{◌≡◌, ℕ, zero, suc, ◌+◌, ◌-◌, ◌�
 use Rattle.std.specs.Prelude.{◌==◌, ◌&&◌, ◌||◌, nat_lt, slice_index}
 use Rattle.std.proofs.lemmas.Bool.{lt-ltb}
 use Rattle.std.proofs.lemmas.List.{take-append-drop, drop-drop, append_assoc}
-use Rattle.model_device.specs.Bytes.{AreBytes, splice}
-use Rattle.model_device.proofs.ListLemmas.{length_map, bytes_from as bytes_after}
-use Rattle.model_machine.specs.declared.instruction.Ins.{Ins}
-use Rattle.model_machine.specs.declared.instruction.Ins.TheVariants as ins
-use Rattle.model_machine.specs.declared.machine.Abend.{Abend}
-use Rattle.model_machine.specs.declared.machine.Abend.TheVariants.{A04, A06, A0A}
-use Rattle.model_machine.specs.Blocks.{is_zero, and_blocks, or_blocks, xor_blocks, not_block}
-use Rattle.model_machine.specs.Frame.{Frame, dynamic_base, top, is_under}
-use Rattle.model_machine.specs.Primitives.{Around, BitByte, BitWord, masked_bytes, later_causes}
-use Rattle.model_machine.specs.Row.{causes}
-use Rattle.model_machine.specs.Chain.{frame_at}
-use Rattle.law_rows.specs.Shapes.{Stays, Replaces, Shape, shape, prim_shape}
-use Rattle.law_bytes.proofs.ByteLists.{inverted, taken}
-use Rattle.model_rules.specs.Rules.{Target}
+use Rattle.model_prove.specs.model_device.specs.Bytes.{AreBytes, splice}
+use Rattle.model_prove.specs.model_device.proofs.ListLemmas.{length_map, bytes_from as bytes_after}
+use Rattle.model_prove.specs.model_machine.specs.declared.instruction.Ins.{Ins}
+use Rattle.model_prove.specs.model_machine.specs.declared.instruction.Ins.TheVariants as ins
+use Rattle.model_prove.specs.model_machine.specs.declared.machine.Abend.{Abend}
+use Rattle.model_prove.specs.model_machine.specs.declared.machine.Abend.TheVariants.{A04, A06, A0A}
+use Rattle.model_prove.specs.model_machine.specs.Blocks.{is_zero, and_blocks, or_blocks, xor_blocks, not_block}
+use Rattle.model_prove.specs.model_machine.specs.Frame.{Frame, dynamic_base, top, is_under}
+use Rattle.model_prove.specs.model_machine.specs.Primitives.{Around, BitByte, BitWord, masked_bytes, later_causes}
+use Rattle.model_prove.specs.model_machine.specs.Row.{causes}
+use Rattle.model_prove.specs.model_machine.specs.Chain.{frame_at}
+use Rattle.model_prove.specs.law_rows.specs.Shapes.{Stays, Replaces, Shape, shape, prim_shape}
+use Rattle.model_prove.specs.law_bytes.proofs.ByteLists.{inverted, taken}
+use Rattle.model_prove.specs.model_rules.specs.Rules.{Target}
 use Rattle.model_prove.specs.Facts.{Memory}
 use Rattle.model_prove.specs.Compares.{bytes_from}
 use Rattle.model_prove.specs.Digits.{Operation, And, Or, Xor}

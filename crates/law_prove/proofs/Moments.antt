@@ -2,12 +2,12 @@
 use Rattle.std.proofs.Common.{◌≡◌, ℕ, zero, suc, ◌+◌, ◌-◌, ◌<◌, ◌≤◌, Bool, true, false, cond, not, List, [], ◌∷◌, length, None, Result, Ok, refl, sym, ap, subst, ◌∙◌, arith}
 use Rattle.std.specs.Prelude.{◌&&◌, ◌||◌, nat_lt, nat_le, ◌==◌, map, flat_map, is_ok, slice_index}
 use Rattle.std.proofs.lemmas.Bool.{and_parts, and_from, leb-true, ltb-true, ltb-false, lt-ltb, le-leb, eqb-true, false_from_ne_true}
-use Rattle.model_device.specs.Bytes.{AreBytes, zeros}
-use Rattle.model_text.specs.Text.{◌>>=◌}
-use Rattle.model_machine.specs.Frame.{dynamic_base}
-use Rattle.model_rules.specs.Rules.{Range, Total}
-use Rattle.model_rules.specs.Happenings.{History, Session}
-use Rattle.model_rules.specs.Keeping.{Amounts, Break, Standing, with_allowances, after_event, standing_after, first_standing, is_in_range, are_in_ranges, are_totals, are_kept, keeps_rules}
+use Rattle.model_prove.specs.model_device.specs.Bytes.{AreBytes, zeros}
+use Rattle.model_prove.specs.model_text.specs.Text.{◌>>=◌}
+use Rattle.model_prove.specs.model_machine.specs.Frame.{dynamic_base}
+use Rattle.model_prove.specs.model_rules.specs.Rules.{Range, Total}
+use Rattle.model_prove.specs.model_rules.specs.Happenings.{History, Session}
+use Rattle.model_prove.specs.model_rules.specs.Keeping.{Amounts, Break, Standing, with_allowances, after_event, standing_after, first_standing, is_in_range, are_in_ranges, are_totals, are_kept, keeps_rules}
 use Rattle.model_prove.specs.Sets.{Set, is_in, numbers_from}
 use Rattle.model_prove.specs.Facts.{Facts, Memory, Holds, values_at, within, know_bytes}
 use Rattle.model_prove.specs.Keys.{Tables}

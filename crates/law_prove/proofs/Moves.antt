@@ -1,16 +1,16 @@
 -- Rows of one outcome that read at an address or write there: LOAD and STORE, which copy bytes, SETB and SETW.
 use Rattle.std.proofs.Common.{◌≡◌, ℕ, zero, suc, ◌+◌, ◌-◌, ◌*◌, ◌<◌, ◌≤◌, Bool, true, false, cond, List, [], ◌∷◌, ◌++◌, length, ℤ, Option, Some, None, refl, sym, ap, subst, ◌∙◌, arith}
 use Rattle.std.specs.Prelude.{not, ◌==◌, ◌&&◌, is_none, nat_lt}
-use Rattle.model_device.specs.Bytes.{bytes2}
-use Rattle.model_machine.specs.declared.instruction.Ins.{Ins}
-use Rattle.model_machine.specs.declared.instruction.Ins.TheVariants as ins
-use Rattle.model_machine.specs.declared.machine.Abend.{Abend}
-use Rattle.model_machine.specs.declared.machine.Abend.TheVariants.{A03, A04, A05, A06, A08}
-use Rattle.model_machine.specs.Frame.{Frame, Place, where_is, dynamic_base, dynamic_end, is_under, bytes_at, top, no_access, too_many, frame_after_pop}
-use Rattle.model_machine.specs.Primitives.{Around}
-use Rattle.model_machine.specs.Row.{causes, operand, address_or_zero, on_stack}
-use Rattle.model_machine.specs.Chain.{frame_at}
-use Rattle.law_rows.specs.Shapes.{Pushes, Writes, shape}
+use Rattle.model_prove.specs.model_device.specs.Bytes.{bytes2}
+use Rattle.model_prove.specs.model_machine.specs.declared.instruction.Ins.{Ins}
+use Rattle.model_prove.specs.model_machine.specs.declared.instruction.Ins.TheVariants as ins
+use Rattle.model_prove.specs.model_machine.specs.declared.machine.Abend.{Abend}
+use Rattle.model_prove.specs.model_machine.specs.declared.machine.Abend.TheVariants.{A03, A04, A05, A06, A08}
+use Rattle.model_prove.specs.model_machine.specs.Frame.{Frame, Place, where_is, dynamic_base, dynamic_end, is_under, bytes_at, top, no_access, too_many, frame_after_pop}
+use Rattle.model_prove.specs.model_machine.specs.Primitives.{Around}
+use Rattle.model_prove.specs.model_machine.specs.Row.{causes, operand, address_or_zero, on_stack}
+use Rattle.model_prove.specs.model_machine.specs.Chain.{frame_at}
+use Rattle.model_prove.specs.law_rows.specs.Shapes.{Pushes, Writes, shape}
 use Rattle.model_prove.specs.Sets.{Set}
 use Rattle.model_prove.specs.Facts.{Facts, Memory, values_from}
 use Rattle.model_prove.specs.Compares.{bytes_from}

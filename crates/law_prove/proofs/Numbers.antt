@@ -4,18 +4,18 @@ use Rattle.std.proofs.Common.{◌≡◌, ℕ, zero, suc, ◌+◌, ◌-◌, ◌*�
 use Rattle.std.specs.Prelude.{not, ◌&&◌, ◌==◌, bit_and, bit_or, bit_xor}
 use Rattle.std.proofs.lemmas.Bool.{and_parts, eqb-true, eqb-false}
 use Rattle.std.proofs.lemmas.List.{length-replicate}
-use Rattle.model_device.specs.Bytes.{AreBytes, num, bytes, bytes2, zeros}
-use Rattle.model_device.proofs.ListLemmas.{pair_bytes, length_bytes}
-use Rattle.model_machine.specs.declared.instruction.Ins.TheVariants as ins
-use Rattle.model_machine.specs.declared.machine.Abend.TheVariants.{A06}
-use Rattle.model_machine.specs.Blocks.{Worked, add_blocks, sub_blocks, inc_block, dec_block, is_zero, and_blocks, or_blocks, xor_blocks, not_block}
-use Rattle.model_machine.specs.Primitives.{in_range}
-use Rattle.model_machine.specs.Row.{causes}
-use Rattle.law_rows.specs.Shapes.{shape}
+use Rattle.model_prove.specs.model_device.specs.Bytes.{AreBytes, num, bytes, bytes2, zeros}
+use Rattle.model_prove.specs.model_device.proofs.ListLemmas.{pair_bytes, length_bytes}
+use Rattle.model_prove.specs.model_machine.specs.declared.instruction.Ins.TheVariants as ins
+use Rattle.model_prove.specs.model_machine.specs.declared.machine.Abend.TheVariants.{A06}
+use Rattle.model_prove.specs.model_machine.specs.Blocks.{Worked, add_blocks, sub_blocks, inc_block, dec_block, is_zero, and_blocks, or_blocks, xor_blocks, not_block}
+use Rattle.model_prove.specs.model_machine.specs.Primitives.{in_range}
+use Rattle.model_prove.specs.model_machine.specs.Row.{causes}
+use Rattle.model_prove.specs.law_rows.specs.Shapes.{shape}
 use Rattle.mc_arith.specs.Carry.{carry_of}
 use Rattle.mc_arith.proofs.BlockLemmas.{pow_more, pow_positive, num_bytes}
 use Rattle.mc_arith.proofs.ResultLemmas.{sum_is, difference_is, inc_is, dec_is}
-use Rattle.law_bytes.proofs.ByteLists.{zero_bytes, number_bytes}
+use Rattle.model_prove.specs.law_bytes.proofs.ByteLists.{zero_bytes, number_bytes}
 use Rattle.model_prove.specs.Digits.{Operation, Plus, Minus, And, Or, Xor, carried}
 use Rattle.law_prove.specs.Laws.{CompareLaw, SumLaw, BitLaw}
 use Rattle.law_prove.proofs.Single.{RowCase, law_of}

@@ -2,8 +2,8 @@
 use Rattle.std.proofs.Common.{◌≡◌, ℕ, ◌+◌, ◌-◌, ◌<◌, ◌≤◌, ◌⊎◌, inl, inr, Bool, true, false, cond, List, length, refl, sym, ap, ◌∙◌, arith}
 use Rattle.std.specs.Prelude.{nat_lt, slice_index}
 use Rattle.std.proofs.lemmas.Bool.{ltb-true, ltb-false, lt-ltb, false_from_ne_true}
-use Rattle.model_device.specs.Bytes.{splice}
-use Rattle.model_machine.specs.Frame.{dynamic_base, public_base}
+use Rattle.model_prove.specs.model_device.specs.Bytes.{splice}
+use Rattle.model_prove.specs.model_machine.specs.Frame.{dynamic_base, public_base}
 use Rattle.law_prove.specs.Coverings.{parts_memory}
 use Rattle.law_prove.proofs.Windows.{index_beside, index_within}
 

@@ -1,11 +1,11 @@
 -- The lines that a class picks are those that apply to each command of it, and to its answer.
 use Rattle.std.proofs.Common.{◌≡◌, ℕ, List, [], ◌∷◌, Result, Ok, Err, refl}
 use Rattle.std.specs.Prelude.{◌&&◌, map}
-use Rattle.model_text.specs.Text.{◌>>=◌}
-use Rattle.model_text.specs.Listing.{hex_text}
-use Rattle.law_explore.specs.Matching.{fits}
-use Rattle.model_rules.specs.Rules.{Trigger, AtTurn, AtCommand, AtAnswer, AtSession, Action, OnLine}
-use Rattle.model_rules.specs.Keeping.{Amounts, Break, OnCommand, OnAnswer, applies, after_line, after_lines}
+use Rattle.model_prove.specs.model_text.specs.Text.{◌>>=◌}
+use Rattle.model_prove.specs.model_text.specs.Listing.{hex_text}
+use Rattle.model_prove.specs.law_explore.specs.Matching.{fits}
+use Rattle.model_prove.specs.model_rules.specs.Rules.{Trigger, AtTurn, AtCommand, AtAnswer, AtSession, Action, OnLine}
+use Rattle.model_prove.specs.model_rules.specs.Keeping.{Amounts, Break, OnCommand, OnAnswer, applies, after_line, after_lines}
 use Rattle.model_prove.specs.Arrivals.{command_picks, answer_picks, answered_picks, after_pick, after_picks, result_patterns}
 use Rattle.law_prove.specs.Coverings.{class_of}
 

@@ -3,26 +3,26 @@ use Rattle.std.proofs.Common.{◌≡◌, ℕ, zero, suc, ◌+◌, ◌-◌, ◌<�
 use Rattle.std.specs.Prelude.{◌&&◌, nat_lt, map, unwrap_or, slice_index}
 use Rattle.std.proofs.lemmas.Bool.{and_parts, ltb-true, lt-ltb, false_from_ne_true}
 use Rattle.std.proofs.lemmas.List.{length-replicate, length-append, get_or-take}
-use Rattle.model_device.specs.Bytes.{AreBytes, zeros}
-use Rattle.model_text.specs.Text.{◌>>=◌}
-use Rattle.model_text.specs.Listing.{hex_text}
-use Rattle.model_machine.specs.declared.machine.Abend.{Abend}
-use Rattle.model_machine.specs.declared.machine.Abend.TheVariants.{A01, A02, A07}
-use Rattle.model_machine.specs.declared.instruction.Ins.{Ins}
-use Rattle.model_machine.specs.declared.instruction.DecodeFault.{DecodeFault}
-use Rattle.model_machine.specs.declared.instruction.DecodeFault.TheVariants.{Undefined, Past}
-use Rattle.model_machine.specs.Frame.{Frame, dynamic_base, dynamic_end, public_base, session_of, static_bytes, new_frame}
-use Rattle.model_machine.specs.Chain.{Outcome, Abended}
-use Rattle.model_machine.specs.Code.{instruction_at}
-use Rattle.model_play.specs.Transcript.{outcome_text}
-use Rattle.law_promise.specs.History.{fetch_cause}
-use Rattle.law_promise.specs.Outline.{Entry, BySelection, ByDelegation}
-use Rattle.law_promise.specs.Domain.{AbendCovered, EndCovered}
-use Rattle.law_explore.specs.Matching.{fits}
-use Rattle.model_rules.specs.Rules.{Target}
-use Rattle.model_rules.specs.Happenings.{Event, History, Failed, Answers}
-use Rattle.model_rules.specs.Keeping.{Amounts, Break, Standing, after_occasion, OnAnswer, with_allowances, after_abend, after_event, standing_after}
-use Rattle.model_rules.specs.Law.{domain_of_rules}
+use Rattle.model_prove.specs.model_device.specs.Bytes.{AreBytes, zeros}
+use Rattle.model_prove.specs.model_text.specs.Text.{◌>>=◌}
+use Rattle.model_prove.specs.model_text.specs.Listing.{hex_text}
+use Rattle.model_prove.specs.model_machine.specs.declared.machine.Abend.{Abend}
+use Rattle.model_prove.specs.model_machine.specs.declared.machine.Abend.TheVariants.{A01, A02, A07}
+use Rattle.model_prove.specs.model_machine.specs.declared.instruction.Ins.{Ins}
+use Rattle.model_prove.specs.model_machine.specs.declared.instruction.DecodeFault.{DecodeFault}
+use Rattle.model_prove.specs.model_machine.specs.declared.instruction.DecodeFault.TheVariants.{Undefined, Past}
+use Rattle.model_prove.specs.model_machine.specs.Frame.{Frame, dynamic_base, dynamic_end, public_base, session_of, static_bytes, new_frame}
+use Rattle.model_prove.specs.model_machine.specs.Chain.{Outcome, Abended}
+use Rattle.model_prove.specs.model_machine.specs.Code.{instruction_at}
+use Rattle.model_prove.specs.model_play.specs.Transcript.{outcome_text}
+use Rattle.model_prove.specs.law_promise.specs.History.{fetch_cause}
+use Rattle.model_prove.specs.law_promise.specs.Outline.{Entry, BySelection, ByDelegation}
+use Rattle.model_prove.specs.law_promise.specs.Domain.{AbendCovered, EndCovered}
+use Rattle.model_prove.specs.law_explore.specs.Matching.{fits}
+use Rattle.model_prove.specs.model_rules.specs.Rules.{Target}
+use Rattle.model_prove.specs.model_rules.specs.Happenings.{Event, History, Failed, Answers}
+use Rattle.model_prove.specs.model_rules.specs.Keeping.{Amounts, Break, Standing, after_occasion, OnAnswer, with_allowances, after_abend, after_event, standing_after}
+use Rattle.model_prove.specs.model_rules.specs.Law.{domain_of_rules}
 use Rattle.model_prove.specs.Facts.{Facts, Memory, Holds, follow}
 use Rattle.model_prove.specs.Compares.{Compare, NoCompare, Bounds, Ordered, IsSo}
 use Rattle.model_prove.specs.Keys.{Start, Delegated, OfClass, PlaceKey, Known, Tables, same_places, compare_follows, known_follows}

@@ -4,21 +4,21 @@ use Rattle.std.proofs.Common.{◌≡◌, ℕ, ◌+◌, ◌-◌, ◌≤◌, Bool,
 use Rattle.std.specs.Prelude.{◌==◌, ◌&&◌, is_none, nat_lt}
 use Rattle.std.proofs.lemmas.Bool.{ltb-false}
 use Rattle.std.proofs.lemmas.List.{length-replicate}
-use Rattle.model_device.specs.Bytes.{bytes2, num, zeros}
-use Rattle.model_machine.specs.declared.instruction.Ins.{Ins}
-use Rattle.model_machine.specs.declared.instruction.Ins.TheVariants as ins
-use Rattle.model_machine.specs.declared.machine.Abend.{Abend}
-use Rattle.model_machine.specs.declared.machine.Abend.TheVariants.{A02, A03, A04, A05, A06}
-use Rattle.model_machine.specs.Frame.{Frame, moved_address, dynamic_base, dynamic_end, floor, is_under, is_over, frame_after_pop, top}
-use Rattle.model_machine.specs.Row.{causes, holds, no_place, operand, address_or_zero}
-use Rattle.model_machine.specs.Chain.{frame_at}
-use Rattle.law_rows.specs.Shapes.{Stays, Answers, Jumps, Calls, Pushes, shape}
+use Rattle.model_prove.specs.model_device.specs.Bytes.{bytes2, num, zeros}
+use Rattle.model_prove.specs.model_machine.specs.declared.instruction.Ins.{Ins}
+use Rattle.model_prove.specs.model_machine.specs.declared.instruction.Ins.TheVariants as ins
+use Rattle.model_prove.specs.model_machine.specs.declared.machine.Abend.{Abend}
+use Rattle.model_prove.specs.model_machine.specs.declared.machine.Abend.TheVariants.{A02, A03, A04, A05, A06}
+use Rattle.model_prove.specs.model_machine.specs.Frame.{Frame, moved_address, dynamic_base, dynamic_end, floor, is_under, is_over, frame_after_pop, top}
+use Rattle.model_prove.specs.model_machine.specs.Row.{causes, holds, no_place, operand, address_or_zero}
+use Rattle.model_prove.specs.model_machine.specs.Chain.{frame_at}
+use Rattle.model_prove.specs.law_rows.specs.Shapes.{Stays, Answers, Jumps, Calls, Pushes, shape}
 use Rattle.model_prove.specs.Splits.{stand_in, stand_in_stack, Scene, few_combinations, top_places}
 use Rattle.model_prove.specs.Steps.{Spot, sets, inside, by_choices}
 use Rattle.model_prove.specs.Arrivals.{Setting}
 use Rattle.model_prove.specs.Tables.{IsLoadable, includes_all}
 use Rattle.model_prove.specs.Keys.{Tables}
-use Rattle.model_rules.specs.Rules.{Target}
+use Rattle.model_prove.specs.model_rules.specs.Rules.{Target}
 use Rattle.law_prove.specs.Laws.{LeadsInto, LeadLaw, PopLaw, StatusLaw, JumpLaw, PushLaw}
 use Rattle.law_prove.proofs.Seen.{fit_sets}
 use Rattle.law_prove.proofs.Acts.{spot_of}

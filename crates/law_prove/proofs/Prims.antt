@@ -2,18 +2,18 @@
 use Rattle.std.proofs.Common.{◌≡◌, ℕ, ◌+◌, ◌-◌, ◌<◌, ◌≤◌, ◌⊎◌, inl, inr, Bool, true, false, cond, List, [], ◌∷◌, ◌++◌, length, Some, None, refl, sym, ap, subst, ◌∙◌, arith}
 use Rattle.std.specs.Prelude.{◌&&◌, ◌||◌, ◌==◌, nat_lt, nat_le, flat_map, slice_index}
 use Rattle.std.proofs.lemmas.Bool.{lt-ltb}
-use Rattle.model_device.specs.Bytes.{AreBytes}
-use Rattle.model_device.specs.Pieces.{laid_pieces}
-use Rattle.model_machine.specs.declared.instruction.Ins.{Ins}
-use Rattle.model_machine.specs.declared.instruction.Ins.TheVariants as ins
-use Rattle.model_machine.specs.declared.machine.Abend.TheVariants.{A05, A06, A0A}
-use Rattle.model_machine.specs.Frame.{Frame, Effect, dynamic_base, dynamic_end, public_base, static_bytes, pending_change}
-use Rattle.model_machine.specs.Primitives.{Around, Primitive, LoadCcr, SetProtection, is_denied, later_causes}
-use Rattle.model_machine.specs.Row.{causes}
-use Rattle.model_machine.specs.Chain.{frame_at}
-use Rattle.law_rows.specs.Shapes.{Pushes, Protects, prim_shape, shape}
-use Rattle.law_rows.proofs.Keeping.{length_laid}
-use Rattle.model_rules.specs.Keeping.{Amounts}
+use Rattle.model_prove.specs.model_device.specs.Bytes.{AreBytes}
+use Rattle.model_prove.specs.model_device.specs.Pieces.{laid_pieces}
+use Rattle.model_prove.specs.model_machine.specs.declared.instruction.Ins.{Ins}
+use Rattle.model_prove.specs.model_machine.specs.declared.instruction.Ins.TheVariants as ins
+use Rattle.model_prove.specs.model_machine.specs.declared.machine.Abend.TheVariants.{A05, A06, A0A}
+use Rattle.model_prove.specs.model_machine.specs.Frame.{Frame, Effect, dynamic_base, dynamic_end, public_base, static_bytes, pending_change}
+use Rattle.model_prove.specs.model_machine.specs.Primitives.{Around, Primitive, LoadCcr, SetProtection, is_denied, later_causes}
+use Rattle.model_prove.specs.model_machine.specs.Row.{causes}
+use Rattle.model_prove.specs.model_machine.specs.Chain.{frame_at}
+use Rattle.model_prove.specs.law_rows.specs.Shapes.{Pushes, Protects, prim_shape, shape}
+use Rattle.model_prove.specs.law_rows.proofs.Keeping.{length_laid}
+use Rattle.model_prove.specs.model_rules.specs.Keeping.{Amounts}
 use Rattle.model_prove.specs.Facts.{Memory, Holds, within}
 use Rattle.model_prove.specs.Compares.{IsSo, touched}
 use Rattle.model_prove.specs.Keys.{Start, Delegated, OfClass, Call, Known, Tables}

@@ -3,20 +3,20 @@ use Rattle.std.proofs.Common.{◌≡◌, ℕ, zero, suc, ◌+◌, ◌-◌, ◌*�
 use Rattle.std.specs.Prelude.{◌&&◌, nat_lt, nat_le}
 use Rattle.std.proofs.lemmas.Bool.{leb-true, lt-ltb}
 use Rattle.std.proofs.lemmas.List.{length-replicate}
-use Rattle.model_device.specs.Bytes.{bytes2, num, zeros, splice}
-use Rattle.model_device.proofs.ListLemmas.{length_splice}
-use Rattle.model_machine.specs.declared.instruction.Ins.{Ins}
-use Rattle.model_machine.specs.declared.instruction.Ins.TheVariants as ins
-use Rattle.model_machine.specs.declared.machine.Abend.{Abend}
-use Rattle.model_machine.specs.declared.machine.Abend.TheVariants.{A02, A04}
-use Rattle.model_machine.specs.Code.{spell}
-use Rattle.model_machine.specs.Frame.{Frame, dynamic_base, dynamic_end, floor, top, no_return, saved_address}
-use Rattle.model_machine.specs.Primitives.{Around, Done}
-use Rattle.model_machine.specs.Row.{causes, no_place, RowEnd, row, row_end, first_cause, effect}
-use Rattle.model_machine.specs.Chain.{frame_at}
-use Rattle.law_rows.specs.Shapes.{Returns, Shape, shape, act_effect, meaning}
-use Rattle.model_rules.specs.Rules.{Target}
-use Rattle.model_rules.specs.Keeping.{Amounts}
+use Rattle.model_prove.specs.model_device.specs.Bytes.{bytes2, num, zeros, splice}
+use Rattle.model_prove.specs.model_device.proofs.ListLemmas.{length_splice}
+use Rattle.model_prove.specs.model_machine.specs.declared.instruction.Ins.{Ins}
+use Rattle.model_prove.specs.model_machine.specs.declared.instruction.Ins.TheVariants as ins
+use Rattle.model_prove.specs.model_machine.specs.declared.machine.Abend.{Abend}
+use Rattle.model_prove.specs.model_machine.specs.declared.machine.Abend.TheVariants.{A02, A04}
+use Rattle.model_prove.specs.model_machine.specs.Code.{spell}
+use Rattle.model_prove.specs.model_machine.specs.Frame.{Frame, dynamic_base, dynamic_end, floor, top, no_return, saved_address}
+use Rattle.model_prove.specs.model_machine.specs.Primitives.{Around, Done}
+use Rattle.model_prove.specs.model_machine.specs.Row.{causes, no_place, RowEnd, row, row_end, first_cause, effect}
+use Rattle.model_prove.specs.model_machine.specs.Chain.{frame_at}
+use Rattle.model_prove.specs.law_rows.specs.Shapes.{Returns, Shape, shape, act_effect, meaning}
+use Rattle.model_prove.specs.model_rules.specs.Rules.{Target}
+use Rattle.model_prove.specs.model_rules.specs.Keeping.{Amounts}
 use Rattle.model_prove.specs.Sets.{Set}
 use Rattle.model_prove.specs.Facts.{Memory, values_from}
 use Rattle.model_prove.specs.Compares.{bytes_from}

@@ -2,10 +2,10 @@
 use Rattle.std.proofs.Common.{◌≡◌, ℕ, zero, suc, ◌+◌, ◌-◌, ◌<◌, ◌≤◌, ◌⊎◌, inl, inr, Bool, true, false, cond, List, [], ◌∷◌, ◌++◌, length, take, drop, refl, sym, ap, subst, ◌∙◌, arith}
 use Rattle.std.specs.Prelude.{◌&&◌, nat_lt, slice_index, ⊤}
 use Rattle.std.proofs.lemmas.Bool.{ltb-false}
-use Rattle.model_device.specs.Bytes.{AreBytes, bytes2, splice}
-use Rattle.model_device.specs.Pieces.{laid_pieces}
-use Rattle.model_device.proofs.ListLemmas.{length_splice}
-use Rattle.model_machine.specs.Frame.{Frame, dynamic_base, dynamic_end, public_base, static_bytes}
+use Rattle.model_prove.specs.model_device.specs.Bytes.{AreBytes, bytes2, splice}
+use Rattle.model_prove.specs.model_device.specs.Pieces.{laid_pieces}
+use Rattle.model_prove.specs.model_device.proofs.ListLemmas.{length_splice}
+use Rattle.model_prove.specs.model_machine.specs.Frame.{Frame, dynamic_base, dynamic_end, public_base, static_bytes}
 use Rattle.model_prove.specs.Sets.{Set, is_in}
 use Rattle.model_prove.specs.Facts.{Facts, Memory, Holds, values_from, know_all}
 use Rattle.model_prove.specs.Compares.{IsSo, touched, meet, bytes_from}

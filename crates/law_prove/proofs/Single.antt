@@ -1,23 +1,23 @@
 -- Rows of one outcome: their causes and their shape are the same in the frame that stands for the place, but for bytes.
 use Rattle.std.proofs.Common.{◌≡◌, ℕ, ◌+◌, ◌<◌, ◌≤◌, Bool, true, false, cond, List, [], ◌∷◌, ◌++◌, length, Option, Ok, sym, ap, subst, ◌∙◌, arith}
 use Rattle.std.specs.Prelude.{◌&&◌, is_none}
-use Rattle.model_device.specs.Bytes.{AreBytes}
-use Rattle.model_machine.specs.declared.instruction.Ins.{Ins}
-use Rattle.model_machine.specs.declared.machine.Abend.{Abend}
-use Rattle.model_machine.specs.declared.machine.Abend.TheVariants.{A08}
-use Rattle.model_machine.specs.Code.{Shaped, Decodes, spell}
-use Rattle.model_machine.specs.Frame.{Frame, where_is, dynamic_base, dynamic_end}
-use Rattle.model_machine.specs.Primitives.{Around, Done, Goes}
-use Rattle.model_machine.specs.Row.{causes, effect, row, first_cause, RowEnd, row_end}
-use Rattle.model_machine.specs.Chain.{frame_at}
-use Rattle.law_rows.specs.Shapes.{Act, Stays, Answers, Jumps, Calls, Pushes, Writes, Shape, act_effect, shape_effect, meaning, shape}
-use Rattle.law_rows.proofs.RowShapes.{shapes}
-use Rattle.law_bytes.specs.OfBytes.{IsByteEffect}
-use Rattle.law_promise.specs.Outline.{Entry, FitsEntry}
-use Rattle.law_promise.specs.Domain.{RowCovered, FitsDepth}
-use Rattle.model_rules.specs.Law.{domain_of_rules}
-use Rattle.model_rules.specs.Rules.{Target}
-use Rattle.model_rules.specs.Happenings.{Event, History}
+use Rattle.model_prove.specs.model_device.specs.Bytes.{AreBytes}
+use Rattle.model_prove.specs.model_machine.specs.declared.instruction.Ins.{Ins}
+use Rattle.model_prove.specs.model_machine.specs.declared.machine.Abend.{Abend}
+use Rattle.model_prove.specs.model_machine.specs.declared.machine.Abend.TheVariants.{A08}
+use Rattle.model_prove.specs.model_machine.specs.Code.{Shaped, Decodes, spell}
+use Rattle.model_prove.specs.model_machine.specs.Frame.{Frame, where_is, dynamic_base, dynamic_end}
+use Rattle.model_prove.specs.model_machine.specs.Primitives.{Around, Done, Goes}
+use Rattle.model_prove.specs.model_machine.specs.Row.{causes, effect, row, first_cause, RowEnd, row_end}
+use Rattle.model_prove.specs.model_machine.specs.Chain.{frame_at}
+use Rattle.model_prove.specs.law_rows.specs.Shapes.{Act, Stays, Answers, Jumps, Calls, Pushes, Writes, Shape, act_effect, shape_effect, meaning, shape}
+use Rattle.model_prove.specs.law_rows.proofs.RowShapes.{shapes}
+use Rattle.model_prove.specs.law_bytes.specs.OfBytes.{IsByteEffect}
+use Rattle.model_prove.specs.law_promise.specs.Outline.{Entry, FitsEntry}
+use Rattle.model_prove.specs.law_promise.specs.Domain.{RowCovered, FitsDepth}
+use Rattle.model_prove.specs.model_rules.specs.Law.{domain_of_rules}
+use Rattle.model_prove.specs.model_rules.specs.Rules.{Target}
+use Rattle.model_prove.specs.model_rules.specs.Happenings.{Event, History}
 use Rattle.model_prove.specs.Sets.{Set}
 use Rattle.model_prove.specs.Facts.{values_from}
 use Rattle.model_prove.specs.Keys.{Call, Known, Tables, calls_below}

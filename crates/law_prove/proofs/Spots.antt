@@ -3,15 +3,15 @@
 use Rattle.std.proofs.Common.{◌≡◌, ℕ, ◌+◌, zero, suc, ◌≤◌, Bool, true, false, List, [], ◌∷◌, Some, Result, Ok, refl, sym, ap, subst, ◌∙◌, arith}
 use Rattle.std.specs.Prelude.{◌&&◌, ◌||◌, ◌==◌, not, nat_le, nat_lt, flat_map}
 use Rattle.std.proofs.lemmas.Bool.{and_parts, and_from, eqb-true, leb-true, le-leb}
-use Rattle.model_device.specs.Bytes.{AreBytes, num}
-use Rattle.model_text.specs.Text.{◌>>=◌}
-use Rattle.model_machine.specs.declared.instruction.Ins.{Ins}
-use Rattle.model_machine.specs.Frame.{Frame, dynamic_base}
-use Rattle.law_promise.specs.History.{Deed}
-use Rattle.law_promise.specs.Outline.{Entry, BySelection, ByDelegation}
-use Rattle.law_promise.specs.Domain.{FitsDepth}
-use Rattle.model_rules.specs.Happenings.{Event, History, Did}
-use Rattle.model_rules.specs.Keeping.{Amounts, Break, Standing, after_occasion, OnTurn, line_of, line_of_deed, after_deed, with_allowances, after_event, standing_after}
+use Rattle.model_prove.specs.model_device.specs.Bytes.{AreBytes, num}
+use Rattle.model_prove.specs.model_text.specs.Text.{◌>>=◌}
+use Rattle.model_prove.specs.model_machine.specs.declared.instruction.Ins.{Ins}
+use Rattle.model_prove.specs.model_machine.specs.Frame.{Frame, dynamic_base}
+use Rattle.model_prove.specs.law_promise.specs.History.{Deed}
+use Rattle.model_prove.specs.law_promise.specs.Outline.{Entry, BySelection, ByDelegation}
+use Rattle.model_prove.specs.law_promise.specs.Domain.{FitsDepth}
+use Rattle.model_prove.specs.model_rules.specs.Happenings.{Event, History, Did}
+use Rattle.model_prove.specs.model_rules.specs.Keeping.{Amounts, Break, Standing, after_occasion, OnTurn, line_of, line_of_deed, after_deed, with_allowances, after_event, standing_after}
 use Rattle.model_prove.specs.Facts.{Memory, Holds, follow}
 use Rattle.model_prove.specs.Compares.{Compare, NoCompare, Bounds, Ordered, Orders, bytes_from, has_order, IsSo}
 use Rattle.model_prove.specs.Keys.{Start, Delegated, OfClass, Call, PlaceKey, Known, Tables, compare_follows}

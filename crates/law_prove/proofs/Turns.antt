@@ -4,30 +4,30 @@ use Rattle.std.proofs.Common.{◌≡◌, ℕ, ◌+◌, ◌-◌, ◌≤◌, Bool,
 use Rattle.std.specs.Prelude.{◌&&◌, nat_lt, flat_map, slice_index}
 use Rattle.std.specs.List.{AllByRecursion}
 use Rattle.std.proofs.lemmas.Bool.{and_parts}
-use Rattle.model_device.specs.Bytes.{AreBytes, zeros}
-use Rattle.model_device.specs.Card.{App}
-use Rattle.model_machine.specs.declared.instruction.Ins.{Ins}
-use Rattle.model_machine.specs.declared.machine.Abend.{Abend}
-use Rattle.model_machine.specs.declared.machine.Abend.TheVariants.{A07, A08}
-use Rattle.model_machine.specs.declared.instruction.DecodeFault.{DecodeFault}
-use Rattle.model_machine.specs.Code.{Decodes, DecodesTo, instruction_at}
-use Rattle.model_machine.specs.Frame.{Frame, Effect, dynamic_base, public_base, public_end, static_bytes}
-use Rattle.model_machine.specs.Primitives.{Around, Done, Goes, effect_and_next}
-use Rattle.model_machine.specs.Row.{causes, effect, row, first_cause, Does, row_end}
-use Rattle.model_machine.specs.Chain.{frame_at}
-use Rattle.law_rows.specs.Shapes.{Shape, act_effect, shape_effect, shape}
-use Rattle.law_rows.specs.Shapes as shapes
+use Rattle.model_prove.specs.model_device.specs.Bytes.{AreBytes, zeros}
+use Rattle.model_prove.specs.model_device.specs.Card.{App}
+use Rattle.model_prove.specs.model_machine.specs.declared.instruction.Ins.{Ins}
+use Rattle.model_prove.specs.model_machine.specs.declared.machine.Abend.{Abend}
+use Rattle.model_prove.specs.model_machine.specs.declared.machine.Abend.TheVariants.{A07, A08}
+use Rattle.model_prove.specs.model_machine.specs.declared.instruction.DecodeFault.{DecodeFault}
+use Rattle.model_prove.specs.model_machine.specs.Code.{Decodes, DecodesTo, instruction_at}
+use Rattle.model_prove.specs.model_machine.specs.Frame.{Frame, Effect, dynamic_base, public_base, public_end, static_bytes}
+use Rattle.model_prove.specs.model_machine.specs.Primitives.{Around, Done, Goes, effect_and_next}
+use Rattle.model_prove.specs.model_machine.specs.Row.{causes, effect, row, first_cause, Does, row_end}
+use Rattle.model_prove.specs.model_machine.specs.Chain.{frame_at}
+use Rattle.model_prove.specs.law_rows.specs.Shapes.{Shape, act_effect, shape_effect, shape}
+use Rattle.model_prove.specs.law_rows.specs.Shapes as shapes
 use Rattle.mc_isa.proofs.PlaceLemmas.{decoded_stands}
-use Rattle.law_bytes.specs.OfBytes.{IsByteFrame, IsByteEffect, IsCaller}
-use Rattle.law_bytes.proofs.ByteLists.{laid}
-use Rattle.law_bytes.proofs.RowBytes.{effect_bytes}
-use Rattle.law_promise.specs.History.{Deed}
-use Rattle.law_promise.specs.Outline.{Entry, BySelection, ByDelegation, is_direct}
-use Rattle.law_promise.specs.Domain.{RowCovered, WriteCovered, StopCovered, FitsDepth, IsDelegator}
-use Rattle.model_rules.specs.Law.{domain_of_rules}
-use Rattle.model_rules.specs.Rules.{Target}
-use Rattle.model_rules.specs.Happenings.{Event, History, Did, Session}
-use Rattle.model_rules.specs.Keeping.{Amounts, Standing, after_occasion, OnTurn, line_of, line_of_deed, after_deed, standing_after}
+use Rattle.model_prove.specs.law_bytes.specs.OfBytes.{IsByteFrame, IsByteEffect, IsCaller}
+use Rattle.model_prove.specs.law_bytes.proofs.ByteLists.{laid}
+use Rattle.model_prove.specs.law_bytes.proofs.RowBytes.{effect_bytes}
+use Rattle.model_prove.specs.law_promise.specs.History.{Deed}
+use Rattle.model_prove.specs.law_promise.specs.Outline.{Entry, BySelection, ByDelegation, is_direct}
+use Rattle.model_prove.specs.law_promise.specs.Domain.{RowCovered, WriteCovered, StopCovered, FitsDepth, IsDelegator}
+use Rattle.model_prove.specs.model_rules.specs.Law.{domain_of_rules}
+use Rattle.model_prove.specs.model_rules.specs.Rules.{Target}
+use Rattle.model_prove.specs.model_rules.specs.Happenings.{Event, History, Did, Session}
+use Rattle.model_prove.specs.model_rules.specs.Keeping.{Amounts, Standing, after_occasion, OnTurn, line_of, line_of_deed, after_deed, standing_after}
 use Rattle.model_prove.specs.Sets.{Set}
 use Rattle.model_prove.specs.Facts.{Facts, Holds}
 use Rattle.model_prove.specs.Keys.{Start, Delegated, OfClass, Call, PlaceKey, Tables, calls_below}

@@ -2,7 +2,7 @@
 use Rattle.std.proofs.Common.{◌≡◌, ℕ, zero, suc, ◌+◌, ◌-◌, ◌<◌, ◌≤◌, ◌⊎◌, inl, inr, List, [], ◌∷◌, ◌++◌, length, take, drop, get_or, refl, sym, ap, ◌∙◌, arith}
 use Rattle.std.specs.Prelude.{slice_index}
 use Rattle.std.proofs.lemmas.List.{length-append, length-take-le, get_or-drop, get_or-append_right, get_or_append_left, get_or-take}
-use Rattle.model_device.specs.Bytes.{splice}
+use Rattle.model_prove.specs.model_device.specs.Bytes.{splice}
 
 -- n bytes from a place on
 abbrev pub window : List ℕ → ℕ → ℕ → List ℕ

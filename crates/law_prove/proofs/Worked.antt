@@ -4,10 +4,10 @@ use Rattle.std.specs.Prelude.{◌&&◌, ◌==◌, nat_lt, nat_le, bit_and, bit_o
 use Rattle.std.specs.List.{AllByRecursion}
 use Rattle.std.proofs.lemmas.Bool.{eqb-true, eqb-false, eq-eqb, false_from_ne_true}
 use Rattle.std.proofs.lemmas.List.{map-append, reverse-append, reverse-reverse, length-append}
-use Rattle.model_device.specs.Bytes.{AreBytes, num}
-use Rattle.model_device.proofs.ListLemmas.{length_map}
-use Rattle.model_machine.specs.Blocks.{is_zero, and_blocks, or_blocks, xor_blocks}
-use Rattle.law_bytes.proofs.ByteLists.{anded, ored, xored}
+use Rattle.model_prove.specs.model_device.specs.Bytes.{AreBytes, num}
+use Rattle.model_prove.specs.model_device.proofs.ListLemmas.{length_map}
+use Rattle.model_prove.specs.model_machine.specs.Blocks.{is_zero, and_blocks, or_blocks, xor_blocks}
+use Rattle.model_prove.specs.law_bytes.proofs.ByteLists.{anded, ored, xored}
 use Rattle.mc_arith.proofs.BlockLemmas.{pow_more, pow_positive, times_at_most}
 use Rattle.model_prove.specs.Sets.{Set, is_in}
 use Rattle.model_prove.specs.Digits.{Operation, Plus, Minus, And, Or, Xor, Flags, carried, digit, flags_after, first_flags, Digits, Arc, arcs, Way, join_digits, with_way, arc_before, ways_along, ways, way_from, digits_to, run, AreOf, LieOn, same_flags}

@@ -1,18 +1,18 @@
 -- What tables cover: the states of a play that a key with its facts stands for. It is the concretisation of the tables
 -- (Cousot and Cousot, POPL 1977).
 use Rattle.std.specs.Prelude.{◌≡◌, ℕ, ◌+◌, ◌-◌, ◌<◌, ◌≤◌, Bool, true, false, cond, nat_lt, List, [], ◌∷◌, ◌++◌, length, take, drop, map, slice_index, Some, Ok, ⊤}
-use Rattle.model_device.specs.Bytes.{AreBytes, bytes2}
-use Rattle.model_device.specs.Card.{App}
-use Rattle.model_text.specs.Listing.{hex_text}
-use Rattle.model_machine.specs.Frame.{Frame, dynamic_base, dynamic_end, public_base, static_bytes}
-use Rattle.law_rows.specs.Keeping.{PiecesWithin}
-use Rattle.law_bytes.specs.OfBytes.{ArePieces}
-use Rattle.law_promise.specs.Outline.{Entry, BySelection, ByDelegation}
-use Rattle.law_explore.specs.Matching.{fits}
-use Rattle.model_rules.specs.Rules.{OnLine, AppRules}
-use Rattle.model_rules.specs.Happenings.{Event, History}
-use Rattle.model_rules.specs.Keeping.{Standing, standing_after, is_broken}
-use Rattle.model_rules.specs.Law.{Covering}
+use Rattle.model_prove.specs.model_device.specs.Bytes.{AreBytes, bytes2}
+use Rattle.model_prove.specs.model_device.specs.Card.{App}
+use Rattle.model_prove.specs.model_text.specs.Listing.{hex_text}
+use Rattle.model_prove.specs.model_machine.specs.Frame.{Frame, dynamic_base, dynamic_end, public_base, static_bytes}
+use Rattle.model_prove.specs.law_rows.specs.Keeping.{PiecesWithin}
+use Rattle.model_prove.specs.law_bytes.specs.OfBytes.{ArePieces}
+use Rattle.model_prove.specs.law_promise.specs.Outline.{Entry, BySelection, ByDelegation}
+use Rattle.model_prove.specs.law_explore.specs.Matching.{fits}
+use Rattle.model_prove.specs.model_rules.specs.Rules.{OnLine, AppRules}
+use Rattle.model_prove.specs.model_rules.specs.Happenings.{Event, History}
+use Rattle.model_prove.specs.model_rules.specs.Keeping.{Standing, standing_after, is_broken}
+use Rattle.model_prove.specs.model_rules.specs.Law.{Covering}
 use Rattle.model_prove.specs.Facts.{Facts, Memory, Holds}
 use Rattle.model_prove.specs.Compares.{IsSo}
 use Rattle.model_prove.specs.Keys.{Start, Delegated, OfClass, Call, PlaceKey, Known, Tables}

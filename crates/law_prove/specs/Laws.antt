@@ -1,22 +1,22 @@
 -- The laws of closed tables between commands: each moment that may follow a moment is one that the tables have.
 use Rattle.std.specs.Prelude.{◌≡◌, ℕ, ℤ, ◌==◌, true, false, List, [], ◌∷◌, Some, Ok, Err}
-use Rattle.model_device.specs.Bytes.{AreBytes, zeros}
-use Rattle.model_machine.specs.declared.instruction.DecodeFault.{DecodeFault}
-use Rattle.model_machine.specs.declared.machine.Abend.TheVariants.{A07}
-use Rattle.model_machine.specs.Code.{instruction_at}
-use Rattle.model_machine.specs.Frame.{Frame, session_of}
-use Rattle.model_machine.specs.declared.instruction.Ins.{Ins}
-use Rattle.model_machine.specs.declared.instruction.Ins.TheVariants as ins
-use Rattle.model_machine.specs.Primitives.{Around}
-use Rattle.model_machine.specs.Row.{row}
-use Rattle.model_machine.specs.Chain.{Abended, frame_at}
-use Rattle.law_promise.specs.History.{fetch_cause}
-use Rattle.law_promise.specs.Outline.{Entry, ByDelegation, FitsEntry}
-use Rattle.law_promise.specs.Domain.{IsSegment, IsDelegator, AbendCovered, EndCovered, RowCovered, FitsDepth, first_frame_in}
-use Rattle.model_rules.specs.Rules.{Target, AppRules}
-use Rattle.model_rules.specs.Happenings.{Event, History, Failed, Session}
-use Rattle.model_rules.specs.Keeping.{keeps_rules}
-use Rattle.model_rules.specs.Law.{domain_of_rules}
+use Rattle.model_prove.specs.model_device.specs.Bytes.{AreBytes, zeros}
+use Rattle.model_prove.specs.model_machine.specs.declared.instruction.DecodeFault.{DecodeFault}
+use Rattle.model_prove.specs.model_machine.specs.declared.machine.Abend.TheVariants.{A07}
+use Rattle.model_prove.specs.model_machine.specs.Code.{instruction_at}
+use Rattle.model_prove.specs.model_machine.specs.Frame.{Frame, session_of}
+use Rattle.model_prove.specs.model_machine.specs.declared.instruction.Ins.{Ins}
+use Rattle.model_prove.specs.model_machine.specs.declared.instruction.Ins.TheVariants as ins
+use Rattle.model_prove.specs.model_machine.specs.Primitives.{Around}
+use Rattle.model_prove.specs.model_machine.specs.Row.{row}
+use Rattle.model_prove.specs.model_machine.specs.Chain.{Abended, frame_at}
+use Rattle.model_prove.specs.law_promise.specs.History.{fetch_cause}
+use Rattle.model_prove.specs.law_promise.specs.Outline.{Entry, ByDelegation, FitsEntry}
+use Rattle.model_prove.specs.law_promise.specs.Domain.{IsSegment, IsDelegator, AbendCovered, EndCovered, RowCovered, FitsDepth, first_frame_in}
+use Rattle.model_prove.specs.model_rules.specs.Rules.{Target, AppRules}
+use Rattle.model_prove.specs.model_rules.specs.Happenings.{Event, History, Failed, Session}
+use Rattle.model_prove.specs.model_rules.specs.Keeping.{keeps_rules}
+use Rattle.model_prove.specs.model_rules.specs.Law.{domain_of_rules}
 use Rattle.model_prove.specs.Keys.{PlaceKey, Known, Tables}
 use Rattle.model_prove.specs.Arrivals.{Setting}
 use Rattle.model_prove.specs.Steps.{place_arrivals}

@@ -3,7 +3,7 @@
 //! What closed tables of abstract states cover of the plays of an application. The law of a row is of any tables: what
 //! it leads to at their places is covered by all tables that include the outcomes, as closed tables include their own.
 
-ghost use Rattle.model_machine.specs.declared.instruction.Ins.TheVariants.{Nop};
+ghost use Rattle.model_prove.specs.model_machine.specs.declared.instruction.Ins.TheVariants.{Nop};
 ghost use Rattle.law_prove.specs.Laws.{MomentLaw, PlaceLaw, LeadLaw, PopLaw, StatusLaw, JumpLaw, PushLaw};
 ghost use Rattle.law_prove.specs.Laws.{MoveLaw, CompareLaw, SumLaw, BitLaw, PrimitiveLaw, MaskLaw, ReturnLaw};
 
@@ -86,3 +86,5 @@ pub fn masks_are_covered()
 pub fn returns_are_covered()
     ensures { ReturnLaw }
 {}
+
+pub use model_prove::model_machine;

@@ -2,17 +2,17 @@
 use Rattle.std.proofs.Common.{◌≡◌, ℕ, Bool, true, false, cond, List, [], ◌∷◌, Option, Some, None, refl, sym, subst}
 use Rattle.std.specs.Prelude.{◌==◌, ⊤}
 use Rattle.std.proofs.lemmas.Bool.{eqb-true}
-use Rattle.model_machine.specs.declared.instruction.Ins.TheVariants as ins
-use Rattle.model_machine.specs.Primitives.{Primitive, entry_of_number, primitives}
-use Rattle.model_prove.specs.Tables.{ClosedLaw}
-use Rattle.law_prove.specs.Laws.{LeadLaw}
-use Rattle.law_prove.proofs.Places.{of_closed}
-use Rattle.law_prove.proofs.Plain.{nop_law, pop_laws, status_laws, jump_laws, push_laws}
-use Rattle.law_prove.proofs.Moves.{move_laws}
-use Rattle.law_prove.proofs.Numbers.{compare_laws, sum_laws, bit_laws}
-use Rattle.law_prove.proofs.Prims.{primitive_laws}
-use Rattle.law_prove.proofs.Masks.{mask_laws}
-use Rattle.law_prove.proofs.Returns.{return_laws}
+use Rattle.law_prove_commands.specs.model_machine.specs.declared.instruction.Ins.TheVariants as ins
+use Rattle.law_prove_commands.specs.model_machine.specs.Primitives.{Primitive, entry_of_number, primitives}
+use Rattle.law_prove_commands.specs.model_prove.specs.Tables.{ClosedLaw}
+use Rattle.law_prove_commands.specs.law_prove.specs.Laws.{LeadLaw}
+use Rattle.law_prove_commands.specs.law_prove.proofs.Places.{of_closed}
+use Rattle.law_prove_commands.specs.law_prove.proofs.Plain.{nop_law, pop_laws, status_laws, jump_laws, push_laws}
+use Rattle.law_prove_commands.specs.law_prove.proofs.Moves.{move_laws}
+use Rattle.law_prove_commands.specs.law_prove.proofs.Numbers.{compare_laws, sum_laws, bit_laws}
+use Rattle.law_prove_commands.specs.law_prove.proofs.Prims.{primitive_laws}
+use Rattle.law_prove_commands.specs.law_prove.proofs.Masks.{mask_laws}
+use Rattle.law_prove_commands.specs.law_prove.proofs.Returns.{return_laws}
 use Rattle.law_prove_commands.proofs.Exits.{exit_laws}
 use Rattle.law_prove_targets.proofs.Targets.{target_laws}
 use Rattle.law_prove_reads.proofs.Address.{address_laws}

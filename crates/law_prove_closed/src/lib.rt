@@ -3,12 +3,12 @@
 //! What closed tables of abstract states mean: their rules are kept in every play.
 
 ghost use Rattle.std.specs.Prelude.{◌≡◌, [], ◌∷◌};
-ghost use Rattle.model_prove.specs.Compares.{NoCompare, Bounds};
-ghost use Rattle.model_prove.specs.Computed.{counter_deck};
-ghost use Rattle.model_prove.specs.Facts.{Facts};
-ghost use Rattle.model_prove.specs.Keys.{PlaceKey};
-ghost use Rattle.model_prove.specs.Steps.{after_delegation};
-ghost use Rattle.model_prove.specs.Tables.{ClosedLaw};
+ghost use Rattle.law_prove_commands.specs.model_prove.specs.Compares.{NoCompare, Bounds};
+ghost use Rattle.law_prove_commands.specs.model_prove.specs.Computed.{counter_deck};
+ghost use Rattle.law_prove_commands.specs.model_prove.specs.Facts.{Facts};
+ghost use Rattle.law_prove_commands.specs.model_prove.specs.Keys.{PlaceKey};
+ghost use Rattle.law_prove_commands.specs.model_prove.specs.Steps.{after_delegation};
+ghost use Rattle.law_prove_commands.specs.model_prove.specs.Tables.{ClosedLaw};
 ghost use Rattle.law_prove_closed.specs.Laws.{DelegateLaw, AllRowsLaw, AllLeadsLaw};
 ghost use Rattle.law_prove_closed.specs.Outcomes.{LeftLaw, NextLaw, NextEndLaw, ClosedNextLaw};
 ghost use Rattle.law_prove_closed.specs.Decks.{DeckLaw, DeckIsKept};
@@ -81,3 +81,5 @@ pub fn decks_are_kept()
 pub fn counter_is_kept()
     ensures { DeckIsKept counter_deck }
 {}
+
+pub use law_prove_commands::model_machine;

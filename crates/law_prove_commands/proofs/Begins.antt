@@ -3,31 +3,31 @@ use Rattle.std.proofs.Common.{◌≡◌, inl, inr, ℕ, zero, suc, ◌+◌, ◌-
 use Rattle.std.specs.Prelude.{flat_map, slice_index, get_or}
 use Rattle.std.proofs.lemmas.Bool.{lt-ltb}
 use Rattle.std.proofs.lemmas.List.{length-replicate, length-append, take_at, get_or_append_left, get_or-append_right}
-use Rattle.model_device.specs.Bytes.{AreBytes, zeros}
-use Rattle.model_text.specs.Text.{◌>>=◌}
-use Rattle.model_machine.specs.Apdu.{ApduParts}
-use Rattle.model_machine.specs.Frame.{Frame, dynamic_base, dynamic_end, public_base, new_frame, new_public, session_of}
-use Rattle.model_card.specs.Manager.{ToApplication, route}
-use Rattle.law_bytes.specs.OfChains.{IsByteCommand}
-use Rattle.law_bytes.proofs.ByteLists.{joined, zero_bytes}
-use Rattle.law_bytes.proofs.ChainBytes.{command_bytes}
-use Rattle.law_promise.specs.Outline.{BySelection}
-use Rattle.law_promise.proofs.PublicBytes.{words_of, front_of, front_size}
-use Rattle.model_rules.specs.Rules.{Target}
-use Rattle.model_rules.specs.Happenings.{History, Commanded}
-use Rattle.model_rules.specs.Keeping.{Amounts, Break, Standing, after_occasion, OnCommand, with_allowances, after_event, standing_after}
-use Rattle.model_text.specs.Listing.{hex_text}
-use Rattle.model_prove.specs.Sets.{Set, is_in}
-use Rattle.model_prove.specs.Facts.{Facts, Memory, Holds, within, know, know_all, know_bytes}
-use Rattle.model_prove.specs.Compares.{NoCompare}
-use Rattle.model_prove.specs.Keys.{OfClass, Tables}
-use Rattle.model_prove.specs.Laws.{AreIn, HoldsBytes}
-use Rattle.model_prove.specs.Arrivals.{Setting, Arrival, static_size, arrive, idle, after_command, after_session}
-use Rattle.model_prove.specs.Between.{Class, classes, selected, continued, commanded, begun, first_place, header_at, public_facts, static_facts, own_facts}
-use Rattle.model_prove.specs.Steps.{Spot}
-use Rattle.model_prove.specs.Tables.{IsLoadable, includes_all, is_closed}
-use Rattle.model_prove.proofs.ChangeLemmas.{written_holds}
-use Rattle.model_prove.proofs.SetLemmas.{is_between}
+use Rattle.law_prove.specs.model_device.specs.Bytes.{AreBytes, zeros}
+use Rattle.law_prove.specs.model_text.specs.Text.{◌>>=◌}
+use Rattle.law_prove.specs.model_machine.specs.Apdu.{ApduParts}
+use Rattle.law_prove.specs.model_machine.specs.Frame.{Frame, dynamic_base, dynamic_end, public_base, new_frame, new_public, session_of}
+use Rattle.law_prove.specs.model_card.specs.Manager.{ToApplication, route}
+use Rattle.law_prove.specs.law_bytes.specs.OfChains.{IsByteCommand}
+use Rattle.law_prove.specs.law_bytes.proofs.ByteLists.{joined, zero_bytes}
+use Rattle.law_prove.specs.law_bytes.proofs.ChainBytes.{command_bytes}
+use Rattle.law_prove.specs.law_promise.specs.Outline.{BySelection}
+use Rattle.law_prove.specs.law_promise.proofs.PublicBytes.{words_of, front_of, front_size}
+use Rattle.law_prove.specs.model_rules.specs.Rules.{Target}
+use Rattle.law_prove.specs.model_rules.specs.Happenings.{History, Commanded}
+use Rattle.law_prove.specs.model_rules.specs.Keeping.{Amounts, Break, Standing, after_occasion, OnCommand, with_allowances, after_event, standing_after}
+use Rattle.law_prove.specs.model_text.specs.Listing.{hex_text}
+use Rattle.law_prove.specs.model_prove.specs.Sets.{Set, is_in}
+use Rattle.law_prove.specs.model_prove.specs.Facts.{Facts, Memory, Holds, within, know, know_all, know_bytes}
+use Rattle.law_prove.specs.model_prove.specs.Compares.{NoCompare}
+use Rattle.law_prove.specs.model_prove.specs.Keys.{OfClass, Tables}
+use Rattle.law_prove.specs.model_prove.specs.Laws.{AreIn, HoldsBytes}
+use Rattle.law_prove.specs.model_prove.specs.Arrivals.{Setting, Arrival, static_size, arrive, idle, after_command, after_session}
+use Rattle.law_prove.specs.model_prove.specs.Between.{Class, classes, selected, continued, commanded, begun, first_place, header_at, public_facts, static_facts, own_facts}
+use Rattle.law_prove.specs.model_prove.specs.Steps.{Spot}
+use Rattle.law_prove.specs.model_prove.specs.Tables.{IsLoadable, includes_all, is_closed}
+use Rattle.law_prove.specs.model_prove.proofs.ChangeLemmas.{written_holds}
+use Rattle.law_prove.specs.model_prove.proofs.SetLemmas.{is_between}
 use Rattle.law_prove.specs.Coverings.{moment_memory, IsMoment, frame_memory, class_of, IsFrameOf, IsPlace}
 use Rattle.law_prove.proofs.Closed.{included_first, included_second, Arrives, arrives, moment_closed}
 use Rattle.law_prove.proofs.Moments.{within_holds, zero_at, bytes_in}

@@ -2,15 +2,15 @@
 use Rattle.std.proofs.Common.{◌≡◌, ◌⊎◌, inl, inr, ℕ, zero, suc, ◌+◌, ◌<◌, ◌≤◌, Bool, true, false, cond, List, [], ◌∷◌, ◌++◌, length, refl, sym, ap, subst, ◌∙◌, arith}
 use Rattle.std.specs.Prelude.{⊤, not, ◌&&◌, ◌||◌, ◌==◌, map, flat_map}
 use Rattle.std.proofs.lemmas.Bool.{or_cases, eqb-true, eq-eqb}
-use Rattle.model_text.specs.Listing.{hex_text}
-use Rattle.law_explore.specs.Matching.{fits}
-use Rattle.model_prove.specs.Sets.{Set, is_in, all_bytes, with_value}
-use Rattle.model_prove.specs.Digits.{same}
-use Rattle.model_prove.specs.Keys.{same_lists}
-use Rattle.model_prove.specs.Texts.{Opens, opened, all_after, same_opens, after_any, any_count, matches_of}
-use Rattle.model_prove.specs.Between.{Header, apdu_patterns, classes, with_left, by_left, with_header_byte, all_but, headers, Class, union_all, with_class, with_classes, classes_of}
-use Rattle.model_prove.specs.Laws.{Among}
-use Rattle.model_prove.proofs.SetLemmas.{new_is_in, old_is_in, in_first, in_second, is_kept, is_byte, is_first}
+use Rattle.law_prove.specs.model_text.specs.Listing.{hex_text}
+use Rattle.law_prove.specs.law_explore.specs.Matching.{fits}
+use Rattle.law_prove.specs.model_prove.specs.Sets.{Set, is_in, all_bytes, with_value}
+use Rattle.law_prove.specs.model_prove.specs.Digits.{same}
+use Rattle.law_prove.specs.model_prove.specs.Keys.{same_lists}
+use Rattle.law_prove.specs.model_prove.specs.Texts.{Opens, opened, all_after, same_opens, after_any, any_count, matches_of}
+use Rattle.law_prove.specs.model_prove.specs.Between.{Header, apdu_patterns, classes, with_left, by_left, with_header_byte, all_but, headers, Class, union_all, with_class, with_classes, classes_of}
+use Rattle.law_prove.specs.model_prove.specs.Laws.{Among}
+use Rattle.law_prove.specs.model_prove.proofs.SetLemmas.{new_is_in, old_is_in, in_first, in_second, is_kept, is_byte, is_first}
 use Rattle.law_prove.specs.Coverings.{class_of}
 use Rattle.law_prove.proofs.Keys.{same_is, lists_are}
 use Rattle.law_prove.proofs.Seen.{FitSets, fit_length}

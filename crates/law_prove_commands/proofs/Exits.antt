@@ -3,37 +3,37 @@ use Rattle.std.proofs.Common.{◌≡◌, inl, inr, ℕ, ◌+◌, ◌-◌, ◌*�
 use Rattle.std.specs.Prelude.{nat_lt, map, flat_map, slice_index, unwrap_or}
 use Rattle.std.proofs.lemmas.Bool.{ltb-true, ltb-false}
 use Rattle.std.proofs.lemmas.List.{length-take}
-use Rattle.model_device.specs.Bytes.{AreBytes, bytes2}
-use Rattle.model_machine.specs.declared.instruction.Ins.{Ins}
-use Rattle.model_machine.specs.declared.instruction.Ins.TheVariants as ins
-use Rattle.model_machine.specs.declared.machine.Abend.TheVariants.{A09}
-use Rattle.model_machine.specs.Apdu.{ApduParts}
-use Rattle.model_machine.specs.Frame.{Frame, dynamic_base, public_base, static_bytes, session_of, la_of, sw_of}
-use Rattle.model_machine.specs.Primitives.{Around, Exits}
-use Rattle.model_machine.specs.Row.{causes, first_cause, Does}
-use Rattle.model_machine.specs.Chain.{Outcome, Abended, frame_at}
-use Rattle.model_text.specs.Listing.{hex_text}
-use Rattle.model_play.specs.Transcript.{outcome_text}
-use Rattle.law_rows.specs.Shapes.{Answers, Shape, act_effect, shape_effect, with_status, with_length, shape}
-use Rattle.law_bytes.specs.OfBytes.{IsByteEffect}
-use Rattle.law_bytes.proofs.ByteLists.{indexed, taken}
-use Rattle.law_promise.specs.History.{Deed, with_event, done_event}
-use Rattle.law_promise.specs.Outline.{Entry, BySelection, ByDelegation, is_direct, reply_to}
-use Rattle.law_promise.specs.Domain.{AnswerCovered, EndCovered, StopCovered, AbendCovered, RowCovered, FitsDepth}
-use Rattle.law_explore.specs.Matching.{fits}
-use Rattle.model_rules.specs.Rules.{Target}
-use Rattle.model_rules.specs.Happenings.{Event, History, Did, Failed, Answers as Answered}
-use Rattle.model_rules.specs.Keeping.{Amounts, Standing, after_occasion, OnTurn, line_of, line_of_deed, after_deed, standing_after}
-use Rattle.model_rules.specs.Law.{domain_of_rules}
-use Rattle.model_prove.specs.Sets.{is_in}
-use Rattle.model_prove.specs.Facts.{Memory, Holds, values_at}
-use Rattle.model_prove.specs.Keys.{Start, Delegated, OfClass, PlaceKey, Tables}
-use Rattle.model_prove.specs.Laws.{Among, HoldsBytes}
-use Rattle.model_prove.specs.Work.{AsShaped, work}
-use Rattle.model_prove.specs.Arrivals.{Setting, Arrival, Lengths, lengths_of, la_at, session_facts, in_session, fails, after_turn, after_answer, result_patterns, replies, exited, arrive}
-use Rattle.model_prove.specs.Steps.{Spot, lowered, acted, settled_spot, caused, exits_from}
-use Rattle.model_prove.specs.Tables.{IsLoadable, includes_all}
-use Rattle.model_prove.proofs.FactLemmas.{value_holds}
+use Rattle.law_prove.specs.model_device.specs.Bytes.{AreBytes, bytes2}
+use Rattle.law_prove.specs.model_machine.specs.declared.instruction.Ins.{Ins}
+use Rattle.law_prove.specs.model_machine.specs.declared.instruction.Ins.TheVariants as ins
+use Rattle.law_prove.specs.model_machine.specs.declared.machine.Abend.TheVariants.{A09}
+use Rattle.law_prove.specs.model_machine.specs.Apdu.{ApduParts}
+use Rattle.law_prove.specs.model_machine.specs.Frame.{Frame, dynamic_base, public_base, static_bytes, session_of, la_of, sw_of}
+use Rattle.law_prove.specs.model_machine.specs.Primitives.{Around, Exits}
+use Rattle.law_prove.specs.model_machine.specs.Row.{causes, first_cause, Does}
+use Rattle.law_prove.specs.model_machine.specs.Chain.{Outcome, Abended, frame_at}
+use Rattle.law_prove.specs.model_text.specs.Listing.{hex_text}
+use Rattle.law_prove.specs.model_play.specs.Transcript.{outcome_text}
+use Rattle.law_prove.specs.law_rows.specs.Shapes.{Answers, Shape, act_effect, shape_effect, with_status, with_length, shape}
+use Rattle.law_prove.specs.law_bytes.specs.OfBytes.{IsByteEffect}
+use Rattle.law_prove.specs.law_bytes.proofs.ByteLists.{indexed, taken}
+use Rattle.law_prove.specs.law_promise.specs.History.{Deed, with_event, done_event}
+use Rattle.law_prove.specs.law_promise.specs.Outline.{Entry, BySelection, ByDelegation, is_direct, reply_to}
+use Rattle.law_prove.specs.law_promise.specs.Domain.{AnswerCovered, EndCovered, StopCovered, AbendCovered, RowCovered, FitsDepth}
+use Rattle.law_prove.specs.law_explore.specs.Matching.{fits}
+use Rattle.law_prove.specs.model_rules.specs.Rules.{Target}
+use Rattle.law_prove.specs.model_rules.specs.Happenings.{Event, History, Did, Failed, Answers as Answered}
+use Rattle.law_prove.specs.model_rules.specs.Keeping.{Amounts, Standing, after_occasion, OnTurn, line_of, line_of_deed, after_deed, standing_after}
+use Rattle.law_prove.specs.model_rules.specs.Law.{domain_of_rules}
+use Rattle.law_prove.specs.model_prove.specs.Sets.{is_in}
+use Rattle.law_prove.specs.model_prove.specs.Facts.{Memory, Holds, values_at}
+use Rattle.law_prove.specs.model_prove.specs.Keys.{Start, Delegated, OfClass, PlaceKey, Tables}
+use Rattle.law_prove.specs.model_prove.specs.Laws.{Among, HoldsBytes}
+use Rattle.law_prove.specs.model_prove.specs.Work.{AsShaped, work}
+use Rattle.law_prove.specs.model_prove.specs.Arrivals.{Setting, Arrival, Lengths, lengths_of, la_at, session_facts, in_session, fails, after_turn, after_answer, result_patterns, replies, exited, arrive}
+use Rattle.law_prove.specs.model_prove.specs.Steps.{Spot, lowered, acted, settled_spot, caused, exits_from}
+use Rattle.law_prove.specs.model_prove.specs.Tables.{IsLoadable, includes_all}
+use Rattle.law_prove.specs.model_prove.proofs.FactLemmas.{value_holds}
 use Rattle.law_prove.specs.Coverings.{moment_memory, IsMoment, frame_memory, class_of, StartsAs, IsFrameOf, IsPlace, covering_of}
 use Rattle.law_prove.specs.Laws.{LeadsInto}
 use Rattle.law_prove.proofs.Closed.{included_first, included_second, Arrives, arrives, moment_included}

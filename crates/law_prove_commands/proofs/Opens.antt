@@ -2,16 +2,16 @@
 use Rattle.std.proofs.Common.{◌≡◌, inl, inr, ℕ, zero, suc, ◌+◌, ◌/◌, ◌%◌, ◌<◌, ◌≤◌, Bool, true, false, cond, List, [], ◌∷◌, ◌++◌, length, refl, sym, ap, subst, ◌∙◌, arith}
 use Rattle.std.specs.Prelude.{not, ◌&&◌, ◌==◌, map, bytes_eq}
 use Rattle.std.proofs.lemmas.Bool.{and_parts, or_cases, eqb-true}
-use Rattle.model_device.proofs.MapLemmas.{same_name}
-use Rattle.model_text.specs.Text.{is_blank}
-use Rattle.model_text.specs.Listing.{hex_digit, hex_text}
-use Rattle.model_play.specs.Patterns.{without_blanks}
-use Rattle.law_explore.specs.Matching.{small, plain, fits}
-use Rattle.model_prove.specs.Sets.{is_in, numbers_from}
-use Rattle.model_prove.specs.Keys.{same_lists}
-use Rattle.model_prove.specs.Texts.{Open, Opens, opened, after_character, after_text, all_after, same_opens, is_among, with_opens, both_opens, hex_digits, after_each, after_digit, any_unless, after_any, matches_of}
-use Rattle.model_prove.specs.Laws.{Among}
-use Rattle.model_prove.proofs.SetLemmas.{is_between}
+use Rattle.law_prove.specs.model_device.proofs.MapLemmas.{same_name}
+use Rattle.law_prove.specs.model_text.specs.Text.{is_blank}
+use Rattle.law_prove.specs.model_text.specs.Listing.{hex_digit, hex_text}
+use Rattle.law_prove.specs.model_play.specs.Patterns.{without_blanks}
+use Rattle.law_prove.specs.law_explore.specs.Matching.{small, plain, fits}
+use Rattle.law_prove.specs.model_prove.specs.Sets.{is_in, numbers_from}
+use Rattle.law_prove.specs.model_prove.specs.Keys.{same_lists}
+use Rattle.law_prove.specs.model_prove.specs.Texts.{Open, Opens, opened, after_character, after_text, all_after, same_opens, is_among, with_opens, both_opens, hex_digits, after_each, after_digit, any_unless, after_any, matches_of}
+use Rattle.law_prove.specs.model_prove.specs.Laws.{Among}
+use Rattle.law_prove.specs.model_prove.proofs.SetLemmas.{is_between}
 use Rattle.law_prove.proofs.Keys.{lists_are}
 use Rattle.law_prove_commands.proofs.Ways.{left_is_fit}
 

@@ -2,15 +2,15 @@
 use Rattle.std.proofs.Common.{◌≡◌, ◌⊎◌, inl, inr, ℕ, ◌+◌, ◌*◌, ◌/◌, ◌%◌, ◌<◌, ◌≤◌, Bool, true, false, cond, List, [], ◌∷◌, ◌++◌, length, refl, sym, ap, subst, ◌∙◌, arith}
 use Rattle.std.specs.Prelude.{◌&&◌, ◌==◌, nat_lt, map, flat_map}
 use Rattle.std.proofs.lemmas.Bool.{or_cases, or_left, or_right, and_from, eqb-true, lt-ltb, ltb-false}
-use Rattle.model_text.specs.Listing.{hex_digit, hex_text}
-use Rattle.law_explore.specs.Matching.{fits}
-use Rattle.model_prove.specs.Sets.{Set, is_in}
-use Rattle.model_prove.specs.Facts.{values_at}
-use Rattle.model_prove.specs.Digits.{same}
-use Rattle.model_prove.specs.Keys.{Known, same_lists}
-use Rattle.model_prove.specs.Texts.{Opens, opened, all_after, after_bytes, with_opens, any_count, matches_of}
-use Rattle.model_prove.specs.Laws.{Among}
-use Rattle.model_prove.specs.Arrivals.{Setting, Lengths, some_value, lengths_of, la_at, bodies, has_combination, distinct, result_patterns, replies}
+use Rattle.law_prove.specs.model_text.specs.Listing.{hex_digit, hex_text}
+use Rattle.law_prove.specs.law_explore.specs.Matching.{fits}
+use Rattle.law_prove.specs.model_prove.specs.Sets.{Set, is_in}
+use Rattle.law_prove.specs.model_prove.specs.Facts.{values_at}
+use Rattle.law_prove.specs.model_prove.specs.Digits.{same}
+use Rattle.law_prove.specs.model_prove.specs.Keys.{Known, same_lists}
+use Rattle.law_prove.specs.model_prove.specs.Texts.{Opens, opened, all_after, after_bytes, with_opens, any_count, matches_of}
+use Rattle.law_prove.specs.model_prove.specs.Laws.{Among}
+use Rattle.law_prove.specs.model_prove.specs.Arrivals.{Setting, Lengths, some_value, lengths_of, la_at, bodies, has_combination, distinct, result_patterns, replies}
 use Rattle.law_prove.proofs.Keys.{same_is, lists_are}
 use Rattle.law_prove_commands.proofs.Opens.{all_append, all_none, with_first, with_later, any_after, matches_are}
 

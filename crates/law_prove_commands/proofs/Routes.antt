@@ -3,8 +3,8 @@ use Rattle.std.proofs.Common.{◌≡◌, ℕ, ◌+◌, ◌*◌, ◌<◌, ◌≤�
 use Rattle.std.specs.Prelude.{⊤, ◌==◌, ◌&&◌, nat_le, option_map}
 use Rattle.std.proofs.lemmas.Bool.{and_parts, leb-true, eqb-true}
 use Rattle.std.proofs.lemmas.List.{length-take}
-use Rattle.model_machine.specs.Apdu.{ApduParts, Rest, short_rest, extended_body, extended_rest, rest_read, apdu_read}
-use Rattle.model_card.specs.Manager.{WrongClass, ToSelect, ToManager, ToApplication, route_of_parts, route}
+use Rattle.law_prove.specs.model_machine.specs.Apdu.{ApduParts, Rest, short_rest, extended_body, extended_rest, rest_read, apdu_read}
+use Rattle.law_prove.specs.model_card.specs.Manager.{WrongClass, ToSelect, ToManager, ToApplication, route_of_parts, route}
 
 -- ---- sizes
 

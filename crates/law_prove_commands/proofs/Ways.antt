@@ -2,12 +2,12 @@
 use Rattle.std.proofs.Common.{◌≡◌, ℕ, Bool, true, false, cond, List, [], ◌∷◌, ◌++◌, refl, sym, ap, subst, ◌∙◌}
 use Rattle.std.specs.Prelude.{not, ◌&&◌, ◌||◌, ◌==◌, flat_map, bytes_eq}
 use Rattle.std.proofs.lemmas.Slice.Eq.{bytes_eq-Decides}
-use Rattle.model_device.specs.Bytes.{has_name}
-use Rattle.model_text.specs.Text.{is_empty}
-use Rattle.model_play.specs.Patterns.{is_star, is_any}
-use Rattle.law_explore.specs.Matching.{some_rest, first_and_rest, matches, plain, fits}
+use Rattle.law_prove.specs.model_device.specs.Bytes.{has_name}
+use Rattle.law_prove.specs.model_text.specs.Text.{is_empty}
+use Rattle.law_prove.specs.model_play.specs.Patterns.{is_star, is_any}
+use Rattle.law_prove.specs.law_explore.specs.Matching.{some_rest, first_and_rest, matches, plain, fits}
 use Rattle.law_prove_commands.specs.Laws.{PatternLaw}
-use Rattle.model_prove.specs.Texts.{Open, with_way, both_ways, openings, way_after, all_openings, after_text, is_none_left, openings_unless, opened, is_match}
+use Rattle.law_prove.specs.model_prove.specs.Texts.{Open, with_way, both_ways, openings, way_after, all_openings, after_text, is_none_left, openings_unless, opened, is_match}
 
 -- ---- truth values
 

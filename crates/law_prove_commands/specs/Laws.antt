@@ -1,21 +1,21 @@
 -- The laws of closed tables on commands: what patterns leave, the class of a command, its first place, and its answer.
 use Rattle.std.specs.Prelude.{◌≡◌, ◌⊎◌, ℕ, true, Bool, List, [], ◌∷◌, length}
-use Rattle.model_machine.specs.declared.instruction.Ins.TheVariants as ins
-use Rattle.model_machine.specs.Apdu.{ApduParts}
-use Rattle.model_machine.specs.Frame.{new_public}
-use Rattle.model_card.specs.Manager.{ToApplication, route}
-use Rattle.law_bytes.specs.OfChains.{IsByteCommand}
-use Rattle.law_promise.specs.Outline.{BySelection}
-use Rattle.law_promise.specs.Domain.{first_frame_in}
-use Rattle.law_explore.specs.Matching.{plain, fits}
-use Rattle.model_rules.specs.Rules.{Target, AppRules}
-use Rattle.model_rules.specs.Happenings.{History, Commanded}
-use Rattle.model_rules.specs.Law.{domain_of_rules}
-use Rattle.model_prove.specs.Keys.{Tables}
-use Rattle.model_prove.specs.Texts.{opened, after_text, is_match}
-use Rattle.model_prove.specs.Arrivals.{Setting}
-use Rattle.model_prove.specs.Between.{Class, classes}
-use Rattle.model_prove.specs.Tables.{IsLoadable, is_closed}
+use Rattle.law_prove.specs.model_machine.specs.declared.instruction.Ins.TheVariants as ins
+use Rattle.law_prove.specs.model_machine.specs.Apdu.{ApduParts}
+use Rattle.law_prove.specs.model_machine.specs.Frame.{new_public}
+use Rattle.law_prove.specs.model_card.specs.Manager.{ToApplication, route}
+use Rattle.law_prove.specs.law_bytes.specs.OfChains.{IsByteCommand}
+use Rattle.law_prove.specs.law_promise.specs.Outline.{BySelection}
+use Rattle.law_prove.specs.law_promise.specs.Domain.{first_frame_in}
+use Rattle.law_prove.specs.law_explore.specs.Matching.{plain, fits}
+use Rattle.law_prove.specs.model_rules.specs.Rules.{Target, AppRules}
+use Rattle.law_prove.specs.model_rules.specs.Happenings.{History, Commanded}
+use Rattle.law_prove.specs.model_rules.specs.Law.{domain_of_rules}
+use Rattle.law_prove.specs.model_prove.specs.Keys.{Tables}
+use Rattle.law_prove.specs.model_prove.specs.Texts.{opened, after_text, is_match}
+use Rattle.law_prove.specs.model_prove.specs.Arrivals.{Setting}
+use Rattle.law_prove.specs.model_prove.specs.Between.{Class, classes}
+use Rattle.law_prove.specs.model_prove.specs.Tables.{IsLoadable, is_closed}
 use Rattle.law_prove.specs.Coverings.{IsMoment, class_of, IsPlace, covering_of}
 use Rattle.law_prove.specs.Laws.{LeadLaw}
 use Rattle.law_prove.proofs.Seen.{FitSets}

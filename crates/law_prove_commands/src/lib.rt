@@ -26,3 +26,5 @@ pub fn beginnings_are_covered()
 pub fn exits_are_covered()
     ensures { ExitLaw }
 {}
+
+pub use law_prove::model_machine;

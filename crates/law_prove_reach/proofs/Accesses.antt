@@ -2,16 +2,16 @@
 use Rattle.std.proofs.Common.{◌≡◌, ℕ, zero, suc, ◌<◌, ◌≤◌, Bool, true, false, List, length, Option, refl, ap, ◌∙◌, arith}
 use Rattle.std.specs.Prelude.{◌==◌, ◌||◌, ◌&&◌, not, is_none, ⊤}
 use Rattle.std.proofs.lemmas.Bool.{eqb-true, false_from_ne_true}
-use Rattle.model_device.specs.Bytes.{AreBytes}
-use Rattle.model_machine.specs.declared.instruction.Ins.{Ins}
-use Rattle.model_machine.specs.Frame.{Frame, Place, where_is, is_outside, bytes_at, frame_after_pop}
-use Rattle.model_machine.specs.Primitives.{Around}
-use Rattle.model_rules.specs.Rules.{Target}
-use Rattle.model_prove.specs.Facts.{Memory}
-use Rattle.model_prove.specs.Compares.{bytes_from}
-use Rattle.model_prove.specs.Keys.{Tables}
-use Rattle.model_prove.specs.Arrivals.{Setting}
-use Rattle.model_prove.specs.Tables.{IsLoadable}
+use Rattle.law_prove.specs.model_device.specs.Bytes.{AreBytes}
+use Rattle.law_prove.specs.model_machine.specs.declared.instruction.Ins.{Ins}
+use Rattle.law_prove.specs.model_machine.specs.Frame.{Frame, Place, where_is, is_outside, bytes_at, frame_after_pop}
+use Rattle.law_prove.specs.model_machine.specs.Primitives.{Around}
+use Rattle.law_prove.specs.model_rules.specs.Rules.{Target}
+use Rattle.law_prove.specs.model_prove.specs.Facts.{Memory}
+use Rattle.law_prove.specs.model_prove.specs.Compares.{bytes_from}
+use Rattle.law_prove.specs.model_prove.specs.Keys.{Tables}
+use Rattle.law_prove.specs.model_prove.specs.Arrivals.{Setting}
+use Rattle.law_prove.specs.model_prove.specs.Tables.{IsLoadable}
 use Rattle.law_prove.specs.Coverings.{frame_memory}
 use Rattle.law_prove.specs.Laws.{LeadsInto}
 use Rattle.law_prove.proofs.Alike.{Sized, from_length, read_is}

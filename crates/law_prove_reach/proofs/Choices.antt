@@ -4,25 +4,25 @@ use Rattle.std.proofs.Common.{◌≡◌, ◌⊎◌, inl, inr, ℕ, ◌+◌, ◌-
 use Rattle.std.specs.Prelude.{nat_le, flat_map}
 use Rattle.std.specs.List.{AllByRecursion}
 use Rattle.std.proofs.lemmas.List.{length-replicate}
-use Rattle.model_device.specs.Bytes.{zeros}
-use Rattle.model_machine.specs.declared.instruction.Ins.{Ins}
-use Rattle.model_machine.specs.Code.{Decodes}
-use Rattle.model_machine.specs.Frame.{Frame, dynamic_base, public_base, public_end, is_outside}
-use Rattle.model_machine.specs.Primitives.{Around}
-use Rattle.model_machine.specs.Row.{row}
-use Rattle.model_machine.specs.Chain.{frame_at}
-use Rattle.law_promise.specs.Domain.{IsDelegator}
-use Rattle.model_rules.specs.Rules.{Target}
-use Rattle.model_prove.specs.Facts.{Facts, Memory, Holds, know}
-use Rattle.model_prove.specs.Keys.{Known, Tables}
-use Rattle.model_prove.specs.Laws.{Among, values_in, HoldsBytes}
-use Rattle.model_prove.specs.Splits.{Scene, Choice, stand_in, stand_in_stack, with_values, deciders, later_deciders, combinations, count_of_combinations, most_combinations, few_if, few_combinations}
-use Rattle.model_prove.specs.Reach.{takes_target}
-use Rattle.model_prove.specs.Arrivals.{Setting, Arrival}
-use Rattle.model_prove.specs.Steps.{Spot, with_facts, instruction, arounds, primitive_of, chosen, with_choice, inside, with_first_choice, by_choices, coarse_arrivals, coarse_around, fetched}
-use Rattle.model_prove.specs.Tables.{IsLoadable, includes_all}
-use Rattle.model_prove.proofs.ChangeLemmas.{written_holds, choice_is_there}
-use Rattle.model_prove.proofs.SetLemmas.{is_first}
+use Rattle.law_prove.specs.model_device.specs.Bytes.{zeros}
+use Rattle.law_prove.specs.model_machine.specs.declared.instruction.Ins.{Ins}
+use Rattle.law_prove.specs.model_machine.specs.Code.{Decodes}
+use Rattle.law_prove.specs.model_machine.specs.Frame.{Frame, dynamic_base, public_base, public_end, is_outside}
+use Rattle.law_prove.specs.model_machine.specs.Primitives.{Around}
+use Rattle.law_prove.specs.model_machine.specs.Row.{row}
+use Rattle.law_prove.specs.model_machine.specs.Chain.{frame_at}
+use Rattle.law_prove.specs.law_promise.specs.Domain.{IsDelegator}
+use Rattle.law_prove.specs.model_rules.specs.Rules.{Target}
+use Rattle.law_prove.specs.model_prove.specs.Facts.{Facts, Memory, Holds, know}
+use Rattle.law_prove.specs.model_prove.specs.Keys.{Known, Tables}
+use Rattle.law_prove.specs.model_prove.specs.Laws.{Among, values_in, HoldsBytes}
+use Rattle.law_prove.specs.model_prove.specs.Splits.{Scene, Choice, stand_in, stand_in_stack, with_values, deciders, later_deciders, combinations, count_of_combinations, most_combinations, few_if, few_combinations}
+use Rattle.law_prove.specs.model_prove.specs.Reach.{takes_target}
+use Rattle.law_prove.specs.model_prove.specs.Arrivals.{Setting, Arrival}
+use Rattle.law_prove.specs.model_prove.specs.Steps.{Spot, with_facts, instruction, arounds, primitive_of, chosen, with_choice, inside, with_first_choice, by_choices, coarse_arrivals, coarse_around, fetched}
+use Rattle.law_prove.specs.model_prove.specs.Tables.{IsLoadable, includes_all}
+use Rattle.law_prove.specs.model_prove.proofs.ChangeLemmas.{written_holds, choice_is_there}
+use Rattle.law_prove.specs.model_prove.proofs.SetLemmas.{is_first}
 use Rattle.law_prove.specs.Coverings.{parts_memory, frame_memory, IsFrameOf}
 use Rattle.law_prove.specs.Laws.{LeadsInto, LeadLaw}
 use Rattle.law_prove.proofs.Alike.{Sized, stack_length}

@@ -2,28 +2,28 @@
 use Rattle.std.proofs.Common.{◌≡◌, ◌⊎◌, inl, inr, ℕ, suc, ◌+◌, ◌-◌, ◌*◌, ◌<◌, ◌≤◌, Bool, true, false, cond, List, [], length, Some, None, refl, sym, ap, subst, ◌∙◌, arith}
 use Rattle.std.specs.Prelude.{◌==◌, ◌&&◌, not, is_none, nat_lt, nat_le, filter}
 use Rattle.std.proofs.lemmas.Bool.{or_parts, and_parts, leb-true, lt-ltb}
-use Rattle.model_device.specs.Bytes.{AreBytes, zeros}
-use Rattle.model_machine.specs.declared.instruction.Ins.{Ins}
-use Rattle.model_machine.specs.declared.instruction.Ins.TheVariants as ins
-use Rattle.model_machine.specs.declared.machine.Abend.{Abend}
-use Rattle.model_machine.specs.Frame.{Frame, where_is, is_outside, bytes_at, frame_after_pop}
-use Rattle.model_machine.specs.Primitives.{MemoryCopy, in_range, number_below_top, later_causes}
-use Rattle.model_machine.specs.Row.{causes, row}
-use Rattle.law_rows.specs.Shapes.{shape, prim_shape}
-use Rattle.model_rules.specs.Rules.{Target}
-use Rattle.model_prove.specs.Sets.{Set, is_in}
-use Rattle.model_prove.specs.Facts.{Facts, Memory, values_at}
-use Rattle.model_prove.specs.Compares.{bytes_from}
-use Rattle.model_prove.specs.Keys.{Start, Delegated, OfClass, Tables}
-use Rattle.model_prove.specs.Laws.{Among}
-use Rattle.model_prove.specs.Splits.{top_places}
-use Rattle.model_prove.specs.Work.{Copies}
-use Rattle.model_prove.specs.Reach.{lengths_at}
-use Rattle.model_prove.specs.Arrivals.{Setting}
-use Rattle.model_prove.specs.Steps.{arounds}
-use Rattle.model_prove.specs.Tables.{IsLoadable}
-use Rattle.model_prove.proofs.FactLemmas.{value_holds}
-use Rattle.model_prove.proofs.SetLemmas.{is_kept}
+use Rattle.law_prove.specs.model_device.specs.Bytes.{AreBytes, zeros}
+use Rattle.law_prove.specs.model_machine.specs.declared.instruction.Ins.{Ins}
+use Rattle.law_prove.specs.model_machine.specs.declared.instruction.Ins.TheVariants as ins
+use Rattle.law_prove.specs.model_machine.specs.declared.machine.Abend.{Abend}
+use Rattle.law_prove.specs.model_machine.specs.Frame.{Frame, where_is, is_outside, bytes_at, frame_after_pop}
+use Rattle.law_prove.specs.model_machine.specs.Primitives.{MemoryCopy, in_range, number_below_top, later_causes}
+use Rattle.law_prove.specs.model_machine.specs.Row.{causes, row}
+use Rattle.law_prove.specs.law_rows.specs.Shapes.{shape, prim_shape}
+use Rattle.law_prove.specs.model_rules.specs.Rules.{Target}
+use Rattle.law_prove.specs.model_prove.specs.Sets.{Set, is_in}
+use Rattle.law_prove.specs.model_prove.specs.Facts.{Facts, Memory, values_at}
+use Rattle.law_prove.specs.model_prove.specs.Compares.{bytes_from}
+use Rattle.law_prove.specs.model_prove.specs.Keys.{Start, Delegated, OfClass, Tables}
+use Rattle.law_prove.specs.model_prove.specs.Laws.{Among}
+use Rattle.law_prove.specs.model_prove.specs.Splits.{top_places}
+use Rattle.law_prove.specs.model_prove.specs.Work.{Copies}
+use Rattle.law_prove.specs.model_prove.specs.Reach.{lengths_at}
+use Rattle.law_prove.specs.model_prove.specs.Arrivals.{Setting}
+use Rattle.law_prove.specs.model_prove.specs.Steps.{arounds}
+use Rattle.law_prove.specs.model_prove.specs.Tables.{IsLoadable}
+use Rattle.law_prove.specs.model_prove.proofs.FactLemmas.{value_holds}
+use Rattle.law_prove.specs.model_prove.proofs.SetLemmas.{is_kept}
 use Rattle.law_prove.specs.Laws.{LeadsInto, LeadLaw}
 use Rattle.law_prove.proofs.Alike.{Sized}
 use Rattle.law_prove.proofs.Moves.{turn_sized}

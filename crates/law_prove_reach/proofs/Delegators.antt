@@ -2,29 +2,29 @@
 use Rattle.std.proofs.Common.{◌≡◌, ◌⊎◌, inl, inr, ℕ, ◌+◌, ◌-◌, ◌≤◌, Bool, true, false, List, [], ◌∷◌, length, Option, Some, None, refl, sym, ap, subst, ◌∙◌, arith}
 use Rattle.std.specs.Prelude.{◌&&◌, ◌==◌, not, is_none, is_some, ⊤}
 use Rattle.std.proofs.lemmas.List.{length-replicate}
-use Rattle.model_device.specs.Bytes.{AreBytes, zeros}
-use Rattle.model_machine.specs.declared.instruction.Ins.{Ins}
-use Rattle.model_machine.specs.declared.instruction.Ins.TheVariants as ins
-use Rattle.model_machine.specs.declared.machine.Abend.{Abend}
-use Rattle.model_machine.specs.declared.machine.Abend.TheVariants.{A03, A04, A06, A08, A0A}
-use Rattle.model_machine.specs.Frame.{Frame, where_is, is_outside, is_under, too_many, dynamic_end, frame_after_pop}
-use Rattle.model_machine.specs.Primitives.{Around, Goes, DelegatorAid, has_bit, number_below_top, reported_causes, later_causes}
-use Rattle.model_machine.specs.Row.{causes, first_cause, row}
-use Rattle.law_rows.specs.Shapes.{Stays, Writes, Shape, act_effect, delegator_shape, meaning, shape, prim_shape}
-use Rattle.law_promise.specs.Outline.{Entry, BySelection, ByDelegation, FitsEntry}
-use Rattle.law_promise.specs.Domain.{IsDelegator}
-use Rattle.model_rules.specs.Rules.{Target, AppRules}
-use Rattle.model_rules.specs.Happenings.{Event}
-use Rattle.model_prove.specs.Sets.{is_in, numbers_from}
-use Rattle.model_prove.specs.Keys.{Start, Delegated, OfClass, Known, Tables, calls_below}
-use Rattle.model_prove.specs.Laws.{Among}
-use Rattle.model_prove.specs.Splits.{Scene, top_places}
-use Rattle.model_prove.specs.Work.{Counted}
-use Rattle.model_prove.specs.Reach.{Leads, known_causes}
-use Rattle.model_prove.specs.Arrivals.{Setting, Arrival}
-use Rattle.model_prove.specs.Steps.{Spot, lowered, any_bytes, counted_sets, acted, with_flags, settled_spot, follows, caused, arounds, coarse_done, coarse_arrivals, coarse_around}
-use Rattle.model_prove.specs.Tables.{IsLoadable, includes_all}
-use Rattle.model_prove.proofs.SetLemmas.{is_first, is_between}
+use Rattle.law_prove.specs.model_device.specs.Bytes.{AreBytes, zeros}
+use Rattle.law_prove.specs.model_machine.specs.declared.instruction.Ins.{Ins}
+use Rattle.law_prove.specs.model_machine.specs.declared.instruction.Ins.TheVariants as ins
+use Rattle.law_prove.specs.model_machine.specs.declared.machine.Abend.{Abend}
+use Rattle.law_prove.specs.model_machine.specs.declared.machine.Abend.TheVariants.{A03, A04, A06, A08, A0A}
+use Rattle.law_prove.specs.model_machine.specs.Frame.{Frame, where_is, is_outside, is_under, too_many, dynamic_end, frame_after_pop}
+use Rattle.law_prove.specs.model_machine.specs.Primitives.{Around, Goes, DelegatorAid, has_bit, number_below_top, reported_causes, later_causes}
+use Rattle.law_prove.specs.model_machine.specs.Row.{causes, first_cause, row}
+use Rattle.law_prove.specs.law_rows.specs.Shapes.{Stays, Writes, Shape, act_effect, delegator_shape, meaning, shape, prim_shape}
+use Rattle.law_prove.specs.law_promise.specs.Outline.{Entry, BySelection, ByDelegation, FitsEntry}
+use Rattle.law_prove.specs.law_promise.specs.Domain.{IsDelegator}
+use Rattle.law_prove.specs.model_rules.specs.Rules.{Target, AppRules}
+use Rattle.law_prove.specs.model_rules.specs.Happenings.{Event}
+use Rattle.law_prove.specs.model_prove.specs.Sets.{is_in, numbers_from}
+use Rattle.law_prove.specs.model_prove.specs.Keys.{Start, Delegated, OfClass, Known, Tables, calls_below}
+use Rattle.law_prove.specs.model_prove.specs.Laws.{Among}
+use Rattle.law_prove.specs.model_prove.specs.Splits.{Scene, top_places}
+use Rattle.law_prove.specs.model_prove.specs.Work.{Counted}
+use Rattle.law_prove.specs.model_prove.specs.Reach.{Leads, known_causes}
+use Rattle.law_prove.specs.model_prove.specs.Arrivals.{Setting, Arrival}
+use Rattle.law_prove.specs.model_prove.specs.Steps.{Spot, lowered, any_bytes, counted_sets, acted, with_flags, settled_spot, follows, caused, arounds, coarse_done, coarse_arrivals, coarse_around}
+use Rattle.law_prove.specs.model_prove.specs.Tables.{IsLoadable, includes_all}
+use Rattle.law_prove.specs.model_prove.proofs.SetLemmas.{is_first, is_between}
 use Rattle.law_prove.specs.Coverings.{StartsAs}
 use Rattle.law_prove.specs.Laws.{LeadsInto}
 use Rattle.law_prove.proofs.Closed.{included_first}

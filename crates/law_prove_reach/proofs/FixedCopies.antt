@@ -2,26 +2,26 @@
 use Rattle.std.proofs.Common.{◌≡◌, ◌⊎◌, inl, inr, ℕ, ◌<◌, Bool, false, List, [], ◌∷◌, length, Some, None, refl, sym, ap, subst, ◌∙◌, arith}
 use Rattle.std.specs.Prelude.{◌==◌, is_none, slice_index}
 use Rattle.std.proofs.lemmas.Bool.{or_parts}
-use Rattle.model_device.specs.Bytes.{AreBytes}
-use Rattle.model_machine.specs.declared.instruction.Ins.{Ins}
-use Rattle.model_machine.specs.declared.instruction.Ins.TheVariants as ins
-use Rattle.model_machine.specs.declared.machine.Abend.{Abend}
-use Rattle.model_machine.specs.Frame.{Frame, where_is, is_outside, bytes_at, frame_after_pop}
-use Rattle.model_machine.specs.Primitives.{CopyFixed, number_below_top, later_causes}
-use Rattle.model_machine.specs.Row.{causes, row}
-use Rattle.law_rows.specs.Shapes.{shape, prim_shape}
-use Rattle.model_rules.specs.Rules.{Target}
-use Rattle.model_prove.specs.Facts.{Memory}
-use Rattle.model_prove.specs.Compares.{bytes_from}
-use Rattle.model_prove.specs.Keys.{Start, Delegated, OfClass, Tables}
-use Rattle.model_prove.specs.Laws.{Among}
-use Rattle.model_prove.specs.Splits.{top_places}
-use Rattle.model_prove.specs.Work.{Copies}
-use Rattle.model_prove.specs.Arrivals.{Setting}
-use Rattle.model_prove.specs.Steps.{arounds}
-use Rattle.model_prove.specs.Tables.{IsLoadable}
+use Rattle.law_prove.specs.model_device.specs.Bytes.{AreBytes}
+use Rattle.law_prove.specs.model_machine.specs.declared.instruction.Ins.{Ins}
+use Rattle.law_prove.specs.model_machine.specs.declared.instruction.Ins.TheVariants as ins
+use Rattle.law_prove.specs.model_machine.specs.declared.machine.Abend.{Abend}
+use Rattle.law_prove.specs.model_machine.specs.Frame.{Frame, where_is, is_outside, bytes_at, frame_after_pop}
+use Rattle.law_prove.specs.model_machine.specs.Primitives.{CopyFixed, number_below_top, later_causes}
+use Rattle.law_prove.specs.model_machine.specs.Row.{causes, row}
+use Rattle.law_prove.specs.law_rows.specs.Shapes.{shape, prim_shape}
+use Rattle.law_prove.specs.model_rules.specs.Rules.{Target}
+use Rattle.law_prove.specs.model_prove.specs.Facts.{Memory}
+use Rattle.law_prove.specs.model_prove.specs.Compares.{bytes_from}
+use Rattle.law_prove.specs.model_prove.specs.Keys.{Start, Delegated, OfClass, Tables}
+use Rattle.law_prove.specs.model_prove.specs.Laws.{Among}
+use Rattle.law_prove.specs.model_prove.specs.Splits.{top_places}
+use Rattle.law_prove.specs.model_prove.specs.Work.{Copies}
+use Rattle.law_prove.specs.model_prove.specs.Arrivals.{Setting}
+use Rattle.law_prove.specs.model_prove.specs.Steps.{arounds}
+use Rattle.law_prove.specs.model_prove.specs.Tables.{IsLoadable}
 use Rattle.law_prove.specs.Laws.{LeadsInto}
-use Rattle.model_prove.proofs.SetLemmas.{is_first}
+use Rattle.law_prove.specs.model_prove.proofs.SetLemmas.{is_first}
 use Rattle.law_prove.proofs.Moments.{byte_of}
 use Rattle.law_prove.proofs.Moves.{positive}
 use Rattle.law_prove.proofs.Turns.{NoCause, nobody}

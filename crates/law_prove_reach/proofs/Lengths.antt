@@ -2,13 +2,13 @@
 use Rattle.std.proofs.Common.{◌≡◌, ℕ, zero, suc, ◌+◌, ◌-◌, ◌*◌, ◌/◌, ◌%◌, ◌≤◌, List, [], ◌∷◌, take, drop, map, length, refl, ap, ◌∙◌, arith}
 use Rattle.std.specs.Prelude.{reverse}
 use Rattle.std.proofs.lemmas.List.{length-append, length-take-le, length-drop}
-use Rattle.model_machine.specs.Modes.{bit_sum, blocks_of, each, last_of_chain, ecb}
-use Rattle.model_machine.specs.Des.{bits_of, bytes_of, with_keys, des_block, des_encipher, des_decipher, tdes_encipher, tdes_decipher, des_signature, tdes_signature}
-use Rattle.model_machine.specs.Aes.{shift_rows, sub, mix_columns, columns_times_matrix, round, last_round, round_back, last_round_back, rounds, rounds_back, round_keys, aes_encipher, aes_decipher, aes_signature}
-use Rattle.model_machine.specs.Aes as aes
-use Rattle.model_machine.specs.Des as des
-use Rattle.model_machine.specs.Primitives.{Cipher, Des, TripleDes, Aes, block_len, encipherment, decipherment, signature}
-use Rattle.model_machine.proofs.ModesLemmas.{length_added}
+use Rattle.law_prove.specs.model_machine.specs.Modes.{bit_sum, blocks_of, each, last_of_chain, ecb}
+use Rattle.law_prove.specs.model_machine.specs.Des.{bits_of, bytes_of, with_keys, des_block, des_encipher, des_decipher, tdes_encipher, tdes_decipher, des_signature, tdes_signature}
+use Rattle.law_prove.specs.model_machine.specs.Aes.{shift_rows, sub, mix_columns, columns_times_matrix, round, last_round, round_back, last_round_back, rounds, rounds_back, round_keys, aes_encipher, aes_decipher, aes_signature}
+use Rattle.law_prove.specs.model_machine.specs.Aes as aes
+use Rattle.law_prove.specs.model_machine.specs.Des as des
+use Rattle.law_prove.specs.model_machine.specs.Primitives.{Cipher, Des, TripleDes, Aes, block_len, encipherment, decipherment, signature}
+use Rattle.law_prove.specs.model_machine.proofs.ModesLemmas.{length_added}
 
 -- ---- DES
 

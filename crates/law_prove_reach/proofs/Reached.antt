@@ -3,19 +3,19 @@
 use Rattle.std.proofs.Common.{◌≡◌, ◌⊎◌, inl, inr, ℕ, zero, suc, ◌+◌, ◌-◌, ◌/◌, ◌%◌, ◌<◌, ◌≤◌, Bool, true, false, cond, List, [], ◌∷◌, ◌++◌, length, Option, Some, None, refl, sym, ap, subst, ◌∙◌, arith}
 use Rattle.std.specs.Prelude.{◌&&◌, ◌||◌, ◌==◌, not, is_none, nat_lt, nat_le, map}
 use Rattle.std.proofs.lemmas.Bool.{and_from, and_parts, or_left, or_right, or_parts, or_cases, eqb-true, eqb-false, le-leb, ltb-true, ltb-false, false_from_ne_true}
-use Rattle.model_device.specs.Bytes.{AreBytes, num}
-use Rattle.model_machine.specs.Frame.{Frame, Effect, where_is, is_outside, dynamic_base}
-use Rattle.law_rows.specs.Shapes.{Writes, act_effect}
-use Rattle.model_rules.specs.Keeping.{Amounts}
-use Rattle.model_prove.specs.Sets.{Set, is_in}
-use Rattle.model_prove.specs.Facts.{Facts, Memory, Holds, know_all}
-use Rattle.model_prove.specs.Compares.{Compare, NoCompare, Bounds, Ordered, meet, bytes_from, has_order, IsSo}
-use Rattle.model_prove.specs.Keys.{Start, Call, Known, calls_after_write}
-use Rattle.model_prove.specs.Laws.{Among}
-use Rattle.model_prove.specs.Reach.{Reach, is_reached_within, is_reached_by, is_reached, some_reached, facts_not_reached, compare_not_reached, calls_hit}
-use Rattle.model_prove.specs.Arrivals.{Setting, static_size}
-use Rattle.model_prove.specs.Steps.{any_bytes, acted, makes_write, reached_spot}
-use Rattle.model_prove.proofs.SetLemmas.{is_first}
+use Rattle.law_prove.specs.model_device.specs.Bytes.{AreBytes, num}
+use Rattle.law_prove.specs.model_machine.specs.Frame.{Frame, Effect, where_is, is_outside, dynamic_base}
+use Rattle.law_prove.specs.law_rows.specs.Shapes.{Writes, act_effect}
+use Rattle.law_prove.specs.model_rules.specs.Keeping.{Amounts}
+use Rattle.law_prove.specs.model_prove.specs.Sets.{Set, is_in}
+use Rattle.law_prove.specs.model_prove.specs.Facts.{Facts, Memory, Holds, know_all}
+use Rattle.law_prove.specs.model_prove.specs.Compares.{Compare, NoCompare, Bounds, Ordered, meet, bytes_from, has_order, IsSo}
+use Rattle.law_prove.specs.model_prove.specs.Keys.{Start, Call, Known, calls_after_write}
+use Rattle.law_prove.specs.model_prove.specs.Laws.{Among}
+use Rattle.law_prove.specs.model_prove.specs.Reach.{Reach, is_reached_within, is_reached_by, is_reached, some_reached, facts_not_reached, compare_not_reached, calls_hit}
+use Rattle.law_prove.specs.model_prove.specs.Arrivals.{Setting, static_size}
+use Rattle.law_prove.specs.model_prove.specs.Steps.{any_bytes, acted, makes_write, reached_spot}
+use Rattle.law_prove.specs.model_prove.proofs.SetLemmas.{is_first}
 use Rattle.law_prove.specs.Coverings.{frame_memory, AreOpen}
 use Rattle.law_prove.proofs.Spots.{place_key}
 use Rattle.law_prove.proofs.Seen.{Seen, fit_any, fit_length}

@@ -3,24 +3,24 @@ use Rattle.std.proofs.Common.{◌≡◌, ◌⊎◌, inl, inr, ℕ, Bool, true, f
 use Rattle.std.specs.Prelude.{◌||◌, ◌&&◌, not}
 use Rattle.std.proofs.lemmas.Bool.{or_parts}
 use Rattle.sha1.specs.Sha1.{sha1}
-use Rattle.model_machine.specs.declared.instruction.Ins.{Ins}
-use Rattle.model_machine.specs.declared.instruction.Ins.TheVariants as ins
-use Rattle.model_machine.specs.declared.machine.Abend.{Abend}
-use Rattle.model_machine.specs.Frame.{Frame, is_outside, bytes_at, frame_after_pop}
-use Rattle.model_machine.specs.Primitives.{Digest, in_range, number_below_top, later_causes}
-use Rattle.model_machine.specs.Row.{causes, row}
-use Rattle.law_rows.specs.Shapes.{shape, prim_shape}
-use Rattle.law_machine.proofs.BlockLengths.{length_sha1}
-use Rattle.law_bytes.proofs.CipherBytes.{digested}
-use Rattle.model_rules.specs.Rules.{Target}
-use Rattle.model_prove.specs.Keys.{Start, Delegated, OfClass, Tables}
-use Rattle.model_prove.specs.Laws.{Among}
-use Rattle.model_prove.specs.Splits.{deciders, later_deciders, top_places}
-use Rattle.model_prove.specs.Work.{NoFact}
-use Rattle.model_prove.specs.Arrivals.{Setting}
-use Rattle.model_prove.specs.Steps.{arounds, primitive_of}
-use Rattle.model_prove.specs.Tables.{IsLoadable}
-use Rattle.model_prove.proofs.SetLemmas.{is_first}
+use Rattle.law_prove.specs.model_machine.specs.declared.instruction.Ins.{Ins}
+use Rattle.law_prove.specs.model_machine.specs.declared.instruction.Ins.TheVariants as ins
+use Rattle.law_prove.specs.model_machine.specs.declared.machine.Abend.{Abend}
+use Rattle.law_prove.specs.model_machine.specs.Frame.{Frame, is_outside, bytes_at, frame_after_pop}
+use Rattle.law_prove.specs.model_machine.specs.Primitives.{Digest, in_range, number_below_top, later_causes}
+use Rattle.law_prove.specs.model_machine.specs.Row.{causes, row}
+use Rattle.law_prove.specs.law_rows.specs.Shapes.{shape, prim_shape}
+use Rattle.law_prove.specs.law_machine.proofs.BlockLengths.{length_sha1}
+use Rattle.law_prove.specs.law_bytes.proofs.CipherBytes.{digested}
+use Rattle.law_prove.specs.model_rules.specs.Rules.{Target}
+use Rattle.law_prove.specs.model_prove.specs.Keys.{Start, Delegated, OfClass, Tables}
+use Rattle.law_prove.specs.model_prove.specs.Laws.{Among}
+use Rattle.law_prove.specs.model_prove.specs.Splits.{deciders, later_deciders, top_places}
+use Rattle.law_prove.specs.model_prove.specs.Work.{NoFact}
+use Rattle.law_prove.specs.model_prove.specs.Arrivals.{Setting}
+use Rattle.law_prove.specs.model_prove.specs.Steps.{arounds, primitive_of}
+use Rattle.law_prove.specs.model_prove.specs.Tables.{IsLoadable}
+use Rattle.law_prove.specs.model_prove.proofs.SetLemmas.{is_first}
 use Rattle.law_prove.specs.Laws.{LeadsInto, LeadLaw}
 use Rattle.law_prove.proofs.Turns.{NoCause, nobody}
 use Rattle.law_prove.proofs.Single.{Turn, IsRowCovered}

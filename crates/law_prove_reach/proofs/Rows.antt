@@ -2,26 +2,26 @@
 use Rattle.std.proofs.Common.{◌≡◌, ℕ, ◌+◌, ◌<◌, ◌≤◌, Bool, true, false, cond, List, [], ◌∷◌, ◌++◌, length, Option, None, refl, sym, ap, subst, ◌∙◌, arith}
 use Rattle.std.specs.Prelude.{◌&&◌, not, is_none, nat_lt, flat_map, map}
 use Rattle.std.proofs.lemmas.Bool.{and_from, and_parts, ltb-true}
-use Rattle.model_device.specs.Bytes.{AreBytes}
-use Rattle.model_machine.specs.declared.instruction.Ins.{Ins}
-use Rattle.model_machine.specs.declared.machine.Abend.{Abend}
-use Rattle.model_machine.specs.declared.machine.Abend.TheVariants.{A03, A04, A06, A08, A0A}
-use Rattle.model_machine.specs.Frame.{Frame, Effect, where_is, too_many, dynamic_base, dynamic_end}
-use Rattle.model_machine.specs.Primitives.{Goes}
-use Rattle.model_machine.specs.Row.{causes, row, first_cause, Abends, Does, row_end}
-use Rattle.law_rows.specs.Shapes.{Act, Writes, act_effect, shape_effect, meaning, shape}
-use Rattle.law_bytes.specs.OfBytes.{IsByteEffect}
-use Rattle.model_rules.specs.Rules.{Target}
-use Rattle.model_prove.specs.Sets.{Set}
-use Rattle.model_prove.specs.Facts.{Memory, values_from}
-use Rattle.model_prove.specs.Compares.{bytes_from}
-use Rattle.model_prove.specs.Keys.{Call, PlaceKey, Known, Tables, calls_after_write, calls_below}
-use Rattle.model_prove.specs.Laws.{Among}
-use Rattle.model_prove.specs.Work.{Work, Copies}
-use Rattle.model_prove.specs.Reach.{Reach, WritesWithin, some_reached, calls_hit}
-use Rattle.model_prove.specs.Arrivals.{Setting, Arrival, static_size, fails}
-use Rattle.model_prove.specs.Steps.{Spot, lowered, acted, with_flags, settled_spot, makes_write, may_wait_too_long, follows, spots, row_arrivals, caused, reached_spot, coarse_done}
-use Rattle.model_prove.specs.Tables.{IsLoadable, includes_all}
+use Rattle.law_prove.specs.model_device.specs.Bytes.{AreBytes}
+use Rattle.law_prove.specs.model_machine.specs.declared.instruction.Ins.{Ins}
+use Rattle.law_prove.specs.model_machine.specs.declared.machine.Abend.{Abend}
+use Rattle.law_prove.specs.model_machine.specs.declared.machine.Abend.TheVariants.{A03, A04, A06, A08, A0A}
+use Rattle.law_prove.specs.model_machine.specs.Frame.{Frame, Effect, where_is, too_many, dynamic_base, dynamic_end}
+use Rattle.law_prove.specs.model_machine.specs.Primitives.{Goes}
+use Rattle.law_prove.specs.model_machine.specs.Row.{causes, row, first_cause, Abends, Does, row_end}
+use Rattle.law_prove.specs.law_rows.specs.Shapes.{Act, Writes, act_effect, shape_effect, meaning, shape}
+use Rattle.law_prove.specs.law_bytes.specs.OfBytes.{IsByteEffect}
+use Rattle.law_prove.specs.model_rules.specs.Rules.{Target}
+use Rattle.law_prove.specs.model_prove.specs.Sets.{Set}
+use Rattle.law_prove.specs.model_prove.specs.Facts.{Memory, values_from}
+use Rattle.law_prove.specs.model_prove.specs.Compares.{bytes_from}
+use Rattle.law_prove.specs.model_prove.specs.Keys.{Call, PlaceKey, Known, Tables, calls_after_write, calls_below}
+use Rattle.law_prove.specs.model_prove.specs.Laws.{Among}
+use Rattle.law_prove.specs.model_prove.specs.Work.{Work, Copies}
+use Rattle.law_prove.specs.model_prove.specs.Reach.{Reach, WritesWithin, some_reached, calls_hit}
+use Rattle.law_prove.specs.model_prove.specs.Arrivals.{Setting, Arrival, static_size, fails}
+use Rattle.law_prove.specs.model_prove.specs.Steps.{Spot, lowered, acted, with_flags, settled_spot, makes_write, may_wait_too_long, follows, spots, row_arrivals, caused, reached_spot, coarse_done}
+use Rattle.law_prove.specs.model_prove.specs.Tables.{IsLoadable, includes_all}
 use Rattle.law_prove.specs.Laws.{LeadsInto}
 use Rattle.law_prove.proofs.Alike.{from_length, many_wait}
 use Rattle.law_prove.proofs.Closed.{included_first, included_second}

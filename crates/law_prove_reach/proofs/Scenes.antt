@@ -5,17 +5,17 @@ use Rattle.std.specs.Prelude.{◌&&◌, ◌==◌, not, is_none, nat_lt, nat_le, 
 use Rattle.std.specs.List.{AllByRecursion}
 use Rattle.std.proofs.lemmas.Bool.{and_from, eqb-true, eqb-false, le-leb, lt-ltb, ltb-true, ltb-false, false_from_ne_true}
 use Rattle.std.proofs.lemmas.List.{length-replicate}
-use Rattle.model_device.specs.Bytes.{num, zeros, splice}
-use Rattle.model_device.specs.Pieces.{touched_words}
-use Rattle.model_device.proofs.ListLemmas.{length_splice}
-use Rattle.model_machine.specs.Frame.{Frame, Place, Static, Dynamic, Public, where_is, is_outside, no_access, register, moved_address, dynamic_base, dynamic_end, public_base, public_end, static_bytes, address_at, too_many, passes_limit}
-use Rattle.model_machine.specs.Primitives.{number_below_top}
-use Rattle.model_machine.specs.Row.{operand}
-use Rattle.law_machine.proofs.TouchedWords.{one_piece}
-use Rattle.model_prove.specs.Facts.{Memory}
-use Rattle.model_prove.specs.Compares.{bytes_from}
-use Rattle.model_prove.specs.Laws.{Among, values_in}
-use Rattle.model_prove.specs.Splits.{Scene, with_byte, with_values}
+use Rattle.law_prove.specs.model_device.specs.Bytes.{num, zeros, splice}
+use Rattle.law_prove.specs.model_device.specs.Pieces.{touched_words}
+use Rattle.law_prove.specs.model_device.proofs.ListLemmas.{length_splice}
+use Rattle.law_prove.specs.model_machine.specs.Frame.{Frame, Place, Static, Dynamic, Public, where_is, is_outside, no_access, register, moved_address, dynamic_base, dynamic_end, public_base, public_end, static_bytes, address_at, too_many, passes_limit}
+use Rattle.law_prove.specs.model_machine.specs.Primitives.{number_below_top}
+use Rattle.law_prove.specs.model_machine.specs.Row.{operand}
+use Rattle.law_prove.specs.law_machine.proofs.TouchedWords.{one_piece}
+use Rattle.law_prove.specs.model_prove.specs.Facts.{Memory}
+use Rattle.law_prove.specs.model_prove.specs.Compares.{bytes_from}
+use Rattle.law_prove.specs.model_prove.specs.Laws.{Among, values_in}
+use Rattle.law_prove.specs.model_prove.specs.Splits.{Scene, with_byte, with_values}
 use Rattle.law_prove.specs.Coverings.{parts_memory, frame_memory}
 use Rattle.law_prove.proofs.Windows.{taken_is}
 use Rattle.law_prove.proofs.Parts.{not_lt, memory_dynamic, static_same, dynamic_same, public_same, static_new, dynamic_new, public_new}

@@ -2,23 +2,23 @@
 use Rattle.std.proofs.Common.{◌≡◌, inl, ℕ, ◌≤◌, Bool, false, List, [], ◌∷◌, length, Option, Some, None, refl, sym, ap, subst, ◌∙◌, arith}
 use Rattle.std.specs.Prelude.{◌==◌, ◌||◌, not, is_none, slice_index}
 use Rattle.std.proofs.lemmas.Bool.{or_parts}
-use Rattle.model_device.specs.Bytes.{AreBytes}
-use Rattle.model_machine.specs.declared.instruction.Ins.{Ins}
-use Rattle.model_machine.specs.declared.instruction.Ins.TheVariants as ins
-use Rattle.model_machine.specs.declared.machine.Abend.{Abend}
-use Rattle.model_machine.specs.Frame.{Frame, where_is, is_outside, bytes_at, frame_after_pop}
-use Rattle.model_machine.specs.Primitives.{Cipher, Des, TripleDes, Aes, Primitive, Sign, primitive, block_len, key_len, is_message, signature, has_bit, number_below_top, later_causes, prim_causes}
-use Rattle.model_machine.specs.Row.{causes, first_cause}
-use Rattle.law_rows.specs.Shapes.{shape, prim_shape, pair_shape}
-use Rattle.law_bytes.proofs.CipherBytes.{signed}
-use Rattle.law_bytes.proofs.ByteLists.{read_bytes}
-use Rattle.model_prove.specs.Keys.{Start, Delegated, OfClass}
-use Rattle.model_prove.specs.Laws.{Among}
-use Rattle.model_prove.specs.Splits.{pair_deciders, count_deciders}
-use Rattle.model_prove.specs.Work.{NoFact, pair_work}
-use Rattle.model_prove.specs.Reach.{may_have_bad_length, known_causes, pair_coarse}
-use Rattle.model_prove.specs.Steps.{arounds}
-use Rattle.model_prove.proofs.SetLemmas.{is_first}
+use Rattle.law_prove.specs.model_device.specs.Bytes.{AreBytes}
+use Rattle.law_prove.specs.model_machine.specs.declared.instruction.Ins.{Ins}
+use Rattle.law_prove.specs.model_machine.specs.declared.instruction.Ins.TheVariants as ins
+use Rattle.law_prove.specs.model_machine.specs.declared.machine.Abend.{Abend}
+use Rattle.law_prove.specs.model_machine.specs.Frame.{Frame, where_is, is_outside, bytes_at, frame_after_pop}
+use Rattle.law_prove.specs.model_machine.specs.Primitives.{Cipher, Des, TripleDes, Aes, Primitive, Sign, primitive, block_len, key_len, is_message, signature, has_bit, number_below_top, later_causes, prim_causes}
+use Rattle.law_prove.specs.model_machine.specs.Row.{causes, first_cause}
+use Rattle.law_prove.specs.law_rows.specs.Shapes.{shape, prim_shape, pair_shape}
+use Rattle.law_prove.specs.law_bytes.proofs.CipherBytes.{signed}
+use Rattle.law_prove.specs.law_bytes.proofs.ByteLists.{read_bytes}
+use Rattle.law_prove.specs.model_prove.specs.Keys.{Start, Delegated, OfClass}
+use Rattle.law_prove.specs.model_prove.specs.Laws.{Among}
+use Rattle.law_prove.specs.model_prove.specs.Splits.{pair_deciders, count_deciders}
+use Rattle.law_prove.specs.model_prove.specs.Work.{NoFact, pair_work}
+use Rattle.law_prove.specs.model_prove.specs.Reach.{may_have_bad_length, known_causes, pair_coarse}
+use Rattle.law_prove.specs.model_prove.specs.Steps.{arounds}
+use Rattle.law_prove.specs.model_prove.proofs.SetLemmas.{is_first}
 use Rattle.law_prove.specs.Laws.{LeadLaw}
 use Rattle.law_prove.proofs.Turns.{NoCause, nobody}
 use Rattle.law_prove_reach.proofs.Scenes.{with_bytes, same_outside}

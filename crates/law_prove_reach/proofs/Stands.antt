@@ -3,12 +3,12 @@ use Rattle.std.proofs.Common.{◌≡◌, inl, inr, ℕ, suc, ◌+◌, ◌-◌, �
 use Rattle.std.specs.Prelude.{nat_lt, slice_index}
 use Rattle.std.proofs.lemmas.Bool.{ltb-true, ltb-false}
 use Rattle.std.proofs.lemmas.List.{length-replicate}
-use Rattle.model_device.specs.Bytes.{bytes2, zeros, splice}
-use Rattle.model_machine.specs.Frame.{Frame, dynamic_base, dynamic_end, public_base, static_bytes}
-use Rattle.model_machine.specs.Primitives.{number_below_top}
-use Rattle.model_prove.specs.Facts.{Memory}
-use Rattle.model_prove.specs.Keys.{Call}
-use Rattle.model_prove.specs.Splits.{stand_in_stack}
+use Rattle.law_prove.specs.model_device.specs.Bytes.{bytes2, zeros, splice}
+use Rattle.law_prove.specs.model_machine.specs.Frame.{Frame, dynamic_base, dynamic_end, public_base, static_bytes}
+use Rattle.law_prove.specs.model_machine.specs.Primitives.{number_below_top}
+use Rattle.law_prove.specs.model_prove.specs.Facts.{Memory}
+use Rattle.law_prove.specs.model_prove.specs.Keys.{Call}
+use Rattle.law_prove.specs.model_prove.specs.Splits.{stand_in_stack}
 use Rattle.law_prove.specs.Coverings.{frame_memory, AreOpen}
 use Rattle.law_prove.proofs.Alike.{Sized}
 use Rattle.law_prove.proofs.Moments.{zero_at}

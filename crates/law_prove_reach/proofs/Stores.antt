@@ -2,28 +2,28 @@
 use Rattle.std.proofs.Common.{◌≡◌, ◌⊎◌, inl, inr, ℕ, suc, ◌+◌, ◌-◌, ◌*◌, ◌/◌, ◌%◌, ◌<◌, ◌≤◌, Bool, true, false, cond, List, [], ◌∷◌, length, ℤ, Option, Some, None, refl, sym, ap, subst, ◌∙◌, arith}
 use Rattle.std.specs.Prelude.{◌==◌, ◌||◌, is_none}
 use Rattle.std.proofs.lemmas.Bool.{or_parts}
-use Rattle.model_device.specs.Bytes.{AreBytes, zeros}
-use Rattle.model_machine.specs.declared.instruction.Ins.{Ins}
-use Rattle.model_machine.specs.declared.instruction.Ins.TheVariants as ins
-use Rattle.model_machine.specs.declared.machine.Abend.{Abend}
-use Rattle.model_machine.specs.declared.machine.Abend.TheVariants.{A03, A04, A06, A08}
-use Rattle.model_machine.specs.Frame.{Frame, where_is, is_outside, no_access, too_many, is_under, address_at, top, dynamic_base, dynamic_end, frame_after_pop}
-use Rattle.model_machine.specs.Row.{causes, operand, address_or_zero, on_stack, first_cause, row}
-use Rattle.law_rows.specs.Shapes.{Writes, shape}
-use Rattle.model_rules.specs.Rules.{Target}
-use Rattle.model_prove.specs.Sets.{is_in}
-use Rattle.model_prove.specs.Facts.{Memory, values_at}
-use Rattle.model_prove.specs.Compares.{bytes_from}
-use Rattle.model_prove.specs.Keys.{Start, Delegated, OfClass, Tables}
-use Rattle.model_prove.specs.Laws.{Among}
-use Rattle.model_prove.specs.Splits.{places_from, stand_in_stack}
-use Rattle.model_prove.specs.Work.{Copies}
-use Rattle.model_prove.specs.Reach.{Reach, reach_at}
-use Rattle.model_prove.specs.Arrivals.{Setting}
-use Rattle.model_prove.specs.Steps.{Spot, arounds, caused}
-use Rattle.model_prove.specs.Tables.{IsLoadable, includes_all}
-use Rattle.model_prove.proofs.FactLemmas.{value_holds}
-use Rattle.model_prove.proofs.SetLemmas.{is_first}
+use Rattle.law_prove.specs.model_device.specs.Bytes.{AreBytes, zeros}
+use Rattle.law_prove.specs.model_machine.specs.declared.instruction.Ins.{Ins}
+use Rattle.law_prove.specs.model_machine.specs.declared.instruction.Ins.TheVariants as ins
+use Rattle.law_prove.specs.model_machine.specs.declared.machine.Abend.{Abend}
+use Rattle.law_prove.specs.model_machine.specs.declared.machine.Abend.TheVariants.{A03, A04, A06, A08}
+use Rattle.law_prove.specs.model_machine.specs.Frame.{Frame, where_is, is_outside, no_access, too_many, is_under, address_at, top, dynamic_base, dynamic_end, frame_after_pop}
+use Rattle.law_prove.specs.model_machine.specs.Row.{causes, operand, address_or_zero, on_stack, first_cause, row}
+use Rattle.law_prove.specs.law_rows.specs.Shapes.{Writes, shape}
+use Rattle.law_prove.specs.model_rules.specs.Rules.{Target}
+use Rattle.law_prove.specs.model_prove.specs.Sets.{is_in}
+use Rattle.law_prove.specs.model_prove.specs.Facts.{Memory, values_at}
+use Rattle.law_prove.specs.model_prove.specs.Compares.{bytes_from}
+use Rattle.law_prove.specs.model_prove.specs.Keys.{Start, Delegated, OfClass, Tables}
+use Rattle.law_prove.specs.model_prove.specs.Laws.{Among}
+use Rattle.law_prove.specs.model_prove.specs.Splits.{places_from, stand_in_stack}
+use Rattle.law_prove.specs.model_prove.specs.Work.{Copies}
+use Rattle.law_prove.specs.model_prove.specs.Reach.{Reach, reach_at}
+use Rattle.law_prove.specs.model_prove.specs.Arrivals.{Setting}
+use Rattle.law_prove.specs.model_prove.specs.Steps.{Spot, arounds, caused}
+use Rattle.law_prove.specs.model_prove.specs.Tables.{IsLoadable, includes_all}
+use Rattle.law_prove.specs.model_prove.proofs.FactLemmas.{value_holds}
+use Rattle.law_prove.specs.model_prove.proofs.SetLemmas.{is_first}
 use Rattle.law_prove.specs.Coverings.{parts_memory, frame_memory}
 use Rattle.law_prove.specs.Laws.{LeadsInto}
 use Rattle.law_prove.proofs.Alike.{Sized, from_length, top_is}

@@ -3,27 +3,27 @@
 use Rattle.std.proofs.Common.{◌≡◌, inl, inr, ℕ, zero, suc, ◌+◌, ◌-◌, ◌*◌, ◌/◌, ◌%◌, ◌<◌, ◌≤◌, Bool, true, false, cond, List, [], ◌∷◌, ◌++◌, length, Option, Some, refl, sym, ap, subst, ◌∙◌, arith}
 use Rattle.std.specs.Prelude.{◌&&◌, ◌==◌, not, is_none, nat_lt}
 use Rattle.std.proofs.lemmas.Bool.{ltb-true, ltb-false}
-use Rattle.model_device.specs.Bytes.{AreBytes, zeros}
-use Rattle.model_machine.specs.declared.instruction.Ins.{Ins}
-use Rattle.model_machine.specs.declared.machine.Abend.{Abend}
-use Rattle.model_machine.specs.declared.machine.Abend.TheVariants.{A03, A04, A06, A08, A0A}
-use Rattle.model_machine.specs.Frame.{Frame, where_is, too_many, is_under, dynamic_base, dynamic_end, frame_after_pop}
-use Rattle.model_machine.specs.Primitives.{Around, number_below_top}
-use Rattle.model_machine.specs.Row.{causes, first_cause, row}
-use Rattle.law_rows.specs.Shapes.{Act, Writes, Shape, shape}
-use Rattle.model_rules.specs.Rules.{Target}
-use Rattle.model_prove.specs.Sets.{Set, is_in, numbers_from}
-use Rattle.model_prove.specs.Facts.{Facts, Memory, values_at, values_from}
-use Rattle.model_prove.specs.Compares.{bytes_from}
-use Rattle.model_prove.specs.Keys.{Tables}
-use Rattle.model_prove.specs.Laws.{Among}
-use Rattle.model_prove.specs.Splits.{top_places, stand_in_stack}
-use Rattle.model_prove.specs.Work.{Work, Copies, Counted, NoFact, work}
-use Rattle.model_prove.specs.Reach.{Reach, Coarse, WritesWithin, reach_at, coarse, may_have_bad_length, may_miss, known_causes}
-use Rattle.model_prove.specs.Arrivals.{Setting, Arrival, fails}
-use Rattle.model_prove.specs.Steps.{Spot, lowered, any_bytes, counted_sets, acted, with_flags, spots, caused, primitive_of, coarse_for, coarse_done, coarse_around}
-use Rattle.model_prove.specs.Tables.{IsLoadable, includes_all}
-use Rattle.model_prove.proofs.FactLemmas.{value_holds}
+use Rattle.law_prove.specs.model_device.specs.Bytes.{AreBytes, zeros}
+use Rattle.law_prove.specs.model_machine.specs.declared.instruction.Ins.{Ins}
+use Rattle.law_prove.specs.model_machine.specs.declared.machine.Abend.{Abend}
+use Rattle.law_prove.specs.model_machine.specs.declared.machine.Abend.TheVariants.{A03, A04, A06, A08, A0A}
+use Rattle.law_prove.specs.model_machine.specs.Frame.{Frame, where_is, too_many, is_under, dynamic_base, dynamic_end, frame_after_pop}
+use Rattle.law_prove.specs.model_machine.specs.Primitives.{Around, number_below_top}
+use Rattle.law_prove.specs.model_machine.specs.Row.{causes, first_cause, row}
+use Rattle.law_prove.specs.law_rows.specs.Shapes.{Act, Writes, Shape, shape}
+use Rattle.law_prove.specs.model_rules.specs.Rules.{Target}
+use Rattle.law_prove.specs.model_prove.specs.Sets.{Set, is_in, numbers_from}
+use Rattle.law_prove.specs.model_prove.specs.Facts.{Facts, Memory, values_at, values_from}
+use Rattle.law_prove.specs.model_prove.specs.Compares.{bytes_from}
+use Rattle.law_prove.specs.model_prove.specs.Keys.{Tables}
+use Rattle.law_prove.specs.model_prove.specs.Laws.{Among}
+use Rattle.law_prove.specs.model_prove.specs.Splits.{top_places, stand_in_stack}
+use Rattle.law_prove.specs.model_prove.specs.Work.{Work, Copies, Counted, NoFact, work}
+use Rattle.law_prove.specs.model_prove.specs.Reach.{Reach, Coarse, WritesWithin, reach_at, coarse, may_have_bad_length, may_miss, known_causes}
+use Rattle.law_prove.specs.model_prove.specs.Arrivals.{Setting, Arrival, fails}
+use Rattle.law_prove.specs.model_prove.specs.Steps.{Spot, lowered, any_bytes, counted_sets, acted, with_flags, spots, caused, primitive_of, coarse_for, coarse_done, coarse_around}
+use Rattle.law_prove.specs.model_prove.specs.Tables.{IsLoadable, includes_all}
+use Rattle.law_prove.specs.model_prove.proofs.FactLemmas.{value_holds}
 use Rattle.law_prove.specs.Coverings.{parts_memory, frame_memory}
 use Rattle.law_prove.specs.Laws.{LeadsInto}
 use Rattle.law_prove.proofs.Alike.{Sized}

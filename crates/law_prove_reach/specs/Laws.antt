@@ -1,6 +1,6 @@
 -- The laws of closed tables on rows that write at an address that bytes of the memory decide.
 use Rattle.std.specs.Prelude.{ℕ, ℤ, List}
-use Rattle.model_machine.specs.declared.instruction.Ins.TheVariants as ins
+use Rattle.law_prove.specs.model_machine.specs.declared.instruction.Ins.TheVariants as ins
 use Rattle.law_prove.specs.Laws.{LeadLaw}
 
 -- of the row that stores the top of the stack at the address that an operand has

@@ -1,29 +1,29 @@
 -- LOADI, which pushes the bytes at an address from the memory, and INDEX, which pushes an address of a table.
 use Rattle.std.proofs.Common.{◌≡◌, ℕ, ◌+◌, ◌-◌, ◌*◌, ◌≤◌, Bool, true, false, cond, List, [], ◌∷◌, ◌++◌, length, ℤ, Option, Some, None, refl, sym, ap, subst, ◌∙◌, arith}
 use Rattle.std.specs.Prelude.{◌==◌, ◌&&◌, ◌||◌, is_none, option_and_then}
-use Rattle.model_device.specs.Bytes.{AreBytes, bytes2, num}
-use Rattle.model_device.proofs.ListLemmas.{pair_bytes}
-use Rattle.model_machine.specs.declared.instruction.Ins.{Ins}
-use Rattle.model_machine.specs.declared.instruction.Ins.TheVariants as ins
-use Rattle.model_machine.specs.declared.machine.Abend.{Abend}
-use Rattle.model_machine.specs.declared.machine.Abend.TheVariants.{A03, A04, A05, A06}
-use Rattle.model_machine.specs.Frame.{Frame, Place, dynamic_base, dynamic_end, is_under, is_over, is_outside, no_access, bytes_at, address_at, stack_bytes, top, resolve, in_two_bytes, frame_after_pop}
-use Rattle.model_machine.specs.Primitives.{Goes}
-use Rattle.model_machine.specs.Row.{causes, row, first_cause, operand, address_or_zero, on_stack, indexed_address}
-use Rattle.model_machine.specs.Chain.{frame_at}
-use Rattle.law_rows.specs.Shapes.{Pushes, Shape, shape}
-use Rattle.model_rules.specs.Rules.{Target}
-use Rattle.model_prove.specs.Sets.{Set, numbers_from}
-use Rattle.model_prove.specs.Facts.{Memory, values_from}
-use Rattle.model_prove.specs.Compares.{bytes_from}
-use Rattle.model_prove.specs.Keys.{Tables}
-use Rattle.model_prove.specs.Laws.{Among}
-use Rattle.model_prove.specs.Splits.{Scene, places_from, top_places}
-use Rattle.model_prove.specs.Reach.{PushesAny}
-use Rattle.model_prove.specs.Work.{AsShaped, Copies}
-use Rattle.model_prove.specs.Arrivals.{Setting, Arrival, fails}
-use Rattle.model_prove.specs.Steps.{Spot, sets, any_bytes, lowered, pushed, settled_spot, follows, row_arrivals, coarse_done}
-use Rattle.model_prove.specs.Tables.{IsLoadable, includes_all}
+use Rattle.law_prove.specs.model_device.specs.Bytes.{AreBytes, bytes2, num}
+use Rattle.law_prove.specs.model_device.proofs.ListLemmas.{pair_bytes}
+use Rattle.law_prove.specs.model_machine.specs.declared.instruction.Ins.{Ins}
+use Rattle.law_prove.specs.model_machine.specs.declared.instruction.Ins.TheVariants as ins
+use Rattle.law_prove.specs.model_machine.specs.declared.machine.Abend.{Abend}
+use Rattle.law_prove.specs.model_machine.specs.declared.machine.Abend.TheVariants.{A03, A04, A05, A06}
+use Rattle.law_prove.specs.model_machine.specs.Frame.{Frame, Place, dynamic_base, dynamic_end, is_under, is_over, is_outside, no_access, bytes_at, address_at, stack_bytes, top, resolve, in_two_bytes, frame_after_pop}
+use Rattle.law_prove.specs.model_machine.specs.Primitives.{Goes}
+use Rattle.law_prove.specs.model_machine.specs.Row.{causes, row, first_cause, operand, address_or_zero, on_stack, indexed_address}
+use Rattle.law_prove.specs.model_machine.specs.Chain.{frame_at}
+use Rattle.law_prove.specs.law_rows.specs.Shapes.{Pushes, Shape, shape}
+use Rattle.law_prove.specs.model_rules.specs.Rules.{Target}
+use Rattle.law_prove.specs.model_prove.specs.Sets.{Set, numbers_from}
+use Rattle.law_prove.specs.model_prove.specs.Facts.{Memory, values_from}
+use Rattle.law_prove.specs.model_prove.specs.Compares.{bytes_from}
+use Rattle.law_prove.specs.model_prove.specs.Keys.{Tables}
+use Rattle.law_prove.specs.model_prove.specs.Laws.{Among}
+use Rattle.law_prove.specs.model_prove.specs.Splits.{Scene, places_from, top_places}
+use Rattle.law_prove.specs.model_prove.specs.Reach.{PushesAny}
+use Rattle.law_prove.specs.model_prove.specs.Work.{AsShaped, Copies}
+use Rattle.law_prove.specs.model_prove.specs.Arrivals.{Setting, Arrival, fails}
+use Rattle.law_prove.specs.model_prove.specs.Steps.{Spot, sets, any_bytes, lowered, pushed, settled_spot, follows, row_arrivals, coarse_done}
+use Rattle.law_prove.specs.model_prove.specs.Tables.{IsLoadable, includes_all}
 use Rattle.law_prove.specs.Laws.{LeadsInto, LeadLaw}
 use Rattle.law_prove.proofs.Closed.{included_first, included_second}
 use Rattle.law_prove.proofs.Seen.{FitSets, fit_sets, fit_values, fit_any}

@@ -4,29 +4,29 @@ use Rattle.std.proofs.Common.{◌≡◌, ◌⊎◌, inl, inr, ℕ, ◌+◌, ◌-
 use Rattle.std.specs.Prelude.{◌&&◌, nat_le, flat_map}
 use Rattle.std.specs.List.{AllByRecursion}
 use Rattle.std.proofs.lemmas.List.{length-replicate}
-use Rattle.model_machine.specs.declared.instruction.Ins.{Ins}
-use Rattle.model_machine.specs.declared.machine.Abend.{Abend}
-use Rattle.model_machine.specs.declared.machine.Abend.TheVariants.{A03, A06}
-use Rattle.model_machine.specs.Code.{Decodes}
-use Rattle.model_machine.specs.Frame.{Frame, Effect, is_outside, dynamic_base, dynamic_end, public_base, public_end}
-use Rattle.model_machine.specs.Primitives.{Around, Primitive, Done, effect_and_next}
-use Rattle.model_machine.specs.Row.{causes, effect, row, first_cause, row_end, Does}
-use Rattle.model_machine.specs.Chain.{frame_at}
-use Rattle.law_rows.specs.Shapes.{Act, Stays, Pushes, Replaces, Shape, act_effect, shape_effect, meaning, shape}
-use Rattle.law_rows.proofs.RowShapes.{shapes}
-use Rattle.law_bytes.specs.OfBytes.{IsByteEffect}
-use Rattle.model_rules.specs.Rules.{Target}
-use Rattle.model_prove.specs.Sets.{Set}
-use Rattle.model_prove.specs.Facts.{Facts, Memory, Holds}
-use Rattle.model_prove.specs.Keys.{Start, Delegated, OfClass, PlaceKey, Known, Tables, calls_below}
-use Rattle.model_prove.specs.Laws.{Among, values_in}
-use Rattle.model_prove.specs.Splits.{Scene, Choice, stand_in, stand_in_stack, with_values, deciders, later_deciders, combinations, count_of_combinations, most_combinations, few_if, few_combinations}
-use Rattle.model_prove.specs.Reach.{Coarse, coarse, is_known_cause, known_causes, may_have_bad_length, may_miss}
-use Rattle.model_prove.specs.Work.{Work, work}
-use Rattle.model_prove.specs.Arrivals.{Setting, Arrival, fails}
-use Rattle.model_prove.specs.Steps.{Spot, lowered, acted, inside, chosen, settled_spot, makes_write, row_arrivals, caused, instruction, arounds, primitive_of, with_choice, with_first_choice, coarse_for, coarse_done, coarse_arrivals, coarse_around, by_choices, fetched, is_return, no_calls}
-use Rattle.model_prove.specs.Tables.{IsLoadable, includes_all}
-use Rattle.model_prove.proofs.ChangeLemmas.{choice_is_there}
+use Rattle.law_prove.specs.model_machine.specs.declared.instruction.Ins.{Ins}
+use Rattle.law_prove.specs.model_machine.specs.declared.machine.Abend.{Abend}
+use Rattle.law_prove.specs.model_machine.specs.declared.machine.Abend.TheVariants.{A03, A06}
+use Rattle.law_prove.specs.model_machine.specs.Code.{Decodes}
+use Rattle.law_prove.specs.model_machine.specs.Frame.{Frame, Effect, is_outside, dynamic_base, dynamic_end, public_base, public_end}
+use Rattle.law_prove.specs.model_machine.specs.Primitives.{Around, Primitive, Done, effect_and_next}
+use Rattle.law_prove.specs.model_machine.specs.Row.{causes, effect, row, first_cause, row_end, Does}
+use Rattle.law_prove.specs.model_machine.specs.Chain.{frame_at}
+use Rattle.law_prove.specs.law_rows.specs.Shapes.{Act, Stays, Pushes, Replaces, Shape, act_effect, shape_effect, meaning, shape}
+use Rattle.law_prove.specs.law_rows.proofs.RowShapes.{shapes}
+use Rattle.law_prove.specs.law_bytes.specs.OfBytes.{IsByteEffect}
+use Rattle.law_prove.specs.model_rules.specs.Rules.{Target}
+use Rattle.law_prove.specs.model_prove.specs.Sets.{Set}
+use Rattle.law_prove.specs.model_prove.specs.Facts.{Facts, Memory, Holds}
+use Rattle.law_prove.specs.model_prove.specs.Keys.{Start, Delegated, OfClass, PlaceKey, Known, Tables, calls_below}
+use Rattle.law_prove.specs.model_prove.specs.Laws.{Among, values_in}
+use Rattle.law_prove.specs.model_prove.specs.Splits.{Scene, Choice, stand_in, stand_in_stack, with_values, deciders, later_deciders, combinations, count_of_combinations, most_combinations, few_if, few_combinations}
+use Rattle.law_prove.specs.model_prove.specs.Reach.{Coarse, coarse, is_known_cause, known_causes, may_have_bad_length, may_miss}
+use Rattle.law_prove.specs.model_prove.specs.Work.{Work, work}
+use Rattle.law_prove.specs.model_prove.specs.Arrivals.{Setting, Arrival, fails}
+use Rattle.law_prove.specs.model_prove.specs.Steps.{Spot, lowered, acted, inside, chosen, settled_spot, makes_write, row_arrivals, caused, instruction, arounds, primitive_of, with_choice, with_first_choice, coarse_for, coarse_done, coarse_arrivals, coarse_around, by_choices, fetched, is_return, no_calls}
+use Rattle.law_prove.specs.model_prove.specs.Tables.{IsLoadable, includes_all}
+use Rattle.law_prove.specs.model_prove.proofs.ChangeLemmas.{choice_is_there}
 use Rattle.law_prove.specs.Coverings.{frame_memory}
 use Rattle.law_prove.specs.Laws.{LeadsInto, LeadLaw}
 use Rattle.law_prove.proofs.Closed.{included_first}

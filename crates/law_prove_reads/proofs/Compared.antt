@@ -3,34 +3,34 @@ use Rattle.std.proofs.Common.{◌≡◌, inl, inr, ℕ, ◌+◌, ◌-◌, ◌*�
 use Rattle.std.specs.Prelude.{not, ◌==◌, ◌&&◌, ◌||◌, flat_map, slice_index}
 use Rattle.std.specs.List.{AllByRecursion}
 use Rattle.std.proofs.lemmas.Bool.{eqb-true}
-use Rattle.model_device.specs.Bytes.{AreBytes, num}
-use Rattle.model_machine.specs.declared.instruction.Ins.{Ins}
-use Rattle.model_machine.specs.declared.instruction.Ins.TheVariants as ins
-use Rattle.model_machine.specs.declared.machine.Abend.{Abend}
-use Rattle.model_machine.specs.declared.machine.Abend.TheVariants.{A03, A04, A06, A0A}
-use Rattle.model_machine.specs.Blocks.{Worked, sub_blocks}
-use Rattle.model_machine.specs.Frame.{Frame, dynamic_base, dynamic_end, is_under, is_outside, bytes_at, frame_after_pop}
-use Rattle.model_machine.specs.Primitives.{Around, Goes, in_range, number_below_top, later_causes}
-use Rattle.model_machine.specs.Row.{causes, row, first_cause}
-use Rattle.model_machine.specs.Chain.{frame_at}
-use Rattle.law_rows.specs.Shapes.{Stays, Shape, act_effect, shape, prim_shape}
+use Rattle.law_prove.specs.model_device.specs.Bytes.{AreBytes, num}
+use Rattle.law_prove.specs.model_machine.specs.declared.instruction.Ins.{Ins}
+use Rattle.law_prove.specs.model_machine.specs.declared.instruction.Ins.TheVariants as ins
+use Rattle.law_prove.specs.model_machine.specs.declared.machine.Abend.{Abend}
+use Rattle.law_prove.specs.model_machine.specs.declared.machine.Abend.TheVariants.{A03, A04, A06, A0A}
+use Rattle.law_prove.specs.model_machine.specs.Blocks.{Worked, sub_blocks}
+use Rattle.law_prove.specs.model_machine.specs.Frame.{Frame, dynamic_base, dynamic_end, is_under, is_outside, bytes_at, frame_after_pop}
+use Rattle.law_prove.specs.model_machine.specs.Primitives.{Around, Goes, in_range, number_below_top, later_causes}
+use Rattle.law_prove.specs.model_machine.specs.Row.{causes, row, first_cause}
+use Rattle.law_prove.specs.model_machine.specs.Chain.{frame_at}
+use Rattle.law_prove.specs.law_rows.specs.Shapes.{Stays, Shape, act_effect, shape, prim_shape}
 use Rattle.mc_arith.specs.Carry.{carry_of}
 use Rattle.mc_arith.proofs.BlockLemmas.{num_below}
 use Rattle.mc_arith.proofs.ResultLemmas.{difference_is}
-use Rattle.model_rules.specs.Rules.{Target}
-use Rattle.model_prove.specs.Sets.{numbers_from}
-use Rattle.model_prove.specs.Facts.{Facts, Memory, Holds, values_from, narrow_all}
-use Rattle.model_prove.specs.Compares.{NoCompare, bytes_from, has_order, orders_of}
-use Rattle.model_prove.specs.Digits.{Minus, Flags, Digits, arcs, digits_to, carried}
-use Rattle.model_prove.specs.Keys.{Known, Tables, calls_below}
-use Rattle.model_prove.specs.Laws.{Among}
-use Rattle.model_prove.specs.Splits.{Scene, deciders}
-use Rattle.model_prove.specs.Reach.{Coarse, Compares, coarse, known_causes, is_known_cause, may_have_bad_length, may_miss}
-use Rattle.model_prove.specs.Work.{AtAddress, Digitwise, Work, Works, work}
-use Rattle.model_prove.specs.Arrivals.{Setting, Arrival, fails}
-use Rattle.model_prove.specs.Steps.{Spot, lowered, flagged, final_flags, works_to, worked_at, narrowed_operands, operand_narrowed, pairs_of, allows, compare_after, uncompared, order_flags, settled_spot, follows, row_arrivals, primitive_of, is_return, no_calls, coarse_for, coarse_done}
-use Rattle.model_prove.specs.Steps as steps
-use Rattle.model_prove.specs.Tables.{IsLoadable, includes_all}
+use Rattle.law_prove.specs.model_rules.specs.Rules.{Target}
+use Rattle.law_prove.specs.model_prove.specs.Sets.{numbers_from}
+use Rattle.law_prove.specs.model_prove.specs.Facts.{Facts, Memory, Holds, values_from, narrow_all}
+use Rattle.law_prove.specs.model_prove.specs.Compares.{NoCompare, bytes_from, has_order, orders_of}
+use Rattle.law_prove.specs.model_prove.specs.Digits.{Minus, Flags, Digits, arcs, digits_to, carried}
+use Rattle.law_prove.specs.model_prove.specs.Keys.{Known, Tables, calls_below}
+use Rattle.law_prove.specs.model_prove.specs.Laws.{Among}
+use Rattle.law_prove.specs.model_prove.specs.Splits.{Scene, deciders}
+use Rattle.law_prove.specs.model_prove.specs.Reach.{Coarse, Compares, coarse, known_causes, is_known_cause, may_have_bad_length, may_miss}
+use Rattle.law_prove.specs.model_prove.specs.Work.{AtAddress, Digitwise, Work, Works, work}
+use Rattle.law_prove.specs.model_prove.specs.Arrivals.{Setting, Arrival, fails}
+use Rattle.law_prove.specs.model_prove.specs.Steps.{Spot, lowered, flagged, final_flags, works_to, worked_at, narrowed_operands, operand_narrowed, pairs_of, allows, compare_after, uncompared, order_flags, settled_spot, follows, row_arrivals, primitive_of, is_return, no_calls, coarse_for, coarse_done}
+use Rattle.law_prove.specs.model_prove.specs.Steps as steps
+use Rattle.law_prove.specs.model_prove.specs.Tables.{IsLoadable, includes_all}
 use Rattle.law_prove.specs.Laws.{LeadsInto, LeadLaw}
 use Rattle.law_prove.proofs.Closed.{included_first, included_second}
 use Rattle.law_prove.proofs.Seen.{fit_values, Seen}

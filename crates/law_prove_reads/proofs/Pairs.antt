@@ -1,17 +1,17 @@
 -- A pair of set and number that is no primitive abends, whatever bytes there are.
 use Rattle.std.proofs.Common.{◌≡◌, ℕ, List, [], ◌∷◌, Option, Some, None, sym, ap, subst, ◌∙◌}
-use Rattle.model_machine.specs.declared.instruction.Ins.{Ins}
-use Rattle.model_machine.specs.declared.instruction.Ins.TheVariants as ins
-use Rattle.model_machine.specs.Frame.{Frame}
-use Rattle.model_machine.specs.Primitives.{Primitive, primitive, prim_causes}
-use Rattle.model_machine.specs.Row.{causes, row, first_cause}
-use Rattle.model_machine.specs.Chain.{frame_at}
-use Rattle.model_rules.specs.Rules.{Target}
-use Rattle.model_prove.specs.Keys.{Delegated, Tables}
-use Rattle.model_prove.specs.Splits.{pair_deciders, few_combinations}
-use Rattle.model_prove.specs.Arrivals.{Setting}
-use Rattle.model_prove.specs.Steps.{inside, arounds}
-use Rattle.model_prove.specs.Tables.{IsLoadable}
+use Rattle.law_prove.specs.model_machine.specs.declared.instruction.Ins.{Ins}
+use Rattle.law_prove.specs.model_machine.specs.declared.instruction.Ins.TheVariants as ins
+use Rattle.law_prove.specs.model_machine.specs.Frame.{Frame}
+use Rattle.law_prove.specs.model_machine.specs.Primitives.{Primitive, primitive, prim_causes}
+use Rattle.law_prove.specs.model_machine.specs.Row.{causes, row, first_cause}
+use Rattle.law_prove.specs.model_machine.specs.Chain.{frame_at}
+use Rattle.law_prove.specs.model_rules.specs.Rules.{Target}
+use Rattle.law_prove.specs.model_prove.specs.Keys.{Delegated, Tables}
+use Rattle.law_prove.specs.model_prove.specs.Splits.{pair_deciders, few_combinations}
+use Rattle.law_prove.specs.model_prove.specs.Arrivals.{Setting}
+use Rattle.law_prove.specs.model_prove.specs.Steps.{inside, arounds}
+use Rattle.law_prove.specs.model_prove.specs.Tables.{IsLoadable}
 use Rattle.law_prove.specs.Laws.{LeadsInto}
 use Rattle.law_prove.proofs.Turns.{NoCause, nobody}
 use Rattle.law_prove.proofs.Single.{Turn, IsRowCovered}

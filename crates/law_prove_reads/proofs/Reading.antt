@@ -2,16 +2,16 @@
 use Rattle.std.proofs.Common.{◌≡◌, ℕ, zero, suc, ◌+◌, ◌-◌, ◌<◌, ◌≤◌, Bool, true, false, cond, List, [], ◌∷◌, length, ℤ, Option, Some, None, refl, sym, ap, subst, ◌∙◌, arith}
 use Rattle.std.specs.Prelude.{not, ◌==◌, ◌&&◌, nat_le, is_none}
 use Rattle.std.proofs.lemmas.Bool.{le-leb, and_from, eqb-true}
-use Rattle.model_device.specs.Bytes.{num}
-use Rattle.model_machine.specs.declared.machine.Abend.{Abend}
-use Rattle.model_machine.specs.Frame.{Frame, Place, Static, Dynamic, Public, where_is, is_outside, moved_address, resolve, dynamic_base, public_base, public_end, stack_bytes, bytes_in, bytes_at}
-use Rattle.model_machine.specs.Primitives.{number_below_top}
-use Rattle.model_machine.specs.Row.{operand, first_cause}
-use Rattle.model_prove.specs.Sets.{numbers_from}
-use Rattle.model_prove.specs.Facts.{Memory}
-use Rattle.model_prove.specs.Compares.{bytes_from}
-use Rattle.model_prove.specs.Laws.{Among}
-use Rattle.model_prove.specs.Splits.{Scene}
+use Rattle.law_prove.specs.model_device.specs.Bytes.{num}
+use Rattle.law_prove.specs.model_machine.specs.declared.machine.Abend.{Abend}
+use Rattle.law_prove.specs.model_machine.specs.Frame.{Frame, Place, Static, Dynamic, Public, where_is, is_outside, moved_address, resolve, dynamic_base, public_base, public_end, stack_bytes, bytes_in, bytes_at}
+use Rattle.law_prove.specs.model_machine.specs.Primitives.{number_below_top}
+use Rattle.law_prove.specs.model_machine.specs.Row.{operand, first_cause}
+use Rattle.law_prove.specs.model_prove.specs.Sets.{numbers_from}
+use Rattle.law_prove.specs.model_prove.specs.Facts.{Memory}
+use Rattle.law_prove.specs.model_prove.specs.Compares.{bytes_from}
+use Rattle.law_prove.specs.model_prove.specs.Laws.{Among}
+use Rattle.law_prove.specs.model_prove.specs.Splits.{Scene}
 use Rattle.law_prove.specs.Coverings.{frame_memory}
 use Rattle.law_prove.proofs.Acts.{LiesIn, lies_in}
 use Rattle.law_prove.proofs.Alike.{Sized, read_is}

@@ -3,17 +3,17 @@ use Rattle.std.proofs.Common.{◌≡◌, ◌⊎◌, inl, inr, ℕ, zero, suc, �
 use Rattle.std.specs.Prelude.{not, ◌==◌, ◌&&◌, nat_lt, nat_le, is_none, slice_index}
 use Rattle.std.specs.List.{AllByRecursion}
 use Rattle.std.proofs.lemmas.Bool.{lt-ltb}
-use Rattle.model_device.specs.Bytes.{splice}
-use Rattle.model_device.proofs.ListLemmas.{length_splice}
-use Rattle.model_machine.specs.Frame.{Frame, Place, Static, Dynamic, Public, where_is, is_outside, dynamic_base, dynamic_end, public_base, public_end, static_bytes, stack_bytes}
-use Rattle.model_prove.specs.Sets.{numbers_from}
-use Rattle.model_prove.specs.Facts.{Facts, Memory, Holds, know}
-use Rattle.model_prove.specs.Compares.{bytes_from}
-use Rattle.model_prove.specs.Laws.{Among, values_in}
-use Rattle.model_prove.specs.Splits.{Scene, Choice, with_byte, with_values}
-use Rattle.model_prove.specs.Steps.{Spot, with_facts, inside, chosen}
-use Rattle.model_prove.proofs.ChangeLemmas.{written_holds}
-use Rattle.model_prove.proofs.SetLemmas.{is_first}
+use Rattle.law_prove.specs.model_device.specs.Bytes.{splice}
+use Rattle.law_prove.specs.model_device.proofs.ListLemmas.{length_splice}
+use Rattle.law_prove.specs.model_machine.specs.Frame.{Frame, Place, Static, Dynamic, Public, where_is, is_outside, dynamic_base, dynamic_end, public_base, public_end, static_bytes, stack_bytes}
+use Rattle.law_prove.specs.model_prove.specs.Sets.{numbers_from}
+use Rattle.law_prove.specs.model_prove.specs.Facts.{Facts, Memory, Holds, know}
+use Rattle.law_prove.specs.model_prove.specs.Compares.{bytes_from}
+use Rattle.law_prove.specs.model_prove.specs.Laws.{Among, values_in}
+use Rattle.law_prove.specs.model_prove.specs.Splits.{Scene, Choice, with_byte, with_values}
+use Rattle.law_prove.specs.model_prove.specs.Steps.{Spot, with_facts, inside, chosen}
+use Rattle.law_prove.specs.model_prove.proofs.ChangeLemmas.{written_holds}
+use Rattle.law_prove.specs.model_prove.proofs.SetLemmas.{is_first}
 use Rattle.law_prove.specs.Coverings.{parts_memory, frame_memory}
 use Rattle.law_prove.proofs.Parts.{not_lt, memory_dynamic, static_same, static_new, dynamic_same, dynamic_new, public_same, public_new}
 use Rattle.law_prove.proofs.Windows.{window, taken_is}

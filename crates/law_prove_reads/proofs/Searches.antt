@@ -3,33 +3,33 @@ use Rattle.std.proofs.Common.{◌≡◌, inl, inr, ℕ, suc, ◌+◌, ◌-◌, �
 use Rattle.std.specs.Prelude.{not, ◌==◌, ◌||◌, nat_lt, nat_le, is_some, unwrap_or, position, flat_map}
 use Rattle.std.specs.List.{position_or_len}
 use Rattle.std.proofs.lemmas.Bool.{or_left, or_right, or_cases, eqb-true, eq-eqb, ltb-true, ltb-false, leb-true, and_parts, and_from, false_from_ne_true}
-use Rattle.model_device.specs.Bytes.{num}
-use Rattle.model_machine.specs.declared.instruction.Ins.{Ins}
-use Rattle.model_machine.specs.declared.instruction.Ins.TheVariants as ins
-use Rattle.model_machine.specs.declared.machine.Abend.{Abend}
-use Rattle.model_machine.specs.declared.machine.Abend.TheVariants.{A03, A04, A06, A0A}
-use Rattle.model_machine.specs.Frame.{Frame, dynamic_base, dynamic_end, is_under, is_outside, bytes_at, stack_bytes}
-use Rattle.model_machine.specs.Primitives.{Goes, number_below_top, count_at, later_causes}
-use Rattle.model_machine.specs.Row.{causes, row, first_cause}
-use Rattle.model_machine.specs.Chain.{frame_at}
-use Rattle.law_rows.specs.Shapes.{Pushes, Shape, act_effect, shape, prim_shape}
-use Rattle.law_bytes.specs.OfBytes.{IsByteFrame}
-use Rattle.law_bytes.proofs.ByteLists.{read_bytes, short_read, small_number, found_low}
-use Rattle.model_rules.specs.Rules.{Target}
-use Rattle.model_prove.specs.Sets.{Set, is_in}
-use Rattle.model_prove.specs.Facts.{Memory, values_at, values_from}
-use Rattle.model_prove.specs.Compares.{bytes_from}
-use Rattle.model_prove.specs.Digits.{Flags}
-use Rattle.model_prove.specs.Keys.{Tables}
-use Rattle.model_prove.specs.Laws.{Among}
-use Rattle.model_prove.specs.Splits.{Scene}
-use Rattle.model_prove.specs.Reach as reach
-use Rattle.model_prove.specs.Arrivals.{Setting, Arrival, fails, some_value}
-use Rattle.model_prove.specs.Steps.{Spot, sets, any_bytes, lowered, pushed, flagged, final_flags, settled_spot, follows, is_only, may_pass, found_at, found, each_index, searched, coarse_done}
-use Rattle.model_prove.specs.Tables.{IsLoadable, includes_all}
+use Rattle.law_prove.specs.model_device.specs.Bytes.{num}
+use Rattle.law_prove.specs.model_machine.specs.declared.instruction.Ins.{Ins}
+use Rattle.law_prove.specs.model_machine.specs.declared.instruction.Ins.TheVariants as ins
+use Rattle.law_prove.specs.model_machine.specs.declared.machine.Abend.{Abend}
+use Rattle.law_prove.specs.model_machine.specs.declared.machine.Abend.TheVariants.{A03, A04, A06, A0A}
+use Rattle.law_prove.specs.model_machine.specs.Frame.{Frame, dynamic_base, dynamic_end, is_under, is_outside, bytes_at, stack_bytes}
+use Rattle.law_prove.specs.model_machine.specs.Primitives.{Goes, number_below_top, count_at, later_causes}
+use Rattle.law_prove.specs.model_machine.specs.Row.{causes, row, first_cause}
+use Rattle.law_prove.specs.model_machine.specs.Chain.{frame_at}
+use Rattle.law_prove.specs.law_rows.specs.Shapes.{Pushes, Shape, act_effect, shape, prim_shape}
+use Rattle.law_prove.specs.law_bytes.specs.OfBytes.{IsByteFrame}
+use Rattle.law_prove.specs.law_bytes.proofs.ByteLists.{read_bytes, short_read, small_number, found_low}
+use Rattle.law_prove.specs.model_rules.specs.Rules.{Target}
+use Rattle.law_prove.specs.model_prove.specs.Sets.{Set, is_in}
+use Rattle.law_prove.specs.model_prove.specs.Facts.{Memory, values_at, values_from}
+use Rattle.law_prove.specs.model_prove.specs.Compares.{bytes_from}
+use Rattle.law_prove.specs.model_prove.specs.Digits.{Flags}
+use Rattle.law_prove.specs.model_prove.specs.Keys.{Tables}
+use Rattle.law_prove.specs.model_prove.specs.Laws.{Among}
+use Rattle.law_prove.specs.model_prove.specs.Splits.{Scene}
+use Rattle.law_prove.specs.model_prove.specs.Reach as reach
+use Rattle.law_prove.specs.model_prove.specs.Arrivals.{Setting, Arrival, fails, some_value}
+use Rattle.law_prove.specs.model_prove.specs.Steps.{Spot, sets, any_bytes, lowered, pushed, flagged, final_flags, settled_spot, follows, is_only, may_pass, found_at, found, each_index, searched, coarse_done}
+use Rattle.law_prove.specs.model_prove.specs.Tables.{IsLoadable, includes_all}
 use Rattle.law_prove.specs.Laws.{LeadsInto}
-use Rattle.model_prove.proofs.FactLemmas.{value_holds}
-use Rattle.model_prove.proofs.SetLemmas.{in_first, in_second, is_byte}
+use Rattle.law_prove.specs.model_prove.proofs.FactLemmas.{value_holds}
+use Rattle.law_prove.specs.model_prove.proofs.SetLemmas.{in_first, in_second, is_byte}
 use Rattle.law_prove.proofs.Closed.{included_first, included_second}
 use Rattle.law_prove.proofs.Seen.{FitSets, fit_sets, fit_values}
 use Rattle.law_prove.proofs.Acts.{flags_led}

@@ -2,31 +2,31 @@
 use Rattle.std.proofs.Common.{◌≡◌, inl, inr, ℕ, ◌+◌, ◌-◌, ◌≤◌, Bool, true, false, List, [], ◌∷◌, length, map, Some, None, refl, sym, ap, subst, ◌∙◌, arith}
 use Rattle.std.specs.Prelude.{not, ◌*◌, ◌&&◌, slice_index}
 use Rattle.std.proofs.lemmas.List.{length-replicate}
-use Rattle.model_device.specs.Bytes.{AreBytes}
-use Rattle.model_device.proofs.ListLemmas.{length_bytes}
-use Rattle.model_machine.specs.declared.instruction.Ins.{Ins}
-use Rattle.model_machine.specs.declared.instruction.Ins.TheVariants as ins
-use Rattle.model_machine.specs.declared.machine.Abend.{Abend}
-use Rattle.model_machine.specs.declared.machine.Abend.TheVariants.{A04, A06, A0A}
-use Rattle.model_machine.specs.Blocks.{Worked, shift_left_block, shift_right_block}
-use Rattle.model_machine.specs.Frame.{Frame, dynamic_base, is_under, top}
-use Rattle.model_machine.specs.Primitives.{Around, Goes, in_range, later_causes}
-use Rattle.model_machine.specs.Row.{causes, row, first_cause}
-use Rattle.model_machine.specs.Chain.{frame_at}
-use Rattle.law_rows.specs.Shapes.{Replaces, Shape, act_effect, shape, prim_shape}
-use Rattle.law_bytes.proofs.ByteLists.{number_bytes}
-use Rattle.model_rules.specs.Rules.{Target}
-use Rattle.model_prove.specs.Sets.{Set, numbers_from, all_bytes}
-use Rattle.model_prove.specs.Facts.{Facts}
-use Rattle.model_prove.specs.Digits.{Flags}
-use Rattle.model_prove.specs.Keys.{Delegated, Tables}
-use Rattle.model_prove.specs.Laws.{Among}
-use Rattle.model_prove.specs.Splits.{Scene, deciders}
-use Rattle.model_prove.specs.Reach.{Shifts, coarse, may_have_bad_length}
-use Rattle.model_prove.specs.Work.{Work, AsShaped, work}
-use Rattle.model_prove.specs.Arrivals.{Setting}
-use Rattle.model_prove.specs.Steps.{Spot, sets, any_bytes, lowered, written, flagged, final_flags, settled_spot, follows, row_arrivals, arounds, primitive_of, is_return, no_calls}
-use Rattle.model_prove.specs.Tables.{IsLoadable, includes_all}
+use Rattle.law_prove.specs.model_device.specs.Bytes.{AreBytes}
+use Rattle.law_prove.specs.model_device.proofs.ListLemmas.{length_bytes}
+use Rattle.law_prove.specs.model_machine.specs.declared.instruction.Ins.{Ins}
+use Rattle.law_prove.specs.model_machine.specs.declared.instruction.Ins.TheVariants as ins
+use Rattle.law_prove.specs.model_machine.specs.declared.machine.Abend.{Abend}
+use Rattle.law_prove.specs.model_machine.specs.declared.machine.Abend.TheVariants.{A04, A06, A0A}
+use Rattle.law_prove.specs.model_machine.specs.Blocks.{Worked, shift_left_block, shift_right_block}
+use Rattle.law_prove.specs.model_machine.specs.Frame.{Frame, dynamic_base, is_under, top}
+use Rattle.law_prove.specs.model_machine.specs.Primitives.{Around, Goes, in_range, later_causes}
+use Rattle.law_prove.specs.model_machine.specs.Row.{causes, row, first_cause}
+use Rattle.law_prove.specs.model_machine.specs.Chain.{frame_at}
+use Rattle.law_prove.specs.law_rows.specs.Shapes.{Replaces, Shape, act_effect, shape, prim_shape}
+use Rattle.law_prove.specs.law_bytes.proofs.ByteLists.{number_bytes}
+use Rattle.law_prove.specs.model_rules.specs.Rules.{Target}
+use Rattle.law_prove.specs.model_prove.specs.Sets.{Set, numbers_from, all_bytes}
+use Rattle.law_prove.specs.model_prove.specs.Facts.{Facts}
+use Rattle.law_prove.specs.model_prove.specs.Digits.{Flags}
+use Rattle.law_prove.specs.model_prove.specs.Keys.{Delegated, Tables}
+use Rattle.law_prove.specs.model_prove.specs.Laws.{Among}
+use Rattle.law_prove.specs.model_prove.specs.Splits.{Scene, deciders}
+use Rattle.law_prove.specs.model_prove.specs.Reach.{Shifts, coarse, may_have_bad_length}
+use Rattle.law_prove.specs.model_prove.specs.Work.{Work, AsShaped, work}
+use Rattle.law_prove.specs.model_prove.specs.Arrivals.{Setting}
+use Rattle.law_prove.specs.model_prove.specs.Steps.{Spot, sets, any_bytes, lowered, written, flagged, final_flags, settled_spot, follows, row_arrivals, arounds, primitive_of, is_return, no_calls}
+use Rattle.law_prove.specs.model_prove.specs.Tables.{IsLoadable, includes_all}
 use Rattle.law_prove.specs.Coverings.{frame_memory}
 use Rattle.law_prove.specs.Laws.{LeadsInto, LeadLaw}
 use Rattle.law_prove.proofs.Seen.{FitSets, fit_sets, fit_any}

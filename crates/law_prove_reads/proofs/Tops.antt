@@ -2,26 +2,26 @@
 use Rattle.std.proofs.Common.{◌≡◌, inl, inr, ℕ, ◌+◌, ◌-◌, ◌*◌, ◌≤◌, Bool, true, false, cond, List, [], ◌∷◌, length, Option, Some, None, refl, ap, subst, arith}
 use Rattle.std.specs.Prelude.{not, ◌==◌, nat_le, min}
 use Rattle.std.proofs.lemmas.Bool.{le-leb}
-use Rattle.model_device.specs.Bytes.{num}
-use Rattle.model_machine.specs.declared.instruction.Ins.{Ins}
-use Rattle.model_machine.specs.declared.instruction.Ins.TheVariants as ins
-use Rattle.model_machine.specs.declared.machine.Abend.TheVariants.{A04, A06}
-use Rattle.model_machine.specs.Frame.{Frame, dynamic_base, dynamic_end, is_under, is_outside, top}
-use Rattle.model_machine.specs.Primitives.{Goes, has_bit, in_range, later_causes}
-use Rattle.model_machine.specs.Row.{causes, row, first_cause}
-use Rattle.model_machine.specs.Chain.{frame_at}
-use Rattle.law_rows.specs.Shapes.{Stays, act_effect, shape, prim_shape}
-use Rattle.model_rules.specs.Rules.{Target}
-use Rattle.model_prove.specs.Sets.{numbers_from}
-use Rattle.model_prove.specs.Facts.{Facts, Memory, values_at}
-use Rattle.model_prove.specs.Digits.{Flags}
-use Rattle.model_prove.specs.Keys.{Tables}
-use Rattle.model_prove.specs.Laws.{Among}
-use Rattle.model_prove.specs.Splits.{Choice, combinations, count_of_combinations, most_combinations, few_if, few_combinations}
-use Rattle.model_prove.specs.Work.{AsShaped}
-use Rattle.model_prove.specs.Arrivals.{Setting, Arrival}
-use Rattle.model_prove.specs.Steps.{Spot, lowered, flagged, settled_spot, follows, row_arrivals}
-use Rattle.model_prove.specs.Tables.{IsLoadable, includes_all}
+use Rattle.law_prove.specs.model_device.specs.Bytes.{num}
+use Rattle.law_prove.specs.model_machine.specs.declared.instruction.Ins.{Ins}
+use Rattle.law_prove.specs.model_machine.specs.declared.instruction.Ins.TheVariants as ins
+use Rattle.law_prove.specs.model_machine.specs.declared.machine.Abend.TheVariants.{A04, A06}
+use Rattle.law_prove.specs.model_machine.specs.Frame.{Frame, dynamic_base, dynamic_end, is_under, is_outside, top}
+use Rattle.law_prove.specs.model_machine.specs.Primitives.{Goes, has_bit, in_range, later_causes}
+use Rattle.law_prove.specs.model_machine.specs.Row.{causes, row, first_cause}
+use Rattle.law_prove.specs.model_machine.specs.Chain.{frame_at}
+use Rattle.law_prove.specs.law_rows.specs.Shapes.{Stays, act_effect, shape, prim_shape}
+use Rattle.law_prove.specs.model_rules.specs.Rules.{Target}
+use Rattle.law_prove.specs.model_prove.specs.Sets.{numbers_from}
+use Rattle.law_prove.specs.model_prove.specs.Facts.{Facts, Memory, values_at}
+use Rattle.law_prove.specs.model_prove.specs.Digits.{Flags}
+use Rattle.law_prove.specs.model_prove.specs.Keys.{Tables}
+use Rattle.law_prove.specs.model_prove.specs.Laws.{Among}
+use Rattle.law_prove.specs.model_prove.specs.Splits.{Choice, combinations, count_of_combinations, most_combinations, few_if, few_combinations}
+use Rattle.law_prove.specs.model_prove.specs.Work.{AsShaped}
+use Rattle.law_prove.specs.model_prove.specs.Arrivals.{Setting, Arrival}
+use Rattle.law_prove.specs.model_prove.specs.Steps.{Spot, lowered, flagged, settled_spot, follows, row_arrivals}
+use Rattle.law_prove.specs.model_prove.specs.Tables.{IsLoadable, includes_all}
 use Rattle.law_prove.specs.Laws.{LeadsInto, LeadLaw}
 use Rattle.law_prove.proofs.Acts.{flags_led}
 use Rattle.law_prove.proofs.Single.{going, Turn, IsRowCovered, one_shaped}

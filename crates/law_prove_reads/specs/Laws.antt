@@ -1,7 +1,7 @@
 -- The laws of closed tables on rows that read at an address from the memory, or that a byte there decides.
 use Rattle.std.specs.Prelude.{◌≡◌, ℕ, ℤ, List, None}
-use Rattle.model_machine.specs.declared.instruction.Ins.TheVariants as ins
-use Rattle.model_machine.specs.Primitives.{primitive}
+use Rattle.law_prove.specs.model_machine.specs.declared.instruction.Ins.TheVariants as ins
+use Rattle.law_prove.specs.model_machine.specs.Primitives.{primitive}
 use Rattle.law_prove.specs.Laws.{LeadLaw}
 
 -- of a pair of set and number that is no primitive

@@ -2,15 +2,15 @@
 use Rattle.std.proofs.Common.{◌≡◌, ◌⊎◌, inl, inr, ℕ, suc, ◌+◌, ◌-◌, ◌*◌, ◌/◌, ◌%◌, ◌<◌, ◌≤◌, Bool, true, false, cond, List, [], ◌∷◌, ◌++◌, length, take, drop, Option, Some, None, refl, sym, ap, subst, ◌∙◌, arith}
 use Rattle.std.specs.Prelude.{◌&&◌, ◌==◌, not, is_none, nat_lt, nat_le, filter, map, slice_index}
 use Rattle.std.proofs.lemmas.Bool.{or_cases, eqb-true, le-leb, lt-ltb, ltb-true, ltb-false, and_from}
-use Rattle.model_device.specs.Bytes.{num, splice}
-use Rattle.model_device.proofs.ListLemmas.{length_splice}
-use Rattle.model_machine.specs.Frame.{Frame, Place, Static, Dynamic, Public, is_outside, dynamic_base, public_base, public_end, top}
-use Rattle.model_prove.specs.Sets.{Set, is_in, numbers_from}
-use Rattle.model_prove.specs.Facts.{Facts, values_at}
-use Rattle.model_prove.specs.Laws.{Among}
-use Rattle.model_prove.specs.Splits.{Scene, Choice, with_byte, with_values}
-use Rattle.model_prove.specs.Reach.{greatest_value, address_choice, target_choices}
-use Rattle.model_prove.proofs.SetLemmas.{is_kept, is_between}
+use Rattle.law_prove.specs.model_device.specs.Bytes.{num, splice}
+use Rattle.law_prove.specs.model_device.proofs.ListLemmas.{length_splice}
+use Rattle.law_prove.specs.model_machine.specs.Frame.{Frame, Place, Static, Dynamic, Public, is_outside, dynamic_base, public_base, public_end, top}
+use Rattle.law_prove.specs.model_prove.specs.Sets.{Set, is_in, numbers_from}
+use Rattle.law_prove.specs.model_prove.specs.Facts.{Facts, values_at}
+use Rattle.law_prove.specs.model_prove.specs.Laws.{Among}
+use Rattle.law_prove.specs.model_prove.specs.Splits.{Scene, Choice, with_byte, with_values}
+use Rattle.law_prove.specs.model_prove.specs.Reach.{greatest_value, address_choice, target_choices}
+use Rattle.law_prove.specs.model_prove.proofs.SetLemmas.{is_kept, is_between}
 use Rattle.law_prove.proofs.Parts.{not_lt}
 use Rattle.law_prove.proofs.Windows.{taken_is, index_within, index_before}
 

@@ -3,33 +3,33 @@ use Rattle.std.proofs.Common.{◌≡◌, ◌⊎◌, inl, inr, ℕ, suc, ◌+◌,
 use Rattle.std.specs.Prelude.{◌&&◌, not, nat_lt, nat_le, flat_map, slice_index}
 use Rattle.std.proofs.lemmas.Bool.{ltb-true, ltb-false, false_from_ne_true}
 use Rattle.std.proofs.lemmas.List.{length-replicate}
-use Rattle.model_device.specs.Bytes.{num}
-use Rattle.model_machine.specs.declared.instruction.Ins.{Ins}
-use Rattle.model_machine.specs.declared.instruction.Ins.TheVariants as ins
-use Rattle.model_machine.specs.declared.machine.Abend.{Abend}
-use Rattle.model_machine.specs.declared.machine.Abend.TheVariants.{A02, A04, A05}
-use Rattle.model_machine.specs.Code.{Decodes}
-use Rattle.model_machine.specs.Frame.{Frame, Effect, dynamic_base, dynamic_end, public_base, floor, is_under, top, static_bytes}
-use Rattle.model_machine.specs.Primitives.{Around}
-use Rattle.model_machine.specs.Row.{causes, row, first_cause, row_end, Does}
-use Rattle.model_machine.specs.Chain.{frame_at}
-use Rattle.law_rows.specs.Shapes.{Act, Jumps, Calls, Shape, act_effect, shape_effect, meaning, shape}
-use Rattle.law_bytes.specs.OfBytes.{IsByteEffect}
-use Rattle.model_rules.specs.Rules.{Target}
-use Rattle.model_rules.specs.Keeping.{Amounts}
-use Rattle.model_prove.specs.Sets.{Set, is_in}
-use Rattle.model_prove.specs.Facts.{Memory, Holds, values_at, know}
-use Rattle.model_prove.specs.Keys.{Start, Call, PlaceKey, Known, Tables, calls_below}
-use Rattle.model_prove.specs.Laws.{Among, HoldsBytes, values_in}
-use Rattle.model_prove.specs.Splits.{Scene, Choice, stand_in, with_values, top_places, combinations, count_of_combinations, most_combinations, few_if, few_combinations}
-use Rattle.model_prove.specs.Reach.{target_choices, greatest_value, address_choice}
-use Rattle.model_prove.specs.Work.{Work, AsShaped, work}
-use Rattle.model_prove.specs.Arrivals.{Setting, Arrival, static_size, fails}
-use Rattle.model_prove.specs.Steps.{Spot, lowered, acted, settled_spot, makes_write, row_arrivals, caused, instruction, arounds, chosen, inside, by_choices, fetched, is_return, no_calls, returned_sets}
-use Rattle.model_prove.specs.Tables.{IsLoadable, includes_all}
-use Rattle.model_prove.proofs.ChangeLemmas.{written_holds, choice_is_there}
-use Rattle.model_prove.proofs.FactLemmas.{value_holds}
-use Rattle.model_prove.proofs.SetLemmas.{is_first}
+use Rattle.law_prove.specs.model_device.specs.Bytes.{num}
+use Rattle.law_prove.specs.model_machine.specs.declared.instruction.Ins.{Ins}
+use Rattle.law_prove.specs.model_machine.specs.declared.instruction.Ins.TheVariants as ins
+use Rattle.law_prove.specs.model_machine.specs.declared.machine.Abend.{Abend}
+use Rattle.law_prove.specs.model_machine.specs.declared.machine.Abend.TheVariants.{A02, A04, A05}
+use Rattle.law_prove.specs.model_machine.specs.Code.{Decodes}
+use Rattle.law_prove.specs.model_machine.specs.Frame.{Frame, Effect, dynamic_base, dynamic_end, public_base, floor, is_under, top, static_bytes}
+use Rattle.law_prove.specs.model_machine.specs.Primitives.{Around}
+use Rattle.law_prove.specs.model_machine.specs.Row.{causes, row, first_cause, row_end, Does}
+use Rattle.law_prove.specs.model_machine.specs.Chain.{frame_at}
+use Rattle.law_prove.specs.law_rows.specs.Shapes.{Act, Jumps, Calls, Shape, act_effect, shape_effect, meaning, shape}
+use Rattle.law_prove.specs.law_bytes.specs.OfBytes.{IsByteEffect}
+use Rattle.law_prove.specs.model_rules.specs.Rules.{Target}
+use Rattle.law_prove.specs.model_rules.specs.Keeping.{Amounts}
+use Rattle.law_prove.specs.model_prove.specs.Sets.{Set, is_in}
+use Rattle.law_prove.specs.model_prove.specs.Facts.{Memory, Holds, values_at, know}
+use Rattle.law_prove.specs.model_prove.specs.Keys.{Start, Call, PlaceKey, Known, Tables, calls_below}
+use Rattle.law_prove.specs.model_prove.specs.Laws.{Among, HoldsBytes, values_in}
+use Rattle.law_prove.specs.model_prove.specs.Splits.{Scene, Choice, stand_in, with_values, top_places, combinations, count_of_combinations, most_combinations, few_if, few_combinations}
+use Rattle.law_prove.specs.model_prove.specs.Reach.{target_choices, greatest_value, address_choice}
+use Rattle.law_prove.specs.model_prove.specs.Work.{Work, AsShaped, work}
+use Rattle.law_prove.specs.model_prove.specs.Arrivals.{Setting, Arrival, static_size, fails}
+use Rattle.law_prove.specs.model_prove.specs.Steps.{Spot, lowered, acted, settled_spot, makes_write, row_arrivals, caused, instruction, arounds, chosen, inside, by_choices, fetched, is_return, no_calls, returned_sets}
+use Rattle.law_prove.specs.model_prove.specs.Tables.{IsLoadable, includes_all}
+use Rattle.law_prove.specs.model_prove.proofs.ChangeLemmas.{written_holds, choice_is_there}
+use Rattle.law_prove.specs.model_prove.proofs.FactLemmas.{value_holds}
+use Rattle.law_prove.specs.model_prove.proofs.SetLemmas.{is_first}
 use Rattle.law_prove.specs.Coverings.{frame_memory, IsFrameOf}
 use Rattle.law_prove.specs.Laws.{LeadsInto, LeadLaw}
 use Rattle.law_prove.proofs.Alike.{stack_length}

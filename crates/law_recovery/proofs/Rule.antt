@@ -3,9 +3,9 @@ use Rattle.std.proofs.Common.{◌≡◌, ◌⊎◌, ℕ, ◌+◌, ◌-◌, ◌<�
 use Rattle.std.specs.Prelude.{◌==◌, nat_le}
 use Rattle.std.proofs.lemmas.Bool.{leb-true, leb-false, lt-leb}
 use Rattle.std.proofs.lemmas.Bool.Decides.{eqb_tells}
-use Rattle.model_device.specs.Image.{Two}
-use Rattle.model_device.specs.Stopped.{cost}
-use Rattle.model_card.specs.Items.{Change, Item, Plain, Atomic, weight, moves, in_flight, with_item, at_stop, Stopped}
+use Rattle.model_play.specs.model_device.specs.Image.{Two}
+use Rattle.model_play.specs.model_device.specs.Stopped.{cost}
+use Rattle.model_play.specs.model_card.specs.Items.{Change, Item, Plain, Atomic, weight, moves, in_flight, with_item, at_stop, Stopped}
 use Rattle.law_recovery.specs.Laws.{in_flight_whole, RuleLaw}
 
 -- ---- a stop in the first item, and one after it

@@ -2,10 +2,10 @@
 use Rattle.std.proofs.Common.{◌≡◌, ◌≢◌, ◌⊎◌, ℕ, ◌+◌, ◌<◌, ◌≤◌, Bool, true, false, cond, ◌&&◌, ◌||◌, List, [], ◌∷◌, refl, sym, ◌∙◌, ap, subst, inl, inr, arith}
 use Rattle.std.specs.Prelude.{◌==◌, nat_lt, bytes_eq}
 use Rattle.std.proofs.lemmas.Bool.Decides.{eqb_tells}
-use Rattle.model_device.specs.Image.{Two, opening}
-use Rattle.model_device.specs.Stopped.{opens_at, stands}
-use Rattle.model_device.specs.PowerUp.{base_after_migration}
-use Rattle.model_card.specs.Items.{Change, Item, Plain, Atomic, weight, moves, StopAt, at_stop}
+use Rattle.model_play.specs.model_device.specs.Image.{Two, opening}
+use Rattle.model_play.specs.model_device.specs.Stopped.{opens_at, stands}
+use Rattle.model_play.specs.model_device.specs.PowerUp.{base_after_migration}
+use Rattle.model_play.specs.model_card.specs.Items.{Change, Item, Plain, Atomic, weight, moves, StopAt, at_stop}
 use Rattle.model_play.specs.DeckGrammar.{DeckLine}
 use Rattle.model_play.specs.Play.{State, is_card_line, moves_of}
 use Rattle.law_recovery.specs.Chains.{after_chain, base_in, base_with, items_in, whole_items_in}

@@ -1,10 +1,10 @@
 -- A line that a stop hits, the power lines after it that stops hit too, and the whole power line after them.
 use Rattle.std.specs.Prelude.{ℕ, List, [], ◌∷◌, Some, None}
-use Rattle.model_device.specs.declared.device.Stop.{Stop}
-use Rattle.model_device.specs.declared.device.Stop.TheVariants as stop
-use Rattle.model_device.specs.Layout.{fault}
-use Rattle.model_device.specs.PowerUp.{Base, OnCard, AtFault, base_of}
-use Rattle.model_card.specs.Items.{Item, card_done, StopAt, at_stop}
+use Rattle.model_play.specs.model_device.specs.declared.device.Stop.{Stop}
+use Rattle.model_play.specs.model_device.specs.declared.device.Stop.TheVariants as stop
+use Rattle.model_play.specs.model_device.specs.Layout.{fault}
+use Rattle.model_play.specs.model_device.specs.PowerUp.{Base, OnCard, AtFault, base_of}
+use Rattle.model_play.specs.model_card.specs.Items.{Item, card_done, StopAt, at_stop}
 use Rattle.model_play.specs.DeckGrammar.{DeckLine}
 use Rattle.model_play.specs.DeckGrammar as line
 use Rattle.model_play.specs.Play.{State, BeforePower, AfterPower, Step, step}

@@ -1,21 +1,21 @@
 -- Computed chains: what a counter holds after a chain of stops.
 use Rattle.std.specs.Prelude.{ℕ, List, [], ◌∷◌, ◌++◌, replicate, codes, Option, Result, Ok, Err, option_map}
 use Rattle.model_play.specs.declared.deck.DeckCause.{DeckCause}
-use Rattle.model_device.specs.declared.device.Stop.{Stop}
-use Rattle.model_device.specs.Bytes.{zeros, lookup}
-use Rattle.model_device.specs.Card.{blocks_from, apps_of}
-use Rattle.model_device.specs.Pieces.{touched_words}
-use Rattle.model_device.specs.Image.{targets_1, targets_2, pairs}
-use Rattle.model_device.specs.Layout.{layout, step_of, bad_block, bad_record}
-use Rattle.model_card.specs.Units.{name_of}
-use Rattle.model_card.specs.Items.{StopAt}
-use Rattle.model_machine.specs.Apdu.{apdu_read}
-use Rattle.model_machine.specs.Frame.{bytes_at, write_effect, too_many}
-use Rattle.model_machine.specs.Primitives.{later_causes, prim_effect}
-use Rattle.model_machine.specs.Row.{causes, effect, row}
-use Rattle.model_machine.specs.Chain.{turn_of_chain, run_of_chain}
-use Rattle.model_card.specs.Manager.{manage}
-use Rattle.model_card.specs.Commands.{command}
+use Rattle.model_play.specs.model_device.specs.declared.device.Stop.{Stop}
+use Rattle.model_play.specs.model_device.specs.Bytes.{zeros, lookup}
+use Rattle.model_play.specs.model_device.specs.Card.{blocks_from, apps_of}
+use Rattle.model_play.specs.model_device.specs.Pieces.{touched_words}
+use Rattle.model_play.specs.model_device.specs.Image.{targets_1, targets_2, pairs}
+use Rattle.model_play.specs.model_device.specs.Layout.{layout, step_of, bad_block, bad_record}
+use Rattle.model_play.specs.model_card.specs.Units.{name_of}
+use Rattle.model_play.specs.model_card.specs.Items.{StopAt}
+use Rattle.model_play.specs.model_machine.specs.Apdu.{apdu_read}
+use Rattle.model_play.specs.model_machine.specs.Frame.{bytes_at, write_effect, too_many}
+use Rattle.model_play.specs.model_machine.specs.Primitives.{later_causes, prim_effect}
+use Rattle.model_play.specs.model_machine.specs.Row.{causes, effect, row}
+use Rattle.model_play.specs.model_machine.specs.Chain.{turn_of_chain, run_of_chain}
+use Rattle.model_play.specs.model_card.specs.Manager.{manage}
+use Rattle.model_play.specs.model_card.specs.Commands.{command}
 use Rattle.model_play.specs.DeckGrammar.{DeckLine, deck_read}
 use Rattle.model_play.specs.DeckGrammar as line
 use Rattle.model_play.specs.Given.{apps_in}

@@ -1,10 +1,10 @@
 -- The laws of recovery: every chain of stops leads to one card, and a sweep shows every card that a chain leads to.
 use Rattle.std.specs.Prelude.{◌≡◌, ◌⊎◌, ℕ, ◌+◌, ◌-◌, ◌<◌, ◌≤◌, true, false, cond, List, [], ◌∷◌, ◌++◌, bytes_eq}
-use Rattle.model_device.specs.declared.device.Stop.TheVariants as stop
-use Rattle.model_device.specs.Image.{Two, opening}
-use Rattle.model_device.specs.Stopped.{stands}
-use Rattle.model_device.specs.PowerUp.{Base, base_after_migration}
-use Rattle.model_card.specs.Items.{Item, Plain, Atomic, weight, moves, apps_after_items, StopAt, at_stop}
+use Rattle.model_play.specs.model_device.specs.declared.device.Stop.TheVariants as stop
+use Rattle.model_play.specs.model_device.specs.Image.{Two, opening}
+use Rattle.model_play.specs.model_device.specs.Stopped.{stands}
+use Rattle.model_play.specs.model_device.specs.PowerUp.{Base, base_after_migration}
+use Rattle.model_play.specs.model_card.specs.Items.{Item, Plain, Atomic, weight, moves, apps_after_items, StopAt, at_stop}
 use Rattle.model_play.specs.DeckGrammar.{DeckLine}
 use Rattle.model_play.specs.Given.{apps_on, apps_in}
 use Rattle.model_play.specs.Play.{Unarmed, Warm, State, AfterPower, power_live, is_card_line, moves_of}

@@ -2,9 +2,9 @@
 #![tactic(auto, unfolding(crate::specs::Computed::counted))]
 
 ghost use Rattle.std.specs.Prelude.{◌≡◌, [], ◌∷◌, Some};
-ghost use Rattle.model_device.specs.declared.device.Stop.TheVariants as stop;
-ghost use Rattle.model_device.specs.Bytes.{zeros};
-ghost use Rattle.model_device.specs.Image.{Two, opening};
+ghost use Rattle.model_play.specs.model_device.specs.declared.device.Stop.TheVariants as stop;
+ghost use Rattle.model_play.specs.model_device.specs.Bytes.{zeros};
+ghost use Rattle.model_play.specs.model_device.specs.Image.{Two, opening};
 ghost use Rattle.law_recovery.specs.Computed.{counted, stop_at};
 
 /// A cut in the write that opens the gate, which leaves zeros there: nothing is counted, whatever is cut after it.

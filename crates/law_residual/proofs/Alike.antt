@@ -1,10 +1,10 @@
 -- Plays of two images that mean the same, step by step.
 use Rattle.std.proofs.Common.{◌≡◌, ℕ, Bool, true, false, List, [], ◌∷◌, ◌++◌, drop, Option, Some, None, refl, sym, ap, subst, ◌∙◌}
 use Rattle.std.specs.List.{AllByRecursion}
-use Rattle.model_device.specs.Layout.{fault}
-use Rattle.model_device.specs.PowerUp.{Base, base_of, pending_journal}
-use Rattle.model_device.specs.Image.{Journal, count_of_recovery_writes, which}
-use Rattle.model_card.specs.Items.{StopAt}
+use Rattle.model_play.specs.model_device.specs.Layout.{fault}
+use Rattle.model_play.specs.model_device.specs.PowerUp.{Base, base_of, pending_journal}
+use Rattle.model_play.specs.model_device.specs.Image.{Journal, count_of_recovery_writes, which}
+use Rattle.model_play.specs.model_card.specs.Items.{StopAt}
 use Rattle.model_play.specs.DeckGrammar.{DeckLine}
 use Rattle.model_play.specs.DeckGrammar as line
 use Rattle.model_play.specs.Play.{plays, play_at_power, first_failure, hit_of, power_moves, power_step, step, start, Armed, BeforePower, AfterPower, FailedWrite, State, Step, Unpowered, Warm}

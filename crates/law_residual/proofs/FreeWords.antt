@@ -3,17 +3,17 @@ use Rattle.std.proofs.Common.{◌≡◌, ℕ, zero, suc, ◌+◌, ◌-◌, ◌�
 use Rattle.std.specs.Prelude.{bytes_eq, slice_index}
 use Rattle.std.specs.List.{AllByRecursion, concat}
 use Rattle.std.proofs.lemmas.Bool.Decides.{nat_tests}
-use Rattle.model_device.specs.declared.cause.Cause.{Cause}
-use Rattle.model_device.specs.declared.cause.Cause.TheVariants.{NoRoot, BadBlock, BadRecord, BadChain}
-use Rattle.model_device.specs.Bytes.{be2, insert, or_else, has_name, up}
+use Rattle.model_play.specs.model_device.specs.declared.cause.Cause.{Cause}
+use Rattle.model_play.specs.model_device.specs.declared.cause.Cause.TheVariants.{NoRoot, BadBlock, BadRecord, BadChain}
+use Rattle.model_play.specs.model_device.specs.Bytes.{be2, insert, or_else, has_name, up}
 use Rattle.std.proofs.lemmas.List.{drop-take}
 use Rattle.std.proofs.Math.Seq.{drop-nil}
-use Rattle.model_device.specs.Card.{app_at, app_of, apps_of, block_and, blocks, blocks_from, card_of, cells, header, heap_start, is_header, means, name_at, name_in, record_at, section, word, words_of_lengths, App, Block, Card}
-use Rattle.model_device.specs.Image.{look, look_at, which, count_of_recovery_writes, debt, Closed, Look, Neither, Which}
-use Rattle.model_device.specs.Layout.{bad_block, bad_chain, bad_header, bad_link, first_hole, bad_record, by_cause, fault, is_hole, is_record, next_block, no_root, root, words_fault}
-use Rattle.model_device.specs.PowerUp.{base_of, pending_journal, Base, OnCard}
-use Rattle.model_device.proofs.BoolLemmas.{or_else_none}
-use Rattle.model_device.proofs.LayoutLemmas.{cause_none, closed_fault, closed_means}
+use Rattle.model_play.specs.model_device.specs.Card.{app_at, app_of, apps_of, block_and, blocks, blocks_from, card_of, cells, header, heap_start, is_header, means, name_at, name_in, record_at, section, word, words_of_lengths, App, Block, Card}
+use Rattle.model_play.specs.model_device.specs.Image.{look, look_at, which, count_of_recovery_writes, debt, Closed, Look, Neither, Which}
+use Rattle.model_play.specs.model_device.specs.Layout.{bad_block, bad_chain, bad_header, bad_link, first_hole, bad_record, by_cause, fault, is_hole, is_record, next_block, no_root, root, words_fault}
+use Rattle.model_play.specs.model_device.specs.PowerUp.{base_of, pending_journal, Base, OnCard}
+use Rattle.model_play.specs.model_device.proofs.BoolLemmas.{or_else_none}
+use Rattle.model_play.specs.model_device.proofs.LayoutLemmas.{cause_none, closed_fault, closed_means}
 use Rattle.law_residual.specs.Laws.{HoldOneCard, MeanAlike, SameInBlock}
 
 -- ---- words

@@ -1,17 +1,17 @@
 -- Plays on a device that refuses writes: of two images that mean the same, and of two that mean one card.
 use Rattle.std.proofs.Common.{◌≡◌, ℕ, zero, suc, ◌+◌, ◌-◌, ◌<◌, ◌≤◌, Bool, true, false, cond, List, [], ◌∷◌, ◌++◌, drop, Option, Some, None, refl, sym, ap, subst, ◌∙◌, arith}
 use Rattle.std.specs.Prelude.{⊤, min, nat_le, ◌&&◌}
-use Rattle.model_device.specs.Bytes.{zeros}
+use Rattle.model_play.specs.model_device.specs.Bytes.{zeros}
 use Rattle.std.specs.List.{AllByRecursion}
 use Rattle.std.proofs.lemmas.Bool.{leb-true, lt-leb}
 use Rattle.std.proofs.lemmas.Bool.Decides.{nat_tests}
-use Rattle.model_device.specs.declared.device.Stop.TheVariants as stop
-use Rattle.model_device.specs.Image.{Journal, count_of_recovery_writes, which}
-use Rattle.model_device.specs.Layout.{fault}
-use Rattle.model_device.specs.PowerUp.{Base, OnCard, AtFault, base_after_migration, base_of, migration, pending_journal}
-use Rattle.model_device.specs.Card.{Card}
-use Rattle.model_card.specs.Items.{moves, StopAt}
-use Rattle.model_card.specs.Manager.{SessionState}
+use Rattle.model_play.specs.model_device.specs.declared.device.Stop.TheVariants as stop
+use Rattle.model_play.specs.model_device.specs.Image.{Journal, count_of_recovery_writes, which}
+use Rattle.model_play.specs.model_device.specs.Layout.{fault}
+use Rattle.model_play.specs.model_device.specs.PowerUp.{Base, OnCard, AtFault, base_after_migration, base_of, migration, pending_journal}
+use Rattle.model_play.specs.model_device.specs.Card.{Card}
+use Rattle.model_play.specs.model_card.specs.Items.{moves, StopAt}
+use Rattle.model_play.specs.model_card.specs.Manager.{SessionState}
 use Rattle.model_play.specs.DeckGrammar.{DeckCommand, DeckLine}
 use Rattle.model_play.specs.DeckGrammar as line
 use Rattle.model_play.specs.Play.{plays, play_at_power, armed_stop_in, hit_of, is_card_line, line_after, line_command, moves_of, power_after, power_live, power_moves, power_result, start, steady_at, step, stopped_power, after_power_step, Armed, Unarmed, ArmedCut, ArmedFail, BeforePower, AfterPower, FailedWrite, Live, Running, Unpowered, Muted, State, Step, Warm}

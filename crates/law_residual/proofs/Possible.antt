@@ -2,11 +2,11 @@
 use Rattle.std.proofs.Common.{◌≡◌, ℕ, zero, suc, ◌+◌, ◌-◌, ◌<◌, ◌≤◌, Bool, true, false, cond, List, [], ◌∷◌, Option, Some, None, refl, sym, ap, subst, arith}
 use Rattle.std.specs.Prelude.{⊤, min, nat_le, ◌&&◌}
 use Rattle.std.proofs.lemmas.Bool.{and_parts, leb-true}
-use Rattle.model_device.specs.Bytes.{zeros}
-use Rattle.model_device.specs.PowerUp.{OnCard}
-use Rattle.model_card.specs.Items.{moves, StopAt}
-use Rattle.model_card.specs.Commands.{Command}
-use Rattle.model_device.specs.Card.{Card}
+use Rattle.model_play.specs.model_device.specs.Bytes.{zeros}
+use Rattle.model_play.specs.model_device.specs.PowerUp.{OnCard}
+use Rattle.model_play.specs.model_card.specs.Items.{moves, StopAt}
+use Rattle.model_play.specs.model_card.specs.Commands.{Command}
+use Rattle.model_play.specs.model_device.specs.Card.{Card}
 use Rattle.model_play.specs.DeckGrammar.{DeckLine}
 use Rattle.model_play.specs.DeckGrammar as line
 use Rattle.model_play.specs.Play.{armed_stop_in, hit_of, is_card_line, line_after, line_command, moves_of, play_at_power, power_after, power_moves, start, steady_at, step, stopped_power, Armed, Unarmed, ArmedCut, ArmedFail, Running, BeforePower, AfterPower, FailedWrite, IsBeforeCut, IsPossibleAt, MayHit, Possible, State, Step, Warm}

@@ -1,20 +1,20 @@
 -- What computed images mean, and what decks show over them on a device that refuses writes.
 use Rattle.std.specs.Prelude.{ℕ, cond, ◌==◌, List, [], ◌∷◌, ◌++◌, codes, replicate, slice_set, Option, Some, None, Result, Ok, Err}
-use Rattle.model_device.specs.Bytes.{zeros}
-use Rattle.model_device.specs.Card.{blocks_from, apps_of}
-use Rattle.model_device.specs.Image.{Two, gate, opening, targets_1, targets_2, pairs}
-use Rattle.model_device.specs.Layout.{bad_block, bad_record, fault, layout, step_of}
-use Rattle.model_device.specs.Pieces.{touched_words}
-use Rattle.model_device.specs.PowerUp.{base_of, Base}
-use Rattle.model_device.specs.Stopped.{four_targets, word_of_number}
-use Rattle.model_machine.specs.Apdu.{apdu_read}
-use Rattle.model_machine.specs.Chain.{turn_of_chain, run_of_chain}
-use Rattle.model_machine.specs.Frame.{bytes_at, write_effect, too_many}
-use Rattle.model_machine.specs.Primitives.{later_causes, prim_effect}
-use Rattle.model_machine.specs.Row.{causes, effect, row}
-use Rattle.model_card.specs.Commands.{command}
-use Rattle.model_card.specs.Manager.{manage}
-use Rattle.model_card.specs.Units.{name_of}
+use Rattle.model_play.specs.model_device.specs.Bytes.{zeros}
+use Rattle.model_play.specs.model_device.specs.Card.{blocks_from, apps_of}
+use Rattle.model_play.specs.model_device.specs.Image.{Two, gate, opening, targets_1, targets_2, pairs}
+use Rattle.model_play.specs.model_device.specs.Layout.{bad_block, bad_record, fault, layout, step_of}
+use Rattle.model_play.specs.model_device.specs.Pieces.{touched_words}
+use Rattle.model_play.specs.model_device.specs.PowerUp.{base_of, Base}
+use Rattle.model_play.specs.model_device.specs.Stopped.{four_targets, word_of_number}
+use Rattle.model_play.specs.model_machine.specs.Apdu.{apdu_read}
+use Rattle.model_play.specs.model_machine.specs.Chain.{turn_of_chain, run_of_chain}
+use Rattle.model_play.specs.model_machine.specs.Frame.{bytes_at, write_effect, too_many}
+use Rattle.model_play.specs.model_machine.specs.Primitives.{later_causes, prim_effect}
+use Rattle.model_play.specs.model_machine.specs.Row.{causes, effect, row}
+use Rattle.model_play.specs.model_card.specs.Commands.{command}
+use Rattle.model_play.specs.model_card.specs.Manager.{manage}
+use Rattle.model_play.specs.model_card.specs.Units.{name_of}
 use Rattle.model_play.specs.declared.deck.DeckCause.{DeckCause}
 use Rattle.model_play.specs.DeckGrammar.{DeckLine, deck_read}
 use Rattle.model_play.specs.Play.{LineResult, Step, formatted_image, moves_of, play_at_power, plays, send, step}

@@ -1,10 +1,10 @@
 -- No residual information: of a device's words a play shows the card that they mean, and nothing else.
 use Rattle.std.specs.Prelude.{◌≡◌, ℕ, ◌+◌, Bool, true, false, nat_le, List, ◌∷◌, ◌++◌, length, take, drop, Option, Some}
 use Rattle.std.specs.List.{AllByRecursion}
-use Rattle.model_device.specs.Card.{word, blocks, Block}
-use Rattle.model_device.specs.Image.{count_of_recovery_writes, which, Neither}
-use Rattle.model_device.specs.Layout.{fault, IsWellLaid}
-use Rattle.model_device.specs.PowerUp.{base_of, migration, pending_journal}
+use Rattle.model_play.specs.model_device.specs.Card.{word, blocks, Block}
+use Rattle.model_play.specs.model_device.specs.Image.{count_of_recovery_writes, which, Neither}
+use Rattle.model_play.specs.model_device.specs.Layout.{fault, IsWellLaid}
+use Rattle.model_play.specs.model_device.specs.PowerUp.{base_of, migration, pending_journal}
 use Rattle.model_play.specs.DeckGrammar.{DeckLine}
 use Rattle.model_play.specs.DeckGrammar as line
 use Rattle.model_play.specs.Play.{plays, start, FailedWrite, Possible, Step, power_result}

@@ -2,10 +2,10 @@
 #![tactic(auto, unfolding(crate::specs::Computed::meaning_with, crate::specs::Computed::shown_on))]
 
 ghost use Rattle.std.specs.Prelude.{◌≡◌, [], ◌∷◌, replicate};
-ghost use Rattle.model_device.specs.declared.cause.Cause.TheVariants.{BadBlock};
-ghost use Rattle.model_device.specs.Bytes.{zeros};
-ghost use Rattle.model_device.specs.PowerUp.{OnCard, AtFault};
-ghost use Rattle.model_machine.specs.Chain.{Reply};
+ghost use Rattle.model_play.specs.model_device.specs.declared.cause.Cause.TheVariants.{BadBlock};
+ghost use Rattle.model_play.specs.model_device.specs.Bytes.{zeros};
+ghost use Rattle.model_play.specs.model_device.specs.PowerUp.{OnCard, AtFault};
+ghost use Rattle.model_play.specs.model_machine.specs.Chain.{Reply};
 ghost use Rattle.model_play.specs.Play.{Answered, FailureStop, Ready, Silenced};
 ghost use Rattle.law_residual.specs.Refusals.{refuses_after};
 ghost use Rattle.law_residual.specs.Computed.{formatted, meaning_with, refuses_write, shown_on, still_open, used_before};

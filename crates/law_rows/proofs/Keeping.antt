@@ -5,10 +5,10 @@ use Rattle.std.proofs.lemmas.Bool.Decides.{nat_tests}
 use Rattle.model_machine.specs.declared.instruction.Ins.{Ins}
 use Rattle.model_machine.specs.declared.instruction.Ins.TheVariants as ins
 use Rattle.model_machine.specs.declared.machine.Abend.{Abend}
-use Rattle.model_device.specs.Bytes.{bytes2, splice}
-use Rattle.model_device.specs.Pieces.{laid_pieces}
-use Rattle.model_device.proofs.ImageLemmas.{all_append}
-use Rattle.model_device.proofs.ListLemmas.{length_splice, splice_longer}
+use Rattle.model_machine.specs.model_device.specs.Bytes.{bytes2, splice}
+use Rattle.model_machine.specs.model_device.specs.Pieces.{laid_pieces}
+use Rattle.model_machine.specs.model_device.proofs.ImageLemmas.{all_append}
+use Rattle.model_machine.specs.model_device.proofs.ListLemmas.{length_splice, splice_longer}
 use Rattle.model_machine.specs.Frame.{Frame, Effect, Place, Static, Dynamic, Public, where_is, dynamic_base, static_written, write_effect_at, write_effect, top, protect, static_bytes, pending_change}
 use Rattle.model_machine.specs.Primitives.{Around, Done, Primitive, DelegateTo, DelegatorAid, primitive, frame_effect}
 use Rattle.model_machine.specs.Row.{effect, row_end, causes, first_cause, row, frame_after_call}

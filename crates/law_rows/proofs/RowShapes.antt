@@ -2,7 +2,7 @@
 use Rattle.std.specs.Prelude.{◌≡◌, ℕ, ◌+◌, ◌-◌, Bool, true, false, cond, ◌==◌, List, [], ◌∷◌, position, unwrap_or, is_some, Option, Some, None}
 use Rattle.std.proofs.Common.{refl, ap}
 use Rattle.model_machine.specs.declared.instruction.Ins.TheVariants as ins
-use Rattle.model_device.specs.Bytes.{num}
+use Rattle.model_machine.specs.model_device.specs.Bytes.{num}
 use Rattle.model_machine.specs.Frame.{Frame, bytes_at, stack_bytes, frame_after_pop}
 use Rattle.model_machine.specs.Primitives.{Around, effect_and_next, frame_effect, Primitive, Lookup, DelegatorAid, primitive, lookup_effect, delegator_reported, number_below_top, count_at, prim_effect, prim_done}
 use Rattle.model_machine.specs.Row.{effect, holds, frame_after_jump, frame_after_call, target}

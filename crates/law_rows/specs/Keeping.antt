@@ -2,7 +2,7 @@
 use Rattle.std.specs.Prelude.{◌≡◌, ℕ, ◌+◌, ◌≤◌, List, length, Option, Some, None, ⊤}
 use Rattle.std.specs.List.{AllByRecursion}
 use Rattle.model_machine.specs.declared.instruction.Ins.{Ins}
-use Rattle.model_device.specs.Pieces.{laid_pieces}
+use Rattle.model_machine.specs.model_device.specs.Pieces.{laid_pieces}
 use Rattle.model_machine.specs.Frame.{Frame, Effect}
 use Rattle.model_machine.specs.Primitives.{Around, Then, Goes, Exits, Delegates, Done}
 use Rattle.model_machine.specs.Row.{effect, RowEnd, Abends, Does, row}

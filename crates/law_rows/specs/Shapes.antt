@@ -5,7 +5,7 @@ use Rattle.std.specs.Prelude.{◌≡◌, ℕ, ◌+◌, ◌-◌, ◌*◌, Bool, t
 use Rattle.sha1.specs.Sha1.{sha1}
 use Rattle.model_machine.specs.declared.instruction.Ins.{Ins}
 use Rattle.model_machine.specs.declared.instruction.Ins.TheVariants as ins
-use Rattle.model_device.specs.Bytes.{num, bytes2, zeros}
+use Rattle.model_machine.specs.model_device.specs.Bytes.{num, bytes2, zeros}
 use Rattle.model_machine.specs.Blocks.{Worked, add_blocks, sub_blocks, inc_block, dec_block, shift_left_block, shift_right_block, and_blocks, or_blocks, xor_blocks, not_block, is_zero}
 use Rattle.model_machine.specs.Modes.{ecb}
 use Rattle.model_machine.specs.Frame.{Frame, Effect, moved_address, bytes_at, address_at, write_effect, frame_after_push, frame_after_pop, stack_bytes, top, frame_with_top, come_back, protect, with_sw, with_la}

@@ -1,24 +1,24 @@
 -- What the frame that ran a turn reads after it: after an abend, after an exit, and else.
 use Rattle.std.proofs.Common.{◌≡◌, ◌≢◌, inl, inr, ℕ, zero, suc, ◌-◌, ◌≤◌, Bool, true, false, cond, ◌||◌, List, [], ◌∷◌, Option, Some, None, Result, Ok, Err, refl, arith, sym, ap, subst, ◌∙◌}
 use Rattle.std.specs.Prelude.{bytes_eq, length, nat_le, take, ⊤}
-use Rattle.model_device.specs.Bytes.{lookup}
-use Rattle.model_device.specs.Card.{App}
-use Rattle.model_device.specs.Pieces.{laid_pieces}
-use Rattle.model_device.proofs.MapLemmas.{name_is_itself, other_way}
-use Rattle.model_machine.specs.declared.instruction.Ins.{Ins}
-use Rattle.model_machine.specs.declared.instruction.Ins.TheVariants as ins
-use Rattle.model_machine.specs.declared.instruction.DecodeFault.{DecodeFault}
-use Rattle.model_machine.specs.declared.instruction.DecodeFault.TheVariants.{Undefined, Past}
-use Rattle.model_machine.specs.declared.machine.Abend.{Abend}
-use Rattle.model_machine.specs.Code.{instruction_at}
-use Rattle.model_machine.specs.Frame.{Frame, Effect, dynamic_base}
-use Rattle.model_machine.specs.Primitives.{Around, Delegates, Done, Exits, Goes, Then, Primitive, DelegateTo, DelegatorAid, primitive}
-use Rattle.model_machine.specs.Row.{RowEnd, Abends, Does, causes, effect, first_cause, row}
-use Rattle.model_machine.specs.Chain.{Chain, Follows, Continues, Ends, Reply, Abended, after_exit, around, called_app, chain_after_call, chain_after_effect, code_in, depth_of, end_of, follows, frame_at, is_active, row_turn, turn_of, turn_of_chain, turn_of_fetch, write_of}
-use Rattle.law_rows.specs.Shapes.{delegator_shape, meaning, pair_shape, prim_shape, shape}
-use Rattle.law_rows.specs.Keeping.{Keeps, Leaves, OnDone, OnLeave}
-use Rattle.law_rows.proofs.Keeping.{on_done, row_keeps, row_leaves}
-use Rattle.law_rows.proofs.RowShapes.{shapes}
+use Rattle.law_family.specs.model_device.specs.Bytes.{lookup}
+use Rattle.law_family.specs.model_device.specs.Card.{App}
+use Rattle.law_family.specs.model_device.specs.Pieces.{laid_pieces}
+use Rattle.law_family.specs.model_device.proofs.MapLemmas.{name_is_itself, other_way}
+use Rattle.law_family.specs.model_machine.specs.declared.instruction.Ins.{Ins}
+use Rattle.law_family.specs.model_machine.specs.declared.instruction.Ins.TheVariants as ins
+use Rattle.law_family.specs.model_machine.specs.declared.instruction.DecodeFault.{DecodeFault}
+use Rattle.law_family.specs.model_machine.specs.declared.instruction.DecodeFault.TheVariants.{Undefined, Past}
+use Rattle.law_family.specs.model_machine.specs.declared.machine.Abend.{Abend}
+use Rattle.law_family.specs.model_machine.specs.Code.{instruction_at}
+use Rattle.law_family.specs.model_machine.specs.Frame.{Frame, Effect, dynamic_base}
+use Rattle.law_family.specs.model_machine.specs.Primitives.{Around, Delegates, Done, Exits, Goes, Then, Primitive, DelegateTo, DelegatorAid, primitive}
+use Rattle.law_family.specs.model_machine.specs.Row.{RowEnd, Abends, Does, causes, effect, first_cause, row}
+use Rattle.law_family.specs.model_machine.specs.Chain.{Chain, Follows, Continues, Ends, Reply, Abended, after_exit, around, called_app, chain_after_call, chain_after_effect, code_in, depth_of, end_of, follows, frame_at, is_active, row_turn, turn_of, turn_of_chain, turn_of_fetch, write_of}
+use Rattle.law_family.specs.law_rows.specs.Shapes.{delegator_shape, meaning, pair_shape, prim_shape, shape}
+use Rattle.law_family.specs.law_rows.specs.Keeping.{Keeps, Leaves, OnDone, OnLeave}
+use Rattle.law_family.specs.law_rows.proofs.Keeping.{on_done, row_keeps, row_leaves}
+use Rattle.law_family.specs.law_rows.proofs.RowShapes.{shapes}
 use Rattle.law_steps.specs.Readings.{Reading, done_reading, exit_reading, fetch_reading, last_reading, reading_after, reading_of, row_reading}
 use Rattle.law_steps.specs.Shown.{EndsFrame, exit_public, is_exit_of, shown_reading}
 

@@ -2,26 +2,26 @@
 use Rattle.std.proofs.Common.{◌≡◌, ℕ, zero, suc, ◌-◌, ◌≤◌, Bool, true, false, cond, ◌||◌, List, [], ◌∷◌, length, take, Option, Some, None, Result, Ok, Err, refl, arith, sym, subst, ◌∙◌}
 use Rattle.std.specs.Prelude.{⊤, nat_le, nat_lt, unwrap_or}
 use Rattle.std.proofs.lemmas.List.{length-append, length-take, length-replicate}
-use Rattle.model_device.specs.Bytes.{bytes2, lookup, zeros}
-use Rattle.model_device.specs.Card.{App}
-use Rattle.model_device.specs.Limits.{most_static, most_session}
-use Rattle.model_device.proofs.ListLemmas.{splice_longer}
-use Rattle.model_machine.specs.declared.instruction.Ins.{Ins}
-use Rattle.model_machine.specs.declared.instruction.DecodeFault.{DecodeFault}
-use Rattle.model_machine.specs.declared.instruction.DecodeFault.TheVariants.{Undefined, Past}
-use Rattle.model_machine.specs.declared.machine.Abend.TheVariants.{A09}
-use Rattle.model_machine.specs.Apdu.{ApduParts}
-use Rattle.model_machine.specs.Code.{instruction_at}
-use Rattle.model_machine.specs.Frame.{Frame, Effect, dynamic_base, la_of, new_frame, static_bytes, with_sw}
-use Rattle.model_machine.specs.Primitives.{Then, Goes, Exits, Delegates}
-use Rattle.model_machine.specs.Row.{RowEnd, Abends, Does, row}
-use Rattle.model_machine.specs.Chain.{Chain, Follows, Continues, Ends, Reply, Abended, after_exit, around, called_app, chain_after_call, chain_after_effect, code_in, depth_of, follows, frame_at, is_active, map_changed, no_app, reply_of, reported_frame, row_turn, start, start_app, turn_of, turn_of_chain, turn_of_fetch}
-use Rattle.law_rows.specs.Keeping.{Keeps, OnDone, PiecesWithin}
-use Rattle.law_rows.proofs.Keeping.{fixed_length, length_laid, row_keeps}
-use Rattle.law_machine.specs.Limited.{session_in}
-use Rattle.law_machine.proofs.AppSizes.{Limit, Limited, SameSizes, limited_from, limited_same, size_in, size_of}
-use Rattle.law_machine.proofs.RunSizes as sized
-use Rattle.law_machine.proofs.RunSizes.{acted_fits, changed_by, start_fits}
+use Rattle.law_family.specs.model_device.specs.Bytes.{bytes2, lookup, zeros}
+use Rattle.law_family.specs.model_device.specs.Card.{App}
+use Rattle.law_family.specs.model_device.specs.Limits.{most_static, most_session}
+use Rattle.law_family.specs.model_device.proofs.ListLemmas.{splice_longer}
+use Rattle.law_family.specs.model_machine.specs.declared.instruction.Ins.{Ins}
+use Rattle.law_family.specs.model_machine.specs.declared.instruction.DecodeFault.{DecodeFault}
+use Rattle.law_family.specs.model_machine.specs.declared.instruction.DecodeFault.TheVariants.{Undefined, Past}
+use Rattle.law_family.specs.model_machine.specs.declared.machine.Abend.TheVariants.{A09}
+use Rattle.law_family.specs.model_machine.specs.Apdu.{ApduParts}
+use Rattle.law_family.specs.model_machine.specs.Code.{instruction_at}
+use Rattle.law_family.specs.model_machine.specs.Frame.{Frame, Effect, dynamic_base, la_of, new_frame, static_bytes, with_sw}
+use Rattle.law_family.specs.model_machine.specs.Primitives.{Then, Goes, Exits, Delegates}
+use Rattle.law_family.specs.model_machine.specs.Row.{RowEnd, Abends, Does, row}
+use Rattle.law_family.specs.model_machine.specs.Chain.{Chain, Follows, Continues, Ends, Reply, Abended, after_exit, around, called_app, chain_after_call, chain_after_effect, code_in, depth_of, follows, frame_at, is_active, map_changed, no_app, reply_of, reported_frame, row_turn, start, start_app, turn_of, turn_of_chain, turn_of_fetch}
+use Rattle.law_family.specs.law_rows.specs.Keeping.{Keeps, OnDone, PiecesWithin}
+use Rattle.law_family.specs.law_rows.proofs.Keeping.{fixed_length, length_laid, row_keeps}
+use Rattle.law_family.specs.law_machine.specs.Limited.{session_in}
+use Rattle.law_family.specs.law_machine.proofs.AppSizes.{Limit, Limited, SameSizes, limited_from, limited_same, size_in, size_of}
+use Rattle.law_family.specs.law_machine.proofs.RunSizes as sized
+use Rattle.law_family.specs.law_machine.proofs.RunSizes.{acted_fits, changed_by, start_fits}
 use Rattle.law_steps.specs.Readings.{done_reading, exit_reading, fetch_reading, last_reading, reading_after, reading_of, row_reading}
 use Rattle.law_steps.specs.Replays.{ChainFits, FitsAlong, FrameFits, OnNext, TurnFits}
 use Rattle.law_steps.specs.Laws.{HaveFewSessionBytes, SizesLaw}

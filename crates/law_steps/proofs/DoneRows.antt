@@ -4,21 +4,21 @@ use Rattle.std.specs.Prelude.{◌&&◌, get_or, nat_le}
 use Rattle.std.proofs.lemmas.Bool.{leb-true}
 use Rattle.std.proofs.lemmas.Bool.Decides.{nat_tests}
 use Rattle.std.proofs.lemmas.List.{length-take}
-use Rattle.model_device.specs.Bytes.{lookup, splice}
-use Rattle.model_device.specs.Pieces.{laid_pieces}
-use Rattle.model_device.proofs.PieceLemmas.{laid_append}
-use Rattle.model_device.proofs.ListLemmas.{splice_longer}
-use Rattle.model_machine.specs.declared.instruction.Ins.{Ins}
-use Rattle.model_machine.specs.declared.instruction.Ins.TheVariants as ins
-use Rattle.model_machine.specs.declared.instruction.DecodeFault.{DecodeFault}
-use Rattle.model_machine.specs.declared.instruction.DecodeFault.TheVariants.{Undefined, Past}
-use Rattle.model_machine.specs.declared.machine.Abend.{Abend}
-use Rattle.model_machine.specs.Code.{instruction_at}
-use Rattle.model_machine.specs.Frame.{Frame, Effect, Place, Static, Dynamic, Public, frame_after_pop, dynamic_base, public_base, public_end, static_bytes, static_written, where_is, write_effect, write_effect_at}
-use Rattle.model_machine.specs.Primitives.{Around, Done, Goes, Then, Primitive, DelegatorAid, delegator_reported, effect_and_next, number_below_top, prim_done, prim_effect, primitive}
-use Rattle.model_machine.specs.Row.{RowEnd, Abends, Does, causes, effect, first_cause, row, row_end}
-use Rattle.model_machine.specs.Chain.{Abended, Chain, around, code_in, delegator_in, frame_at, row_turn, turn_of, turn_of_chain, turn_of_fetch}
-use Rattle.law_machine.proofs.RowWords.{NoneHolds, none_holds}
+use Rattle.law_family.specs.model_device.specs.Bytes.{lookup, splice}
+use Rattle.law_family.specs.model_device.specs.Pieces.{laid_pieces}
+use Rattle.law_family.specs.model_device.proofs.PieceLemmas.{laid_append}
+use Rattle.law_family.specs.model_device.proofs.ListLemmas.{splice_longer}
+use Rattle.law_family.specs.model_machine.specs.declared.instruction.Ins.{Ins}
+use Rattle.law_family.specs.model_machine.specs.declared.instruction.Ins.TheVariants as ins
+use Rattle.law_family.specs.model_machine.specs.declared.instruction.DecodeFault.{DecodeFault}
+use Rattle.law_family.specs.model_machine.specs.declared.instruction.DecodeFault.TheVariants.{Undefined, Past}
+use Rattle.law_family.specs.model_machine.specs.declared.machine.Abend.{Abend}
+use Rattle.law_family.specs.model_machine.specs.Code.{instruction_at}
+use Rattle.law_family.specs.model_machine.specs.Frame.{Frame, Effect, Place, Static, Dynamic, Public, frame_after_pop, dynamic_base, public_base, public_end, static_bytes, static_written, where_is, write_effect, write_effect_at}
+use Rattle.law_family.specs.model_machine.specs.Primitives.{Around, Done, Goes, Then, Primitive, DelegatorAid, delegator_reported, effect_and_next, number_below_top, prim_done, prim_effect, primitive}
+use Rattle.law_family.specs.model_machine.specs.Row.{RowEnd, Abends, Does, causes, effect, first_cause, row, row_end}
+use Rattle.law_family.specs.model_machine.specs.Chain.{Abended, Chain, around, code_in, delegator_in, frame_at, row_turn, turn_of, turn_of_chain, turn_of_fetch}
+use Rattle.law_family.specs.law_machine.proofs.RowWords.{NoneHolds, none_holds}
 use Rattle.law_steps.specs.Readings.{Reading, fetch_reading, reading_after, reading_of, row_reading}
 
 -- a turn ran an instruction that was done: no cause held, and if the frame goes on, it reads what is left then

@@ -2,23 +2,23 @@
 use Rattle.std.proofs.Common.{◌≡◌, inl, inr, ℕ, zero, suc, ◌+◌, ◌<◌, Bool, true, false, cond, ◌||◌, List, [], ◌∷◌, Option, Some, None, Result, Ok, Err, refl, arith, sym, ap, subst, ◌∙◌}
 use Rattle.std.proofs.lemmas.Bool.Decides.{nat_tests}
 use Rattle.std.specs.Prelude.{bytes_eq, length, nat_le, nat_lt}
-use Rattle.model_device.specs.Bytes.{lookup}
-use Rattle.model_device.specs.Card.{App}
-use Rattle.model_device.proofs.MapLemmas.{other_way}
-use Rattle.model_machine.specs.declared.instruction.Ins.{Ins}
-use Rattle.model_machine.specs.declared.instruction.Ins.TheVariants as ins
-use Rattle.model_machine.specs.declared.instruction.DecodeFault.{DecodeFault}
-use Rattle.model_machine.specs.declared.instruction.DecodeFault.TheVariants.{Undefined, Past}
-use Rattle.model_machine.specs.declared.machine.Abend.TheVariants.{A09}
-use Rattle.model_machine.specs.Code.{instruction_at}
-use Rattle.model_machine.specs.Frame.{Frame, Effect, la_of}
-use Rattle.model_machine.specs.Primitives.{Around, Delegates, Done, Exits, Goes, Then}
-use Rattle.model_machine.specs.Row.{RowEnd, Abends, Does, causes, effect, first_cause, row}
-use Rattle.model_machine.specs.Chain.{Chain, Continues, Ends, Abended, after_exit, around, called_app, chain_after_call, chain_after_effect, code_in, depth_of, follows, frame_at, is_active, reply_of, reported_frame, row_turn, turn_of_chain, turn_of_fetch}
-use Rattle.law_rows.specs.Shapes.{meaning, shape}
-use Rattle.law_rows.specs.Keeping.{Keeps, OnDone}
-use Rattle.law_rows.proofs.Keeping.{on_done, row_keeps}
-use Rattle.law_rows.proofs.RowShapes.{shapes}
+use Rattle.law_family.specs.model_device.specs.Bytes.{lookup}
+use Rattle.law_family.specs.model_device.specs.Card.{App}
+use Rattle.law_family.specs.model_device.proofs.MapLemmas.{other_way}
+use Rattle.law_family.specs.model_machine.specs.declared.instruction.Ins.{Ins}
+use Rattle.law_family.specs.model_machine.specs.declared.instruction.Ins.TheVariants as ins
+use Rattle.law_family.specs.model_machine.specs.declared.instruction.DecodeFault.{DecodeFault}
+use Rattle.law_family.specs.model_machine.specs.declared.instruction.DecodeFault.TheVariants.{Undefined, Past}
+use Rattle.law_family.specs.model_machine.specs.declared.machine.Abend.TheVariants.{A09}
+use Rattle.law_family.specs.model_machine.specs.Code.{instruction_at}
+use Rattle.law_family.specs.model_machine.specs.Frame.{Frame, Effect, la_of}
+use Rattle.law_family.specs.model_machine.specs.Primitives.{Around, Delegates, Done, Exits, Goes, Then}
+use Rattle.law_family.specs.model_machine.specs.Row.{RowEnd, Abends, Does, causes, effect, first_cause, row}
+use Rattle.law_family.specs.model_machine.specs.Chain.{Chain, Continues, Ends, Abended, after_exit, around, called_app, chain_after_call, chain_after_effect, code_in, depth_of, follows, frame_at, is_active, reply_of, reported_frame, row_turn, turn_of_chain, turn_of_fetch}
+use Rattle.law_family.specs.law_rows.specs.Shapes.{meaning, shape}
+use Rattle.law_family.specs.law_rows.specs.Keeping.{Keeps, OnDone}
+use Rattle.law_family.specs.law_rows.proofs.Keeping.{on_done, row_keeps}
+use Rattle.law_family.specs.law_rows.proofs.RowShapes.{shapes}
 use Rattle.law_steps.specs.Registers.{fetch_frame, frame_after, row_frame}
 use Rattle.law_steps.specs.Shown.{is_exit_of}
 use Rattle.law_steps.specs.Nexts.{NextLaw, Nexts}

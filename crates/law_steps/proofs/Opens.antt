@@ -3,15 +3,15 @@ use Rattle.std.proofs.Common.{◌≡◌, ◌≢◌, inl, inr, ℕ, zero, suc, �
 use Rattle.std.proofs.lemmas.Bool.Decides.{nat_tests}
 use Rattle.std.proofs.lemmas.List.{get_or-set_same, get_or-set_other}
 use Rattle.std.specs.Prelude.{get_or, length, nat_lt, slice_set}
-use Rattle.model_device.specs.Bytes.{lookup}
-use Rattle.model_machine.specs.declared.instruction.Ins.{Ins}
-use Rattle.model_machine.specs.declared.instruction.DecodeFault.{DecodeFault}
-use Rattle.model_machine.specs.declared.instruction.DecodeFault.TheVariants.{Undefined, Past}
-use Rattle.model_machine.specs.declared.machine.Abend.{Abend}
-use Rattle.model_machine.specs.Code.{instruction_at}
-use Rattle.model_machine.specs.Frame.{Frame}
-use Rattle.model_machine.specs.Row.{RowEnd, Abends, Does, row}
-use Rattle.model_machine.specs.Chain.{Chain, Follows, Continues, Outcome, Reply, Abended, around, code_in, depth_of, end_of, frame_at, row_turn, turn_of, turn_of_chain, turn_of_fetch}
+use Rattle.law_family.specs.model_device.specs.Bytes.{lookup}
+use Rattle.law_family.specs.model_machine.specs.declared.instruction.Ins.{Ins}
+use Rattle.law_family.specs.model_machine.specs.declared.instruction.DecodeFault.{DecodeFault}
+use Rattle.law_family.specs.model_machine.specs.declared.instruction.DecodeFault.TheVariants.{Undefined, Past}
+use Rattle.law_family.specs.model_machine.specs.declared.machine.Abend.{Abend}
+use Rattle.law_family.specs.model_machine.specs.Code.{instruction_at}
+use Rattle.law_family.specs.model_machine.specs.Frame.{Frame}
+use Rattle.law_family.specs.model_machine.specs.Row.{RowEnd, Abends, Does, row}
+use Rattle.law_family.specs.model_machine.specs.Chain.{Chain, Follows, Continues, Outcome, Reply, Abended, around, code_in, depth_of, end_of, frame_at, row_turn, turn_of, turn_of_chain, turn_of_fetch}
 use Rattle.law_steps.specs.Registers.{frame_after, mode_of, protection_after_mode}
 use Rattle.law_steps.specs.Shown.{is_exit_of}
 use Rattle.law_steps.specs.Nexts.{AllOpen, CallsFrame, LeavesFrame, Nexts, OpensLaw, OpensOf, RanOn, StaysOn, called_opens, open_after, open_by, open_on, opens_after}

@@ -2,36 +2,36 @@
 use Rattle.std.proofs.Common.{◌≡◌, ℕ, ◌+◌, ◌-◌, ◌≤◌, Bool, true, false, cond, not, List, [], ◌∷◌, ◌++◌, take, drop, length, Option, Some, None, refl, sym, subst, inl}
 use Rattle.std.specs.Prelude.{⊤, ◌==◌, ◌&&◌, nat_lt, nat_le, bytes_eq, slice_index}
 use Rattle.std.proofs.lemmas.Bool.{and_parts, leb-true}
-use Rattle.model_device.specs.declared.cause.Cause.{Cause}
-use Rattle.model_device.specs.declared.device.Stop.{Stop}
-use Rattle.model_device.specs.declared.device.Stop.TheVariants as stop
-use Rattle.model_device.specs.Bytes.{lookup, insert, remove, zeros, be2, has_name}
-use Rattle.model_device.specs.Card.{App, Card, Block, words_of_lengths, record_at, name_in, name_at, app_at, apps_of, blocks, words_after, means}
-use Rattle.model_device.specs.Image.{Two, look, after}
-use Rattle.model_device.specs.Layout.{is_record, bad_record, fault}
-use Rattle.model_device.specs.Limits.{most_static, most_code, most_session, most_record}
-use Rattle.model_device.specs.PowerUp.{Base, OnCard, AtFault, base_after_migration, base_of}
-use Rattle.model_device.specs.Stopped.{cost, stands}
-use Rattle.model_device.proofs.LayoutLemmas.{sound_after}
-use Rattle.model_device.proofs.MapLemmas.{same_name, lookup_inserted_lem, lookup_beside, lookup_removed_lem, lookup_left}
-use Rattle.model_machine.specs.Apdu.{ApduParts}
-use Rattle.model_machine.specs.Chain.{Chain, Write, changed_app, run, with_pieces, start as first_chain}
-use Rattle.model_card.specs.declared.card.Sizes.{Sizes}
-use Rattle.model_card.specs.Commands.{Command, atomic_of, manager_command, application_command, by_route, command}
-use Rattle.model_card.specs.Items.{Change, Fixed, Created, Deleted, Item, Plain, Atomic, Stopped, apps_after_change, apps_after_items, at_stop, card_done, in_flight, moves, StopAt, with_item, write_items}
-use Rattle.model_card.specs.Manager.{Selected, Open, SessionState, Route, WrongLength, WrongClass, ToSelect, ToManager, ToApplication, fits_limits, fresh, manage, p1p2, room_on, route, select, sizes_in, word_parts}
-use Rattle.model_play.specs.DeckGrammar.{DeckLine}
-use Rattle.model_play.specs.DeckGrammar as line
-use Rattle.model_play.specs.Laws.{bytes_of}
-use Rattle.model_play.specs.Play.{Armed, Live, Running, Unpowered, Muted, Warm, State, BeforePower, AfterPower, Step, FailedWrite, command_with_rest, delete_bytes, first_failure, hit_of, is_done, line_after, line_command, live_after, load_commands, play_at_power, plays, power_after, power_live, select_bytes, send, start, step, stopped_power}
-use Rattle.model_play.proofs.LineKinds.{past_power, IsUnheard, StepKind, Early, Quiet, Powers, Sends, by_kind, unheard_bytes}
-use Rattle.law_manager.specs.Answers.{IsQuiet}
-use Rattle.law_manager.specs.Answers as quiet
-use Rattle.law_manager.specs.OnCard.{IsCommand, IsSelect, blank_words, plains}
-use Rattle.law_manager.specs.OnCard as made
-use Rattle.law_manager.specs.Orders.{Order, order_of}
-use Rattle.law_manager.proofs.OnCard.{command_made, selects_law}
-use Rattle.law_manager.proofs.Plains.{plains_are}
+use Rattle.law_family.specs.model_device.specs.declared.cause.Cause.{Cause}
+use Rattle.law_family.specs.model_device.specs.declared.device.Stop.{Stop}
+use Rattle.law_family.specs.model_device.specs.declared.device.Stop.TheVariants as stop
+use Rattle.law_family.specs.model_device.specs.Bytes.{lookup, insert, remove, zeros, be2, has_name}
+use Rattle.law_family.specs.model_device.specs.Card.{App, Card, Block, words_of_lengths, record_at, name_in, name_at, app_at, apps_of, blocks, words_after, means}
+use Rattle.law_family.specs.model_device.specs.Image.{Two, look, after}
+use Rattle.law_family.specs.model_device.specs.Layout.{is_record, bad_record, fault}
+use Rattle.law_family.specs.model_device.specs.Limits.{most_static, most_code, most_session, most_record}
+use Rattle.law_family.specs.model_device.specs.PowerUp.{Base, OnCard, AtFault, base_after_migration, base_of}
+use Rattle.law_family.specs.model_device.specs.Stopped.{cost, stands}
+use Rattle.law_family.specs.model_device.proofs.LayoutLemmas.{sound_after}
+use Rattle.law_family.specs.model_device.proofs.MapLemmas.{same_name, lookup_inserted_lem, lookup_beside, lookup_removed_lem, lookup_left}
+use Rattle.law_family.specs.model_machine.specs.Apdu.{ApduParts}
+use Rattle.law_family.specs.model_machine.specs.Chain.{Chain, Write, changed_app, run, with_pieces, start as first_chain}
+use Rattle.law_family.specs.model_card.specs.declared.card.Sizes.{Sizes}
+use Rattle.law_family.specs.model_card.specs.Commands.{Command, atomic_of, manager_command, application_command, by_route, command}
+use Rattle.law_family.specs.model_card.specs.Items.{Change, Fixed, Created, Deleted, Item, Plain, Atomic, Stopped, apps_after_change, apps_after_items, at_stop, card_done, in_flight, moves, StopAt, with_item, write_items}
+use Rattle.law_family.specs.model_card.specs.Manager.{Selected, Open, SessionState, Route, WrongLength, WrongClass, ToSelect, ToManager, ToApplication, fits_limits, fresh, manage, p1p2, room_on, route, select, sizes_in, word_parts}
+use Rattle.law_family.specs.model_play.specs.DeckGrammar.{DeckLine}
+use Rattle.law_family.specs.model_play.specs.DeckGrammar as line
+use Rattle.law_family.specs.model_play.specs.Laws.{bytes_of}
+use Rattle.law_family.specs.model_play.specs.Play.{Armed, Live, Running, Unpowered, Muted, Warm, State, BeforePower, AfterPower, Step, FailedWrite, command_with_rest, delete_bytes, first_failure, hit_of, is_done, line_after, line_command, live_after, load_commands, play_at_power, plays, power_after, power_live, select_bytes, send, start, step, stopped_power}
+use Rattle.law_family.specs.model_play.proofs.LineKinds.{past_power, IsUnheard, StepKind, Early, Quiet, Powers, Sends, by_kind, unheard_bytes}
+use Rattle.law_family.specs.law_manager.specs.Answers.{IsQuiet}
+use Rattle.law_family.specs.law_manager.specs.Answers as quiet
+use Rattle.law_family.specs.law_manager.specs.OnCard.{IsCommand, IsSelect, blank_words, plains}
+use Rattle.law_family.specs.law_manager.specs.OnCard as made
+use Rattle.law_family.specs.law_manager.specs.Orders.{Order, order_of}
+use Rattle.law_family.specs.law_manager.proofs.OnCard.{command_made, selects_law}
+use Rattle.law_family.specs.law_manager.proofs.Plains.{plains_are}
 use Rattle.law_family.specs.Begins.{BehindDone, OnEachRun, OnLine, OnPassed, OnRouted, OnSent, OnTaken, HoldsWherever}
 use Rattle.law_family.proofs.EachRun.{each_run}
 use Rattle.law_family.proofs.PlaySizes.{good_records}

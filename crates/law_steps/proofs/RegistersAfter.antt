@@ -1,23 +1,23 @@
 -- LB and the protection of the frame that ran a turn, after an abend, after an exit, and else.
 use Rattle.std.proofs.Common.{◌≡◌, ◌≢◌, ℕ, zero, suc, Bool, true, false, cond, ◌||◌, List, [], Option, Some, None, Result, Ok, Err, refl, sym, ap, subst, ◌∙◌}
 use Rattle.std.specs.Prelude.{◌==◌, bytes_eq, length, nat_le}
-use Rattle.model_device.specs.Bytes.{lookup}
-use Rattle.model_device.specs.Card.{App}
-use Rattle.model_device.proofs.MapLemmas.{other_way}
-use Rattle.model_machine.specs.declared.instruction.Ins.{Ins}
-use Rattle.model_machine.specs.declared.instruction.Ins.TheVariants as ins
-use Rattle.model_machine.specs.declared.instruction.DecodeFault.{DecodeFault}
-use Rattle.model_machine.specs.declared.instruction.DecodeFault.TheVariants.{Undefined, Past}
-use Rattle.model_machine.specs.declared.machine.Abend.{Abend}
-use Rattle.model_machine.specs.Code.{instruction_at}
-use Rattle.model_machine.specs.Frame.{Frame, Effect, Place, Static, Dynamic, Public, pending_change, protect, static_bytes, static_written, where_is, write_effect, write_effect_at}
-use Rattle.model_machine.specs.Primitives.{Around, Delegates, Done, Exits, Goes, Then, Primitive, DelegateTo, DelegatorAid, primitive}
-use Rattle.model_machine.specs.Row.{RowEnd, Abends, Does, causes, effect, first_cause, row}
-use Rattle.model_machine.specs.Chain.{Chain, Follows, Continues, Ends, Reply, Abended, around, called_app, chain_after_call, chain_after_effect, code_in, depth_of, end_of, follows, frame_at, is_active, reported_frame, row_turn, turn_of, turn_of_chain, turn_of_fetch}
-use Rattle.law_rows.specs.Shapes.{Act, Stays, Answers, Jumps, Calls, Returns, Pushes, Replaces, Writes, Protects, act_effect, delegator_shape, meaning, pair_shape, prim_shape, shape, with_flags}
-use Rattle.law_rows.specs.Keeping.{Keeps, OnDone, OnLeave}
-use Rattle.law_rows.proofs.Keeping.{on_done, row_keeps}
-use Rattle.law_rows.proofs.RowShapes.{shapes}
+use Rattle.law_family.specs.model_device.specs.Bytes.{lookup}
+use Rattle.law_family.specs.model_device.specs.Card.{App}
+use Rattle.law_family.specs.model_device.proofs.MapLemmas.{other_way}
+use Rattle.law_family.specs.model_machine.specs.declared.instruction.Ins.{Ins}
+use Rattle.law_family.specs.model_machine.specs.declared.instruction.Ins.TheVariants as ins
+use Rattle.law_family.specs.model_machine.specs.declared.instruction.DecodeFault.{DecodeFault}
+use Rattle.law_family.specs.model_machine.specs.declared.instruction.DecodeFault.TheVariants.{Undefined, Past}
+use Rattle.law_family.specs.model_machine.specs.declared.machine.Abend.{Abend}
+use Rattle.law_family.specs.model_machine.specs.Code.{instruction_at}
+use Rattle.law_family.specs.model_machine.specs.Frame.{Frame, Effect, Place, Static, Dynamic, Public, pending_change, protect, static_bytes, static_written, where_is, write_effect, write_effect_at}
+use Rattle.law_family.specs.model_machine.specs.Primitives.{Around, Delegates, Done, Exits, Goes, Then, Primitive, DelegateTo, DelegatorAid, primitive}
+use Rattle.law_family.specs.model_machine.specs.Row.{RowEnd, Abends, Does, causes, effect, first_cause, row}
+use Rattle.law_family.specs.model_machine.specs.Chain.{Chain, Follows, Continues, Ends, Reply, Abended, around, called_app, chain_after_call, chain_after_effect, code_in, depth_of, end_of, follows, frame_at, is_active, reported_frame, row_turn, turn_of, turn_of_chain, turn_of_fetch}
+use Rattle.law_family.specs.law_rows.specs.Shapes.{Act, Stays, Answers, Jumps, Calls, Returns, Pushes, Replaces, Writes, Protects, act_effect, delegator_shape, meaning, pair_shape, prim_shape, shape, with_flags}
+use Rattle.law_family.specs.law_rows.specs.Keeping.{Keeps, OnDone, OnLeave}
+use Rattle.law_family.specs.law_rows.proofs.Keeping.{on_done, row_keeps}
+use Rattle.law_family.specs.law_rows.proofs.RowShapes.{shapes}
 use Rattle.law_steps.specs.Registers.{RegistersLaw, fetch_frame, frame_after, mode_of, pair_mode, primitive_mode, protection_after_mode, registers_of, registers_shown, row_frame}
 use Rattle.law_steps.specs.Shown.{is_exit_of}
 use Rattle.law_steps.proofs.AfterTurns.{OnCall, StaysIn, first_other, or_first, row_stays, same_name}

@@ -2,18 +2,18 @@
 use Rattle.std.proofs.Common.{◌≡◌, ℕ, zero, suc, ◌+◌, ◌-◌, ◌<◌, ◌≤◌, Bool, true, false, cond, ◌==◌, ◌&&◌, ◌||◌, List, [], ◌∷◌, ◌++◌, length, Option, Some, None, Result, Ok, Err, refl, arith, sym, ap, subst, ◌∙◌}
 use Rattle.std.proofs.lemmas.Bool.Decides.{nat_tests}
 use Rattle.std.specs.Prelude.{get_or, nat_le, nat_lt, unwrap_or}
-use Rattle.model_device.specs.Bytes.{lookup, or_else}
-use Rattle.model_device.specs.Card.{App}
-use Rattle.model_device.specs.Pieces.{covering_byte}
-use Rattle.model_machine.specs.declared.instruction.Ins.{Ins}
-use Rattle.model_machine.specs.declared.instruction.DecodeFault.{DecodeFault}
-use Rattle.model_machine.specs.declared.instruction.DecodeFault.TheVariants.{Undefined, Past}
-use Rattle.model_machine.specs.declared.machine.Abend.TheVariants.{A09}
-use Rattle.model_machine.specs.Code.{instruction_at}
-use Rattle.model_machine.specs.Frame.{Frame, Effect, dynamic_base, public_base, la_of}
-use Rattle.model_machine.specs.Primitives.{Then, Goes, Exits, Delegates}
-use Rattle.model_machine.specs.Row.{RowEnd, Abends, Does, row}
-use Rattle.model_machine.specs.Chain.{Chain, Follows, Continues, Ends, Abended, after_exit, around, called_app, chain_after_call, chain_after_effect, code_in, depth_of, follows, frame_at, is_active, reply_of, row_turn, turn_of, turn_of_chain, turn_of_fetch}
+use Rattle.law_family.specs.model_device.specs.Bytes.{lookup, or_else}
+use Rattle.law_family.specs.model_device.specs.Card.{App}
+use Rattle.law_family.specs.model_device.specs.Pieces.{covering_byte}
+use Rattle.law_family.specs.model_machine.specs.declared.instruction.Ins.{Ins}
+use Rattle.law_family.specs.model_machine.specs.declared.instruction.DecodeFault.{DecodeFault}
+use Rattle.law_family.specs.model_machine.specs.declared.instruction.DecodeFault.TheVariants.{Undefined, Past}
+use Rattle.law_family.specs.model_machine.specs.declared.machine.Abend.TheVariants.{A09}
+use Rattle.law_family.specs.model_machine.specs.Code.{instruction_at}
+use Rattle.law_family.specs.model_machine.specs.Frame.{Frame, Effect, dynamic_base, public_base, la_of}
+use Rattle.law_family.specs.model_machine.specs.Primitives.{Then, Goes, Exits, Delegates}
+use Rattle.law_family.specs.model_machine.specs.Row.{RowEnd, Abends, Does, row}
+use Rattle.law_family.specs.model_machine.specs.Chain.{Chain, Follows, Continues, Ends, Abended, after_exit, around, called_app, chain_after_call, chain_after_effect, code_in, depth_of, follows, frame_at, is_active, reply_of, row_turn, turn_of, turn_of_chain, turn_of_fetch}
 use Rattle.desk_json.specs.Json.{changes}
 use Rattle.law_steps.specs.Readings.{Reading, reading_of, reading_after, row_reading, fetch_reading, done_reading, exit_reading, no_reading, sets_between, first_sets}
 use Rattle.law_steps.specs.Replays.{BeginsFrame, RunsTurn, Memory, HoldsFrame, HoldsFrames, HoldsPublic, HoldsChain, HoldsOn, HoldsAlong, TurnFits, FrameFits, ChainFits, FitsAlong, OnNext, bytes_with, below_top, called_lines, frame_line, memory_after, memory_of, no_memory, turn_line}

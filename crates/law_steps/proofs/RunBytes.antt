@@ -3,8 +3,8 @@ use Rattle.std.proofs.Common.{◌≡◌, ◌≢◌, ℕ, zero, suc, ◌+◌, ◌
 use Rattle.std.proofs.lemmas.Bool.Decides.{nat_tests}
 use Rattle.std.specs.Prelude.{nat_le, slice_get}
 use Rattle.std.specs.List.{AllByRecursion}
-use Rattle.model_device.specs.Bytes.{or_else}
-use Rattle.model_device.specs.Pieces.{covering_byte}
+use Rattle.law_family.specs.model_device.specs.Bytes.{or_else}
+use Rattle.law_family.specs.model_device.specs.Pieces.{covering_byte}
 use Rattle.desk_json.specs.Json.{before_if, before_runs, changes}
 use Rattle.law_steps.specs.Laws.{AreApart, ExactSetsLaw, LongestRunsLaw}
 

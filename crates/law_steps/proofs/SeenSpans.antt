@@ -3,14 +3,14 @@ use Rattle.std.proofs.Common.{◌≡◌, ℕ, ◌+◌, ◌-◌, ◌*◌, ◌<◌
 use Rattle.std.specs.Prelude.{◌==◌, ◌&&◌, is_none, nat_le, option_map, slice_index}
 use Rattle.std.proofs.lemmas.Bool.{or_parts}
 use Rattle.std.proofs.lemmas.Bool.Decides.{nat_tests}
-use Rattle.model_machine.specs.declared.instruction.Ins.{Ins}
-use Rattle.model_machine.specs.declared.instruction.Ins.TheVariants as ins
-use Rattle.model_machine.specs.Frame.{Frame, Place, Static, Dynamic, Public, address_at, bytes_at, bytes_in, dynamic_base, floor, frame_after_pop, is_outside, is_under, no_access, public_base, public_end, resolve, where_is}
-use Rattle.model_device.specs.Bytes.{num}
-use Rattle.model_machine.specs.Primitives.{Around, Primitive, CopyFixed, Decipher, DelegatorAid, Digest, Encipher, MemoryCopy, Sign, block_len, later_causes, number_below_top, prim_causes, primitive, reported_causes}
-use Rattle.model_machine.specs.Row.{address_or_zero, causes, immediate_writes, operand, pair_writes, place_of}
-use Rattle.law_rows.specs.Shapes.{Act, Writes, delegator_shape, pair_shape, prim_shape, shape}
-use Rattle.law_machine.proofs.RowWords.{NoneHolds}
+use Rattle.law_family.specs.model_machine.specs.declared.instruction.Ins.{Ins}
+use Rattle.law_family.specs.model_machine.specs.declared.instruction.Ins.TheVariants as ins
+use Rattle.law_family.specs.model_machine.specs.Frame.{Frame, Place, Static, Dynamic, Public, address_at, bytes_at, bytes_in, dynamic_base, floor, frame_after_pop, is_outside, is_under, no_access, public_base, public_end, resolve, where_is}
+use Rattle.law_family.specs.model_device.specs.Bytes.{num}
+use Rattle.law_family.specs.model_machine.specs.Primitives.{Around, Primitive, CopyFixed, Decipher, DelegatorAid, Digest, Encipher, MemoryCopy, Sign, block_len, later_causes, number_below_top, prim_causes, primitive, reported_causes}
+use Rattle.law_family.specs.model_machine.specs.Row.{address_or_zero, causes, immediate_writes, operand, pair_writes, place_of}
+use Rattle.law_family.specs.law_rows.specs.Shapes.{Act, Writes, delegator_shape, pair_shape, prim_shape, shape}
+use Rattle.law_family.specs.law_machine.proofs.RowWords.{NoneHolds}
 use Rattle.law_steps.specs.Spans.{Look, Looks, SeesName, below_top, look_resolve, pair_target, placed, pointed, pointer, prim_target, static_only, target}
 use Rattle.law_steps.specs.Writes.{IsRoomy, act_span, ins_span}
 use Rattle.law_steps.proofs.WrittenBytes.{IsExact, not_under, shape_exact}

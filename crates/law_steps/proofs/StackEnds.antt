@@ -4,19 +4,19 @@ use Rattle.std.specs.Prelude.{⊤, ◌==◌, nat_le, take, drop}
 use Rattle.std.proofs.lemmas.Bool.{and_parts, not-false, leb-true}
 use Rattle.std.proofs.lemmas.Bool.Decides.{nat_tests}
 use Rattle.std.proofs.lemmas.List.{length-append, length-take}
-use Rattle.model_machine.specs.declared.instruction.Ins.{Ins}
-use Rattle.model_machine.specs.declared.instruction.Ins.TheVariants as ins
-use Rattle.model_machine.specs.declared.machine.Abend.{Abend}
-use Rattle.model_device.specs.Bytes.{bytes2, splice}
-use Rattle.model_device.proofs.ListLemmas.{splice_longer, zeros_short}
-use Rattle.model_machine.specs.Frame.{Frame, Effect, Place, Static, Dynamic, Public, dynamic_base, dynamic_end, floor, frame_after_pop, is_over, no_return, protect, pending_change, static_bytes, static_written, where_is, write_effect, write_effect_at}
-use Rattle.model_machine.specs.Primitives.{Around, Done, Primitive, DelegatorAid, LoadCcr, Lookup, later_causes, prim_causes, primitive}
-use Rattle.model_machine.specs.Row.{causes, effect, first_cause, holds, row, row_end}
-use Rattle.law_rows.specs.Shapes.{Act, Stays, Answers, Jumps, Calls, Returns, Pushes, Replaces, Writes, Protects, Shape, act_effect, delegator_shape, meaning, pair_shape, prim_shape, shape, with_flags}
-use Rattle.law_rows.specs.Keeping.{OnDone}
-use Rattle.law_rows.proofs.RowShapes.{shapes}
-use Rattle.law_machine.proofs.BlockLengths.{at_short}
-use Rattle.law_machine.proofs.RowWords.{NoneHolds, none_holds}
+use Rattle.law_family.specs.model_machine.specs.declared.instruction.Ins.{Ins}
+use Rattle.law_family.specs.model_machine.specs.declared.instruction.Ins.TheVariants as ins
+use Rattle.law_family.specs.model_machine.specs.declared.machine.Abend.{Abend}
+use Rattle.law_family.specs.model_device.specs.Bytes.{bytes2, splice}
+use Rattle.law_family.specs.model_device.proofs.ListLemmas.{splice_longer, zeros_short}
+use Rattle.law_family.specs.model_machine.specs.Frame.{Frame, Effect, Place, Static, Dynamic, Public, dynamic_base, dynamic_end, floor, frame_after_pop, is_over, no_return, protect, pending_change, static_bytes, static_written, where_is, write_effect, write_effect_at}
+use Rattle.law_family.specs.model_machine.specs.Primitives.{Around, Done, Primitive, DelegatorAid, LoadCcr, Lookup, later_causes, prim_causes, primitive}
+use Rattle.law_family.specs.model_machine.specs.Row.{causes, effect, first_cause, holds, row, row_end}
+use Rattle.law_family.specs.law_rows.specs.Shapes.{Act, Stays, Answers, Jumps, Calls, Returns, Pushes, Replaces, Writes, Protects, Shape, act_effect, delegator_shape, meaning, pair_shape, prim_shape, shape, with_flags}
+use Rattle.law_family.specs.law_rows.specs.Keeping.{OnDone}
+use Rattle.law_family.specs.law_rows.proofs.RowShapes.{shapes}
+use Rattle.law_family.specs.law_machine.proofs.BlockLengths.{at_short}
+use Rattle.law_family.specs.law_machine.proofs.RowWords.{NoneHolds, none_holds}
 
 -- a stack that ends within the dynamic segment, of which there are as many bytes
 pub record StackIn (f : Frame) : Type 0 where

@@ -4,25 +4,25 @@ use Rattle.std.specs.Prelude.{◌==◌, nat_le, nat_lt}
 use Rattle.std.proofs.lemmas.Bool.{ltb-false}
 use Rattle.std.proofs.lemmas.Bool.Decides.{nat_tests}
 use Rattle.std.proofs.lemmas.List.{length-replicate}
-use Rattle.model_device.specs.Bytes.{lookup, zeros}
-use Rattle.model_device.specs.Image.{Two}
-use Rattle.model_device.specs.Pieces.{touched_words}
-use Rattle.model_device.specs.Stopped.{cost}
-use Rattle.model_card.specs.Items.{moves, write_items}
-use Rattle.model_machine.specs.declared.instruction.Ins.{Ins}
-use Rattle.model_machine.specs.declared.instruction.Ins.TheVariants as ins
-use Rattle.model_machine.specs.declared.instruction.DecodeFault.{DecodeFault}
-use Rattle.model_machine.specs.declared.instruction.DecodeFault.TheVariants.{Undefined, Past}
-use Rattle.model_machine.specs.declared.machine.Abend.{Abend}
-use Rattle.model_machine.specs.Code.{instruction_at}
-use Rattle.model_machine.specs.Frame.{Frame, Effect, Place, Static, Dynamic, Public, bytes_at, dynamic_base, passes_limit, pending_change, protect, public_base, public_end, static_bytes, static_written, too_many, where_is, write_effect, write_effect_at}
-use Rattle.model_machine.specs.Primitives.{Around, Done, Primitive, DelegatorAid, primitive}
-use Rattle.model_machine.specs.Row.{RowEnd, Abends, Does, causes, effect, first_cause, row, row_end}
-use Rattle.model_machine.specs.Chain.{Abended, Chain, Follows, Continues, Ends, Reply, Write, around, chain_after_effect, code_in, end_of, follows, frame_at, row_turn, turn_of, turn_of_chain, turn_of_fetch, write_of}
-use Rattle.law_rows.specs.Keeping.{OnDone}
-use Rattle.law_rows.specs.Shapes.{Act, Stays, Answers, Jumps, Calls, Returns, Pushes, Replaces, Writes, Protects, act_effect, delegator_shape, meaning, pair_shape, prim_shape, shape, with_flags}
-use Rattle.law_rows.proofs.RowShapes.{shapes}
-use Rattle.law_machine.proofs.RowWords.{none_holds}
+use Rattle.law_family.specs.model_device.specs.Bytes.{lookup, zeros}
+use Rattle.law_family.specs.model_device.specs.Image.{Two}
+use Rattle.law_family.specs.model_device.specs.Pieces.{touched_words}
+use Rattle.law_family.specs.model_device.specs.Stopped.{cost}
+use Rattle.law_family.specs.model_card.specs.Items.{moves, write_items}
+use Rattle.law_family.specs.model_machine.specs.declared.instruction.Ins.{Ins}
+use Rattle.law_family.specs.model_machine.specs.declared.instruction.Ins.TheVariants as ins
+use Rattle.law_family.specs.model_machine.specs.declared.instruction.DecodeFault.{DecodeFault}
+use Rattle.law_family.specs.model_machine.specs.declared.instruction.DecodeFault.TheVariants.{Undefined, Past}
+use Rattle.law_family.specs.model_machine.specs.declared.machine.Abend.{Abend}
+use Rattle.law_family.specs.model_machine.specs.Code.{instruction_at}
+use Rattle.law_family.specs.model_machine.specs.Frame.{Frame, Effect, Place, Static, Dynamic, Public, bytes_at, dynamic_base, passes_limit, pending_change, protect, public_base, public_end, static_bytes, static_written, too_many, where_is, write_effect, write_effect_at}
+use Rattle.law_family.specs.model_machine.specs.Primitives.{Around, Done, Primitive, DelegatorAid, primitive}
+use Rattle.law_family.specs.model_machine.specs.Row.{RowEnd, Abends, Does, causes, effect, first_cause, row, row_end}
+use Rattle.law_family.specs.model_machine.specs.Chain.{Abended, Chain, Follows, Continues, Ends, Reply, Write, around, chain_after_effect, code_in, end_of, follows, frame_at, row_turn, turn_of, turn_of_chain, turn_of_fetch, write_of}
+use Rattle.law_family.specs.law_rows.specs.Keeping.{OnDone}
+use Rattle.law_family.specs.law_rows.specs.Shapes.{Act, Stays, Answers, Jumps, Calls, Returns, Pushes, Replaces, Writes, Protects, act_effect, delegator_shape, meaning, pair_shape, prim_shape, shape, with_flags}
+use Rattle.law_family.specs.law_rows.proofs.RowShapes.{shapes}
+use Rattle.law_family.specs.law_machine.proofs.RowWords.{none_holds}
 use Rattle.law_steps.specs.Registers.{mode_of, pair_mode, primitive_mode}
 use Rattle.law_steps.specs.Shown.{EndsFrame}
 use Rattle.law_steps.specs.Writes.{IsRoomy, WaitIn, act_span, chain_span, ins_span, now_by, now_of, span_now, span_waits, turn_moves, waits_by, with_waits, words_under, writes_of_words}

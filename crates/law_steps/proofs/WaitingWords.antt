@@ -3,8 +3,8 @@ use Rattle.std.proofs.Common.{◌≡◌, ℕ, zero, suc, ◌+◌, ◌-◌, ◌/�
 use Rattle.std.specs.Prelude.{nat_lt}
 use Rattle.std.proofs.lemmas.Bool.{cases_lt}
 use Rattle.std.proofs.lemmas.Bool.Decides.{nat_tests}
-use Rattle.model_device.specs.Pieces.{touched_words, with_number, with_words}
-use Rattle.model_device.proofs.PieceLemmas.{touched_append, with_number_twice}
+use Rattle.law_family.specs.model_device.specs.Pieces.{touched_words, with_number, with_words}
+use Rattle.law_family.specs.model_device.proofs.PieceLemmas.{touched_append, with_number_twice}
 use Rattle.law_steps.specs.Writes.{with_wait, with_waits, words_under}
 
 -- ascending numbers, with some more from one on

@@ -4,19 +4,19 @@ use Rattle.std.specs.Prelude.{get_or, length, nat_le, nat_lt, slice_set}
 use Rattle.std.proofs.lemmas.Bool.{or_parts}
 use Rattle.std.proofs.lemmas.Bool.Decides.{nat_tests}
 use Rattle.std.proofs.lemmas.List.{get_or-set_same, get_or-set_other}
-use Rattle.model_device.specs.Bytes.{lookup, zeros}
-use Rattle.model_device.specs.Card.{App}
-use Rattle.model_device.specs.Pieces.{touched_words}
-use Rattle.model_machine.specs.declared.instruction.Ins.{Ins}
-use Rattle.model_machine.specs.declared.instruction.DecodeFault.{DecodeFault}
-use Rattle.model_machine.specs.declared.instruction.DecodeFault.TheVariants.{Undefined, Past}
-use Rattle.model_machine.specs.Code.{instruction_at}
-use Rattle.model_machine.specs.Frame.{Frame, la_of, new_frame}
-use Rattle.model_machine.specs.Primitives.{Then, Goes, Exits, Delegates}
-use Rattle.model_machine.specs.Row.{RowEnd, Abends, Does, row}
-use Rattle.model_machine.specs.Chain.{Abended, Chain, Follows, Continues, Ends, after_exit, around, called_app, chain_after_call, chain_after_effect, code_in, depth_of, end_of, follows, frame_at, is_active, reply_of, row_turn, turn_of, turn_of_chain, turn_of_fetch}
-use Rattle.model_machine.specs.declared.machine.Abend.TheVariants.{A09}
-use Rattle.law_rows.specs.Keeping.{OnDone}
+use Rattle.law_family.specs.model_device.specs.Bytes.{lookup, zeros}
+use Rattle.law_family.specs.model_device.specs.Card.{App}
+use Rattle.law_family.specs.model_device.specs.Pieces.{touched_words}
+use Rattle.law_family.specs.model_machine.specs.declared.instruction.Ins.{Ins}
+use Rattle.law_family.specs.model_machine.specs.declared.instruction.DecodeFault.{DecodeFault}
+use Rattle.law_family.specs.model_machine.specs.declared.instruction.DecodeFault.TheVariants.{Undefined, Past}
+use Rattle.law_family.specs.model_machine.specs.Code.{instruction_at}
+use Rattle.law_family.specs.model_machine.specs.Frame.{Frame, la_of, new_frame}
+use Rattle.law_family.specs.model_machine.specs.Primitives.{Then, Goes, Exits, Delegates}
+use Rattle.law_family.specs.model_machine.specs.Row.{RowEnd, Abends, Does, row}
+use Rattle.law_family.specs.model_machine.specs.Chain.{Abended, Chain, Follows, Continues, Ends, after_exit, around, called_app, chain_after_call, chain_after_effect, code_in, depth_of, end_of, follows, frame_at, is_active, reply_of, row_turn, turn_of, turn_of_chain, turn_of_fetch}
+use Rattle.law_family.specs.model_machine.specs.declared.machine.Abend.TheVariants.{A09}
+use Rattle.law_family.specs.law_rows.specs.Keeping.{OnDone}
 use Rattle.law_steps.specs.Nexts.{OpensOf}
 use Rattle.law_steps.specs.Registers.{mode_of}
 use Rattle.law_steps.specs.Replays.{OnNext}

@@ -4,20 +4,20 @@ use Rattle.std.specs.Prelude.{◌==◌, ◌&&◌, ◌||◌, ⊤, is_none, nat_le
 use Rattle.std.proofs.lemmas.Bool.{and_parts, or_parts, not-false, leb-true, eqb-true}
 use Rattle.std.proofs.lemmas.Bool.Decides.{nat_tests}
 use Rattle.std.proofs.lemmas.List.{length-take, length-drop, length-map, length-replicate}
-use Rattle.model_machine.specs.declared.instruction.Ins.{Ins}
-use Rattle.model_machine.specs.declared.instruction.Ins.TheVariants as ins
-use Rattle.model_device.specs.Bytes.{bytes, bytes2, splice, zeros}
-use Rattle.model_device.proofs.ListLemmas.{length_bytes, splice_longer}
-use Rattle.model_device.specs.Pieces.{laid_pieces}
-use Rattle.model_machine.specs.Blocks.{each_byte}
-use Rattle.model_machine.specs.Modes.{ecb}
-use Rattle.model_machine.specs.Frame.{Frame, Place, Static, Dynamic, Public, bytes_at, bytes_in, dynamic_base, floor, frame_after_pop, is_outside, is_under, no_access, public_base, public_end, static_bytes, too_many, top, where_is}
-use Rattle.model_machine.specs.Primitives.{Around, Cipher, Des, TripleDes, Aes, Primitive, CopyFixed, Decipher, DelegatorAid, Digest, Encipher, MemoryCopy, Sign, block_len, cipher_causes, decipherment, encipherment, has_bad_argument, in_range, is_message, key_len, later_causes, number_below_top, prim_causes, primitive, reported_causes, signature}
-use Rattle.model_machine.specs.Row.{address_or_zero, causes, immediate_writes, on_stack, operand, pair_writes, place_of}
-use Rattle.law_rows.specs.Shapes.{Act, Shape, Writes, delegator_shape, pair_shape, prim_shape, shape}
-use Rattle.law_machine.proofs.RowWords.{NoneHolds}
+use Rattle.law_family.specs.model_machine.specs.declared.instruction.Ins.{Ins}
+use Rattle.law_family.specs.model_machine.specs.declared.instruction.Ins.TheVariants as ins
+use Rattle.law_family.specs.model_device.specs.Bytes.{bytes, bytes2, splice, zeros}
+use Rattle.law_family.specs.model_device.proofs.ListLemmas.{length_bytes, splice_longer}
+use Rattle.law_family.specs.model_device.specs.Pieces.{laid_pieces}
+use Rattle.law_family.specs.model_machine.specs.Blocks.{each_byte}
+use Rattle.law_family.specs.model_machine.specs.Modes.{ecb}
+use Rattle.law_family.specs.model_machine.specs.Frame.{Frame, Place, Static, Dynamic, Public, bytes_at, bytes_in, dynamic_base, floor, frame_after_pop, is_outside, is_under, no_access, public_base, public_end, static_bytes, too_many, top, where_is}
+use Rattle.law_family.specs.model_machine.specs.Primitives.{Around, Cipher, Des, TripleDes, Aes, Primitive, CopyFixed, Decipher, DelegatorAid, Digest, Encipher, MemoryCopy, Sign, block_len, cipher_causes, decipherment, encipherment, has_bad_argument, in_range, is_message, key_len, later_causes, number_below_top, prim_causes, primitive, reported_causes, signature}
+use Rattle.law_family.specs.model_machine.specs.Row.{address_or_zero, causes, immediate_writes, on_stack, operand, pair_writes, place_of}
+use Rattle.law_family.specs.law_rows.specs.Shapes.{Act, Shape, Writes, delegator_shape, pair_shape, prim_shape, shape}
+use Rattle.law_family.specs.law_machine.proofs.RowWords.{NoneHolds}
 use Rattle.law_steps.specs.Writes.{IsRoomy}
-use Rattle.law_machine.proofs.BlockSizes.{deciphered_length, digest_length, enciphered_length, signature_length}
+use Rattle.law_family.specs.law_machine.proofs.BlockSizes.{deciphered_length, digest_length, enciphered_length, signature_length}
 
 -- what is known of a write of some bytes, if an access of n bytes was tested
 pub record Exact (f : Frame) (a n : ℕ) (b : List ℕ) : Type 0 where

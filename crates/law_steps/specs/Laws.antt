@@ -1,16 +1,16 @@
 -- The laws of the lines of a play, as its functions promise them.
 use Rattle.std.specs.Prelude.{◌≡◌, ◌≢◌, ⊤, ℕ, ◌+◌, ◌<◌, ◌≤◌, true, false, cond, ◌==◌, List, [], ◌∷◌, length, get_or, Option, Some, None}
-use Rattle.model_device.specs.Bytes.{lookup}
-use Rattle.model_device.specs.Card.{App}
-use Rattle.model_device.specs.Limits.{most_session}
-use Rattle.model_device.specs.Pieces.{covering_byte}
-use Rattle.model_machine.specs.Apdu.{ApduParts}
-use Rattle.model_machine.specs.declared.instruction.Ins.{Ins}
-use Rattle.model_machine.specs.declared.machine.Abend.{Abend}
-use Rattle.model_machine.specs.Chain.{Chain, Abended, turn_of, start as first_chain}
-use Rattle.model_play.specs.DeckGrammar.{DeckLine}
-use Rattle.model_play.specs.Play.{FailedWrite, plays, start}
-use Rattle.law_machine.specs.Limited.{AreLimited, session_in}
+use Rattle.law_family.specs.model_device.specs.Bytes.{lookup}
+use Rattle.law_family.specs.model_device.specs.Card.{App}
+use Rattle.law_family.specs.model_device.specs.Limits.{most_session}
+use Rattle.law_family.specs.model_device.specs.Pieces.{covering_byte}
+use Rattle.law_family.specs.model_machine.specs.Apdu.{ApduParts}
+use Rattle.law_family.specs.model_machine.specs.declared.instruction.Ins.{Ins}
+use Rattle.law_family.specs.model_machine.specs.declared.machine.Abend.{Abend}
+use Rattle.law_family.specs.model_machine.specs.Chain.{Chain, Abended, turn_of, start as first_chain}
+use Rattle.law_family.specs.model_play.specs.DeckGrammar.{DeckLine}
+use Rattle.law_family.specs.model_play.specs.Play.{FailedWrite, plays, start}
+use Rattle.law_family.specs.law_machine.specs.Limited.{AreLimited, session_in}
 use Rattle.law_family.specs.Begins.{OnEachRun}
 use Rattle.desk_json.specs.Json.{changes}
 use Rattle.law_steps.specs.Readings.{last_reading, reading_after, reading_of}

@@ -1,8 +1,8 @@
 -- The frame that runs after a turn, and the protection of each frame, counted turn by turn.
 use Rattle.std.specs.Prelude.{◌≡◌, ◌⊎◌, ℕ, ◌<◌, ◌≤◌, Bool, true, false, cond, nat_lt, List, [], ◌∷◌, length, get_or, slice_set, bytes_eq, Option, Some, None}
-use Rattle.model_machine.specs.declared.instruction.Ins.{Ins}
-use Rattle.model_machine.specs.Frame.{Frame}
-use Rattle.model_machine.specs.Chain.{Abended, Chain, Follows, Continues, Ends, Outcome, Reply, depth_of, turn_of}
+use Rattle.law_family.specs.model_machine.specs.declared.instruction.Ins.{Ins}
+use Rattle.law_family.specs.model_machine.specs.Frame.{Frame}
+use Rattle.law_family.specs.model_machine.specs.Chain.{Abended, Chain, Follows, Continues, Ends, Outcome, Reply, depth_of, turn_of}
 use Rattle.law_steps.specs.Registers.{frame_after, mode_of, protection_after_mode, registers_of}
 use Rattle.law_steps.specs.Shown.{is_exit_of}
 

@@ -1,13 +1,13 @@
 -- What a frame reads before and after a turn, and the runs of addresses whose bytes differ.
 use Rattle.std.specs.Prelude.{ℕ, zero, suc, ◌-◌, cond, ◌==◌, List, [], ◌++◌, length, take, Result, Ok, Err}
-use Rattle.model_device.specs.Bytes.{lookup}
-use Rattle.model_machine.specs.declared.instruction.Ins.{Ins}
-use Rattle.model_machine.specs.declared.instruction.DecodeFault.{DecodeFault}
-use Rattle.model_machine.specs.Code.{instruction_at}
-use Rattle.model_machine.specs.Frame.{Frame, Effect, dynamic_base, public_base, static_bytes}
-use Rattle.model_machine.specs.Primitives.{Then, Goes, Exits, Delegates}
-use Rattle.model_machine.specs.Row.{RowEnd, Abends, Does, row}
-use Rattle.model_machine.specs.Chain.{Chain, Follows, Continues, Ends, Reply, Abended, around, chain_after_effect, code_in, follows, frame_at}
+use Rattle.law_family.specs.model_device.specs.Bytes.{lookup}
+use Rattle.law_family.specs.model_machine.specs.declared.instruction.Ins.{Ins}
+use Rattle.law_family.specs.model_machine.specs.declared.instruction.DecodeFault.{DecodeFault}
+use Rattle.law_family.specs.model_machine.specs.Code.{instruction_at}
+use Rattle.law_family.specs.model_machine.specs.Frame.{Frame, Effect, dynamic_base, public_base, static_bytes}
+use Rattle.law_family.specs.model_machine.specs.Primitives.{Then, Goes, Exits, Delegates}
+use Rattle.law_family.specs.model_machine.specs.Row.{RowEnd, Abends, Does, row}
+use Rattle.law_family.specs.model_machine.specs.Chain.{Chain, Follows, Continues, Ends, Reply, Abended, around, chain_after_effect, code_in, follows, frame_at}
 use Rattle.desk_json.specs.Json.{changes}
 
 -- ---- readings

@@ -1,15 +1,15 @@
 -- LB and the protection of the frame that ran a turn, after it.
 use Rattle.std.specs.Prelude.{◌≡◌, ◌≢◌, ℕ, zero, suc, Bool, true, false, cond, nat_le, List, bytes_eq, slice_index, Option, Some, None, Result, Ok, Err}
-use Rattle.model_device.specs.Bytes.{lookup}
-use Rattle.model_machine.specs.declared.instruction.Ins.{Ins}
-use Rattle.model_machine.specs.declared.instruction.Ins.TheVariants as ins
-use Rattle.model_machine.specs.declared.instruction.DecodeFault.{DecodeFault}
-use Rattle.model_machine.specs.declared.machine.Abend.{Abend}
-use Rattle.model_machine.specs.Code.{instruction_at}
-use Rattle.model_machine.specs.Frame.{Frame}
-use Rattle.model_machine.specs.Primitives.{Primitive, SetProtection, primitive}
-use Rattle.model_machine.specs.Row.{RowEnd, Abends, Does, row}
-use Rattle.model_machine.specs.Chain.{Abended, Chain, Follows, Continues, Ends, around, chain_after_effect, code_in, follows, frame_at, reported_frame, turn_of}
+use Rattle.law_family.specs.model_device.specs.Bytes.{lookup}
+use Rattle.law_family.specs.model_machine.specs.declared.instruction.Ins.{Ins}
+use Rattle.law_family.specs.model_machine.specs.declared.instruction.Ins.TheVariants as ins
+use Rattle.law_family.specs.model_machine.specs.declared.instruction.DecodeFault.{DecodeFault}
+use Rattle.law_family.specs.model_machine.specs.declared.machine.Abend.{Abend}
+use Rattle.law_family.specs.model_machine.specs.Code.{instruction_at}
+use Rattle.law_family.specs.model_machine.specs.Frame.{Frame}
+use Rattle.law_family.specs.model_machine.specs.Primitives.{Primitive, SetProtection, primitive}
+use Rattle.law_family.specs.model_machine.specs.Row.{RowEnd, Abends, Does, row}
+use Rattle.law_family.specs.model_machine.specs.Chain.{Abended, Chain, Follows, Continues, Ends, around, chain_after_effect, code_in, follows, frame_at, reported_frame, turn_of}
 use Rattle.law_steps.specs.Shown.{is_exit_of}
 
 -- ---- the frame after a turn

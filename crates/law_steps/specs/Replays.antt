@@ -1,8 +1,8 @@
 -- The bytes of frames, computed from the lines of a play alone.
 use Rattle.std.specs.Prelude.{◌≡◌, ℕ, zero, suc, ◌+◌, ◌-◌, ◌<◌, ◌≤◌, cond, ◌&&◌, nat_lt, nat_le, ◌==◌, List, [], ◌∷◌, length, get_or, unwrap_or}
-use Rattle.model_device.specs.Pieces.{covering_byte}
-use Rattle.model_machine.specs.Frame.{Frame, dynamic_base, public_base}
-use Rattle.model_machine.specs.Chain.{Chain, Follows, Continues, Ends, depth_of, turn_of}
+use Rattle.law_family.specs.model_device.specs.Pieces.{covering_byte}
+use Rattle.law_family.specs.model_machine.specs.Frame.{Frame, dynamic_base, public_base}
+use Rattle.law_family.specs.model_machine.specs.Chain.{Chain, Follows, Continues, Ends, depth_of, turn_of}
 use Rattle.law_steps.specs.Readings.{Reading, reading_of, reading_after, first_sets, turn_sets}
 
 -- ---- lines

@@ -1,10 +1,10 @@
 -- What the frame that ran a turn reads after it, by what the turn and the chain after it show.
 use Rattle.std.specs.Prelude.{◌≡◌, ◌⊎◌, ℕ, ◌-◌, Bool, true, false, cond, List, take, bytes_eq, Some}
-use Rattle.model_machine.specs.declared.instruction.Ins.{Ins}
-use Rattle.model_machine.specs.declared.instruction.Ins.TheVariants as ins
-use Rattle.model_machine.specs.declared.machine.Abend.{Abend}
-use Rattle.model_machine.specs.Frame.{dynamic_base, with_la, with_sw}
-use Rattle.model_machine.specs.Chain.{Abended, Follows, Continues, Ends, Turn}
+use Rattle.law_family.specs.model_machine.specs.declared.instruction.Ins.{Ins}
+use Rattle.law_family.specs.model_machine.specs.declared.instruction.Ins.TheVariants as ins
+use Rattle.law_family.specs.model_machine.specs.declared.machine.Abend.{Abend}
+use Rattle.law_family.specs.model_machine.specs.Frame.{dynamic_base, with_la, with_sw}
+use Rattle.law_family.specs.model_machine.specs.Chain.{Abended, Follows, Continues, Ends, Turn}
 use Rattle.law_steps.specs.Readings.{Reading, reading_of}
 
 -- whether an instruction exits its frame

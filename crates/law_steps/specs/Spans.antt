@@ -1,9 +1,9 @@
 -- The static bytes that an instruction writes, by what is seen of its frame before it.
 use Rattle.std.specs.Prelude.{◌≡◌, ℕ, ◌+◌, ◌-◌, ℤ, true, false, cond, nat_le, ◌==◌, List, length, option_map, slice_index, Option, Some, None}
-use Rattle.model_machine.specs.declared.instruction.Ins.{Ins}
-use Rattle.model_machine.specs.declared.instruction.Ins.TheVariants as ins
-use Rattle.model_machine.specs.Frame.{Frame, address_at, dynamic_base, is_outside, moved_address, public_base, public_end}
-use Rattle.model_machine.specs.Primitives.{Primitive, CopyFixed, Decipher, DelegatorAid, Digest, Encipher, MemoryCopy, Sign, block_len, primitive}
+use Rattle.law_family.specs.model_machine.specs.declared.instruction.Ins.{Ins}
+use Rattle.law_family.specs.model_machine.specs.declared.instruction.Ins.TheVariants as ins
+use Rattle.law_family.specs.model_machine.specs.Frame.{Frame, address_at, dynamic_base, is_outside, moved_address, public_base, public_end}
+use Rattle.law_family.specs.model_machine.specs.Primitives.{Primitive, CopyFixed, Decipher, DelegatorAid, Digest, Encipher, MemoryCopy, Sign, block_len, primitive}
 
 -- what is seen of a frame: the number of its static bytes, its registers LB and DT, and the number in the two bytes at
 -- each address

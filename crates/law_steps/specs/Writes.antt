@@ -1,16 +1,16 @@
 -- The device writes of turns: how many a turn makes, and how they follow from its instruction and from the words that
 -- wait for a commit, counted turn by turn.
 use Rattle.std.specs.Prelude.{◌≡◌, ℕ, zero, suc, ◌+◌, ◌-◌, ◌/◌, ◌≤◌, Bool, true, false, cond, ◌||◌, nat_le, nat_lt, ◌==◌, List, [], ◌∷◌, length, get_or, slice_set, Option, Some, None}
-use Rattle.model_device.specs.Image.{Two}
-use Rattle.model_device.specs.Limits.{most_static}
-use Rattle.model_device.specs.Pieces.{touched_words, with_number}
-use Rattle.model_device.specs.Stopped.{cost}
-use Rattle.model_card.specs.Items.{moves, write_items}
-use Rattle.model_machine.specs.declared.instruction.Ins.{Ins}
-use Rattle.model_machine.specs.Frame.{Frame, dynamic_end}
-use Rattle.model_machine.specs.Primitives.{Around}
-use Rattle.model_machine.specs.Chain.{Abended, Chain, Follows, Continues, Ends, Outcome, Reply, around, depth_of, turn_of}
-use Rattle.law_rows.specs.Shapes.{Act, Writes, shape}
+use Rattle.law_family.specs.model_device.specs.Image.{Two}
+use Rattle.law_family.specs.model_device.specs.Limits.{most_static}
+use Rattle.law_family.specs.model_device.specs.Pieces.{touched_words, with_number}
+use Rattle.law_family.specs.model_device.specs.Stopped.{cost}
+use Rattle.law_family.specs.model_card.specs.Items.{moves, write_items}
+use Rattle.law_family.specs.model_machine.specs.declared.instruction.Ins.{Ins}
+use Rattle.law_family.specs.model_machine.specs.Frame.{Frame, dynamic_end}
+use Rattle.law_family.specs.model_machine.specs.Primitives.{Around}
+use Rattle.law_family.specs.model_machine.specs.Chain.{Abended, Chain, Follows, Continues, Ends, Outcome, Reply, around, depth_of, turn_of}
+use Rattle.law_family.specs.law_rows.specs.Shapes.{Act, Writes, shape}
 use Rattle.law_steps.specs.Nexts.{OpensOf}
 use Rattle.law_steps.specs.Registers.{mode_of}
 

@@ -10,6 +10,8 @@ ghost use Rattle.law_steps.specs.Nexts.{NextLaw, OpensLaw};
 ghost use Rattle.law_steps.specs.Registers.{RegistersLaw};
 ghost use Rattle.law_steps.specs.Writes.{WritesLaw};
 
+pub use law_family::model_machine;
+
 /// The runs that are written of two segments have exactly the addresses whose bytes differ, each with its new byte.
 /// They ascend, and each is as long as it can be.
 pub fn sets_are_what_differs()

@@ -2,16 +2,16 @@
 use Rattle.std.specs.Prelude.{◌≡◌, ℕ, true, ◌&&◌, Option, Some, None, Result, Ok, Err, refl}
 use Rattle.std.proofs.Common.{subst}
 use Rattle.std.proofs.lemmas.Bool.{and_parts}
-use Rattle.model_rules.specs.Rules.{Target, AppRules}
-use Rattle.model_rules.specs.Reading.{RuleCause, app_rules_read}
-use Rattle.model_rules.specs.Law.{AreKeptBy}
-use Rattle.model_prove.specs.Keys.{Tables}
-use Rattle.model_prove.specs.Arrivals.{Setting}
-use Rattle.model_prove.specs.Tables.{is_closed, tables_after}
-use Rattle.law_prove_closed.specs.Decks.{is_loadable, TargetIsKept, AreKeptAsRead, DeckIsKept}
-use Rattle.law_prove_closed.proofs.Decks.{loadable_is}
-use Rattle.model_sums.specs.Sums.{SumsTable}
-use Rattle.model_sums.specs.Closed.{sums_closed}
+use Rattle.law_sum_plays.specs.model_rules.specs.Rules.{Target, AppRules}
+use Rattle.law_sum_plays.specs.model_rules.specs.Reading.{RuleCause, app_rules_read}
+use Rattle.law_sum_plays.specs.model_rules.specs.Law.{AreKeptBy}
+use Rattle.law_sum_plays.specs.model_prove.specs.Keys.{Tables}
+use Rattle.law_sum_plays.specs.model_prove.specs.Arrivals.{Setting}
+use Rattle.law_sum_plays.specs.model_prove.specs.Tables.{is_closed, tables_after}
+use Rattle.law_sum_plays.specs.law_prove_closed.specs.Decks.{is_loadable, TargetIsKept, AreKeptAsRead, DeckIsKept}
+use Rattle.law_sum_plays.specs.law_prove_closed.proofs.Decks.{loadable_is}
+use Rattle.law_sum_plays.specs.model_sums.specs.Sums.{SumsTable}
+use Rattle.law_sum_plays.specs.model_sums.specs.Closed.{sums_closed}
 use Rattle.law_sum_plays.proofs.Final.{closed_sums_law}
 use Rattle.law_sum_decks.specs.Decks.{SumsOf, proves_for, proves_read, proves_sums, DeckSumsLaw, transaction_deck, transaction_sums}
 

@@ -1,26 +1,26 @@
 -- The law of closed tables with sums for the rules of a deck: one check that is computed decides that they are kept.
 use Rattle.std.specs.Prelude.{◌≡◌, ℕ, Bool, true, false, ◌&&◌, List, ◌++◌, codes, Option, Some, None, Result, Ok, Err}
 use Rattle.std.specs.Fmt.{digits}
-use Rattle.model_device.specs.Pieces.{touched_words}
-use Rattle.model_machine.specs.Apdu.{apdu_read}
-use Rattle.model_machine.specs.Frame.{bytes_at, write_effect, too_many}
-use Rattle.model_machine.specs.Primitives.{later_causes}
-use Rattle.model_machine.specs.Row.{causes}
-use Rattle.model_card.specs.Units.{name_of}
-use Rattle.model_text.specs.TurnText.{turn_line}
-use Rattle.model_play.specs.DeckGrammar.{deck_read}
-use Rattle.law_rows.specs.Shapes.{shape, prim_shape}
-use Rattle.law_explore.specs.Matching.{fits}
-use Rattle.model_rules.specs.Rules.{Target, AppRules}
-use Rattle.model_rules.specs.Reading.{RuleCause, app_rules_read}
-use Rattle.model_prove.specs.Computed.{deck_of}
-use Rattle.model_prove.specs.Keys.{Tables}
-use Rattle.model_prove.specs.Arrivals.{Setting}
-use Rattle.model_prove.specs.Tables.{is_closed, tables_after}
-use Rattle.law_prove_closed.specs.Decks.{is_loadable, DeckIsKept}
-use Rattle.model_sums.specs.Sums.{SumsTable}
-use Rattle.model_sums.specs.Closed.{sums_closed}
-use Rattle.model_sums.specs.Computed.{all_even, but_at, guessed, with_off}
+use Rattle.law_sum_plays.specs.model_device.specs.Pieces.{touched_words}
+use Rattle.law_sum_plays.specs.model_machine.specs.Apdu.{apdu_read}
+use Rattle.law_sum_plays.specs.model_machine.specs.Frame.{bytes_at, write_effect, too_many}
+use Rattle.law_sum_plays.specs.model_machine.specs.Primitives.{later_causes}
+use Rattle.law_sum_plays.specs.model_machine.specs.Row.{causes}
+use Rattle.law_sum_plays.specs.model_card.specs.Units.{name_of}
+use Rattle.law_sum_plays.specs.model_text.specs.TurnText.{turn_line}
+use Rattle.law_sum_plays.specs.model_play.specs.DeckGrammar.{deck_read}
+use Rattle.law_sum_plays.specs.law_rows.specs.Shapes.{shape, prim_shape}
+use Rattle.law_sum_plays.specs.law_explore.specs.Matching.{fits}
+use Rattle.law_sum_plays.specs.model_rules.specs.Rules.{Target, AppRules}
+use Rattle.law_sum_plays.specs.model_rules.specs.Reading.{RuleCause, app_rules_read}
+use Rattle.law_sum_plays.specs.model_prove.specs.Computed.{deck_of}
+use Rattle.law_sum_plays.specs.model_prove.specs.Keys.{Tables}
+use Rattle.law_sum_plays.specs.model_prove.specs.Arrivals.{Setting}
+use Rattle.law_sum_plays.specs.model_prove.specs.Tables.{is_closed, tables_after}
+use Rattle.law_sum_plays.specs.law_prove_closed.specs.Decks.{is_loadable, DeckIsKept}
+use Rattle.law_sum_plays.specs.model_sums.specs.Sums.{SumsTable}
+use Rattle.law_sum_plays.specs.model_sums.specs.Closed.{sums_closed}
+use Rattle.law_sum_plays.specs.model_sums.specs.Computed.{all_even, but_at, guessed, with_off}
 
 -- a table of sums for tables of facts
 abbrev pub SumsOf : Type 0

@@ -3,35 +3,35 @@ use Rattle.std.specs.Prelude.{◌≡◌, ℕ, ◌+◌, ◌-◌, ◌≤◌, Bool,
 use Rattle.std.proofs.Common.{inl, inr, arith, ap, sym, subst, ◌∙◌}
 use Rattle.std.proofs.lemmas.Bool.{and_parts}
 use Rattle.std.proofs.lemmas.List.{length-replicate}
-use Rattle.model_device.specs.Bytes.{AreBytes, zeros}
-use Rattle.model_text.specs.Listing.{hex_text}
-use Rattle.model_machine.specs.Apdu.{ApduParts}
-use Rattle.model_machine.specs.Frame.{Frame, dynamic_base, public_base, static_bytes, new_frame, new_public}
-use Rattle.model_card.specs.Manager.{ToApplication, route}
-use Rattle.law_bytes.specs.OfChains.{IsByteCommand}
-use Rattle.law_promise.specs.Outline.{Entry, BySelection, ByDelegation}
-use Rattle.law_promise.specs.Domain.{first_frame_in}
-use Rattle.model_rules.specs.Rules.{AppRules, Target}
-use Rattle.model_rules.specs.Happenings.{Event, Commanded, History}
-use Rattle.model_rules.specs.Keeping.{Amounts, Break, Standing, OnCommand, after_occasion, are_totals}
-use Rattle.model_rules.specs.Law.{domain_of_rules}
-use Rattle.model_prove.specs.Facts.{Facts, Memory}
-use Rattle.model_prove.specs.Keys.{Start, Delegated, OfClass, Call, PlaceKey, Tables}
-use Rattle.model_prove.specs.Arrivals.{Setting, Arrival, static_size, arrive, idle, after_command, after_session}
-use Rattle.model_prove.specs.Between.{Class, classes, selected, continued, commanded, begun, first_place, public_facts, own_facts, static_facts, moment_arrivals}
-use Rattle.model_prove.specs.Tables.{IsLoadable, is_closed}
-use Rattle.law_prove.specs.Coverings.{frame_memory, class_of, StartsAs, AreOpen, IsPlace, key_of, covering_of}
-use Rattle.law_prove.specs.Laws.{PlacesCovered}
-use Rattle.law_prove.proofs.Parts.{memory_public}
-use Rattle.law_prove.proofs.Picks.{commanded_is}
-use Rattle.law_prove.proofs.Places.{place_law}
-use Rattle.law_prove_commands.specs.Laws.{HasClass}
-use Rattle.law_prove_commands.proofs.Begins.{begin_law}
-use Rattle.law_prove_commands.proofs.Classes.{class_law}
-use Rattle.model_sums.specs.Sums.{SumsTable, sums_at, first_known}
-use Rattle.model_sums.specs.Says.{Holds, TotalsHold, SumsHold}
-use Rattle.model_sums.specs.Closed.{has_sums, all_pass, start_closed}
-use Rattle.law_sums.proofs.KnownLemmas.{follow_holds, start_holds}
+use Rattle.law_prove_closed.specs.model_device.specs.Bytes.{AreBytes, zeros}
+use Rattle.law_prove_closed.specs.model_text.specs.Listing.{hex_text}
+use Rattle.law_prove_closed.specs.model_machine.specs.Apdu.{ApduParts}
+use Rattle.law_prove_closed.specs.model_machine.specs.Frame.{Frame, dynamic_base, public_base, static_bytes, new_frame, new_public}
+use Rattle.law_prove_closed.specs.model_card.specs.Manager.{ToApplication, route}
+use Rattle.law_prove_closed.specs.law_bytes.specs.OfChains.{IsByteCommand}
+use Rattle.law_prove_closed.specs.law_promise.specs.Outline.{Entry, BySelection, ByDelegation}
+use Rattle.law_prove_closed.specs.law_promise.specs.Domain.{first_frame_in}
+use Rattle.law_prove_closed.specs.model_rules.specs.Rules.{AppRules, Target}
+use Rattle.law_prove_closed.specs.model_rules.specs.Happenings.{Event, Commanded, History}
+use Rattle.law_prove_closed.specs.model_rules.specs.Keeping.{Amounts, Break, Standing, OnCommand, after_occasion, are_totals}
+use Rattle.law_prove_closed.specs.model_rules.specs.Law.{domain_of_rules}
+use Rattle.law_prove_closed.specs.model_prove.specs.Facts.{Facts, Memory}
+use Rattle.law_prove_closed.specs.model_prove.specs.Keys.{Start, Delegated, OfClass, Call, PlaceKey, Tables}
+use Rattle.law_prove_closed.specs.model_prove.specs.Arrivals.{Setting, Arrival, static_size, arrive, idle, after_command, after_session}
+use Rattle.law_prove_closed.specs.model_prove.specs.Between.{Class, classes, selected, continued, commanded, begun, first_place, public_facts, own_facts, static_facts, moment_arrivals}
+use Rattle.law_prove_closed.specs.model_prove.specs.Tables.{IsLoadable, is_closed}
+use Rattle.law_prove_closed.specs.law_prove.specs.Coverings.{frame_memory, class_of, StartsAs, AreOpen, IsPlace, key_of, covering_of}
+use Rattle.law_prove_closed.specs.law_prove.specs.Laws.{PlacesCovered}
+use Rattle.law_prove_closed.specs.law_prove.proofs.Parts.{memory_public}
+use Rattle.law_prove_closed.specs.law_prove.proofs.Picks.{commanded_is}
+use Rattle.law_prove_closed.specs.law_prove.proofs.Places.{place_law}
+use Rattle.law_prove_closed.specs.law_prove_commands.specs.Laws.{HasClass}
+use Rattle.law_prove_closed.specs.law_prove_commands.proofs.Begins.{begin_law}
+use Rattle.law_prove_closed.specs.law_prove_commands.proofs.Classes.{class_law}
+use Rattle.law_sum_rows.specs.model_sums.specs.Sums.{SumsTable, sums_at, first_known}
+use Rattle.law_sum_rows.specs.model_sums.specs.Says.{Holds, TotalsHold, SumsHold}
+use Rattle.law_sum_rows.specs.model_sums.specs.Closed.{has_sums, all_pass, start_closed}
+use Rattle.law_sum_rows.specs.law_sums.proofs.KnownLemmas.{follow_holds, start_holds}
 use Rattle.law_sum_plays.specs.Coverings.{IsSumMoment, IsSumPlace}
 use Rattle.law_sum_plays.proofs.Standings.{one_standing, IsAllowed, allowed, then_event}
 use Rattle.law_sum_plays.proofs.Totals.{AreWithin, totals_hold, reads_static}

@@ -2,16 +2,16 @@
 use Rattle.std.specs.Prelude.{◌≡◌, ◌+◌, Bool, true, false, cond, ◌&&◌, ◌||◌, List, [], ◌∷◌, ◌++◌, unwrap_or, nat_le, Option, Some, refl}
 use Rattle.std.proofs.Common.{ap, subst, ◌∙◌}
 use Rattle.std.proofs.lemmas.Bool.{and_parts}
-use Rattle.model_rules.specs.Keeping.{first_sums, are_totals}
-use Rattle.model_prove.specs.Facts.{Facts}
-use Rattle.model_prove.specs.Keys.{PlaceKey, MomentKey, Known, Tables, same_places, same_moments}
-use Rattle.model_prove.specs.Arrivals.{Setting, Arrival, AtPlace, AtMoment, Breaks, Lost, static_size}
-use Rattle.model_prove.specs.Between.{Class, classes, moment_arrivals}
-use Rattle.model_prove.specs.Tables.{moment_at, place_at}
-use Rattle.law_prove.proofs.Keys.{moments_are, places_are}
+use Rattle.law_prove_closed.specs.model_rules.specs.Keeping.{first_sums, are_totals}
+use Rattle.law_prove_closed.specs.model_prove.specs.Facts.{Facts}
+use Rattle.law_prove_closed.specs.model_prove.specs.Keys.{PlaceKey, MomentKey, Known, Tables, same_places, same_moments}
+use Rattle.law_prove_closed.specs.model_prove.specs.Arrivals.{Setting, Arrival, AtPlace, AtMoment, Breaks, Lost, static_size}
+use Rattle.law_prove_closed.specs.model_prove.specs.Between.{Class, classes, moment_arrivals}
+use Rattle.law_prove_closed.specs.model_prove.specs.Tables.{moment_at, place_at}
+use Rattle.law_prove_closed.specs.law_prove.proofs.Keys.{moments_are, places_are}
 use Rattle.law_prove_closed.specs.Outcomes.{some_outcome, leads_to}
-use Rattle.model_sums.specs.Sums.{SumsTable, sums_at}
-use Rattle.model_sums.specs.Closed.{all_pass, is_sum, place_closed, places_closed, start_closed, starts_closed, sums_closed}
+use Rattle.law_sum_rows.specs.model_sums.specs.Sums.{SumsTable, sums_at}
+use Rattle.law_sum_rows.specs.model_sums.specs.Closed.{all_pass, is_sum, place_closed, places_closed, start_closed, starts_closed, sums_closed}
 use Rattle.law_sum_plays.proofs.Totals.{AreWithin, within_by}
 
 -- ---- lists that pass a test

@@ -4,35 +4,35 @@ use Rattle.std.specs.Prelude.{◌≡◌, ℕ, ◌+◌, ◌-◌, ◌<◌, ◌≤�
 use Rattle.std.specs.List.{AllByRecursion}
 use Rattle.std.proofs.Common.{arith, ap, sym, subst, ◌∙◌}
 use Rattle.std.proofs.lemmas.Bool.{and_parts, lt-ltb}
-use Rattle.model_machine.specs.declared.instruction.Ins.{Ins}
-use Rattle.model_machine.specs.Frame.{Frame, Effect, dynamic_base, public_base, static_bytes}
-use Rattle.model_machine.specs.Primitives.{Then}
-use Rattle.law_promise.specs.History.{Deed}
-use Rattle.law_promise.specs.Outline.{Entry, is_direct}
-use Rattle.law_promise.specs.Domain.{FitsDepth}
-use Rattle.model_rules.specs.Rules.{SumLine, Total, AppRules, Target}
-use Rattle.model_rules.specs.Happenings.{Event, Did, History}
-use Rattle.model_rules.specs.Keeping.{Sum, Standing, OnTurn, after_occasion, line_of_deed, mode_of, after_deed, are_totals}
-use Rattle.model_prove.specs.Facts.{Memory}
-use Rattle.model_prove.specs.Keys.{Tables}
-use Rattle.model_prove.specs.Splits.{Scene}
-use Rattle.model_prove.specs.Arrivals.{Setting, Arrival, static_size}
-use Rattle.model_prove.specs.Tables.{IsLoadable}
-use Rattle.law_prove.specs.Coverings.{parts_memory, frame_memory, IsPlace, key_of}
-use Rattle.law_prove.proofs.Parts.{memory_public}
+use Rattle.law_prove_closed.specs.model_machine.specs.declared.instruction.Ins.{Ins}
+use Rattle.law_prove_closed.specs.model_machine.specs.Frame.{Frame, Effect, dynamic_base, public_base, static_bytes}
+use Rattle.law_prove_closed.specs.model_machine.specs.Primitives.{Then}
+use Rattle.law_prove_closed.specs.law_promise.specs.History.{Deed}
+use Rattle.law_prove_closed.specs.law_promise.specs.Outline.{Entry, is_direct}
+use Rattle.law_prove_closed.specs.law_promise.specs.Domain.{FitsDepth}
+use Rattle.law_prove_closed.specs.model_rules.specs.Rules.{SumLine, Total, AppRules, Target}
+use Rattle.law_prove_closed.specs.model_rules.specs.Happenings.{Event, Did, History}
+use Rattle.law_prove_closed.specs.model_rules.specs.Keeping.{Sum, Standing, OnTurn, after_occasion, line_of_deed, mode_of, after_deed, are_totals}
+use Rattle.law_prove_closed.specs.model_prove.specs.Facts.{Memory}
+use Rattle.law_prove_closed.specs.model_prove.specs.Keys.{Tables}
+use Rattle.law_prove_closed.specs.model_prove.specs.Splits.{Scene}
+use Rattle.law_prove_closed.specs.model_prove.specs.Arrivals.{Setting, Arrival, static_size}
+use Rattle.law_prove_closed.specs.model_prove.specs.Tables.{IsLoadable}
+use Rattle.law_prove_closed.specs.law_prove.specs.Coverings.{parts_memory, frame_memory, IsPlace, key_of}
+use Rattle.law_prove_closed.specs.law_prove.proofs.Parts.{memory_public}
 use Rattle.law_prove_closed.specs.Outcomes.{some_outcome, leads_to}
-use Rattle.model_sums.specs.Origins.{Origins, origin_at}
-use Rattle.model_sums.specs.Sums.{Sums, SumsTable, sums_at, are_even}
-use Rattle.model_sums.specs.Says.{IsFrom, OriginsHold, MoreHolds, OffsHold, Holds, read_sums}
-use Rattle.model_sums.specs.Writes.{delegated}
-use Rattle.model_sums.specs.Moves.{after_next}
-use Rattle.model_sums.specs.Events.{public_size, drops, asks, counted}
-use Rattle.model_sums.specs.Closed.{Turn, is_settled, has_sums, event_leads_to, all_pass, depth_closed, arrival_closed}
-use Rattle.law_sums.specs.EventLaws.{PublicHolds}
-use Rattle.law_sums.specs.TurnLaws.{row_sums, TurnHolds}
-use Rattle.law_sums.proofs.KnownLemmas.{follow_holds}
-use Rattle.law_sums.proofs.LossLemmas.{delegated_holds}
-use Rattle.law_sums.proofs.TurnLemmas.{turn_holds}
+use Rattle.law_sum_rows.specs.model_sums.specs.Origins.{Origins, origin_at}
+use Rattle.law_sum_rows.specs.model_sums.specs.Sums.{Sums, SumsTable, sums_at, are_even}
+use Rattle.law_sum_rows.specs.model_sums.specs.Says.{IsFrom, OriginsHold, MoreHolds, OffsHold, Holds, read_sums}
+use Rattle.law_sum_rows.specs.model_sums.specs.Writes.{delegated}
+use Rattle.law_sum_rows.specs.model_sums.specs.Moves.{after_next}
+use Rattle.law_sum_rows.specs.model_sums.specs.Events.{public_size, drops, asks, counted}
+use Rattle.law_sum_rows.specs.model_sums.specs.Closed.{Turn, is_settled, has_sums, event_leads_to, all_pass, depth_closed, arrival_closed}
+use Rattle.law_sum_rows.specs.law_sums.specs.EventLaws.{PublicHolds}
+use Rattle.law_sum_rows.specs.law_sums.specs.TurnLaws.{row_sums, TurnHolds}
+use Rattle.law_sum_rows.specs.law_sums.proofs.KnownLemmas.{follow_holds}
+use Rattle.law_sum_rows.specs.law_sums.proofs.LossLemmas.{delegated_holds}
+use Rattle.law_sum_rows.specs.law_sums.proofs.TurnLemmas.{turn_holds}
 use Rattle.law_sum_rows.specs.Rows.{spot_at}
 use Rattle.law_sum_plays.specs.Laws.{Guards}
 use Rattle.law_sum_plays.specs.Coverings.{IsSumPlace}

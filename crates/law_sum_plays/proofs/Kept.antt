@@ -2,23 +2,23 @@
 -- tables of facts cover is what both tables cover.
 use Rattle.std.specs.Prelude.{◌≡◌, ℕ, Bool, true, false, nat_lt, List, [], ◌∷◌, Option, Some, None, Result, Ok, Err, refl}
 use Rattle.std.proofs.Common.{sym, subst}
-use Rattle.model_text.specs.Text.{◌>>=◌}
-use Rattle.model_machine.specs.declared.machine.Abend.{Abend}
-use Rattle.model_machine.specs.declared.machine.Abend.TheVariants.{A09}
-use Rattle.model_machine.specs.Frame.{Frame, Effect, session_of, la_of}
-use Rattle.model_machine.specs.Primitives.{Exits, Done}
-use Rattle.model_machine.specs.Chain.{Outcome, Abended}
-use Rattle.law_promise.specs.History.{Deed, with_event, is_too_long, done_event}
-use Rattle.law_promise.specs.Outline.{Entry, BySelection, ByDelegation, is_direct}
-use Rattle.law_promise.specs.Domain.{EndCovered, StopCovered, WriteCovered, DeedCovered, AbendCovered, exit_outcome}
-use Rattle.model_rules.specs.Rules.{AppRules, Target}
-use Rattle.model_rules.specs.Happenings.{Event, Did, Failed, Answers, Session, History, rule_watch}
-use Rattle.model_rules.specs.Keeping.{Break, Sum, Standing, are_totals, after_event, standing_after}
-use Rattle.model_rules.specs.Law.{domain_of_rules}
-use Rattle.model_prove.specs.Keys.{Tables}
-use Rattle.model_prove.specs.Arrivals.{Setting}
-use Rattle.law_prove.specs.Coverings.{IsMoment, covering_of}
-use Rattle.model_sums.specs.Sums.{SumsTable}
+use Rattle.law_prove_closed.specs.model_text.specs.Text.{◌>>=◌}
+use Rattle.law_prove_closed.specs.model_machine.specs.declared.machine.Abend.{Abend}
+use Rattle.law_prove_closed.specs.model_machine.specs.declared.machine.Abend.TheVariants.{A09}
+use Rattle.law_prove_closed.specs.model_machine.specs.Frame.{Frame, Effect, session_of, la_of}
+use Rattle.law_prove_closed.specs.model_machine.specs.Primitives.{Exits, Done}
+use Rattle.law_prove_closed.specs.model_machine.specs.Chain.{Outcome, Abended}
+use Rattle.law_prove_closed.specs.law_promise.specs.History.{Deed, with_event, is_too_long, done_event}
+use Rattle.law_prove_closed.specs.law_promise.specs.Outline.{Entry, BySelection, ByDelegation, is_direct}
+use Rattle.law_prove_closed.specs.law_promise.specs.Domain.{EndCovered, StopCovered, WriteCovered, DeedCovered, AbendCovered, exit_outcome}
+use Rattle.law_prove_closed.specs.model_rules.specs.Rules.{AppRules, Target}
+use Rattle.law_prove_closed.specs.model_rules.specs.Happenings.{Event, Did, Failed, Answers, Session, History, rule_watch}
+use Rattle.law_prove_closed.specs.model_rules.specs.Keeping.{Break, Sum, Standing, are_totals, after_event, standing_after}
+use Rattle.law_prove_closed.specs.model_rules.specs.Law.{domain_of_rules}
+use Rattle.law_prove_closed.specs.model_prove.specs.Keys.{Tables}
+use Rattle.law_prove_closed.specs.model_prove.specs.Arrivals.{Setting}
+use Rattle.law_prove_closed.specs.law_prove.specs.Coverings.{IsMoment, covering_of}
+use Rattle.law_sum_rows.specs.model_sums.specs.Sums.{SumsTable}
 use Rattle.law_sum_plays.specs.Laws.{IsQuiet}
 use Rattle.law_sum_plays.specs.Coverings.{IsSumMoment, sums_covering_of}
 use Rattle.law_sum_plays.proofs.Standings.{one_standing, quiet_kept}

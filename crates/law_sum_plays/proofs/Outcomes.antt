@@ -2,21 +2,21 @@
 use Rattle.std.specs.Prelude.{◌≡◌, ℕ, zero, suc, ◌≤◌, Bool, true, false, not, ◌&&◌, ◌||◌, ◌==◌, bytes_eq, List, [], ◌∷◌, Option, Some, None, Result, Ok, refl}
 use Rattle.std.proofs.Common.{arith, ap, sym, subst, ◌∙◌}
 use Rattle.std.proofs.lemmas.Bool.{and_parts, and_from, eq-eqb}
-use Rattle.model_device.proofs.MapLemmas.{name_is_itself}
-use Rattle.model_machine.specs.Frame.{Frame}
-use Rattle.law_promise.specs.Outline.{Entry, BySelection, ByDelegation}
-use Rattle.law_promise.specs.Domain.{FitsDepth}
-use Rattle.model_rules.specs.Rules.{Total, AppRules}
-use Rattle.model_rules.specs.Happenings.{Event, History}
-use Rattle.model_rules.specs.Keeping.{Amounts, Break}
-use Rattle.model_prove.specs.Keys.{Start, Delegated, OfClass, Tables, same_amounts}
-use Rattle.model_prove.specs.Arrivals.{Setting, Arrival, depths}
-use Rattle.model_prove.specs.Tables.{place_at}
-use Rattle.law_prove.specs.Coverings.{StartsAs, IsPlace, key_of}
+use Rattle.law_prove_closed.specs.model_device.proofs.MapLemmas.{name_is_itself}
+use Rattle.law_prove_closed.specs.model_machine.specs.Frame.{Frame}
+use Rattle.law_prove_closed.specs.law_promise.specs.Outline.{Entry, BySelection, ByDelegation}
+use Rattle.law_prove_closed.specs.law_promise.specs.Domain.{FitsDepth}
+use Rattle.law_prove_closed.specs.model_rules.specs.Rules.{Total, AppRules}
+use Rattle.law_prove_closed.specs.model_rules.specs.Happenings.{Event, History}
+use Rattle.law_prove_closed.specs.model_rules.specs.Keeping.{Amounts, Break}
+use Rattle.law_prove_closed.specs.model_prove.specs.Keys.{Start, Delegated, OfClass, Tables, same_amounts}
+use Rattle.law_prove_closed.specs.model_prove.specs.Arrivals.{Setting, Arrival, depths}
+use Rattle.law_prove_closed.specs.model_prove.specs.Tables.{place_at}
+use Rattle.law_prove_closed.specs.law_prove.specs.Coverings.{StartsAs, IsPlace, key_of}
 use Rattle.law_prove_closed.specs.Outcomes.{some_outcome, leads_to, tables_of}
 use Rattle.law_prove_closed.proofs.Outcomes.{found}
-use Rattle.model_sums.specs.Sums.{Sums, sums_follow}
-use Rattle.model_sums.specs.Closed.{all_pass, has_sums, event_leads_to}
+use Rattle.law_sum_rows.specs.model_sums.specs.Sums.{Sums, sums_follow}
+use Rattle.law_sum_rows.specs.model_sums.specs.Closed.{all_pass, has_sums, event_leads_to}
 
 -- ---- tests
 

@@ -1,17 +1,17 @@
 -- What a row does to the protection, to what waits and to static bytes, by whether it changes the protection.
 use Rattle.std.specs.Prelude.{◌≡◌, ℕ, Bool, true, false, cond, nat_le, List, [], length, slice_index, Option, Some, None, refl}
 use Rattle.std.proofs.Common.{sym, subst, ◌∙◌}
-use Rattle.model_machine.specs.declared.instruction.Ins.{Ins}
-use Rattle.model_machine.specs.declared.instruction.Ins.TheVariants as ins
-use Rattle.model_machine.specs.Frame.{Frame, Effect, Place, Static, Dynamic, Public, where_is, static_written, write_effect_at, write_effect, protect, static_bytes, pending_change}
-use Rattle.model_machine.specs.Primitives.{Around, Done, Primitive, DelegatorAid, primitive}
-use Rattle.model_machine.specs.Row.{effect, causes, first_cause, row}
-use Rattle.model_machine.specs.Chain.{frame_at}
-use Rattle.law_rows.specs.Shapes.{Act, Stays, Answers, Jumps, Calls, Returns, Pushes, Replaces, Writes, Protects, Shape, act_effect, with_flags, meaning, prim_shape, pair_shape, shape, delegator_shape}
-use Rattle.law_rows.proofs.RowShapes.{shapes}
-use Rattle.law_rows.proofs.Keeping.{on_done}
-use Rattle.model_rules.specs.Keeping.{mode_of_primitive, mode_of}
-use Rattle.model_sums.specs.Events.{is_commit}
+use Rattle.law_prove_closed.specs.model_machine.specs.declared.instruction.Ins.{Ins}
+use Rattle.law_prove_closed.specs.model_machine.specs.declared.instruction.Ins.TheVariants as ins
+use Rattle.law_prove_closed.specs.model_machine.specs.Frame.{Frame, Effect, Place, Static, Dynamic, Public, where_is, static_written, write_effect_at, write_effect, protect, static_bytes, pending_change}
+use Rattle.law_prove_closed.specs.model_machine.specs.Primitives.{Around, Done, Primitive, DelegatorAid, primitive}
+use Rattle.law_prove_closed.specs.model_machine.specs.Row.{effect, causes, first_cause, row}
+use Rattle.law_prove_closed.specs.model_machine.specs.Chain.{frame_at}
+use Rattle.law_prove_closed.specs.law_rows.specs.Shapes.{Act, Stays, Answers, Jumps, Calls, Returns, Pushes, Replaces, Writes, Protects, Shape, act_effect, with_flags, meaning, prim_shape, pair_shape, shape, delegator_shape}
+use Rattle.law_prove_closed.specs.law_rows.proofs.RowShapes.{shapes}
+use Rattle.law_prove_closed.specs.law_rows.proofs.Keeping.{on_done}
+use Rattle.law_prove_closed.specs.model_rules.specs.Keeping.{mode_of_primitive, mode_of}
+use Rattle.law_sum_rows.specs.model_sums.specs.Events.{is_commit}
 use Rattle.law_sum_plays.specs.Laws.{Guards, GuardLaw}
 
 -- ---- acts that leave the protection

@@ -2,25 +2,25 @@
 use Rattle.std.specs.Prelude.{◌≡◌, ℕ, Bool, true, false, List, [], ◌∷◌, Result, Ok, refl}
 use Rattle.std.proofs.Common.{ap, ◌∙◌}
 use Rattle.std.proofs.lemmas.Bool.{and_from}
-use Rattle.model_machine.specs.declared.machine.Abend.TheVariants.{A07}
-use Rattle.model_device.specs.Bytes.{zeros}
-use Rattle.model_machine.specs.Code.{instruction_at}
-use Rattle.model_machine.specs.Frame.{session_of}
-use Rattle.model_machine.specs.Chain.{Abended}
-use Rattle.law_promise.specs.Domain.{Domain, IsSound}
-use Rattle.model_rules.specs.Rules.{AppRules, Target}
-use Rattle.model_rules.specs.Happenings.{Event, Session, History}
-use Rattle.model_rules.specs.Keeping.{Break, Standing, standing_after, are_in_ranges, are_totals, are_kept, keeps_rules, first_standing}
-use Rattle.model_rules.specs.Law.{Covering, CoversRules, domain_of_rules}
-use Rattle.model_rules.proofs.Covered.{covered_rules}
-use Rattle.model_prove.specs.Keys.{Tables}
-use Rattle.model_prove.specs.Arrivals.{Setting}
-use Rattle.model_prove.specs.Tables.{IsLoadable, is_closed}
-use Rattle.law_prove.specs.Coverings.{IsMoment, covering_of}
-use Rattle.law_prove.proofs.Moments.{idle_ranges}
+use Rattle.law_prove_closed.specs.model_machine.specs.declared.machine.Abend.TheVariants.{A07}
+use Rattle.law_prove_closed.specs.model_device.specs.Bytes.{zeros}
+use Rattle.law_prove_closed.specs.model_machine.specs.Code.{instruction_at}
+use Rattle.law_prove_closed.specs.model_machine.specs.Frame.{session_of}
+use Rattle.law_prove_closed.specs.model_machine.specs.Chain.{Abended}
+use Rattle.law_prove_closed.specs.law_promise.specs.Domain.{Domain, IsSound}
+use Rattle.law_prove_closed.specs.model_rules.specs.Rules.{AppRules, Target}
+use Rattle.law_prove_closed.specs.model_rules.specs.Happenings.{Event, Session, History}
+use Rattle.law_prove_closed.specs.model_rules.specs.Keeping.{Break, Standing, standing_after, are_in_ranges, are_totals, are_kept, keeps_rules, first_standing}
+use Rattle.law_prove_closed.specs.model_rules.specs.Law.{Covering, CoversRules, domain_of_rules}
+use Rattle.law_prove_closed.specs.model_rules.proofs.Covered.{covered_rules}
+use Rattle.law_prove_closed.specs.model_prove.specs.Keys.{Tables}
+use Rattle.law_prove_closed.specs.model_prove.specs.Arrivals.{Setting}
+use Rattle.law_prove_closed.specs.model_prove.specs.Tables.{IsLoadable, is_closed}
+use Rattle.law_prove_closed.specs.law_prove.specs.Coverings.{IsMoment, covering_of}
+use Rattle.law_prove_closed.specs.law_prove.proofs.Moments.{idle_ranges}
 use Rattle.law_prove_closed.proofs.Rows.{all_rows}
 use Rattle.law_prove_closed.proofs.Sound.{is_sound}
-use Rattle.model_sums.specs.Sums.{SumsTable}
+use Rattle.law_sum_rows.specs.model_sums.specs.Sums.{SumsTable}
 use Rattle.law_sum_rows.specs.Rows.{AllSumRowsLaw}
 use Rattle.law_sum_plays.specs.Coverings.{IsSumMoment, sums_covering_of}
 use Rattle.law_sum_plays.specs.Laws.{BeginSumsLaw, RowsSufficeLaw}

@@ -3,17 +3,17 @@ use Rattle.std.specs.Prelude.{◌≡◌, ℕ, Bool, true, false, cond, ◌||◌,
 use Rattle.std.specs.List.{AllByRecursion}
 use Rattle.std.proofs.Common.{ap, sym, subst, ◌∙◌}
 use Rattle.std.proofs.lemmas.Bool.{and_parts}
-use Rattle.model_text.specs.Text.{◌>>=◌}
-use Rattle.model_text.specs.Listing.{hex_text}
-use Rattle.model_play.specs.Transcript.{outcome_text}
-use Rattle.law_promise.specs.History.{Deed}
-use Rattle.law_explore.specs.Matching.{fits}
-use Rattle.model_rules.specs.Rules.{SumLine, AppRules}
-use Rattle.model_rules.specs.Happenings.{Event, Did, Failed, Commanded, Answers, Session, History}
-use Rattle.model_rules.specs.Keeping.{Amounts, Break, Sum, Standing, OnTurn, OnCommand, OnAnswer, OnSession, after_occasion, line_of_deed, amount_in, moved_sum, after_sum_line, after_moves, mode_of, first_sums, first_standing, protected_sums, after_deed, with_allowances, after_abend, after_event, standing_after}
-use Rattle.model_sums.specs.Says.{read_sums}
-use Rattle.model_sums.specs.Closed.{all_pass, is_sum}
-use Rattle.law_sums.specs.EventLaws.{has_sum}
+use Rattle.law_prove_closed.specs.model_text.specs.Text.{◌>>=◌}
+use Rattle.law_prove_closed.specs.model_text.specs.Listing.{hex_text}
+use Rattle.law_prove_closed.specs.model_play.specs.Transcript.{outcome_text}
+use Rattle.law_prove_closed.specs.law_promise.specs.History.{Deed}
+use Rattle.law_prove_closed.specs.law_explore.specs.Matching.{fits}
+use Rattle.law_prove_closed.specs.model_rules.specs.Rules.{SumLine, AppRules}
+use Rattle.law_prove_closed.specs.model_rules.specs.Happenings.{Event, Did, Failed, Commanded, Answers, Session, History}
+use Rattle.law_prove_closed.specs.model_rules.specs.Keeping.{Amounts, Break, Sum, Standing, OnTurn, OnCommand, OnAnswer, OnSession, after_occasion, line_of_deed, amount_in, moved_sum, after_sum_line, after_moves, mode_of, first_sums, first_standing, protected_sums, after_deed, with_allowances, after_abend, after_event, standing_after}
+use Rattle.law_sum_rows.specs.model_sums.specs.Says.{read_sums}
+use Rattle.law_sum_rows.specs.model_sums.specs.Closed.{all_pass, is_sum}
+use Rattle.law_sum_rows.specs.law_sums.specs.EventLaws.{has_sum}
 use Rattle.law_sum_plays.specs.Laws.{IsQuiet, QuietLaw, AreNamed, NameLaw}
 
 -- ---- one

@@ -4,17 +4,17 @@ use Rattle.std.specs.List.{AllByRecursion}
 use Rattle.std.proofs.Common.{arith, ap, sym, ◌∙◌}
 use Rattle.std.proofs.Math.Seq.{drop-cons}
 use Rattle.std.proofs.lemmas.Bool.{and_parts, and_from, eqb-true, eq-eqb, leb-true}
-use Rattle.model_device.specs.Bytes.{num}
-use Rattle.model_device.specs.Pieces.{laid_pieces}
-use Rattle.model_machine.specs.Frame.{Frame, static_bytes}
-use Rattle.model_rules.specs.Rules.{Total}
-use Rattle.model_rules.specs.Keeping.{Sum, added_by, taken_by, is_total, are_totals}
-use Rattle.model_prove.specs.Facts.{Memory}
-use Rattle.model_prove.specs.Compares.{bytes_from}
-use Rattle.law_prove.specs.Coverings.{frame_memory}
-use Rattle.law_prove.proofs.Parts.{memory_static}
-use Rattle.model_sums.specs.Says.{number_at, TotalHolds, TotalsHold}
-use Rattle.model_sums.specs.Closed.{all_pass}
+use Rattle.law_prove_closed.specs.model_device.specs.Bytes.{num}
+use Rattle.law_prove_closed.specs.model_device.specs.Pieces.{laid_pieces}
+use Rattle.law_prove_closed.specs.model_machine.specs.Frame.{Frame, static_bytes}
+use Rattle.law_prove_closed.specs.model_rules.specs.Rules.{Total}
+use Rattle.law_prove_closed.specs.model_rules.specs.Keeping.{Sum, added_by, taken_by, is_total, are_totals}
+use Rattle.law_prove_closed.specs.model_prove.specs.Facts.{Memory}
+use Rattle.law_prove_closed.specs.model_prove.specs.Compares.{bytes_from}
+use Rattle.law_prove_closed.specs.law_prove.specs.Coverings.{frame_memory}
+use Rattle.law_prove_closed.specs.law_prove.proofs.Parts.{memory_static}
+use Rattle.law_sum_rows.specs.model_sums.specs.Says.{number_at, TotalHolds, TotalsHold}
+use Rattle.law_sum_rows.specs.model_sums.specs.Closed.{all_pass}
 
 -- a memory has static bytes at their addresses
 abbrev pub HasStatic : Memory → List ℕ → Type 0

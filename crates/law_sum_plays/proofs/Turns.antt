@@ -2,36 +2,36 @@
 use Rattle.std.specs.Prelude.{◌≡◌, ℕ, Bool, true, ◌&&◌, List, ◌∷◌, length, Option, Result, Ok, Err, refl}
 use Rattle.std.proofs.Common.{ap, sym, subst, ◌∙◌}
 use Rattle.std.proofs.lemmas.Bool.{and_parts}
-use Rattle.model_machine.specs.declared.instruction.Ins.{Ins}
-use Rattle.model_machine.specs.declared.instruction.DecodeFault.{DecodeFault}
-use Rattle.model_machine.specs.Code.{instruction_at}
-use Rattle.model_machine.specs.Frame.{Frame, Effect, session_of}
-use Rattle.model_machine.specs.Primitives.{Around, Then, Goes, Exits, Delegates, Done}
-use Rattle.model_machine.specs.Row.{RowEnd, Abends, Does, row}
-use Rattle.model_machine.specs.Chain.{Abended, frame_at}
-use Rattle.law_rows.specs.Keeping.{OnDone, OnLeave, Leaves}
-use Rattle.law_rows.proofs.Keeping.{row_leaves}
-use Rattle.law_promise.specs.Outline.{Entry, FitsEntry}
-use Rattle.law_promise.specs.History.{fetch_cause}
-use Rattle.law_promise.specs.Domain.{IsSegment, IsDelegator, RowCovered, FetchCovered, FitsDepth}
-use Rattle.model_rules.specs.Rules.{AppRules, Target}
-use Rattle.model_rules.specs.Happenings.{Event, Did, Failed, History}
-use Rattle.model_rules.specs.Keeping.{mode_of}
-use Rattle.model_rules.specs.Law.{domain_of_rules}
-use Rattle.model_prove.specs.Keys.{PlaceKey, Tables}
-use Rattle.model_prove.specs.Splits.{Scene}
-use Rattle.model_prove.specs.Arrivals.{Setting, Arrival, static_size}
-use Rattle.model_prove.specs.Steps.{place_arrivals}
-use Rattle.model_prove.specs.Tables.{IsLoadable, is_closed}
-use Rattle.law_prove.specs.Coverings.{IsPlace, key_of, covering_of}
-use Rattle.law_prove.specs.Laws.{PlacesCovered}
-use Rattle.law_prove.proofs.Places.{place_law}
+use Rattle.law_prove_closed.specs.model_machine.specs.declared.instruction.Ins.{Ins}
+use Rattle.law_prove_closed.specs.model_machine.specs.declared.instruction.DecodeFault.{DecodeFault}
+use Rattle.law_prove_closed.specs.model_machine.specs.Code.{instruction_at}
+use Rattle.law_prove_closed.specs.model_machine.specs.Frame.{Frame, Effect, session_of}
+use Rattle.law_prove_closed.specs.model_machine.specs.Primitives.{Around, Then, Goes, Exits, Delegates, Done}
+use Rattle.law_prove_closed.specs.model_machine.specs.Row.{RowEnd, Abends, Does, row}
+use Rattle.law_prove_closed.specs.model_machine.specs.Chain.{Abended, frame_at}
+use Rattle.law_prove_closed.specs.law_rows.specs.Keeping.{OnDone, OnLeave, Leaves}
+use Rattle.law_prove_closed.specs.law_rows.proofs.Keeping.{row_leaves}
+use Rattle.law_prove_closed.specs.law_promise.specs.Outline.{Entry, FitsEntry}
+use Rattle.law_prove_closed.specs.law_promise.specs.History.{fetch_cause}
+use Rattle.law_prove_closed.specs.law_promise.specs.Domain.{IsSegment, IsDelegator, RowCovered, FetchCovered, FitsDepth}
+use Rattle.law_prove_closed.specs.model_rules.specs.Rules.{AppRules, Target}
+use Rattle.law_prove_closed.specs.model_rules.specs.Happenings.{Event, Did, Failed, History}
+use Rattle.law_prove_closed.specs.model_rules.specs.Keeping.{mode_of}
+use Rattle.law_prove_closed.specs.model_rules.specs.Law.{domain_of_rules}
+use Rattle.law_prove_closed.specs.model_prove.specs.Keys.{PlaceKey, Tables}
+use Rattle.law_prove_closed.specs.model_prove.specs.Splits.{Scene}
+use Rattle.law_prove_closed.specs.model_prove.specs.Arrivals.{Setting, Arrival, static_size}
+use Rattle.law_prove_closed.specs.model_prove.specs.Steps.{place_arrivals}
+use Rattle.law_prove_closed.specs.model_prove.specs.Tables.{IsLoadable, is_closed}
+use Rattle.law_prove_closed.specs.law_prove.specs.Coverings.{IsPlace, key_of, covering_of}
+use Rattle.law_prove_closed.specs.law_prove.specs.Laws.{PlacesCovered}
+use Rattle.law_prove_closed.specs.law_prove.proofs.Places.{place_law}
 use Rattle.law_prove_closed.specs.Outcomes.{tables_of}
 use Rattle.law_prove_closed.proofs.Outcomes.{closed_next_law}
 use Rattle.law_prove_closed.proofs.Rows.{all_rows}
-use Rattle.model_sums.specs.Sums.{Sums, SumsTable, sums_at}
-use Rattle.model_sums.specs.Moves.{after_next}
-use Rattle.model_sums.specs.Closed.{Turn, after_event, is_settled, has_sums, all_pass, arrival_closed, exit_settled, fetched_closed, place_closed}
+use Rattle.law_sum_rows.specs.model_sums.specs.Sums.{Sums, SumsTable, sums_at}
+use Rattle.law_sum_rows.specs.model_sums.specs.Moves.{after_next}
+use Rattle.law_sum_rows.specs.model_sums.specs.Closed.{Turn, after_event, is_settled, has_sums, all_pass, arrival_closed, exit_settled, fetched_closed, place_closed}
 use Rattle.law_sum_rows.specs.Rows.{IsDelegation, SumsMove, spot_at, AllSumRowsLaw}
 use Rattle.law_sum_plays.specs.Laws.{Guards}
 use Rattle.law_sum_plays.specs.Coverings.{IsSumPlace, sums_covering_of}

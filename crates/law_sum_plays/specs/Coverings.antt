@@ -2,16 +2,16 @@
 -- with what is known there for sums. It is a reduced product of both (Cousot and Cousot, POPL 1979): keys are those of
 -- the tables of facts.
 use Rattle.std.specs.Prelude.{◌≡◌, ℕ, Bool, true, false, List, [], Some}
-use Rattle.model_machine.specs.Frame.{Frame}
-use Rattle.law_promise.specs.Outline.{Entry}
-use Rattle.model_rules.specs.Happenings.{Event, History}
-use Rattle.model_rules.specs.Keeping.{are_totals}
-use Rattle.model_rules.specs.Law.{Covering}
-use Rattle.model_prove.specs.Keys.{Tables}
-use Rattle.model_prove.specs.Arrivals.{Setting}
-use Rattle.law_prove.specs.Coverings.{IsMoment, IsUnbroken, frame_memory, IsPlace, key_of}
-use Rattle.model_sums.specs.Sums.{Sums, SumsTable, sums_at}
-use Rattle.model_sums.specs.Says.{SumsHold}
+use Rattle.law_prove_closed.specs.model_machine.specs.Frame.{Frame}
+use Rattle.law_prove_closed.specs.law_promise.specs.Outline.{Entry}
+use Rattle.law_prove_closed.specs.model_rules.specs.Happenings.{Event, History}
+use Rattle.law_prove_closed.specs.model_rules.specs.Keeping.{are_totals}
+use Rattle.law_prove_closed.specs.model_rules.specs.Law.{Covering}
+use Rattle.law_prove_closed.specs.model_prove.specs.Keys.{Tables}
+use Rattle.law_prove_closed.specs.model_prove.specs.Arrivals.{Setting}
+use Rattle.law_prove_closed.specs.law_prove.specs.Coverings.{IsMoment, IsUnbroken, frame_memory, IsPlace, key_of}
+use Rattle.law_sum_rows.specs.model_sums.specs.Sums.{Sums, SumsTable, sums_at}
+use Rattle.law_sum_rows.specs.model_sums.specs.Says.{SumsHold}
 
 -- A moment between commands that the tables of facts have, at which each total holds of the static bytes and of the sums
 -- as power would leave both.

@@ -1,30 +1,30 @@
 -- The law of closed tables for rules with sums, and its cases.
 use Rattle.std.specs.Prelude.{◌≡◌, ℕ, Bool, true, false, List, [], ◌∷◌, length, Option, Some, Ok, ⊤}
-use Rattle.model_device.specs.Bytes.{AreBytes, zeros}
-use Rattle.model_machine.specs.declared.instruction.Ins.{Ins}
-use Rattle.model_machine.specs.Apdu.{ApduParts}
-use Rattle.model_machine.specs.Code.{instruction_at}
-use Rattle.model_machine.specs.Frame.{Frame, Effect, new_public}
-use Rattle.model_machine.specs.Primitives.{Around}
-use Rattle.model_machine.specs.Row.{row}
-use Rattle.model_machine.specs.Chain.{frame_at}
-use Rattle.model_card.specs.Manager.{ToApplication, route}
-use Rattle.law_rows.specs.Keeping.{OnDone}
-use Rattle.law_bytes.specs.OfChains.{IsByteCommand}
-use Rattle.law_promise.specs.Outline.{Entry, BySelection, ByDelegation, FitsEntry}
-use Rattle.law_promise.specs.Domain.{IsSegment, IsDelegator, FetchCovered, FitsDepth, first_frame_in}
-use Rattle.model_rules.specs.Rules.{Target, AppRules}
-use Rattle.model_rules.specs.Happenings.{Event, Did, Failed, Commanded, Answers, Session, History}
-use Rattle.model_rules.specs.Keeping.{Sum, Standing, mode_of, standing_after}
-use Rattle.model_rules.specs.Law.{AreKept, CoversRules, domain_of_rules}
-use Rattle.model_prove.specs.Keys.{Tables}
-use Rattle.model_prove.specs.Arrivals.{Setting}
-use Rattle.model_prove.specs.Tables.{IsLoadable, is_closed}
-use Rattle.model_sums.specs.Sums.{SumsTable}
-use Rattle.model_sums.specs.Events.{asks}
-use Rattle.model_sums.specs.Closed.{is_sum, sums_closed}
-use Rattle.law_sums.specs.EventLaws.{has_sum}
-use Rattle.law_sums.specs.TurnLaws.{StaysProtected}
+use Rattle.law_prove_closed.specs.model_device.specs.Bytes.{AreBytes, zeros}
+use Rattle.law_prove_closed.specs.model_machine.specs.declared.instruction.Ins.{Ins}
+use Rattle.law_prove_closed.specs.model_machine.specs.Apdu.{ApduParts}
+use Rattle.law_prove_closed.specs.model_machine.specs.Code.{instruction_at}
+use Rattle.law_prove_closed.specs.model_machine.specs.Frame.{Frame, Effect, new_public}
+use Rattle.law_prove_closed.specs.model_machine.specs.Primitives.{Around}
+use Rattle.law_prove_closed.specs.model_machine.specs.Row.{row}
+use Rattle.law_prove_closed.specs.model_machine.specs.Chain.{frame_at}
+use Rattle.law_prove_closed.specs.model_card.specs.Manager.{ToApplication, route}
+use Rattle.law_prove_closed.specs.law_rows.specs.Keeping.{OnDone}
+use Rattle.law_prove_closed.specs.law_bytes.specs.OfChains.{IsByteCommand}
+use Rattle.law_prove_closed.specs.law_promise.specs.Outline.{Entry, BySelection, ByDelegation, FitsEntry}
+use Rattle.law_prove_closed.specs.law_promise.specs.Domain.{IsSegment, IsDelegator, FetchCovered, FitsDepth, first_frame_in}
+use Rattle.law_prove_closed.specs.model_rules.specs.Rules.{Target, AppRules}
+use Rattle.law_prove_closed.specs.model_rules.specs.Happenings.{Event, Did, Failed, Commanded, Answers, Session, History}
+use Rattle.law_prove_closed.specs.model_rules.specs.Keeping.{Sum, Standing, mode_of, standing_after}
+use Rattle.law_prove_closed.specs.model_rules.specs.Law.{AreKept, CoversRules, domain_of_rules}
+use Rattle.law_prove_closed.specs.model_prove.specs.Keys.{Tables}
+use Rattle.law_prove_closed.specs.model_prove.specs.Arrivals.{Setting}
+use Rattle.law_prove_closed.specs.model_prove.specs.Tables.{IsLoadable, is_closed}
+use Rattle.law_sum_rows.specs.model_sums.specs.Sums.{SumsTable}
+use Rattle.law_sum_rows.specs.model_sums.specs.Events.{asks}
+use Rattle.law_sum_rows.specs.model_sums.specs.Closed.{is_sum, sums_closed}
+use Rattle.law_sum_rows.specs.law_sums.specs.EventLaws.{has_sum}
+use Rattle.law_sum_rows.specs.law_sums.specs.TurnLaws.{StaysProtected}
 use Rattle.law_sum_rows.specs.Rows.{AllSumRowsLaw}
 use Rattle.law_sum_plays.specs.Coverings.{IsSumMoment, IsSumPlace, sums_covering_of}
 

@@ -36,3 +36,6 @@ pub fn rows_suffice()
 pub fn closed_sums_keep_rules()
     ensures { ClosedSumsLaw }
 {}
+
+pub use law_prove_closed;
+pub use law_prove_closed::model_machine;

@@ -2,26 +2,26 @@
 -- with what a change of protection leaves.
 use Rattle.std.proofs.Common.{◌≡◌, ℕ, ◌+◌, ◌-◌, ◌≤◌, Bool, true, false, cond, List, [], ◌∷◌, ◌++◌, length, Option, Some, None, refl, sym, ap, subst, ◌∙◌, arith}
 use Rattle.std.specs.Prelude.{not, ◌&&◌, ◌||◌, ◌==◌, nat_lt, nat_le, slice_index, is_none, ⊤}
-use Rattle.model_device.specs.Bytes.{bytes2, splice}
-use Rattle.model_device.proofs.ListLemmas.{splice_longer}
-use Rattle.model_machine.specs.Frame.{Frame, Effect, where_is, dynamic_base, dynamic_end, public_base, static_bytes, top, pending_change}
-use Rattle.model_machine.specs.Chain.{frame_at}
-use Rattle.law_rows.specs.Shapes.{Act, Stays, Answers, Jumps, Calls, Returns, Pushes, Replaces, Writes, Protects, with_status, with_length, act_effect}
-use Rattle.law_rows.proofs.Keeping.{length_laid}
-use Rattle.model_rules.specs.Rules.{Total}
-use Rattle.model_rules.specs.Keeping.{Amounts, Sum}
-use Rattle.model_prove.specs.Facts.{Memory}
-use Rattle.model_prove.specs.Keys.{Start, Call, PlaceKey}
-use Rattle.model_prove.specs.Arrivals.{la_at}
-use Rattle.law_prove.specs.Coverings.{parts_memory, frame_memory}
-use Rattle.law_prove.proofs.Alike.{from_length, top_is}
-use Rattle.law_prove.proofs.Parts.{not_lt}
-use Rattle.law_prove.proofs.Spots.{place_key}
-use Rattle.model_sums.specs.Origins.{Origin, unknowns}
-use Rattle.model_sums.specs.Sums.{Sums}
-use Rattle.model_sums.specs.Says.{AreFrom, Holds, TotalsHold}
-use Rattle.model_sums.specs.Writes.{wrote, wrote_any, dropped}
-use Rattle.model_sums.specs.Moves.{answer_wrote, acted, constants}
+use Rattle.law_sums.specs.model_device.specs.Bytes.{bytes2, splice}
+use Rattle.law_sums.specs.model_device.proofs.ListLemmas.{splice_longer}
+use Rattle.law_sums.specs.model_machine.specs.Frame.{Frame, Effect, where_is, dynamic_base, dynamic_end, public_base, static_bytes, top, pending_change}
+use Rattle.law_sums.specs.model_machine.specs.Chain.{frame_at}
+use Rattle.law_sums.specs.law_rows.specs.Shapes.{Act, Stays, Answers, Jumps, Calls, Returns, Pushes, Replaces, Writes, Protects, with_status, with_length, act_effect}
+use Rattle.law_sums.specs.law_rows.proofs.Keeping.{length_laid}
+use Rattle.law_sums.specs.model_rules.specs.Rules.{Total}
+use Rattle.law_sums.specs.model_rules.specs.Keeping.{Amounts, Sum}
+use Rattle.law_sums.specs.model_prove.specs.Facts.{Memory}
+use Rattle.law_sums.specs.model_prove.specs.Keys.{Start, Call, PlaceKey}
+use Rattle.law_sums.specs.model_prove.specs.Arrivals.{la_at}
+use Rattle.law_prove_reach.specs.law_prove.specs.Coverings.{parts_memory, frame_memory}
+use Rattle.law_prove_reach.specs.law_prove.proofs.Alike.{from_length, top_is}
+use Rattle.law_prove_reach.specs.law_prove.proofs.Parts.{not_lt}
+use Rattle.law_prove_reach.specs.law_prove.proofs.Spots.{place_key}
+use Rattle.law_sums.specs.model_sums.specs.Origins.{Origin, unknowns}
+use Rattle.law_sums.specs.model_sums.specs.Sums.{Sums}
+use Rattle.law_sums.specs.model_sums.specs.Says.{AreFrom, Holds, TotalsHold}
+use Rattle.law_sums.specs.model_sums.specs.Writes.{wrote, wrote_any, dropped}
+use Rattle.law_sums.specs.model_sums.specs.Moves.{answer_wrote, acted, constants}
 use Rattle.law_sums.proofs.OriginLemmas as origins
 use Rattle.law_sums.proofs.CopyLemmas.{written_holds}
 use Rattle.law_sums.proofs.KnownLemmas.{popped_holds}

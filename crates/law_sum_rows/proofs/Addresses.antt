@@ -2,32 +2,32 @@
 use Rattle.std.proofs.Common.{◌≡◌, inl, inr, ℕ, suc, ◌+◌, ◌-◌, ◌*◌, ◌/◌, ◌%◌, ◌<◌, ◌≤◌, Bool, true, false, cond, List, [], ◌∷◌, length, ℤ, Option, Some, None, refl, sym, ap, subst, ◌∙◌, arith}
 use Rattle.std.specs.Prelude.{◌==◌, is_none}
 use Rattle.std.proofs.lemmas.Bool.{or_parts}
-use Rattle.model_device.specs.Bytes.{bytes2, zeros}
-use Rattle.model_machine.specs.declared.instruction.Ins.{Ins}
-use Rattle.model_machine.specs.declared.instruction.Ins.TheVariants as ins
-use Rattle.model_machine.specs.Frame.{Frame, where_is, is_outside, no_access, bytes_at, address_at, top, is_under, dynamic_base, dynamic_end, frame_after_pop}
-use Rattle.model_machine.specs.Primitives.{Around, Goes, number_below_top}
-use Rattle.model_machine.specs.Row.{causes, operand, address_or_zero, on_stack, indexed_address}
-use Rattle.law_rows.specs.Shapes.{Act, Pushes, Writes, shape}
-use Rattle.model_prove.specs.Sets.{is_in}
-use Rattle.model_prove.specs.Facts.{Memory, values_at}
-use Rattle.model_prove.specs.Compares.{bytes_from}
-use Rattle.model_prove.specs.Keys.{Tables}
-use Rattle.model_prove.specs.Laws.{Among}
-use Rattle.model_prove.specs.Splits.{stand_in_stack, places_from, top_places, deciders}
-use Rattle.model_prove.specs.Reach.{reach_at}
-use Rattle.model_prove.specs.Arrivals.{Setting}
-use Rattle.model_prove.proofs.FactLemmas.{value_holds}
-use Rattle.model_prove.proofs.SetLemmas.{is_first}
-use Rattle.law_prove.specs.Coverings.{parts_memory, frame_memory}
-use Rattle.law_prove.proofs.Alike.{from_length, read_is, top_is}
-use Rattle.law_prove.proofs.Plain.{above, over_is}
-use Rattle.law_prove.proofs.Turns.{nobody}
+use Rattle.law_sums.specs.model_device.specs.Bytes.{bytes2, zeros}
+use Rattle.law_sums.specs.model_machine.specs.declared.instruction.Ins.{Ins}
+use Rattle.law_sums.specs.model_machine.specs.declared.instruction.Ins.TheVariants as ins
+use Rattle.law_sums.specs.model_machine.specs.Frame.{Frame, where_is, is_outside, no_access, bytes_at, address_at, top, is_under, dynamic_base, dynamic_end, frame_after_pop}
+use Rattle.law_sums.specs.model_machine.specs.Primitives.{Around, Goes, number_below_top}
+use Rattle.law_sums.specs.model_machine.specs.Row.{causes, operand, address_or_zero, on_stack, indexed_address}
+use Rattle.law_sums.specs.law_rows.specs.Shapes.{Act, Pushes, Writes, shape}
+use Rattle.law_sums.specs.model_prove.specs.Sets.{is_in}
+use Rattle.law_sums.specs.model_prove.specs.Facts.{Memory, values_at}
+use Rattle.law_sums.specs.model_prove.specs.Compares.{bytes_from}
+use Rattle.law_sums.specs.model_prove.specs.Keys.{Tables}
+use Rattle.law_sums.specs.model_prove.specs.Laws.{Among}
+use Rattle.law_sums.specs.model_prove.specs.Splits.{stand_in_stack, places_from, top_places, deciders}
+use Rattle.law_sums.specs.model_prove.specs.Reach.{reach_at}
+use Rattle.law_sums.specs.model_prove.specs.Arrivals.{Setting}
+use Rattle.law_sums.specs.model_prove.proofs.FactLemmas.{value_holds}
+use Rattle.law_sums.specs.model_prove.proofs.SetLemmas.{is_first}
+use Rattle.law_prove_reach.specs.law_prove.specs.Coverings.{parts_memory, frame_memory}
+use Rattle.law_prove_reach.specs.law_prove.proofs.Alike.{from_length, read_is, top_is}
+use Rattle.law_prove_reach.specs.law_prove.proofs.Plain.{above, over_is}
+use Rattle.law_prove_reach.specs.law_prove.proofs.Turns.{nobody}
 use Rattle.law_prove_reach.proofs.Scenes.{with_bytes, fits_sized, same_operand, same_outside, pair_is, same_pair, address_is, below_is, part_inside, stack_inside}
 use Rattle.law_prove_reach.proofs.Reached.{IsWithin, is_within}
 use Rattle.law_prove_reach.proofs.Accesses.{inside_of}
 use Rattle.law_prove_reach.proofs.Tops.{Agree, among_numbers}
-use Rattle.model_sums.specs.Sums.{SumsTable}
+use Rattle.law_sums.specs.model_sums.specs.Sums.{SumsTable}
 use Rattle.law_sum_rows.proofs.Scenes.{Step, fetched, memory, base, sized, base_fits, Found, few_or_many, nobody_among}
 use Rattle.law_sum_rows.proofs.Rows.{unprotected, row_done, few_compared, coarse_compared, StepCase}
 use Rattle.law_sum_rows.proofs.Plain.{dt_low, dt_high, pop_low, pop_high}

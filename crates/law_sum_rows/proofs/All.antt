@@ -2,14 +2,14 @@
 use Rattle.std.proofs.Common.{◌≡◌, ℕ, Bool, true, false, cond, List, [], ◌∷◌, Option, Some, None, refl, sym, ap, subst, ◌∙◌}
 use Rattle.std.specs.Prelude.{◌==◌, slice_index, ⊤}
 use Rattle.std.proofs.lemmas.Bool.{eqb-true}
-use Rattle.model_machine.specs.declared.instruction.Ins.{Ins}
-use Rattle.model_machine.specs.declared.instruction.Ins.TheVariants as ins
-use Rattle.model_machine.specs.Frame.{Frame}
-use Rattle.model_machine.specs.Primitives.{Goes, Des, TripleDes, Aes, Primitive, entry_of_number, primitives, primitive, prim_causes}
-use Rattle.model_machine.specs.Row.{causes}
-use Rattle.law_rows.specs.Shapes.{Stays, shape, pair_shape}
-use Rattle.model_rules.specs.Keeping.{mode_of_primitive}
-use Rattle.law_prove.proofs.Turns.{NoCause}
+use Rattle.law_sums.specs.model_machine.specs.declared.instruction.Ins.{Ins}
+use Rattle.law_sums.specs.model_machine.specs.declared.instruction.Ins.TheVariants as ins
+use Rattle.law_sums.specs.model_machine.specs.Frame.{Frame}
+use Rattle.law_sums.specs.model_machine.specs.Primitives.{Goes, Des, TripleDes, Aes, Primitive, entry_of_number, primitives, primitive, prim_causes}
+use Rattle.law_sums.specs.model_machine.specs.Row.{causes}
+use Rattle.law_sums.specs.law_rows.specs.Shapes.{Stays, shape, pair_shape}
+use Rattle.law_sums.specs.model_rules.specs.Keeping.{mode_of_primitive}
+use Rattle.law_prove_reach.specs.law_prove.proofs.Turns.{NoCause}
 use Rattle.law_sums.specs.TurnLaws.{row_sums}
 use Rattle.law_sum_rows.specs.Rows.{AllSumRowsLaw}
 use Rattle.law_sum_rows.proofs.Scenes.{fetched}

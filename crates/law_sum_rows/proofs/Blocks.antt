@@ -3,31 +3,31 @@ use Rattle.std.proofs.Common.{◌≡◌, ℕ, suc, ◌+◌, ◌-◌, ◌*◌, �
 use Rattle.std.specs.Prelude.{◌==◌, ◌&&◌, ◌||◌, not, nat_lt, nat_le, slice_index, filter, is_none}
 use Rattle.std.proofs.lemmas.Bool.{or_parts, and_parts, leb-true, lt-ltb, eqb-true}
 use Rattle.sha1.specs.Sha1.{sha1}
-use Rattle.model_machine.specs.declared.instruction.Ins.{Ins}
-use Rattle.model_machine.specs.declared.instruction.Ins.TheVariants as ins
-use Rattle.model_machine.specs.Modes.{ecb}
-use Rattle.model_machine.specs.Frame.{Frame, where_is, is_outside, bytes_at, is_under, dynamic_base, dynamic_end, frame_after_pop}
-use Rattle.model_machine.specs.Primitives.{Around, Cipher, Des, TripleDes, Aes, MemoryCopy, CopyFixed, Digest, later_causes, number_below_top, in_range, is_message, block_len, key_len, signature}
-use Rattle.model_machine.specs.Row.{causes}
-use Rattle.law_rows.specs.Shapes.{shape, prim_shape}
-use Rattle.law_machine.proofs.BlockLengths.{length_sha1}
-use Rattle.model_prove.specs.Sets.{Set, is_in}
-use Rattle.model_prove.specs.Facts.{Facts, Memory, values_at}
-use Rattle.model_prove.specs.Compares.{bytes_from}
-use Rattle.model_prove.specs.Keys.{Tables}
-use Rattle.model_prove.specs.Reach.{lengths_at}
-use Rattle.model_prove.specs.Work.{Copies, NoFact}
-use Rattle.model_prove.specs.Arrivals.{Setting}
-use Rattle.model_prove.proofs.FactLemmas.{value_holds}
-use Rattle.model_prove.proofs.SetLemmas.{is_first, is_kept}
-use Rattle.law_prove.proofs.Alike.{Sized, from_length, read_is}
-use Rattle.law_prove.proofs.Plain.{above}
-use Rattle.law_prove.proofs.Turns.{NoCause}
+use Rattle.law_sums.specs.model_machine.specs.declared.instruction.Ins.{Ins}
+use Rattle.law_sums.specs.model_machine.specs.declared.instruction.Ins.TheVariants as ins
+use Rattle.law_sums.specs.model_machine.specs.Modes.{ecb}
+use Rattle.law_sums.specs.model_machine.specs.Frame.{Frame, where_is, is_outside, bytes_at, is_under, dynamic_base, dynamic_end, frame_after_pop}
+use Rattle.law_sums.specs.model_machine.specs.Primitives.{Around, Cipher, Des, TripleDes, Aes, MemoryCopy, CopyFixed, Digest, later_causes, number_below_top, in_range, is_message, block_len, key_len, signature}
+use Rattle.law_sums.specs.model_machine.specs.Row.{causes}
+use Rattle.law_sums.specs.law_rows.specs.Shapes.{shape, prim_shape}
+use Rattle.law_sums.specs.law_machine.proofs.BlockLengths.{length_sha1}
+use Rattle.law_sums.specs.model_prove.specs.Sets.{Set, is_in}
+use Rattle.law_sums.specs.model_prove.specs.Facts.{Facts, Memory, values_at}
+use Rattle.law_sums.specs.model_prove.specs.Compares.{bytes_from}
+use Rattle.law_sums.specs.model_prove.specs.Keys.{Tables}
+use Rattle.law_sums.specs.model_prove.specs.Reach.{lengths_at}
+use Rattle.law_sums.specs.model_prove.specs.Work.{Copies, NoFact}
+use Rattle.law_sums.specs.model_prove.specs.Arrivals.{Setting}
+use Rattle.law_sums.specs.model_prove.proofs.FactLemmas.{value_holds}
+use Rattle.law_sums.specs.model_prove.proofs.SetLemmas.{is_first, is_kept}
+use Rattle.law_prove_reach.specs.law_prove.proofs.Alike.{Sized, from_length, read_is}
+use Rattle.law_prove_reach.specs.law_prove.proofs.Plain.{above}
+use Rattle.law_prove_reach.specs.law_prove.proofs.Turns.{NoCause}
 use Rattle.law_prove_reach.proofs.Scenes.{with_bytes, Fits, pair_is, below_is}
 use Rattle.law_prove_reach.proofs.Accesses.{inside_of, not_true, not_zero, fits_low, read_length}
 use Rattle.law_prove_reach.proofs.Lengths.{ecb_whole, signature_whole, KeepsBlock}
 use Rattle.law_prove_reach.proofs.Tops.{Agree}
-use Rattle.model_sums.specs.Sums.{SumsTable}
+use Rattle.law_sums.specs.model_sums.specs.Sums.{SumsTable}
 use Rattle.law_sum_rows.proofs.Scenes.{Step, fetched, memory, sized}
 use Rattle.law_sum_rows.proofs.Rows.{StepCase}
 use Rattle.law_sum_rows.proofs.Written.{IsWriting, writing_case}

@@ -1,18 +1,18 @@
 -- Each cipher, one by one.
 use Rattle.std.proofs.Common.{◌≡◌, ℕ, List, Option, Some, refl, sym, ap, subst, arith}
 use Rattle.std.specs.Prelude.{slice_index}
-use Rattle.model_machine.specs.declared.instruction.Ins.TheVariants as ins
-use Rattle.model_machine.specs.Primitives.{Cipher, Primitive, Encipher, Decipher, Sign, primitive, later_causes, prim_causes, encipherment, decipherment}
-use Rattle.model_machine.specs.Row.{causes}
-use Rattle.law_rows.specs.Shapes.{shape, prim_shape, pair_shape}
-use Rattle.model_rules.specs.Keeping.{mode_of_primitive}
-use Rattle.model_prove.specs.Keys.{Start}
-use Rattle.model_prove.specs.Laws.{Among}
-use Rattle.model_prove.specs.Splits.{pair_deciders}
-use Rattle.model_prove.specs.Reach.{pair_coarse}
-use Rattle.model_prove.specs.Work.{pair_work}
-use Rattle.model_prove.specs.Steps.{arounds}
-use Rattle.law_prove.proofs.Turns.{NoCause, nobody}
+use Rattle.law_sums.specs.model_machine.specs.declared.instruction.Ins.TheVariants as ins
+use Rattle.law_sums.specs.model_machine.specs.Primitives.{Cipher, Primitive, Encipher, Decipher, Sign, primitive, later_causes, prim_causes, encipherment, decipherment}
+use Rattle.law_sums.specs.model_machine.specs.Row.{causes}
+use Rattle.law_sums.specs.law_rows.specs.Shapes.{shape, prim_shape, pair_shape}
+use Rattle.law_sums.specs.model_rules.specs.Keeping.{mode_of_primitive}
+use Rattle.law_sums.specs.model_prove.specs.Keys.{Start}
+use Rattle.law_sums.specs.model_prove.specs.Laws.{Among}
+use Rattle.law_sums.specs.model_prove.specs.Splits.{pair_deciders}
+use Rattle.law_sums.specs.model_prove.specs.Reach.{pair_coarse}
+use Rattle.law_sums.specs.model_prove.specs.Work.{pair_work}
+use Rattle.law_sums.specs.model_prove.specs.Steps.{arounds}
+use Rattle.law_prove_reach.specs.law_prove.proofs.Turns.{NoCause, nobody}
 use Rattle.law_prove_reach.proofs.Lengths.{enciphered_whole, deciphered_whole}
 use Rattle.law_sum_rows.proofs.Rows.{StepCase}
 use Rattle.law_sum_rows.proofs.Prims.{alone}

@@ -3,24 +3,24 @@ use Rattle.std.proofs.Common.{◌≡◌, ℕ, zero, suc, ◌+◌, ◌-◌, ◌<�
 use Rattle.std.specs.Prelude.{◌%◌, ◌^◌, slice_index, is_none}
 use Rattle.std.specs.List.{AllByRecursion}
 use Rattle.std.proofs.lemmas.Bool.{and_parts, eqb-true}
-use Rattle.model_device.specs.Bytes.{num}
-use Rattle.model_machine.specs.Frame.{Frame, where_is, dynamic_base, dynamic_end}
-use Rattle.law_rows.specs.Shapes.{Act, Stays, Pushes, Replaces, Writes}
-use Rattle.model_rules.specs.Rules.{Total}
-use Rattle.model_rules.specs.Keeping.{Amounts, Sum, added_by, taken_by, is_total, are_totals}
-use Rattle.model_prove.specs.Facts.{Memory}
-use Rattle.model_prove.specs.Keys.{Start, Call}
-use Rattle.model_prove.specs.Compares.{bytes_from}
-use Rattle.model_prove.specs.Reach.{Reach, Coarse, PushesAny, Shifts, Compares, WritesWithin, Leads}
-use Rattle.model_prove.specs.Reach as reach
-use Rattle.law_prove.specs.Coverings.{parts_memory}
-use Rattle.law_prove.proofs.Windows.{window, taken_is}
-use Rattle.law_prove.proofs.Parts.{memory_static}
+use Rattle.law_sums.specs.model_device.specs.Bytes.{num}
+use Rattle.law_sums.specs.model_machine.specs.Frame.{Frame, where_is, dynamic_base, dynamic_end}
+use Rattle.law_sums.specs.law_rows.specs.Shapes.{Act, Stays, Pushes, Replaces, Writes}
+use Rattle.law_sums.specs.model_rules.specs.Rules.{Total}
+use Rattle.law_sums.specs.model_rules.specs.Keeping.{Amounts, Sum, added_by, taken_by, is_total, are_totals}
+use Rattle.law_sums.specs.model_prove.specs.Facts.{Memory}
+use Rattle.law_sums.specs.model_prove.specs.Keys.{Start, Call}
+use Rattle.law_sums.specs.model_prove.specs.Compares.{bytes_from}
+use Rattle.law_sums.specs.model_prove.specs.Reach.{Reach, Coarse, PushesAny, Shifts, Compares, WritesWithin, Leads}
+use Rattle.law_sums.specs.model_prove.specs.Reach as reach
+use Rattle.law_prove_reach.specs.law_prove.specs.Coverings.{parts_memory}
+use Rattle.law_prove_reach.specs.law_prove.proofs.Windows.{window, taken_is}
+use Rattle.law_prove_reach.specs.law_prove.proofs.Parts.{memory_static}
 use Rattle.law_prove_reach.proofs.Reached.{IsWithin, not_within}
-use Rattle.model_sums.specs.Sums.{Sums}
-use Rattle.model_sums.specs.Says.{Holds, TotalsHold}
-use Rattle.model_sums.specs.Writes.{wrote_any, popped}
-use Rattle.model_sums.specs.Moves.{reached, moved_coarsely}
+use Rattle.law_sums.specs.model_sums.specs.Sums.{Sums}
+use Rattle.law_sums.specs.model_sums.specs.Says.{Holds, TotalsHold}
+use Rattle.law_sums.specs.model_sums.specs.Writes.{wrote_any, popped}
+use Rattle.law_sums.specs.model_sums.specs.Moves.{reached, moved_coarsely}
 use Rattle.law_sums.proofs.KnownLemmas.{popped_holds}
 use Rattle.law_sums.proofs.ReachLemmas.{reached_holds}
 use Rattle.law_sum_rows.proofs.Memories.{Changed, Whole, write_changed}

@@ -1,33 +1,33 @@
 -- Rows that copy bytes between the stack and an address, or set an operand.
 use Rattle.std.proofs.Common.{◌≡◌, ◌⊎◌, inl, inr, ℕ, ◌+◌, ◌-◌, ◌*◌, ◌≤◌, false, List, [], ◌∷◌, length, ℤ, Option, Some, None, refl, sym, ap, subst, ◌∙◌, arith}
 use Rattle.std.specs.Prelude.{◌==◌, nat_lt, is_none}
-use Rattle.model_device.specs.Bytes.{bytes2}
-use Rattle.model_machine.specs.declared.instruction.Ins.{Ins}
-use Rattle.model_machine.specs.declared.instruction.Ins.TheVariants as ins
-use Rattle.model_machine.specs.Frame.{Frame, Place, Static, Dynamic, Public, where_is, bytes_at, top, dynamic_base, dynamic_end, public_base, no_access, frame_after_pop}
-use Rattle.model_machine.specs.Primitives.{Around, Goes, Primitive}
-use Rattle.model_machine.specs.Row.{causes, operand, address_or_zero, place_of, value_of}
-use Rattle.law_rows.specs.Shapes.{Pushes, Writes, Shape, shape}
-use Rattle.model_prove.specs.Facts.{Memory}
-use Rattle.model_prove.specs.Compares.{bytes_from}
-use Rattle.model_prove.specs.Keys.{Tables}
-use Rattle.model_prove.specs.Laws.{Among}
-use Rattle.model_prove.specs.Splits.{deciders}
-use Rattle.model_prove.specs.Reach.{takes_target}
-use Rattle.model_prove.specs.Steps.{arounds, primitive_of}
-use Rattle.model_prove.specs.Work.{Work, AsShaped, Copies, work}
-use Rattle.model_prove.specs.Arrivals.{Setting}
-use Rattle.law_prove.specs.Coverings.{frame_memory}
-use Rattle.law_prove.proofs.Acts.{LiesIn, lies_in}
-use Rattle.law_prove.proofs.Alike.{Sized, from_length, read_is, top_is}
-use Rattle.law_prove.proofs.Moves.{inside_of, above_by}
-use Rattle.law_prove.proofs.Plain.{over_is}
-use Rattle.law_prove.proofs.Turns.{NoCause, nobody}
+use Rattle.law_sums.specs.model_device.specs.Bytes.{bytes2}
+use Rattle.law_sums.specs.model_machine.specs.declared.instruction.Ins.{Ins}
+use Rattle.law_sums.specs.model_machine.specs.declared.instruction.Ins.TheVariants as ins
+use Rattle.law_sums.specs.model_machine.specs.Frame.{Frame, Place, Static, Dynamic, Public, where_is, bytes_at, top, dynamic_base, dynamic_end, public_base, no_access, frame_after_pop}
+use Rattle.law_sums.specs.model_machine.specs.Primitives.{Around, Goes, Primitive}
+use Rattle.law_sums.specs.model_machine.specs.Row.{causes, operand, address_or_zero, place_of, value_of}
+use Rattle.law_sums.specs.law_rows.specs.Shapes.{Pushes, Writes, Shape, shape}
+use Rattle.law_sums.specs.model_prove.specs.Facts.{Memory}
+use Rattle.law_sums.specs.model_prove.specs.Compares.{bytes_from}
+use Rattle.law_sums.specs.model_prove.specs.Keys.{Tables}
+use Rattle.law_sums.specs.model_prove.specs.Laws.{Among}
+use Rattle.law_sums.specs.model_prove.specs.Splits.{deciders}
+use Rattle.law_sums.specs.model_prove.specs.Reach.{takes_target}
+use Rattle.law_sums.specs.model_prove.specs.Steps.{arounds, primitive_of}
+use Rattle.law_sums.specs.model_prove.specs.Work.{Work, AsShaped, Copies, work}
+use Rattle.law_sums.specs.model_prove.specs.Arrivals.{Setting}
+use Rattle.law_prove_reach.specs.law_prove.specs.Coverings.{frame_memory}
+use Rattle.law_prove_reach.specs.law_prove.proofs.Acts.{LiesIn, lies_in}
+use Rattle.law_prove_reach.specs.law_prove.proofs.Alike.{Sized, from_length, read_is, top_is}
+use Rattle.law_prove_reach.specs.law_prove.proofs.Moves.{inside_of, above_by}
+use Rattle.law_prove_reach.specs.law_prove.proofs.Plain.{over_is}
+use Rattle.law_prove_reach.specs.law_prove.proofs.Turns.{NoCause, nobody}
 use Rattle.law_prove_reach.proofs.Scenes.{with_bytes, scene_of, Fits, fits_sized, same_operand}
 use Rattle.law_prove_reach.proofs.Accesses.{read_length}
-use Rattle.model_sums.specs.Moves.{pushes_number}
-use Rattle.model_rules.specs.Keeping.{mode_of}
-use Rattle.model_sums.specs.Sums.{SumsTable}
+use Rattle.law_sums.specs.model_sums.specs.Moves.{pushes_number}
+use Rattle.law_sums.specs.model_rules.specs.Keeping.{mode_of}
+use Rattle.law_sums.specs.model_sums.specs.Sums.{SumsTable}
 use Rattle.law_sums.specs.TurnLaws.{row_sums}
 use Rattle.law_sum_rows.specs.Rows.{AreStatic}
 use Rattle.law_sum_rows.proofs.Moved.{shape_of, SameIf, CopyFits}

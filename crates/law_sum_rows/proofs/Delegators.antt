@@ -2,38 +2,38 @@
 use Rattle.std.proofs.Common.{◌≡◌, inl, inr, ℕ, suc, ◌+◌, ◌-◌, ◌*◌, ◌≤◌, true, false, List, [], ◌∷◌, length, Option, Some, None, refl, sym, ap, subst, ◌∙◌, arith}
 use Rattle.std.specs.Prelude.{◌==◌, is_none, is_some}
 use Rattle.std.proofs.lemmas.List.{length-replicate}
-use Rattle.model_device.specs.Bytes.{zeros}
-use Rattle.model_machine.specs.declared.instruction.Ins.{Ins}
-use Rattle.model_machine.specs.declared.instruction.Ins.TheVariants as ins
-use Rattle.model_machine.specs.declared.machine.Abend.TheVariants.{A04, A06, A0A}
-use Rattle.model_machine.specs.Frame.{Frame, where_is, is_under, frame_after_pop}
-use Rattle.model_machine.specs.Primitives.{Around, Goes, DelegatorAid, later_causes, reported_causes, number_below_top, has_bit}
-use Rattle.model_machine.specs.Row.{causes, row}
-use Rattle.law_rows.specs.Keeping.{OnDone}
-use Rattle.law_rows.specs.Shapes.{Act, Stays, Writes, Shape, shape, prim_shape, delegator_shape}
-use Rattle.law_bytes.specs.OfChains.{IsName}
-use Rattle.law_promise.specs.Outline.{Entry, BySelection, ByDelegation, FitsEntry}
-use Rattle.law_promise.specs.Domain.{IsDelegator}
-use Rattle.model_rules.specs.Rules.{AppRules}
-use Rattle.model_rules.specs.Happenings.{Event}
-use Rattle.model_prove.specs.Sets.{numbers_from}
-use Rattle.model_prove.specs.Facts.{Facts, Memory}
-use Rattle.model_prove.specs.Keys.{Start, Delegated, OfClass, Tables}
-use Rattle.model_prove.specs.Laws.{Among}
-use Rattle.model_prove.specs.Splits.{top_places}
-use Rattle.model_prove.specs.Reach.{reach_at, coarse}
-use Rattle.model_prove.specs.Arrivals.{Setting}
-use Rattle.model_prove.specs.Steps.{arounds, coarse_for, coarse_around}
-use Rattle.model_prove.proofs.SetLemmas.{is_between}
-use Rattle.law_prove.specs.Coverings.{StartsAs}
-use Rattle.law_prove.proofs.Plain.{above}
-use Rattle.law_prove.proofs.Turns.{NoCause, nobody}
+use Rattle.law_sums.specs.model_device.specs.Bytes.{zeros}
+use Rattle.law_sums.specs.model_machine.specs.declared.instruction.Ins.{Ins}
+use Rattle.law_sums.specs.model_machine.specs.declared.instruction.Ins.TheVariants as ins
+use Rattle.law_sums.specs.model_machine.specs.declared.machine.Abend.TheVariants.{A04, A06, A0A}
+use Rattle.law_sums.specs.model_machine.specs.Frame.{Frame, where_is, is_under, frame_after_pop}
+use Rattle.law_sums.specs.model_machine.specs.Primitives.{Around, Goes, DelegatorAid, later_causes, reported_causes, number_below_top, has_bit}
+use Rattle.law_sums.specs.model_machine.specs.Row.{causes, row}
+use Rattle.law_sums.specs.law_rows.specs.Keeping.{OnDone}
+use Rattle.law_sums.specs.law_rows.specs.Shapes.{Act, Stays, Writes, Shape, shape, prim_shape, delegator_shape}
+use Rattle.law_sums.specs.law_bytes.specs.OfChains.{IsName}
+use Rattle.law_sums.specs.law_promise.specs.Outline.{Entry, BySelection, ByDelegation, FitsEntry}
+use Rattle.law_sums.specs.law_promise.specs.Domain.{IsDelegator}
+use Rattle.law_sums.specs.model_rules.specs.Rules.{AppRules}
+use Rattle.law_sums.specs.model_rules.specs.Happenings.{Event}
+use Rattle.law_sums.specs.model_prove.specs.Sets.{numbers_from}
+use Rattle.law_sums.specs.model_prove.specs.Facts.{Facts, Memory}
+use Rattle.law_sums.specs.model_prove.specs.Keys.{Start, Delegated, OfClass, Tables}
+use Rattle.law_sums.specs.model_prove.specs.Laws.{Among}
+use Rattle.law_sums.specs.model_prove.specs.Splits.{top_places}
+use Rattle.law_sums.specs.model_prove.specs.Reach.{reach_at, coarse}
+use Rattle.law_sums.specs.model_prove.specs.Arrivals.{Setting}
+use Rattle.law_sums.specs.model_prove.specs.Steps.{arounds, coarse_for, coarse_around}
+use Rattle.law_sums.specs.model_prove.proofs.SetLemmas.{is_between}
+use Rattle.law_prove_reach.specs.law_prove.specs.Coverings.{StartsAs}
+use Rattle.law_prove_reach.specs.law_prove.proofs.Plain.{above}
+use Rattle.law_prove_reach.specs.law_prove.proofs.Turns.{NoCause, nobody}
 use Rattle.law_prove_reads.proofs.Shifts.{among_mapped}
 use Rattle.law_prove_reach.proofs.Scenes.{with_bytes, pair_is, below_is}
 use Rattle.law_prove_reach.proofs.Reached.{IsWithin}
 use Rattle.law_prove_reach.proofs.Accesses.{inside_of, not_zero}
 use Rattle.law_prove_reach.proofs.Tops.{Agree, among_numbers}
-use Rattle.model_sums.specs.Sums.{SumsTable}
+use Rattle.law_sums.specs.model_sums.specs.Sums.{SumsTable}
 use Rattle.law_sum_rows.specs.Rows.{AreStatic}
 use Rattle.law_sum_rows.proofs.Moved.{shape_of}
 use Rattle.law_sum_rows.proofs.Scenes.{Step, fetched, memory, base, sized, Found, IsCoarse, few_or_many}

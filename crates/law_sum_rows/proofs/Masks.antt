@@ -2,30 +2,30 @@
 use Rattle.std.proofs.Common.{◌≡◌, ◌⊎◌, inl, inr, ℕ, zero, suc, ◌+◌, ◌-◌, ◌<◌, ◌≤◌, Bool, true, false, cond, List, [], length, take, drop, Option, Some, None, refl, sym, ap, subst, ◌∙◌, arith}
 use Rattle.std.specs.Prelude.{◌==◌, nat_lt, slice_index, bit_and, bit_or, bit_xor}
 use Rattle.std.proofs.lemmas.Bool.{ltb-true, ltb-false}
-use Rattle.model_machine.specs.declared.instruction.Ins.{Ins}
-use Rattle.model_machine.specs.declared.instruction.Ins.TheVariants as ins
-use Rattle.model_machine.specs.Blocks.{and_blocks, or_blocks, xor_blocks, not_block, is_zero}
-use Rattle.model_machine.specs.Frame.{Frame, top, is_under, dynamic_base, dynamic_end}
-use Rattle.model_machine.specs.Primitives.{Around, Goes, BitByte, BitWord, later_causes, masked_bytes}
-use Rattle.model_machine.specs.Row.{causes}
-use Rattle.law_rows.specs.Shapes.{Act, Replaces, Shape, shape, prim_shape}
-use Rattle.law_machine.proofs.BlockLengths.{each_short}
-use Rattle.model_rules.specs.Keeping.{mode_of}
-use Rattle.model_prove.specs.Facts.{Memory}
-use Rattle.model_prove.specs.Compares.{bytes_from}
-use Rattle.model_prove.specs.Keys.{Start, Tables}
-use Rattle.model_prove.specs.Laws.{Among}
-use Rattle.model_prove.specs.Splits.{deciders}
-use Rattle.model_prove.specs.Digits.{And, Or, Xor}
-use Rattle.model_prove.specs.Reach.{takes_target}
-use Rattle.model_prove.specs.Work.{These, Work, works, mask_work, work}
-use Rattle.model_prove.specs.Arrivals.{Setting}
-use Rattle.model_prove.specs.Steps.{arounds, primitive_of}
-use Rattle.law_prove.proofs.Alike.{from_length, top_is}
-use Rattle.law_prove.proofs.Plain.{above}
-use Rattle.law_prove.proofs.Turns.{NoCause, nobody}
+use Rattle.law_sums.specs.model_machine.specs.declared.instruction.Ins.{Ins}
+use Rattle.law_sums.specs.model_machine.specs.declared.instruction.Ins.TheVariants as ins
+use Rattle.law_sums.specs.model_machine.specs.Blocks.{and_blocks, or_blocks, xor_blocks, not_block, is_zero}
+use Rattle.law_sums.specs.model_machine.specs.Frame.{Frame, top, is_under, dynamic_base, dynamic_end}
+use Rattle.law_sums.specs.model_machine.specs.Primitives.{Around, Goes, BitByte, BitWord, later_causes, masked_bytes}
+use Rattle.law_sums.specs.model_machine.specs.Row.{causes}
+use Rattle.law_sums.specs.law_rows.specs.Shapes.{Act, Replaces, Shape, shape, prim_shape}
+use Rattle.law_sums.specs.law_machine.proofs.BlockLengths.{each_short}
+use Rattle.law_sums.specs.model_rules.specs.Keeping.{mode_of}
+use Rattle.law_sums.specs.model_prove.specs.Facts.{Memory}
+use Rattle.law_sums.specs.model_prove.specs.Compares.{bytes_from}
+use Rattle.law_sums.specs.model_prove.specs.Keys.{Start, Tables}
+use Rattle.law_sums.specs.model_prove.specs.Laws.{Among}
+use Rattle.law_sums.specs.model_prove.specs.Splits.{deciders}
+use Rattle.law_sums.specs.model_prove.specs.Digits.{And, Or, Xor}
+use Rattle.law_sums.specs.model_prove.specs.Reach.{takes_target}
+use Rattle.law_sums.specs.model_prove.specs.Work.{These, Work, works, mask_work, work}
+use Rattle.law_sums.specs.model_prove.specs.Arrivals.{Setting}
+use Rattle.law_sums.specs.model_prove.specs.Steps.{arounds, primitive_of}
+use Rattle.law_prove_reach.specs.law_prove.proofs.Alike.{from_length, top_is}
+use Rattle.law_prove_reach.specs.law_prove.proofs.Plain.{above}
+use Rattle.law_prove_reach.specs.law_prove.proofs.Turns.{NoCause, nobody}
 use Rattle.law_prove_reach.proofs.Scenes.{with_bytes}
-use Rattle.model_sums.specs.Sums.{SumsTable}
+use Rattle.law_sums.specs.model_sums.specs.Sums.{SumsTable}
 use Rattle.law_sums.specs.TurnLaws.{row_sums}
 use Rattle.law_sum_rows.specs.Rows.{AreStatic}
 use Rattle.law_sum_rows.proofs.Memories.{Changed, Whole}

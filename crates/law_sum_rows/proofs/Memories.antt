@@ -2,24 +2,24 @@
 use Rattle.std.proofs.Common.{◌≡◌, ℕ, suc, ◌+◌, ◌<◌, ◌≤◌, ◌⊎◌, Bool, true, false, List, [], ◌∷◌, ◌++◌, length, Option, Some, None, refl, sym, ap, subst, ◌∙◌, arith}
 use Rattle.std.specs.Prelude.{slice_index, is_none}
 use Rattle.std.specs.List.{AllByRecursion}
-use Rattle.model_device.specs.Bytes.{num, splice}
-use Rattle.model_device.specs.Pieces.{laid_pieces}
-use Rattle.model_device.proofs.ListLemmas.{length_splice}
-use Rattle.model_machine.specs.Frame.{Frame, Place, Static, Dynamic, Public, where_is, dynamic_base, dynamic_end, public_base, public_end, static_bytes, static_written, write_effect_at, write_effect}
-use Rattle.law_rows.proofs.Keeping.{length_laid}
-use Rattle.model_rules.specs.Rules.{Total}
-use Rattle.model_rules.specs.Keeping.{Sum}
-use Rattle.model_prove.specs.Facts.{Memory}
-use Rattle.model_prove.specs.Compares.{bytes_from}
-use Rattle.law_prove.specs.Coverings.{parts_memory, frame_memory}
-use Rattle.law_prove.proofs.Parts.{static_same, dynamic_same, public_same, static_new, dynamic_new, public_new}
-use Rattle.law_prove.proofs.Seen.{laid_more}
-use Rattle.law_prove.proofs.Acts.{LiesIn, lies_in}
-use Rattle.law_prove.proofs.Alike.{Sized}
-use Rattle.model_sums.specs.Forms.{Form}
-use Rattle.model_sums.specs.Origins.{origin_at}
-use Rattle.model_sums.specs.Sums.{More, Sums}
-use Rattle.model_sums.specs.Says.{IsFrom, MoreHolds, OffsHold, Holds}
+use Rattle.law_sums.specs.model_device.specs.Bytes.{num, splice}
+use Rattle.law_sums.specs.model_device.specs.Pieces.{laid_pieces}
+use Rattle.law_sums.specs.model_device.proofs.ListLemmas.{length_splice}
+use Rattle.law_sums.specs.model_machine.specs.Frame.{Frame, Place, Static, Dynamic, Public, where_is, dynamic_base, dynamic_end, public_base, public_end, static_bytes, static_written, write_effect_at, write_effect}
+use Rattle.law_sums.specs.law_rows.proofs.Keeping.{length_laid}
+use Rattle.law_sums.specs.model_rules.specs.Rules.{Total}
+use Rattle.law_sums.specs.model_rules.specs.Keeping.{Sum}
+use Rattle.law_sums.specs.model_prove.specs.Facts.{Memory}
+use Rattle.law_sums.specs.model_prove.specs.Compares.{bytes_from}
+use Rattle.law_prove_reach.specs.law_prove.specs.Coverings.{parts_memory, frame_memory}
+use Rattle.law_prove_reach.specs.law_prove.proofs.Parts.{static_same, dynamic_same, public_same, static_new, dynamic_new, public_new}
+use Rattle.law_prove_reach.specs.law_prove.proofs.Seen.{laid_more}
+use Rattle.law_prove_reach.specs.law_prove.proofs.Acts.{LiesIn, lies_in}
+use Rattle.law_prove_reach.specs.law_prove.proofs.Alike.{Sized}
+use Rattle.law_sums.specs.model_sums.specs.Forms.{Form}
+use Rattle.law_sums.specs.model_sums.specs.Origins.{origin_at}
+use Rattle.law_sums.specs.model_sums.specs.Sums.{More, Sums}
+use Rattle.law_sums.specs.model_sums.specs.Says.{IsFrom, MoreHolds, OffsHold, Holds}
 use Rattle.law_sums.proofs.Bytes.{same_bytes}
 use Rattle.law_sums.proofs.MoveLemmas.{off_same, more_same}
 

@@ -1,25 +1,25 @@
 -- What is known for sums holds after a row, by what it works on: as its shape has it, copies, operations, searches.
 use Rattle.std.proofs.Common.{◌≡◌, ℕ, ◌+◌, ◌-◌, ◌<◌, ◌≤◌, ◌⊎◌, inl, inr, Bool, true, false, List, length, Option, None, refl, sym, ap, subst, ◌∙◌, arith}
 use Rattle.std.specs.Prelude.{is_none, ⊤}
-use Rattle.model_device.specs.Bytes.{num}
-use Rattle.model_machine.specs.declared.instruction.Ins.{Ins}
-use Rattle.model_machine.specs.Frame.{Frame, where_is, dynamic_base, dynamic_end, top}
-use Rattle.model_machine.specs.Primitives.{Then}
-use Rattle.law_rows.specs.Shapes.{Act, Stays, Answers, Jumps, Calls, Returns, Pushes, Replaces, Writes, Protects, Shape}
-use Rattle.model_rules.specs.Rules.{Total}
-use Rattle.model_rules.specs.Keeping.{Amounts, Sum}
-use Rattle.model_prove.specs.Facts.{Memory}
-use Rattle.model_prove.specs.Keys.{Start, Call, PlaceKey}
-use Rattle.model_prove.specs.Compares.{bytes_from}
-use Rattle.model_prove.specs.Steps.{is_return}
-use Rattle.model_prove.specs.Work.{Digitwise, Work, AsShaped, Copies, Works, Searches, AnyZ, Counted, NoFact}
-use Rattle.law_prove.proofs.Alike.{top_is}
-use Rattle.law_prove.proofs.Spots.{place_key}
-use Rattle.model_sums.specs.Origins.{Origin, Origins, origins_from, unknowns}
-use Rattle.model_sums.specs.Sums.{Sums}
-use Rattle.model_sums.specs.Says.{number_at, AreFrom, OriginsHold, Holds, TotalsHold}
-use Rattle.model_sums.specs.Writes.{wrote, wrote_any, popped, loaded, is_total_block, more_of}
-use Rattle.model_sums.specs.Moves.{size_of, constants, pushes_number, pushed_origins, own_origins, operated, acted, copied, moved}
+use Rattle.law_sums.specs.model_device.specs.Bytes.{num}
+use Rattle.law_sums.specs.model_machine.specs.declared.instruction.Ins.{Ins}
+use Rattle.law_sums.specs.model_machine.specs.Frame.{Frame, where_is, dynamic_base, dynamic_end, top}
+use Rattle.law_sums.specs.model_machine.specs.Primitives.{Then}
+use Rattle.law_sums.specs.law_rows.specs.Shapes.{Act, Stays, Answers, Jumps, Calls, Returns, Pushes, Replaces, Writes, Protects, Shape}
+use Rattle.law_sums.specs.model_rules.specs.Rules.{Total}
+use Rattle.law_sums.specs.model_rules.specs.Keeping.{Amounts, Sum}
+use Rattle.law_sums.specs.model_prove.specs.Facts.{Memory}
+use Rattle.law_sums.specs.model_prove.specs.Keys.{Start, Call, PlaceKey}
+use Rattle.law_sums.specs.model_prove.specs.Compares.{bytes_from}
+use Rattle.law_sums.specs.model_prove.specs.Steps.{is_return}
+use Rattle.law_sums.specs.model_prove.specs.Work.{Digitwise, Work, AsShaped, Copies, Works, Searches, AnyZ, Counted, NoFact}
+use Rattle.law_prove_reach.specs.law_prove.proofs.Alike.{top_is}
+use Rattle.law_prove_reach.specs.law_prove.proofs.Spots.{place_key}
+use Rattle.law_sums.specs.model_sums.specs.Origins.{Origin, Origins, origins_from, unknowns}
+use Rattle.law_sums.specs.model_sums.specs.Sums.{Sums}
+use Rattle.law_sums.specs.model_sums.specs.Says.{number_at, AreFrom, OriginsHold, Holds, TotalsHold}
+use Rattle.law_sums.specs.model_sums.specs.Writes.{wrote, wrote_any, popped, loaded, is_total_block, more_of}
+use Rattle.law_sums.specs.model_sums.specs.Moves.{size_of, constants, pushes_number, pushed_origins, own_origins, operated, acted, copied, moved}
 use Rattle.law_sums.specs.CopyLaws.{operand_bytes, IsResult}
 use Rattle.law_sums.proofs.Bytes.{same_bytes}
 use Rattle.law_sums.proofs.CopyLemmas.{memory_from, copied_holds, operated_holds}

@@ -3,32 +3,32 @@
 use Rattle.std.proofs.Common.{◌≡◌, inl, inr, ℕ, zero, suc, ◌+◌, ◌-◌, ◌*◌, ◌%◌, ◌^◌, ◌<◌, ◌≤◌, Bool, true, false, List, [], length, ℤ, Option, None, refl, sym, ap, subst, ◌∙◌, arith}
 use Rattle.std.specs.Prelude.{◌==◌, not, is_none}
 use Rattle.std.proofs.Math.Nat.{mod-eq_of_lt}
-use Rattle.model_device.specs.Bytes.{AreBytes, num, bytes}
+use Rattle.law_sums.specs.model_device.specs.Bytes.{AreBytes, num, bytes}
 use Rattle.mc_arith.proofs.BlockLemmas.{pow_positive, pow_more, num_below, num_bytes}
-use Rattle.model_machine.specs.declared.instruction.Ins.{Ins}
-use Rattle.model_machine.specs.Blocks.{add_blocks, sub_blocks}
-use Rattle.model_machine.specs.Frame.{Frame, where_is, bytes_at, no_access}
-use Rattle.model_machine.specs.Primitives.{Around, Goes, Primitive, in_range}
-use Rattle.model_machine.specs.Row.{causes, operand, address_or_zero, place_of}
-use Rattle.law_rows.specs.Shapes.{Act, Writes, Shape, shape}
-use Rattle.model_rules.specs.Keeping.{mode_of}
-use Rattle.model_prove.specs.Facts.{Memory}
-use Rattle.model_prove.specs.Compares.{bytes_from}
-use Rattle.model_prove.specs.Digits.{Operation}
-use Rattle.model_prove.specs.Keys.{Tables}
-use Rattle.model_prove.specs.Laws.{Among}
-use Rattle.model_prove.specs.Splits.{deciders}
-use Rattle.model_prove.specs.Reach.{takes_target}
-use Rattle.model_prove.specs.Work.{Operand, Digitwise, Work, Works, works, work}
-use Rattle.model_prove.specs.Arrivals.{Setting}
-use Rattle.model_prove.specs.Steps.{arounds, primitive_of}
-use Rattle.law_prove.proofs.Alike.{from_length, read_is}
-use Rattle.law_prove.proofs.Moves.{inside_of}
-use Rattle.law_prove.proofs.Turns.{NoCause, nobody}
+use Rattle.law_sums.specs.model_machine.specs.declared.instruction.Ins.{Ins}
+use Rattle.law_sums.specs.model_machine.specs.Blocks.{add_blocks, sub_blocks}
+use Rattle.law_sums.specs.model_machine.specs.Frame.{Frame, where_is, bytes_at, no_access}
+use Rattle.law_sums.specs.model_machine.specs.Primitives.{Around, Goes, Primitive, in_range}
+use Rattle.law_sums.specs.model_machine.specs.Row.{causes, operand, address_or_zero, place_of}
+use Rattle.law_sums.specs.law_rows.specs.Shapes.{Act, Writes, Shape, shape}
+use Rattle.law_sums.specs.model_rules.specs.Keeping.{mode_of}
+use Rattle.law_sums.specs.model_prove.specs.Facts.{Memory}
+use Rattle.law_sums.specs.model_prove.specs.Compares.{bytes_from}
+use Rattle.law_sums.specs.model_prove.specs.Digits.{Operation}
+use Rattle.law_sums.specs.model_prove.specs.Keys.{Tables}
+use Rattle.law_sums.specs.model_prove.specs.Laws.{Among}
+use Rattle.law_sums.specs.model_prove.specs.Splits.{deciders}
+use Rattle.law_sums.specs.model_prove.specs.Reach.{takes_target}
+use Rattle.law_sums.specs.model_prove.specs.Work.{Operand, Digitwise, Work, Works, works, work}
+use Rattle.law_sums.specs.model_prove.specs.Arrivals.{Setting}
+use Rattle.law_sums.specs.model_prove.specs.Steps.{arounds, primitive_of}
+use Rattle.law_prove_reach.specs.law_prove.proofs.Alike.{from_length, read_is}
+use Rattle.law_prove_reach.specs.law_prove.proofs.Moves.{inside_of}
+use Rattle.law_prove_reach.specs.law_prove.proofs.Turns.{NoCause, nobody}
 use Rattle.law_prove_reach.proofs.Scenes.{with_bytes, same_operand, part_inside}
 use Rattle.law_prove_reach.proofs.Accesses.{not_zero}
-use Rattle.model_sums.specs.Sums.{SumsTable}
-use Rattle.model_sums.specs.Says.{number_at}
+use Rattle.law_sums.specs.model_sums.specs.Sums.{SumsTable}
+use Rattle.law_sums.specs.model_sums.specs.Says.{number_at}
 use Rattle.law_sums.specs.CopyLaws.{operand_bytes, IsResult}
 use Rattle.law_sums.specs.TurnLaws.{row_sums}
 use Rattle.law_sums.proofs.Modulo.{add_same, add_whole}

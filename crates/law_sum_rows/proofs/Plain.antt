@@ -3,28 +3,28 @@ use Rattle.std.proofs.Common.{◌≡◌, ℕ, ◌+◌, ◌-◌, ◌≤◌, Bool,
 use Rattle.std.specs.Prelude.{◌&&◌, ◌==◌, nat_le}
 use Rattle.std.proofs.lemmas.Bool.{ltb-false, leb-true, and_parts}
 use Rattle.std.proofs.lemmas.List.{length-replicate}
-use Rattle.model_device.specs.Bytes.{bytes2, zeros}
-use Rattle.model_machine.specs.declared.instruction.Ins.{Ins}
-use Rattle.model_machine.specs.declared.instruction.Ins.TheVariants as ins
-use Rattle.model_machine.specs.Frame.{Frame, dynamic_base, dynamic_end, floor, is_under, is_over, no_return, moved_address, frame_after_pop}
-use Rattle.model_machine.specs.Primitives.{Around, Then, Goes, Exits, Primitive}
-use Rattle.model_machine.specs.Row.{causes, row, holds, address_or_zero, on_stack, target, without_target, place_of}
-use Rattle.law_rows.specs.Keeping.{OnDone}
-use Rattle.law_rows.specs.Shapes.{Act, Stays, Answers, Jumps, Calls, Returns, Pushes, Shape, shape}
-use Rattle.model_rules.specs.Keeping.{mode_of}
-use Rattle.model_prove.specs.Keys.{Start, Tables}
-use Rattle.model_prove.specs.Laws.{Among}
-use Rattle.model_prove.specs.Splits.{top_places, deciders}
-use Rattle.model_prove.specs.Reach.{takes_target}
-use Rattle.model_prove.specs.Work.{Work, AsShaped, work}
-use Rattle.model_prove.specs.Arrivals.{Setting}
-use Rattle.model_prove.specs.Steps.{arounds, primitive_of}
-use Rattle.law_prove.specs.Coverings.{IsFrameOf}
-use Rattle.law_prove.proofs.Plain.{above, over_is}
-use Rattle.law_prove.proofs.Turns.{NoCause, nobody}
+use Rattle.law_sums.specs.model_device.specs.Bytes.{bytes2, zeros}
+use Rattle.law_sums.specs.model_machine.specs.declared.instruction.Ins.{Ins}
+use Rattle.law_sums.specs.model_machine.specs.declared.instruction.Ins.TheVariants as ins
+use Rattle.law_sums.specs.model_machine.specs.Frame.{Frame, dynamic_base, dynamic_end, floor, is_under, is_over, no_return, moved_address, frame_after_pop}
+use Rattle.law_sums.specs.model_machine.specs.Primitives.{Around, Then, Goes, Exits, Primitive}
+use Rattle.law_sums.specs.model_machine.specs.Row.{causes, row, holds, address_or_zero, on_stack, target, without_target, place_of}
+use Rattle.law_sums.specs.law_rows.specs.Keeping.{OnDone}
+use Rattle.law_sums.specs.law_rows.specs.Shapes.{Act, Stays, Answers, Jumps, Calls, Returns, Pushes, Shape, shape}
+use Rattle.law_sums.specs.model_rules.specs.Keeping.{mode_of}
+use Rattle.law_sums.specs.model_prove.specs.Keys.{Start, Tables}
+use Rattle.law_sums.specs.model_prove.specs.Laws.{Among}
+use Rattle.law_sums.specs.model_prove.specs.Splits.{top_places, deciders}
+use Rattle.law_sums.specs.model_prove.specs.Reach.{takes_target}
+use Rattle.law_sums.specs.model_prove.specs.Work.{Work, AsShaped, work}
+use Rattle.law_sums.specs.model_prove.specs.Arrivals.{Setting}
+use Rattle.law_sums.specs.model_prove.specs.Steps.{arounds, primitive_of}
+use Rattle.law_prove_reach.specs.law_prove.specs.Coverings.{IsFrameOf}
+use Rattle.law_prove_reach.specs.law_prove.proofs.Plain.{above, over_is}
+use Rattle.law_prove_reach.specs.law_prove.proofs.Turns.{NoCause, nobody}
 use Rattle.law_prove_reach.proofs.Scenes.{scene_of, Fits}
 use Rattle.law_prove_reach.proofs.Accesses.{not_true}
-use Rattle.model_sums.specs.Sums.{SumsTable}
+use Rattle.law_sums.specs.model_sums.specs.Sums.{SumsTable}
 use Rattle.law_sums.specs.TurnLaws.{row_sums}
 use Rattle.law_sum_rows.specs.Rows.{AreStatic}
 use Rattle.law_sum_rows.proofs.Moved.{shape_of, SameIf}

@@ -1,32 +1,32 @@
 -- Primitives that write no address: flags, searches, comparisons, shifts, bits, protection, and the delegation.
 use Rattle.std.proofs.Common.{◌≡◌, inl, inr, ℕ, ◌+◌, ◌-◌, ◌*◌, ◌/◌, ◌^◌, ◌≤◌, Bool, true, false, cond, List, [], ◌∷◌, length, Option, Some, None, refl, sym, ap, subst, ◌∙◌, arith}
 use Rattle.std.specs.Prelude.{◌==◌, ◌&&◌, ◌||◌, not, slice_index, unwrap_or, is_some, position, ⊤}
-use Rattle.model_device.specs.Bytes.{num}
-use Rattle.model_device.proofs.ListLemmas.{length_bytes}
-use Rattle.model_machine.specs.declared.instruction.Ins.{Ins}
-use Rattle.model_machine.specs.declared.instruction.Ins.TheVariants as ins
-use Rattle.model_machine.specs.Blocks.{Worked, sub_blocks, shift_left_block, shift_right_block}
-use Rattle.model_machine.specs.Frame.{Frame, Effect, bytes_at, top, stack_bytes, is_under, dynamic_base, dynamic_end, frame_after_pop}
-use Rattle.model_machine.specs.Primitives.{Around, Then, Goes, Delegates, Primitive, CheckCase, LoadCcr, StoreCcr, Lookup, MemoryCompare, DelegateTo, CompareFixed, SetProtection, ShiftLeft, ShiftRight, DelegatorAid, later_causes, number_below_top, count_at, has_bit}
-use Rattle.model_machine.specs.Row.{causes}
-use Rattle.law_rows.specs.Shapes.{Stays, Pushes, Replaces, Protects, Shape, shape, shape_effect, prim_shape}
-use Rattle.model_rules.specs.Keeping.{Standing, mode_of}
-use Rattle.model_prove.specs.Facts.{Facts}
-use Rattle.model_prove.specs.Keys.{Start, Delegated, OfClass, Tables}
-use Rattle.model_prove.specs.Laws.{Among}
-use Rattle.model_prove.specs.Splits.{deciders}
-use Rattle.model_prove.specs.Reach.{Coarse, PushesAny, Shifts, Compares, WritesWithin, Leads, coarse, takes_target}
-use Rattle.model_prove.specs.Reach as reach
-use Rattle.model_prove.specs.Work.{Work, AsShaped, work}
-use Rattle.model_prove.specs.Arrivals.{Setting}
-use Rattle.model_prove.specs.Steps.{arounds, primitive_of, coarse_for, coarse_around}
-use Rattle.law_prove.proofs.Alike.{from_length, top_is}
-use Rattle.law_prove.proofs.Plain.{above, over_is}
-use Rattle.law_prove.proofs.Turns.{NoCause, nobody}
+use Rattle.law_sums.specs.model_device.specs.Bytes.{num}
+use Rattle.law_sums.specs.model_device.proofs.ListLemmas.{length_bytes}
+use Rattle.law_sums.specs.model_machine.specs.declared.instruction.Ins.{Ins}
+use Rattle.law_sums.specs.model_machine.specs.declared.instruction.Ins.TheVariants as ins
+use Rattle.law_sums.specs.model_machine.specs.Blocks.{Worked, sub_blocks, shift_left_block, shift_right_block}
+use Rattle.law_sums.specs.model_machine.specs.Frame.{Frame, Effect, bytes_at, top, stack_bytes, is_under, dynamic_base, dynamic_end, frame_after_pop}
+use Rattle.law_sums.specs.model_machine.specs.Primitives.{Around, Then, Goes, Delegates, Primitive, CheckCase, LoadCcr, StoreCcr, Lookup, MemoryCompare, DelegateTo, CompareFixed, SetProtection, ShiftLeft, ShiftRight, DelegatorAid, later_causes, number_below_top, count_at, has_bit}
+use Rattle.law_sums.specs.model_machine.specs.Row.{causes}
+use Rattle.law_sums.specs.law_rows.specs.Shapes.{Stays, Pushes, Replaces, Protects, Shape, shape, shape_effect, prim_shape}
+use Rattle.law_sums.specs.model_rules.specs.Keeping.{Standing, mode_of}
+use Rattle.law_sums.specs.model_prove.specs.Facts.{Facts}
+use Rattle.law_sums.specs.model_prove.specs.Keys.{Start, Delegated, OfClass, Tables}
+use Rattle.law_sums.specs.model_prove.specs.Laws.{Among}
+use Rattle.law_sums.specs.model_prove.specs.Splits.{deciders}
+use Rattle.law_sums.specs.model_prove.specs.Reach.{Coarse, PushesAny, Shifts, Compares, WritesWithin, Leads, coarse, takes_target}
+use Rattle.law_sums.specs.model_prove.specs.Reach as reach
+use Rattle.law_sums.specs.model_prove.specs.Work.{Work, AsShaped, work}
+use Rattle.law_sums.specs.model_prove.specs.Arrivals.{Setting}
+use Rattle.law_sums.specs.model_prove.specs.Steps.{arounds, primitive_of, coarse_for, coarse_around}
+use Rattle.law_prove_reach.specs.law_prove.proofs.Alike.{from_length, top_is}
+use Rattle.law_prove_reach.specs.law_prove.proofs.Plain.{above, over_is}
+use Rattle.law_prove_reach.specs.law_prove.proofs.Turns.{NoCause, nobody}
 use Rattle.law_prove_reach.proofs.Scenes.{with_bytes, fits_sized}
-use Rattle.law_prove.specs.Coverings.{frame_memory}
-use Rattle.model_sums.specs.Sums.{SumsTable}
-use Rattle.model_sums.specs.Says.{read_sums}
+use Rattle.law_prove_reach.specs.law_prove.specs.Coverings.{frame_memory}
+use Rattle.law_sums.specs.model_sums.specs.Sums.{SumsTable}
+use Rattle.law_sums.specs.model_sums.specs.Says.{read_sums}
 use Rattle.law_sums.specs.TurnLaws.{row_sums}
 use Rattle.law_sum_rows.specs.Rows.{ComesNext, AreStatic}
 use Rattle.law_sum_rows.proofs.Moved.{shape_of, SameIf}

@@ -1,34 +1,34 @@
 -- From what a row does, in the machine and in a scene that stands for its place, to the law of rows for sums.
 use Rattle.std.proofs.Common.{◌≡◌, ℕ, ◌+◌, ◌≤◌, Bool, true, false, cond, List, [], ◌∷◌, length, Option, Some, None, Result, refl, sym, ap, subst, ◌∙◌, arith}
 use Rattle.std.specs.List.{AllByRecursion}
-use Rattle.model_machine.specs.declared.instruction.Ins.{Ins}
-use Rattle.model_machine.specs.declared.machine.Abend.{Abend}
-use Rattle.model_machine.specs.declared.instruction.DecodeFault.{DecodeFault}
-use Rattle.model_machine.specs.Code.{Decodes, DecodesTo}
-use Rattle.model_machine.specs.Frame.{Frame, Effect, dynamic_base, dynamic_end}
-use Rattle.model_machine.specs.Primitives.{Around, Then, Done}
-use Rattle.model_machine.specs.Row.{causes, effect, row, first_cause, row_end}
-use Rattle.law_rows.specs.Keeping.{OnDone}
-use Rattle.law_rows.specs.Shapes.{Act, Shape, act_effect, with_flags, shape_effect, meaning, shape}
-use Rattle.law_rows.proofs.RowShapes.{shapes}
+use Rattle.law_sums.specs.model_machine.specs.declared.instruction.Ins.{Ins}
+use Rattle.law_sums.specs.model_machine.specs.declared.machine.Abend.{Abend}
+use Rattle.law_sums.specs.model_machine.specs.declared.instruction.DecodeFault.{DecodeFault}
+use Rattle.law_sums.specs.model_machine.specs.Code.{Decodes, DecodesTo}
+use Rattle.law_sums.specs.model_machine.specs.Frame.{Frame, Effect, dynamic_base, dynamic_end}
+use Rattle.law_sums.specs.model_machine.specs.Primitives.{Around, Then, Done}
+use Rattle.law_sums.specs.model_machine.specs.Row.{causes, effect, row, first_cause, row_end}
+use Rattle.law_sums.specs.law_rows.specs.Keeping.{OnDone}
+use Rattle.law_sums.specs.law_rows.specs.Shapes.{Act, Shape, act_effect, with_flags, shape_effect, meaning, shape}
+use Rattle.law_sums.specs.law_rows.proofs.RowShapes.{shapes}
 use Rattle.mc_isa.proofs.PlaceLemmas.{decoded_stands}
-use Rattle.model_rules.specs.Rules.{Total}
-use Rattle.model_rules.specs.Keeping.{Amounts, Sum, Standing, mode_of}
-use Rattle.model_prove.specs.Facts.{Memory}
-use Rattle.model_prove.specs.Keys.{Start, PlaceKey, Tables}
-use Rattle.model_prove.specs.Splits.{Scene}
-use Rattle.model_prove.specs.Reach.{Coarse, coarse}
-use Rattle.model_prove.specs.Work.{Work, work}
-use Rattle.model_prove.specs.Arrivals.{Setting}
-use Rattle.model_prove.specs.Steps.{coarse_for, coarse_around, place_arrivals}
-use Rattle.law_prove.specs.Coverings.{frame_memory, IsFrameOf}
-use Rattle.law_prove.proofs.Alike.{Sized}
-use Rattle.law_prove.proofs.Turns.{NoCause}
+use Rattle.law_sums.specs.model_rules.specs.Rules.{Total}
+use Rattle.law_sums.specs.model_rules.specs.Keeping.{Amounts, Sum, Standing, mode_of}
+use Rattle.law_sums.specs.model_prove.specs.Facts.{Memory}
+use Rattle.law_sums.specs.model_prove.specs.Keys.{Start, PlaceKey, Tables}
+use Rattle.law_sums.specs.model_prove.specs.Splits.{Scene}
+use Rattle.law_sums.specs.model_prove.specs.Reach.{Coarse, coarse}
+use Rattle.law_sums.specs.model_prove.specs.Work.{Work, work}
+use Rattle.law_sums.specs.model_prove.specs.Arrivals.{Setting}
+use Rattle.law_sums.specs.model_prove.specs.Steps.{coarse_for, coarse_around, place_arrivals}
+use Rattle.law_prove_reach.specs.law_prove.specs.Coverings.{frame_memory, IsFrameOf}
+use Rattle.law_prove_reach.specs.law_prove.proofs.Alike.{Sized}
+use Rattle.law_prove_reach.specs.law_prove.proofs.Turns.{NoCause}
 use Rattle.law_prove_reach.proofs.Scenes.{scene_of, Fits}
-use Rattle.model_sums.specs.Sums.{Sums, SumsTable}
-use Rattle.model_sums.specs.Says.{Holds, TotalsHold, read_sums}
-use Rattle.model_sums.specs.Moves.{moved, moved_coarsely}
-use Rattle.model_sums.specs.Closed.{row_closed}
+use Rattle.law_sums.specs.model_sums.specs.Sums.{Sums, SumsTable}
+use Rattle.law_sums.specs.model_sums.specs.Says.{Holds, TotalsHold, read_sums}
+use Rattle.law_sums.specs.model_sums.specs.Moves.{moved, moved_coarsely}
+use Rattle.law_sums.specs.model_sums.specs.Closed.{row_closed}
 use Rattle.law_sums.specs.TurnLaws.{row_sums}
 use Rattle.law_sum_rows.specs.Rows.{ComesNext, SumsMove, AreStatic, SumRowLaw}
 use Rattle.law_sum_rows.proofs.Memories.{Whole}

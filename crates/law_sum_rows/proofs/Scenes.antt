@@ -4,33 +4,33 @@ use Rattle.std.proofs.Common.{◌≡◌, ◌⊎◌, inl, inr, ℕ, suc, ◌+◌,
 use Rattle.std.specs.List.{AllByRecursion}
 use Rattle.std.proofs.lemmas.Bool.{and_parts}
 use Rattle.std.proofs.lemmas.List.{length-replicate}
-use Rattle.model_device.specs.Bytes.{zeros}
-use Rattle.model_device.proofs.ImageLemmas.{all_append}
-use Rattle.model_machine.specs.declared.instruction.Ins.{Ins}
-use Rattle.model_machine.specs.Code.{Shaped}
-use Rattle.model_machine.specs.Frame.{Frame, dynamic_base, public_base, public_end, is_outside}
-use Rattle.model_machine.specs.Primitives.{Around}
-use Rattle.model_machine.specs.Chain.{frame_at}
-use Rattle.law_promise.specs.Outline.{Entry, FitsEntry}
-use Rattle.law_promise.specs.Domain.{IsDelegator}
-use Rattle.model_rules.specs.Happenings.{Event, History}
-use Rattle.model_prove.specs.Facts.{Facts, Memory}
-use Rattle.model_prove.specs.Keys.{Start, Delegated, OfClass, Tables}
-use Rattle.model_prove.specs.Laws.{Among, values_in}
-use Rattle.model_prove.specs.Splits.{Scene, Choice, stand_in, stand_in_stack, with_values, deciders, later_deciders, combinations, few_combinations}
-use Rattle.model_prove.specs.Reach.{target_choices, takes_target}
-use Rattle.model_prove.specs.Arrivals.{Setting}
-use Rattle.model_prove.specs.Steps.{Spot, arounds, primitive_of, inside, coarse_around}
-use Rattle.model_prove.proofs.ChangeLemmas.{choice_is_there}
-use Rattle.law_prove.specs.Coverings.{parts_memory, frame_memory, IsFrameOf, IsPlace}
-use Rattle.law_prove.proofs.Alike.{Sized, stack_length}
-use Rattle.law_prove.proofs.Turns.{blank, framed_of, stand_in_like}
+use Rattle.law_sums.specs.model_device.specs.Bytes.{zeros}
+use Rattle.law_sums.specs.model_device.proofs.ImageLemmas.{all_append}
+use Rattle.law_sums.specs.model_machine.specs.declared.instruction.Ins.{Ins}
+use Rattle.law_sums.specs.model_machine.specs.Code.{Shaped}
+use Rattle.law_sums.specs.model_machine.specs.Frame.{Frame, dynamic_base, public_base, public_end, is_outside}
+use Rattle.law_sums.specs.model_machine.specs.Primitives.{Around}
+use Rattle.law_sums.specs.model_machine.specs.Chain.{frame_at}
+use Rattle.law_sums.specs.law_promise.specs.Outline.{Entry, FitsEntry}
+use Rattle.law_sums.specs.law_promise.specs.Domain.{IsDelegator}
+use Rattle.law_sums.specs.model_rules.specs.Happenings.{Event, History}
+use Rattle.law_sums.specs.model_prove.specs.Facts.{Facts, Memory}
+use Rattle.law_sums.specs.model_prove.specs.Keys.{Start, Delegated, OfClass, Tables}
+use Rattle.law_sums.specs.model_prove.specs.Laws.{Among, values_in}
+use Rattle.law_sums.specs.model_prove.specs.Splits.{Scene, Choice, stand_in, stand_in_stack, with_values, deciders, later_deciders, combinations, few_combinations}
+use Rattle.law_sums.specs.model_prove.specs.Reach.{target_choices, takes_target}
+use Rattle.law_sums.specs.model_prove.specs.Arrivals.{Setting}
+use Rattle.law_sums.specs.model_prove.specs.Steps.{Spot, arounds, primitive_of, inside, coarse_around}
+use Rattle.law_sums.specs.model_prove.proofs.ChangeLemmas.{choice_is_there}
+use Rattle.law_prove_reach.specs.law_prove.specs.Coverings.{parts_memory, frame_memory, IsFrameOf, IsPlace}
+use Rattle.law_prove_reach.specs.law_prove.proofs.Alike.{Sized, stack_length}
+use Rattle.law_prove_reach.specs.law_prove.proofs.Turns.{blank, framed_of, stand_in_like}
 use Rattle.law_prove_targets.proofs.Scenes.{among_first}
 use Rattle.law_prove_reach.proofs.Scenes.{scene_of, Fits, Standing, values_stand, same_outside, all_inside_of, among_inside}
 use Rattle.law_prove_reach.proofs.Choices.{choice_among}
-use Rattle.model_sums.specs.Sums.{Sums, SumsTable}
-use Rattle.model_sums.specs.Says.{SumsHold}
-use Rattle.model_sums.specs.Closed.{Turn, all_pass, turn_closed, choice_closed, first_choice_closed, coarse_closed, choices_closed, fetched_closed}
+use Rattle.law_sums.specs.model_sums.specs.Sums.{Sums, SumsTable}
+use Rattle.law_sums.specs.model_sums.specs.Says.{SumsHold}
+use Rattle.law_sums.specs.model_sums.specs.Closed.{Turn, all_pass, turn_closed, choice_closed, first_choice_closed, coarse_closed, choices_closed, fetched_closed}
 use Rattle.law_sum_rows.specs.Rows.{spot_at}
 
 -- ---- lists

@@ -2,34 +2,34 @@
 use Rattle.std.proofs.Common.{◌≡◌, ℕ, ◌+◌, ◌-◌, ◌*◌, ◌%◌, ◌^◌, ◌<◌, ◌≤◌, Bool, true, false, cond, List, [], ◌∷◌, length, ℤ, Option, Some, None, refl, sym, ap, subst, ◌∙◌, arith}
 use Rattle.std.specs.Prelude.{◌==◌, replicate, bit_and, bit_or, bit_xor}
 use Rattle.std.proofs.lemmas.List.{length-replicate}
-use Rattle.model_device.specs.Bytes.{AreBytes, num, bytes, bytes2, zeros}
-use Rattle.model_device.proofs.ListLemmas.{length_bytes}
-use Rattle.model_machine.specs.declared.instruction.Ins.{Ins}
-use Rattle.model_machine.specs.declared.instruction.Ins.TheVariants as ins
-use Rattle.model_machine.specs.Blocks.{Worked, add_blocks, sub_blocks, inc_block, dec_block, and_blocks, or_blocks, xor_blocks, not_block, is_zero}
-use Rattle.model_machine.specs.Frame.{Frame, top, dynamic_base, is_under}
-use Rattle.model_machine.specs.Primitives.{Around, Goes, Primitive}
-use Rattle.model_machine.specs.Row.{causes, place_of, value_of, first_of}
-use Rattle.law_rows.specs.Shapes.{Stays, Shape, shape}
-use Rattle.law_machine.proofs.BlockLengths.{each_short, map_short}
-use Rattle.law_bytes.proofs.ByteLists.{number_bytes}
-use Rattle.model_rules.specs.Keeping.{mode_of}
-use Rattle.model_prove.specs.Facts.{Memory}
-use Rattle.model_prove.specs.Compares.{bytes_from}
-use Rattle.model_prove.specs.Digits.{Plus, Minus, And, Or, Xor}
-use Rattle.model_prove.specs.Keys.{Tables}
-use Rattle.model_prove.specs.Laws.{Among}
-use Rattle.model_prove.specs.Splits.{deciders}
-use Rattle.model_prove.specs.Reach.{takes_target}
-use Rattle.model_prove.specs.Work.{These, Digitwise, Work, Works, at_top, work}
-use Rattle.model_prove.specs.Arrivals.{Setting}
-use Rattle.model_prove.specs.Steps.{arounds, primitive_of}
-use Rattle.law_prove.proofs.Alike.{from_length, top_is}
-use Rattle.law_prove.proofs.Moves.{above_by}
-use Rattle.law_prove.proofs.Turns.{nobody}
+use Rattle.law_sums.specs.model_device.specs.Bytes.{AreBytes, num, bytes, bytes2, zeros}
+use Rattle.law_sums.specs.model_device.proofs.ListLemmas.{length_bytes}
+use Rattle.law_sums.specs.model_machine.specs.declared.instruction.Ins.{Ins}
+use Rattle.law_sums.specs.model_machine.specs.declared.instruction.Ins.TheVariants as ins
+use Rattle.law_sums.specs.model_machine.specs.Blocks.{Worked, add_blocks, sub_blocks, inc_block, dec_block, and_blocks, or_blocks, xor_blocks, not_block, is_zero}
+use Rattle.law_sums.specs.model_machine.specs.Frame.{Frame, top, dynamic_base, is_under}
+use Rattle.law_sums.specs.model_machine.specs.Primitives.{Around, Goes, Primitive}
+use Rattle.law_sums.specs.model_machine.specs.Row.{causes, place_of, value_of, first_of}
+use Rattle.law_sums.specs.law_rows.specs.Shapes.{Stays, Shape, shape}
+use Rattle.law_sums.specs.law_machine.proofs.BlockLengths.{each_short, map_short}
+use Rattle.law_sums.specs.law_bytes.proofs.ByteLists.{number_bytes}
+use Rattle.law_sums.specs.model_rules.specs.Keeping.{mode_of}
+use Rattle.law_sums.specs.model_prove.specs.Facts.{Memory}
+use Rattle.law_sums.specs.model_prove.specs.Compares.{bytes_from}
+use Rattle.law_sums.specs.model_prove.specs.Digits.{Plus, Minus, And, Or, Xor}
+use Rattle.law_sums.specs.model_prove.specs.Keys.{Tables}
+use Rattle.law_sums.specs.model_prove.specs.Laws.{Among}
+use Rattle.law_sums.specs.model_prove.specs.Splits.{deciders}
+use Rattle.law_sums.specs.model_prove.specs.Reach.{takes_target}
+use Rattle.law_sums.specs.model_prove.specs.Work.{These, Digitwise, Work, Works, at_top, work}
+use Rattle.law_sums.specs.model_prove.specs.Arrivals.{Setting}
+use Rattle.law_sums.specs.model_prove.specs.Steps.{arounds, primitive_of}
+use Rattle.law_prove_reach.specs.law_prove.proofs.Alike.{from_length, top_is}
+use Rattle.law_prove_reach.specs.law_prove.proofs.Moves.{above_by}
+use Rattle.law_prove_reach.specs.law_prove.proofs.Turns.{nobody}
 use Rattle.law_prove_reach.proofs.Scenes.{scene_of}
 use Rattle.law_prove_reach.proofs.Accesses.{bytes_of}
-use Rattle.model_sums.specs.Sums.{SumsTable}
+use Rattle.law_sums.specs.model_sums.specs.Sums.{SumsTable}
 use Rattle.law_sums.specs.CopyLaws.{operand_bytes}
 use Rattle.law_sums.specs.TurnLaws.{row_sums}
 use Rattle.law_sum_rows.proofs.Moved.{shape_of, SameIf}

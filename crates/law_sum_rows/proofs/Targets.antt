@@ -2,27 +2,27 @@
 use Rattle.std.proofs.Common.{◌≡◌, ℕ, suc, ◌+◌, ◌-◌, ◌*◌, ◌<◌, ◌≤◌, true, false, [], length, Option, None, refl, sym, subst, ◌∙◌, arith}
 use Rattle.std.specs.Prelude.{not, nat_lt}
 use Rattle.std.proofs.lemmas.Bool.{ltb-true, ltb-false}
-use Rattle.model_device.specs.Bytes.{num}
-use Rattle.model_machine.specs.declared.instruction.Ins.{Ins}
-use Rattle.model_machine.specs.declared.instruction.Ins.TheVariants as ins
-use Rattle.model_machine.specs.Frame.{Frame, top, is_under, dynamic_end}
-use Rattle.model_machine.specs.Primitives.{Goes, Primitive}
-use Rattle.model_machine.specs.Row.{causes, target}
-use Rattle.law_rows.specs.Shapes.{Jumps, Calls, shape}
-use Rattle.model_prove.specs.Facts.{Memory}
-use Rattle.model_prove.specs.Keys.{Tables}
-use Rattle.model_prove.specs.Laws.{Among}
-use Rattle.model_prove.specs.Reach.{takes_target}
-use Rattle.model_prove.specs.Steps.{arounds, primitive_of}
-use Rattle.model_prove.specs.Arrivals.{Setting}
-use Rattle.model_prove.proofs.FactLemmas.{value_holds}
-use Rattle.law_prove.specs.Coverings.{IsFrameOf}
-use Rattle.law_prove.proofs.Plain.{above}
-use Rattle.law_prove.proofs.Turns.{nobody}
+use Rattle.law_sums.specs.model_device.specs.Bytes.{num}
+use Rattle.law_sums.specs.model_machine.specs.declared.instruction.Ins.{Ins}
+use Rattle.law_sums.specs.model_machine.specs.declared.instruction.Ins.TheVariants as ins
+use Rattle.law_sums.specs.model_machine.specs.Frame.{Frame, top, is_under, dynamic_end}
+use Rattle.law_sums.specs.model_machine.specs.Primitives.{Goes, Primitive}
+use Rattle.law_sums.specs.model_machine.specs.Row.{causes, target}
+use Rattle.law_sums.specs.law_rows.specs.Shapes.{Jumps, Calls, shape}
+use Rattle.law_sums.specs.model_prove.specs.Facts.{Memory}
+use Rattle.law_sums.specs.model_prove.specs.Keys.{Tables}
+use Rattle.law_sums.specs.model_prove.specs.Laws.{Among}
+use Rattle.law_sums.specs.model_prove.specs.Reach.{takes_target}
+use Rattle.law_sums.specs.model_prove.specs.Steps.{arounds, primitive_of}
+use Rattle.law_sums.specs.model_prove.specs.Arrivals.{Setting}
+use Rattle.law_sums.specs.model_prove.proofs.FactLemmas.{value_holds}
+use Rattle.law_prove_reach.specs.law_prove.specs.Coverings.{IsFrameOf}
+use Rattle.law_prove_reach.specs.law_prove.proofs.Plain.{above}
+use Rattle.law_prove_reach.specs.law_prove.proofs.Turns.{nobody}
 use Rattle.law_prove_targets.proofs.Scenes.{target_inside}
 use Rattle.law_prove_reach.proofs.Scenes.{with_bytes, pair_is, below_is, stack_inside}
 use Rattle.law_prove_reach.proofs.Accesses.{not_true}
-use Rattle.model_sums.specs.Sums.{SumsTable}
+use Rattle.law_sums.specs.model_sums.specs.Sums.{SumsTable}
 use Rattle.law_sum_rows.proofs.Scenes.{Step, fetched, memory, sized, Found, found_target, nobody_among}
 use Rattle.law_sum_rows.proofs.Rows.{unprotected, row_done, few_compared, StepCase}
 use Rattle.law_sum_rows.proofs.Plain.{dt_high, pop_high, pop_low}

@@ -1,28 +1,28 @@
 -- Rows that pop numbers, among them the address that they write to.
 use Rattle.std.proofs.Common.{◌≡◌, inl, inr, ℕ, suc, ◌+◌, ◌-◌, ◌*◌, ◌≤◌, true, false, List, length, Option, None, refl, sym, ap, subst, ◌∙◌, arith}
 use Rattle.std.specs.Prelude.{◌==◌, is_none}
-use Rattle.model_machine.specs.declared.instruction.Ins.{Ins}
-use Rattle.model_machine.specs.Frame.{Frame, where_is, is_outside, dynamic_base, dynamic_end, frame_after_pop}
-use Rattle.model_machine.specs.Primitives.{Around, Goes, number_below_top}
-use Rattle.model_machine.specs.Row.{causes}
-use Rattle.law_rows.specs.Shapes.{Act, Writes, Shape, shape}
-use Rattle.model_rules.specs.Keeping.{mode_of}
-use Rattle.model_prove.specs.Sets.{is_in}
-use Rattle.model_prove.specs.Facts.{Facts, Memory}
-use Rattle.model_prove.specs.Keys.{Start, Tables}
-use Rattle.model_prove.specs.Laws.{Among}
-use Rattle.model_prove.specs.Splits.{top_places, deciders}
-use Rattle.model_prove.specs.Reach.{Coarse, WritesWithin, reach_at, coarse, takes_target}
-use Rattle.model_prove.specs.Work.{Work, work}
-use Rattle.model_prove.specs.Arrivals.{Setting}
-use Rattle.model_prove.specs.Steps.{arounds, primitive_of, coarse_for, coarse_around}
-use Rattle.law_prove.proofs.Alike.{Sized}
-use Rattle.law_prove.proofs.Turns.{NoCause, nobody}
+use Rattle.law_sums.specs.model_machine.specs.declared.instruction.Ins.{Ins}
+use Rattle.law_sums.specs.model_machine.specs.Frame.{Frame, where_is, is_outside, dynamic_base, dynamic_end, frame_after_pop}
+use Rattle.law_sums.specs.model_machine.specs.Primitives.{Around, Goes, number_below_top}
+use Rattle.law_sums.specs.model_machine.specs.Row.{causes}
+use Rattle.law_sums.specs.law_rows.specs.Shapes.{Act, Writes, Shape, shape}
+use Rattle.law_sums.specs.model_rules.specs.Keeping.{mode_of}
+use Rattle.law_sums.specs.model_prove.specs.Sets.{is_in}
+use Rattle.law_sums.specs.model_prove.specs.Facts.{Facts, Memory}
+use Rattle.law_sums.specs.model_prove.specs.Keys.{Start, Tables}
+use Rattle.law_sums.specs.model_prove.specs.Laws.{Among}
+use Rattle.law_sums.specs.model_prove.specs.Splits.{top_places, deciders}
+use Rattle.law_sums.specs.model_prove.specs.Reach.{Coarse, WritesWithin, reach_at, coarse, takes_target}
+use Rattle.law_sums.specs.model_prove.specs.Work.{Work, work}
+use Rattle.law_sums.specs.model_prove.specs.Arrivals.{Setting}
+use Rattle.law_sums.specs.model_prove.specs.Steps.{arounds, primitive_of, coarse_for, coarse_around}
+use Rattle.law_prove_reach.specs.law_prove.proofs.Alike.{Sized}
+use Rattle.law_prove_reach.specs.law_prove.proofs.Turns.{NoCause, nobody}
 use Rattle.law_prove_reach.proofs.Scenes.{with_bytes, Fits, pair_is, below_is}
 use Rattle.law_prove_reach.proofs.Reached.{IsWithin}
 use Rattle.law_prove_reach.proofs.Accesses.{inside_of}
 use Rattle.law_prove_reach.proofs.Tops.{Agree}
-use Rattle.model_sums.specs.Sums.{SumsTable}
+use Rattle.law_sums.specs.model_sums.specs.Sums.{SumsTable}
 use Rattle.law_sums.specs.TurnLaws.{row_sums}
 use Rattle.law_sum_rows.specs.Rows.{AreStatic}
 use Rattle.law_sum_rows.proofs.Moved.{shape_of, SameIf}

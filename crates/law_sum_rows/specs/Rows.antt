@@ -2,28 +2,28 @@
 -- compares with the places that follow is so of what the row leaves, before its event is counted.
 use Rattle.std.specs.Prelude.{◌≡◌, ℕ, ◌+◌, ◌≤◌, true, List, length, Ok, ⊤}
 use Rattle.std.specs.List.{AllByRecursion}
-use Rattle.model_machine.specs.declared.instruction.Ins.{Ins}
-use Rattle.model_machine.specs.Code.{instruction_at}
-use Rattle.model_machine.specs.Frame.{Frame, Effect}
-use Rattle.model_machine.specs.Primitives.{Around, Then, Goes, Exits, Delegates, Done}
-use Rattle.model_machine.specs.Row.{row}
-use Rattle.model_machine.specs.Chain.{frame_at}
-use Rattle.law_rows.specs.Shapes.{Shape}
-use Rattle.law_rows.specs.Keeping.{OnDone}
-use Rattle.law_promise.specs.Outline.{Entry, FitsEntry}
-use Rattle.law_promise.specs.Domain.{IsDelegator}
-use Rattle.model_rules.specs.Rules.{Total}
-use Rattle.model_rules.specs.Happenings.{Event, History}
-use Rattle.model_rules.specs.Keeping.{Standing, mode_of}
-use Rattle.model_prove.specs.Keys.{Tables}
-use Rattle.model_prove.specs.Splits.{Scene}
-use Rattle.model_prove.specs.Arrivals.{Setting, static_size}
-use Rattle.model_prove.specs.Steps.{Spot, place_arrivals}
-use Rattle.model_prove.specs.Tables.{IsLoadable}
-use Rattle.law_prove.specs.Coverings.{frame_memory, IsPlace, key_of}
-use Rattle.model_sums.specs.Sums.{Sums, SumsTable}
-use Rattle.model_sums.specs.Says.{Holds, SumsHold}
-use Rattle.model_sums.specs.Closed.{row_closed, fetched_closed}
+use Rattle.law_sums.specs.model_machine.specs.declared.instruction.Ins.{Ins}
+use Rattle.law_sums.specs.model_machine.specs.Code.{instruction_at}
+use Rattle.law_sums.specs.model_machine.specs.Frame.{Frame, Effect}
+use Rattle.law_sums.specs.model_machine.specs.Primitives.{Around, Then, Goes, Exits, Delegates, Done}
+use Rattle.law_sums.specs.model_machine.specs.Row.{row}
+use Rattle.law_sums.specs.model_machine.specs.Chain.{frame_at}
+use Rattle.law_sums.specs.law_rows.specs.Shapes.{Shape}
+use Rattle.law_sums.specs.law_rows.specs.Keeping.{OnDone}
+use Rattle.law_sums.specs.law_promise.specs.Outline.{Entry, FitsEntry}
+use Rattle.law_sums.specs.law_promise.specs.Domain.{IsDelegator}
+use Rattle.law_sums.specs.model_rules.specs.Rules.{Total}
+use Rattle.law_sums.specs.model_rules.specs.Happenings.{Event, History}
+use Rattle.law_sums.specs.model_rules.specs.Keeping.{Standing, mode_of}
+use Rattle.law_sums.specs.model_prove.specs.Keys.{Tables}
+use Rattle.law_sums.specs.model_prove.specs.Splits.{Scene}
+use Rattle.law_sums.specs.model_prove.specs.Arrivals.{Setting, static_size}
+use Rattle.law_sums.specs.model_prove.specs.Steps.{Spot, place_arrivals}
+use Rattle.law_sums.specs.model_prove.specs.Tables.{IsLoadable}
+use Rattle.law_prove_reach.specs.law_prove.specs.Coverings.{frame_memory, IsPlace, key_of}
+use Rattle.law_sums.specs.model_sums.specs.Sums.{Sums, SumsTable}
+use Rattle.law_sums.specs.model_sums.specs.Says.{Holds, SumsHold}
+use Rattle.law_sums.specs.model_sums.specs.Closed.{row_closed, fetched_closed}
 use Rattle.law_sums.specs.TurnLaws.{row_sums}
 
 -- ---- what comes next

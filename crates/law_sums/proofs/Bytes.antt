@@ -2,9 +2,9 @@
 use Rattle.std.specs.Prelude.{◌≡◌, ◌⊎◌, ℕ, zero, suc, ◌+◌, ◌<◌, ◌≤◌, Bool, true, false, ◌&&◌, nat_lt, nat_le, List, [], ◌∷◌, refl}
 use Rattle.std.proofs.Common.{arith, ap, sym, subst, ◌∙◌, inl, inr}
 use Rattle.std.proofs.lemmas.Bool.{leb-true, ltb-true, lt-ltb, and_from, cases_Bool}
-use Rattle.model_device.specs.Bytes.{num}
-use Rattle.model_prove.specs.Facts.{Memory}
-use Rattle.model_prove.specs.Compares.{meet, bytes_from}
+use Rattle.model_sums.specs.model_device.specs.Bytes.{num}
+use Rattle.model_sums.specs.model_prove.specs.Facts.{Memory}
+use Rattle.model_sums.specs.model_prove.specs.Compares.{meet, bytes_from}
 use Rattle.model_sums.specs.Says.{number_at}
 
 -- two memories are the same outside of n bytes at an address

@@ -3,13 +3,13 @@ use Rattle.std.specs.Prelude.{◌≡◌, ◌⊎◌, ℕ, zero, suc, ◌+◌, ◌
 use Rattle.std.specs.List.{AllByRecursion}
 use Rattle.std.proofs.Common.{arith, ap, sym, subst, ◌∙◌}
 use Rattle.std.proofs.lemmas.Bool.{eqb-true, and_parts}
-use Rattle.model_device.specs.Bytes.{num}
-use Rattle.model_rules.specs.Rules.{Total}
-use Rattle.model_rules.specs.Keeping.{Sum}
-use Rattle.model_prove.specs.Facts.{Memory}
-use Rattle.model_prove.specs.Compares.{bytes_from}
-use Rattle.model_prove.specs.Digits.{Operation, Plus, Minus, And, Or, Xor}
-use Rattle.model_prove.specs.Work.{Operand, AtAddress, These, Digitwise}
+use Rattle.model_sums.specs.model_device.specs.Bytes.{num}
+use Rattle.model_sums.specs.model_rules.specs.Rules.{Total}
+use Rattle.model_sums.specs.model_rules.specs.Keeping.{Sum}
+use Rattle.model_sums.specs.model_prove.specs.Facts.{Memory}
+use Rattle.model_sums.specs.model_prove.specs.Compares.{bytes_from}
+use Rattle.model_sums.specs.model_prove.specs.Digits.{Operation, Plus, Minus, And, Or, Xor}
+use Rattle.model_sums.specs.model_prove.specs.Work.{Operand, AtAddress, These, Digitwise}
 use Rattle.model_sums.specs.Forms.{Form, value, number, negative}
 use Rattle.model_sums.specs.Origins.{Origin, Unknown, Origins, origin_at, origins_from, unknowns, form_of}
 use Rattle.model_sums.specs.Sums.{More, Sums}

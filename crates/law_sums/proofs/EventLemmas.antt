@@ -4,14 +4,14 @@ use Rattle.std.specs.List.{AllByRecursion}
 use Rattle.std.proofs.Common.{arith, ap, sym, subst, ◌∙◌}
 use Rattle.std.proofs.Math.Seq.{drop-cons}
 use Rattle.std.proofs.lemmas.Bool.{leb-true, or_cases}
-use Rattle.model_device.specs.Bytes.{num}
-use Rattle.model_device.proofs.MapLemmas.{same_name, name_is_itself}
-use Rattle.model_machine.specs.Frame.{public_base}
-use Rattle.law_explore.specs.Matching.{fits}
-use Rattle.model_rules.specs.Rules.{Total, Amount, Constant, PublicBytes, SumLine}
-use Rattle.model_rules.specs.Keeping.{Sum, amount_in, moved_sum, after_sum_line, after_moves, added_to, taken_from, added_by, taken_by}
-use Rattle.model_prove.specs.Facts.{Memory}
-use Rattle.model_prove.specs.Digits.{same}
+use Rattle.model_sums.specs.model_device.specs.Bytes.{num}
+use Rattle.model_sums.specs.model_device.proofs.MapLemmas.{same_name, name_is_itself}
+use Rattle.model_sums.specs.model_machine.specs.Frame.{public_base}
+use Rattle.model_sums.specs.law_explore.specs.Matching.{fits}
+use Rattle.model_sums.specs.model_rules.specs.Rules.{Total, Amount, Constant, PublicBytes, SumLine}
+use Rattle.model_sums.specs.model_rules.specs.Keeping.{Sum, amount_in, moved_sum, after_sum_line, after_moves, added_to, taken_from, added_by, taken_by}
+use Rattle.model_sums.specs.model_prove.specs.Facts.{Memory}
+use Rattle.model_sums.specs.model_prove.specs.Digits.{same}
 use Rattle.model_sums.specs.Forms.{Form, value, number, plus, negative}
 use Rattle.model_sums.specs.Origins.{Origins, origin_at, origins_from, form_of}
 use Rattle.model_sums.specs.Says.{number_at, IsFrom, AreFrom, OffHolds, OffsHold}

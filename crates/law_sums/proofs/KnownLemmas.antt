@@ -4,14 +4,14 @@ use Rattle.std.specs.List.{AllByRecursion}
 use Rattle.std.proofs.Common.{arith, ap, sym, subst, ◌∙◌, inl, inr}
 use Rattle.std.proofs.lemmas.Bool.{eqb-true, leb-true, and_parts, or_cases}
 use Rattle.std.proofs.Math.Nat.{zero-mod}
-use Rattle.model_device.specs.Bytes.{num}
-use Rattle.model_rules.specs.Rules.{Total}
-use Rattle.model_rules.specs.Keeping.{Sum, added_by, taken_by}
-use Rattle.model_prove.specs.Facts.{Memory}
-use Rattle.model_prove.specs.Compares.{bytes_from}
+use Rattle.model_sums.specs.model_device.specs.Bytes.{num}
+use Rattle.model_sums.specs.model_rules.specs.Rules.{Total}
+use Rattle.model_sums.specs.model_rules.specs.Keeping.{Sum, added_by, taken_by}
+use Rattle.model_sums.specs.model_prove.specs.Facts.{Memory}
+use Rattle.model_sums.specs.model_prove.specs.Compares.{bytes_from}
 use Rattle.model_sums.specs.Forms.{Form, value, number, same_forms}
 use Rattle.model_sums.specs.Sums.{More, Sums, first_known, has_more, mores_follow, off_follows, offs_follow, sums_follow, evens, is_even, are_even}
-use Rattle.model_machine.specs.Frame.{dynamic_base, public_base}
+use Rattle.model_sums.specs.model_machine.specs.Frame.{dynamic_base, public_base}
 use Rattle.model_sums.specs.Origins.{Origin, Unknown, PublicByte, origins_follow}
 use Rattle.model_sums.specs.Says.{number_at, IsFrom, MoreHolds, OffHolds, OffsHold, Holds, TotalHolds, TotalsHold}
 use Rattle.model_sums.specs.Writes.{popped, loaded}

@@ -3,12 +3,12 @@ use Rattle.std.specs.Prelude.{◌≡◌, ℕ, ◌+◌, ◌-◌, ◌<◌, ◌≤�
 use Rattle.std.specs.List.{AllByRecursion}
 use Rattle.std.proofs.Common.{arith, ap, sym, subst, ◌∙◌}
 use Rattle.std.proofs.lemmas.Bool.{leb-true, ltb-true, and_parts}
-use Rattle.model_device.specs.Bytes.{num}
-use Rattle.model_machine.specs.Frame.{dynamic_base, public_base}
-use Rattle.model_rules.specs.Rules.{Total}
-use Rattle.model_rules.specs.Keeping.{Sum}
-use Rattle.model_prove.specs.Facts.{Memory}
-use Rattle.model_prove.specs.Compares.{bytes_from}
+use Rattle.model_sums.specs.model_device.specs.Bytes.{num}
+use Rattle.model_sums.specs.model_machine.specs.Frame.{dynamic_base, public_base}
+use Rattle.model_sums.specs.model_rules.specs.Rules.{Total}
+use Rattle.model_sums.specs.model_rules.specs.Keeping.{Sum}
+use Rattle.model_sums.specs.model_prove.specs.Facts.{Memory}
+use Rattle.model_sums.specs.model_prove.specs.Compares.{bytes_from}
 use Rattle.model_sums.specs.Forms.{Form}
 use Rattle.model_sums.specs.Origins.{Origin, Unknown, PublicByte, Origins, unlisted, listed_or, origin_at, without_public}
 use Rattle.model_sums.specs.Sums.{More, Sums, evens}

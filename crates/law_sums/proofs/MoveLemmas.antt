@@ -3,10 +3,10 @@ use Rattle.std.specs.Prelude.{◌≡◌, ◌⊎◌, ℕ, ◌+◌, ◌-◌, ◌*�
 use Rattle.std.specs.List.{AllByRecursion}
 use Rattle.std.proofs.Common.{arith, ap, sym, subst, ◌∙◌}
 use Rattle.std.proofs.lemmas.Bool.{eqb-true, and_parts}
-use Rattle.model_rules.specs.Rules.{Total}
-use Rattle.model_rules.specs.Keeping.{Sum, added_by, taken_by}
-use Rattle.model_prove.specs.Facts.{Memory}
-use Rattle.model_prove.specs.Compares.{meet}
+use Rattle.model_sums.specs.model_rules.specs.Rules.{Total}
+use Rattle.model_sums.specs.model_rules.specs.Keeping.{Sum, added_by, taken_by}
+use Rattle.model_sums.specs.model_prove.specs.Facts.{Memory}
+use Rattle.model_sums.specs.model_prove.specs.Compares.{meet}
 use Rattle.model_sums.specs.Forms.{Form, value, number, plus, negative}
 use Rattle.model_sums.specs.Sums.{More}
 use Rattle.model_sums.specs.Says.{number_at, MoreHolds, OffHolds, OffsHold}

@@ -2,7 +2,7 @@
 use Rattle.std.specs.Prelude.{◌≡◌, ℕ, ◌+◌, ◌-◌, ◌*◌, ◌^◌, Bool, true, false, cond, List, [], ◌∷◌, length, slice_index, Option, Some, None, refl}
 use Rattle.std.proofs.Common.{arith, ap, sym, subst, ◌∙◌}
 use Rattle.std.proofs.Math.Nat.{mul_comm}
-use Rattle.model_device.specs.Bytes.{num}
+use Rattle.model_sums.specs.model_device.specs.Bytes.{num}
 use Rattle.model_sums.specs.Forms.{Form, value, number, public_byte, plus, times}
 use Rattle.model_sums.specs.Origins.{Origin, Unknown, ConstantByte, PublicByte, form_of_byte, above, form_of}
 use Rattle.model_sums.specs.Says.{IsFrom, AreFrom}

@@ -2,9 +2,9 @@
 use Rattle.std.specs.Prelude.{◌≡◌, ◌⊎◌, ℕ, suc, ◌+◌, ◌-◌, ◌<◌, ◌≤◌, Bool, true, false, cond, not, ◌&&◌, ◌||◌, nat_lt, nat_le, ◌==◌, List, [], ◌∷◌, ◌++◌, length, filter, slice_index, Option, Some, None, refl, ⊤}
 use Rattle.std.proofs.Common.{arith, ap, sym, subst, ◌∙◌, inl, inr}
 use Rattle.std.proofs.lemmas.Bool.{eqb-true, eqb-false, and_parts, cases_Bool}
-use Rattle.model_machine.specs.Frame.{dynamic_base, public_base}
-use Rattle.model_prove.specs.Facts.{Memory}
-use Rattle.model_prove.specs.Compares.{bytes_from}
+use Rattle.model_sums.specs.model_machine.specs.Frame.{dynamic_base, public_base}
+use Rattle.model_sums.specs.model_prove.specs.Facts.{Memory}
+use Rattle.model_sums.specs.model_prove.specs.Compares.{bytes_from}
 use Rattle.model_sums.specs.Origins.{Origin, Unknown, ConstantByte, PublicByte, Origins, unlisted, listed_or, origin_at, with_origins, kept_origins, origins_below, origin_follows, listed_follow, origins_follow}
 use Rattle.model_sums.specs.Says.{IsFrom, AreFrom, OriginsHold}
 

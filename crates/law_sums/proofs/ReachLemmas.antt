@@ -3,14 +3,14 @@ use Rattle.std.specs.Prelude.{◌≡◌, ◌⊎◌, ℕ, zero, suc, ◌+◌, ◌
 use Rattle.std.specs.List.{AllByRecursion}
 use Rattle.std.proofs.Common.{arith, ap, sym, subst, ◌∙◌, inl, inr, eq-eqb}
 use Rattle.std.proofs.lemmas.Bool.{eqb-true, leb-true, and_parts, or_cases, cases_Bool}
-use Rattle.model_device.specs.Bytes.{num}
-use Rattle.model_machine.specs.Frame.{Frame, Place, Static, Dynamic, Public, dynamic_base, dynamic_end, public_base, public_end, where_is, is_outside}
-use Rattle.model_rules.specs.Rules.{Total}
-use Rattle.model_rules.specs.Keeping.{Sum}
-use Rattle.model_prove.specs.Sets.{numbers_from, is_in}
-use Rattle.model_prove.specs.Facts.{Memory}
-use Rattle.model_prove.specs.Compares.{bytes_from}
-use Rattle.model_prove.specs.Reach.{Reach, is_reached_within, is_reached_by, is_reached, some_reached}
+use Rattle.model_sums.specs.model_device.specs.Bytes.{num}
+use Rattle.model_sums.specs.model_machine.specs.Frame.{Frame, Place, Static, Dynamic, Public, dynamic_base, dynamic_end, public_base, public_end, where_is, is_outside}
+use Rattle.model_sums.specs.model_rules.specs.Rules.{Total}
+use Rattle.model_sums.specs.model_rules.specs.Keeping.{Sum}
+use Rattle.model_sums.specs.model_prove.specs.Sets.{numbers_from, is_in}
+use Rattle.model_sums.specs.model_prove.specs.Facts.{Memory}
+use Rattle.model_sums.specs.model_prove.specs.Compares.{bytes_from}
+use Rattle.model_sums.specs.model_prove.specs.Reach.{Reach, is_reached_within, is_reached_by, is_reached, some_reached}
 use Rattle.model_sums.specs.Forms.{Form}
 use Rattle.model_sums.specs.Origins.{Origin, Unknown, Origins, unlisted, listed_or, origin_at}
 use Rattle.model_sums.specs.Sums.{More, Sums}

@@ -1,13 +1,13 @@
 -- Laws of copies and operations: a loaded block that is copied over its own moves it by as much as it is more, and an
 -- addition or a subtraction moves its first operand by what the second is.
 use Rattle.std.specs.Prelude.{◌≡◌, ◌⊎◌, ℕ, ◌+◌, ◌<◌, ◌≤◌, ◌%◌, ◌^◌, List, length, Option, ⊤}
-use Rattle.model_device.specs.Bytes.{num}
-use Rattle.model_rules.specs.Rules.{Total}
-use Rattle.model_rules.specs.Keeping.{Sum}
-use Rattle.model_prove.specs.Facts.{Memory}
-use Rattle.model_prove.specs.Compares.{bytes_from}
-use Rattle.model_prove.specs.Digits.{Operation, Plus, Minus, And, Or, Xor}
-use Rattle.model_prove.specs.Work.{Operand, AtAddress, These, Digitwise}
+use Rattle.model_sums.specs.model_device.specs.Bytes.{num}
+use Rattle.model_sums.specs.model_rules.specs.Rules.{Total}
+use Rattle.model_sums.specs.model_rules.specs.Keeping.{Sum}
+use Rattle.model_sums.specs.model_prove.specs.Facts.{Memory}
+use Rattle.model_sums.specs.model_prove.specs.Compares.{bytes_from}
+use Rattle.model_sums.specs.model_prove.specs.Digits.{Operation, Plus, Minus, And, Or, Xor}
+use Rattle.model_sums.specs.model_prove.specs.Work.{Operand, AtAddress, These, Digitwise}
 use Rattle.model_sums.specs.Origins.{origins_from, unknowns}
 use Rattle.model_sums.specs.Sums.{Sums}
 use Rattle.model_sums.specs.Says.{number_at, Holds}

@@ -2,10 +2,10 @@
 -- what is known as a frame begins.
 use Rattle.std.specs.Prelude.{◌≡◌, ℕ, ◌+◌, ◌-◌, ◌≤◌, Bool, true, false, ◌||◌, List, [], ◌∷◌, length, slice_index, bytes_eq, Option, ⊤}
 use Rattle.std.specs.List.{AllByRecursion}
-use Rattle.model_machine.specs.Frame.{public_base}
-use Rattle.model_rules.specs.Rules.{Total, SumLine}
-use Rattle.model_rules.specs.Keeping.{Sum, after_moves}
-use Rattle.model_prove.specs.Facts.{Memory}
+use Rattle.model_sums.specs.model_machine.specs.Frame.{public_base}
+use Rattle.model_sums.specs.model_rules.specs.Rules.{Total, SumLine}
+use Rattle.model_sums.specs.model_rules.specs.Keeping.{Sum, after_moves}
+use Rattle.model_sums.specs.model_prove.specs.Facts.{Memory}
 use Rattle.model_sums.specs.Forms.{Form}
 use Rattle.model_sums.specs.Origins.{Origins, origin_at}
 use Rattle.model_sums.specs.Sums.{are_even, first_known}

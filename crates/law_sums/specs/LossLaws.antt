@@ -1,10 +1,10 @@
 -- Laws of what is lost: what waits where it is dropped, and public bytes by a delegation.
 use Rattle.std.specs.Prelude.{◌≡◌, ℕ, ◌+◌, ◌<◌, ◌≤◌, true, List}
 use Rattle.std.specs.List.{AllByRecursion}
-use Rattle.model_machine.specs.Frame.{dynamic_base, public_base}
-use Rattle.model_rules.specs.Rules.{Total}
-use Rattle.model_rules.specs.Keeping.{Sum}
-use Rattle.model_prove.specs.Facts.{Memory}
+use Rattle.model_sums.specs.model_machine.specs.Frame.{dynamic_base, public_base}
+use Rattle.model_sums.specs.model_rules.specs.Rules.{Total}
+use Rattle.model_sums.specs.model_rules.specs.Keeping.{Sum}
+use Rattle.model_sums.specs.model_prove.specs.Facts.{Memory}
 use Rattle.model_sums.specs.Sums.{Sums}
 use Rattle.model_sums.specs.Says.{Holds, TotalsHold}
 use Rattle.model_sums.specs.Writes.{dropped, delegated}

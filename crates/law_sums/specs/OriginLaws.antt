@@ -1,6 +1,6 @@
 -- Laws of origins: the number that bytes are is the value of the form of their origins.
 use Rattle.std.specs.Prelude.{◌≡◌, List, ℕ, Some}
-use Rattle.model_device.specs.Bytes.{num}
+use Rattle.model_sums.specs.model_device.specs.Bytes.{num}
 use Rattle.model_sums.specs.Forms.{Form, value}
 use Rattle.model_sums.specs.Origins.{Origin, form_of}
 use Rattle.model_sums.specs.Says.{AreFrom}

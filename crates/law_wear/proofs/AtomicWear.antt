@@ -5,11 +5,11 @@ use Rattle.std.specs.List.{AllByRecursion}
 use Rattle.std.proofs.lemmas.Bool.{and_parts, leb-true, eqb-true}
 use Rattle.std.proofs.lemmas.Bool.Decides.{eqb_tells}
 use Rattle.std.proofs.lemmas.List.{length-append}
-use Rattle.model_device.specs.Image.{Journal, One, Two, opening, shut_word, gate, within, ascend}
-use Rattle.model_device.specs.Stopped.{cost, entries, replay, writes, word_of_number, IsAtomic}
-use Rattle.model_device.proofs.BoolLemmas.{cond_most}
-use Rattle.model_device.proofs.ImageLemmas.{Ascends, ascends_other, all_map}
-use Rattle.model_device.proofs.GeometryLemmas.{InEntries, Geometry, geometry, targets_within}
+use Rattle.law_family.specs.model_device.specs.Image.{Journal, One, Two, opening, shut_word, gate, within, ascend}
+use Rattle.law_family.specs.model_device.specs.Stopped.{cost, entries, replay, writes, word_of_number, IsAtomic}
+use Rattle.law_family.specs.model_device.proofs.BoolLemmas.{cond_most}
+use Rattle.law_family.specs.model_device.proofs.ImageLemmas.{Ascends, ascends_other, all_map}
+use Rattle.law_family.specs.model_device.proofs.GeometryLemmas.{InEntries, Geometry, geometry, targets_within}
 use Rattle.law_wear.specs.Laws.{times_written, AtomicWearLaw}
 
 abbrev Pair : Type 0

@@ -1,18 +1,18 @@
 -- The number of atomic writes of one command, and of the commands of a load.
 use Rattle.std.proofs.Common.{◌≡◌, ℕ, zero, suc, ◌+◌, ◌≤◌, Bool, true, false, cond, List, [], ◌∷◌, ◌++◌, length, Some, None, refl, sym, ◌∙◌, ap, subst, arith}
 use Rattle.std.specs.Prelude.{◌==◌}
-use Rattle.model_machine.specs.Apdu.{ApduParts}
-use Rattle.model_card.specs.Units.{UnitParts}
-use Rattle.model_device.specs.Card.{Card}
-use Rattle.model_card.specs.Items.{Created, Deleted, Item, Plain, Atomic, card_done}
-use Rattle.model_card.specs.Manager.{SessionState, Route, WrongLength, WrongClass, ToSelect, ToManager, ToApplication, route, select, p1p2, fresh, word_parts, manage, room_on}
-use Rattle.model_card.specs.Commands.{Command, atomic_of, manager_command, by_route, command}
-use Rattle.model_play.specs.Play.{is_done, command_with_rest, send, load_commands}
-use Rattle.law_manager.specs.Orders.{Order, order_of, HasIns}
-use Rattle.law_manager.specs.OnCard.{IsCommand, IsSelect, plains, done, blank_words}
-use Rattle.law_manager.specs.OnCard as made
-use Rattle.law_manager.proofs.Orders.{order_law}
-use Rattle.law_manager.proofs.OnCard.{command_made, selects_law}
+use Rattle.law_family.specs.model_machine.specs.Apdu.{ApduParts}
+use Rattle.law_family.specs.model_card.specs.Units.{UnitParts}
+use Rattle.law_family.specs.model_device.specs.Card.{Card}
+use Rattle.law_family.specs.model_card.specs.Items.{Created, Deleted, Item, Plain, Atomic, card_done}
+use Rattle.law_family.specs.model_card.specs.Manager.{SessionState, Route, WrongLength, WrongClass, ToSelect, ToManager, ToApplication, route, select, p1p2, fresh, word_parts, manage, room_on}
+use Rattle.law_family.specs.model_card.specs.Commands.{Command, atomic_of, manager_command, by_route, command}
+use Rattle.law_family.specs.model_play.specs.Play.{is_done, command_with_rest, send, load_commands}
+use Rattle.law_family.specs.law_manager.specs.Orders.{Order, order_of, HasIns}
+use Rattle.law_family.specs.law_manager.specs.OnCard.{IsCommand, IsSelect, plains, done, blank_words}
+use Rattle.law_family.specs.law_manager.specs.OnCard as made
+use Rattle.law_family.specs.law_manager.proofs.Orders.{order_law}
+use Rattle.law_family.specs.law_manager.proofs.OnCard.{command_made, selects_law}
 use Rattle.law_family.proofs.LoadCommands.{IsFiller, AreFillers, load_front, create_bytes, front_fillers, IsManagerOf, create_manager}
 use Rattle.law_wear.specs.Most.{most_atomic_of_manager, most_atomic_of_route}
 use Rattle.law_wear.specs.Laws.{atomic_writes}

@@ -1,23 +1,23 @@
 -- The device writes of one command at the most, by its route.
 use Rattle.std.proofs.Common.{◌≡◌, ℕ, ◌+◌, ◌*◌, ◌≤◌, List, [], ◌∷◌, length, Option, Some, None, refl, sym, ap, subst, arith}
-use Rattle.model_card.specs.declared.card.Part.{Part}
-use Rattle.model_card.specs.declared.card.Part.TheVariants as part
-use Rattle.model_device.specs.Limits.{most_static}
-use Rattle.model_device.specs.Bytes.{insert, remove}
-use Rattle.model_machine.specs.Apdu.{ApduParts}
-use Rattle.model_machine.specs.Chain.{Turn}
-use Rattle.model_device.specs.Card.{Card}
-use Rattle.model_device.specs.Layout.{step_of}
-use Rattle.model_card.specs.Items.{Created, moves}
-use Rattle.model_card.specs.Manager.{Selected, Open, SessionState, Route, WrongLength, WrongClass, ToSelect, ToManager, ToApplication, route, Managed, Declines, Accepts, p1p2, select, word_parts, fresh, manage, room_on}
-use Rattle.model_card.specs.Commands.{Command, atomic_of, manager_command, application_command, by_route, command}
-use Rattle.law_machine.proofs.AppSizes.{Limited}
-use Rattle.law_manager.specs.Orders.{Order, Loads, Creates, Deletes, order_of, ins_of_part, HasIns}
-use Rattle.law_manager.specs.OnCard.{IsCommand, IsSelect, plains, blank_words}
-use Rattle.law_manager.specs.OnCard as made
-use Rattle.law_manager.proofs.Orders.{order_law}
-use Rattle.law_manager.proofs.OnCard.{command_made, selects_law}
-use Rattle.law_manager.proofs.Plains.{plains_moves}
+use Rattle.law_family.specs.model_card.specs.declared.card.Part.{Part}
+use Rattle.law_family.specs.model_card.specs.declared.card.Part.TheVariants as part
+use Rattle.law_family.specs.model_device.specs.Limits.{most_static}
+use Rattle.law_family.specs.model_device.specs.Bytes.{insert, remove}
+use Rattle.law_family.specs.model_machine.specs.Apdu.{ApduParts}
+use Rattle.law_family.specs.model_machine.specs.Chain.{Turn}
+use Rattle.law_family.specs.model_device.specs.Card.{Card}
+use Rattle.law_family.specs.model_device.specs.Layout.{step_of}
+use Rattle.law_family.specs.model_card.specs.Items.{Created, moves}
+use Rattle.law_family.specs.model_card.specs.Manager.{Selected, Open, SessionState, Route, WrongLength, WrongClass, ToSelect, ToManager, ToApplication, route, Managed, Declines, Accepts, p1p2, select, word_parts, fresh, manage, room_on}
+use Rattle.law_family.specs.model_card.specs.Commands.{Command, atomic_of, manager_command, application_command, by_route, command}
+use Rattle.law_family.specs.law_machine.proofs.AppSizes.{Limited}
+use Rattle.law_family.specs.law_manager.specs.Orders.{Order, Loads, Creates, Deletes, order_of, ins_of_part, HasIns}
+use Rattle.law_family.specs.law_manager.specs.OnCard.{IsCommand, IsSelect, plains, blank_words}
+use Rattle.law_family.specs.law_manager.specs.OnCard as made
+use Rattle.law_family.specs.law_manager.proofs.Orders.{order_law}
+use Rattle.law_family.specs.law_manager.proofs.OnCard.{command_made, selects_law}
+use Rattle.law_family.specs.law_manager.proofs.Plains.{plains_moves}
 use Rattle.law_family.proofs.CardFacts.{AreOnCard, are_coded}
 use Rattle.law_family.proofs.PlaySizes.{LoadFits, SessionStateFits}
 use Rattle.law_family.proofs.FewItems.{SelectedStands, SessionStateStands}

@@ -5,12 +5,12 @@ use Rattle.std.specs.Prelude.{◌==◌, nat_lt}
 use Rattle.std.specs.List.{list_any, AllByRecursion}
 use Rattle.std.proofs.lemmas.Bool.{eq-eqb, or_left, or_right, ltb-true}
 use Rattle.std.proofs.lemmas.Bool.Decides.{eqb_tells}
-use Rattle.model_device.specs.Bytes.{lookup, insert, remove, AscendByName}
-use Rattle.model_device.specs.Card.{App, Card, heap_start}
-use Rattle.model_device.specs.Layout.{put_at, spans, gap, gaps_from, gaps, first_place, hole_header, used_header, root, gap_headers, with_used, layout, same_pair, step_of}
-use Rattle.model_device.proofs.BoolLemmas.{cond_most}
+use Rattle.law_family.specs.model_device.specs.Bytes.{lookup, insert, remove, AscendByName}
+use Rattle.law_family.specs.model_device.specs.Card.{App, Card, heap_start}
+use Rattle.law_family.specs.model_device.specs.Layout.{put_at, spans, gap, gaps_from, gaps, first_place, hole_header, used_header, root, gap_headers, with_used, layout, same_pair, step_of}
+use Rattle.law_family.specs.model_device.proofs.BoolLemmas.{cond_most}
 use Rattle.law_wear.proofs.Spans.{Span, Without, inserted, Removed, removed}
-use Rattle.law_machine.proofs.FewHeaders.{Pair, one_if, one_most, count, count_first, count_put, any_put, self_pair}
+use Rattle.law_family.specs.law_machine.proofs.FewHeaders.{Pair, one_if, one_most, count, count_first, count_put, any_put, self_pair}
 
 -- ---- the headers of spans among others
 

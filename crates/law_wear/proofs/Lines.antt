@@ -1,15 +1,15 @@
 -- The device writes of a line on a running card at the most, and what it leaves of the card.
 use Rattle.std.proofs.Common.{◌≡◌, ℕ, ◌+◌, ◌<◌, ◌≤◌, List, [], ◌∷◌, ◌++◌, length, Option, Some, None, refl, ap, arith}
 use Rattle.std.specs.Prelude.{◌==◌, option_map}
-use Rattle.model_machine.specs.Apdu.{Rest, rest_read, apdu_read}
-use Rattle.model_machine.specs.Chain.{Turn}
-use Rattle.model_device.specs.Card.{Card}
-use Rattle.model_card.specs.Manager.{SessionState, Route, WrongLength, WrongClass, ToSelect, ToManager, ToApplication, route_of_parts, route}
-use Rattle.model_card.specs.Commands.{command}
-use Rattle.model_play.specs.DeckGrammar.{DeckLine}
-use Rattle.model_play.specs.DeckGrammar as line
-use Rattle.model_play.specs.Play.{select_bytes, delete_bytes, line_command}
-use Rattle.model_play.specs.ReadyAgain.{IsLine}
+use Rattle.law_family.specs.model_machine.specs.Apdu.{Rest, rest_read, apdu_read}
+use Rattle.law_family.specs.model_machine.specs.Chain.{Turn}
+use Rattle.law_family.specs.model_device.specs.Card.{Card}
+use Rattle.law_family.specs.model_card.specs.Manager.{SessionState, Route, WrongLength, WrongClass, ToSelect, ToManager, ToApplication, route_of_parts, route}
+use Rattle.law_family.specs.model_card.specs.Commands.{command}
+use Rattle.law_family.specs.model_play.specs.DeckGrammar.{DeckLine}
+use Rattle.law_family.specs.model_play.specs.DeckGrammar as line
+use Rattle.law_family.specs.model_play.specs.Play.{select_bytes, delete_bytes, line_command}
+use Rattle.law_family.specs.model_play.specs.ReadyAgain.{IsLine}
 use Rattle.law_wear.specs.Most.{most_atomic, most_atomic_of_route, most_of_deletion, most_of_route, most_writes}
 use Rattle.law_wear.specs.Laws.{atomic_writes, instructions}
 use Rattle.law_wear.proofs.Commands.{CommandWears, command_atoms, command_wears}

@@ -4,26 +4,26 @@ use Rattle.std.specs.Prelude.{◌==◌, option_map, slice_index}
 use Rattle.std.proofs.lemmas.Bool.{eq-eqb}
 use Rattle.std.proofs.lemmas.Bool.Decides.{eqb_tells}
 use Rattle.std.proofs.lemmas.List.{length-take, length-drop, append_assoc}
-use Rattle.model_card.specs.declared.card.Part.{Part}
-use Rattle.model_card.specs.declared.card.Part.TheVariants as part
-use Rattle.model_device.specs.Bytes.{AreBytes, bytes2, up}
-use Rattle.model_machine.specs.Apdu.{ApduParts, Rest, rest_read, short_rest, extended_rest, short_le, apdu_read}
-use Rattle.model_card.specs.Units.{UnitParts}
-use Rattle.model_device.specs.Card.{Card}
-use Rattle.model_card.specs.Items.{moves, card_done}
-use Rattle.model_card.specs.Manager.{SessionState, Route, ToManager, route_of_parts, route, Managed, p1p2, open_load, load_part, create, room_on}
-use Rattle.model_card.specs.Commands.{Command, manager_command, by_route, command}
-use Rattle.model_play.specs.Play.{is_done, command_with_rest, send, piece_commands, section_commands, load_commands}
-use Rattle.model_card.proofs.ItemLemmas.{moves_append}
-use Rattle.model_device.proofs.ListLemmas.{pair_bytes}
-use Rattle.model_device.proofs.ImageLemmas.{all_append}
-use Rattle.law_machine.proofs.AppSizes.{Limited, limited_done}
-use Rattle.law_manager.specs.Orders.{Order, Opens, Loads, Creates, order_of, ins_of_part, managed}
-use Rattle.law_manager.specs.Answers as quiet
-use Rattle.law_manager.specs.OnCard.{IsCommand}
-use Rattle.law_manager.specs.OnCard as made
-use Rattle.law_manager.proofs.Orders.{order_law, part_order}
-use Rattle.law_manager.proofs.OnCard.{commands_law}
+use Rattle.law_family.specs.model_card.specs.declared.card.Part.{Part}
+use Rattle.law_family.specs.model_card.specs.declared.card.Part.TheVariants as part
+use Rattle.law_family.specs.model_device.specs.Bytes.{AreBytes, bytes2, up}
+use Rattle.law_family.specs.model_machine.specs.Apdu.{ApduParts, Rest, rest_read, short_rest, extended_rest, short_le, apdu_read}
+use Rattle.law_family.specs.model_card.specs.Units.{UnitParts}
+use Rattle.law_family.specs.model_device.specs.Card.{Card}
+use Rattle.law_family.specs.model_card.specs.Items.{moves, card_done}
+use Rattle.law_family.specs.model_card.specs.Manager.{SessionState, Route, ToManager, route_of_parts, route, Managed, p1p2, open_load, load_part, create, room_on}
+use Rattle.law_family.specs.model_card.specs.Commands.{Command, manager_command, by_route, command}
+use Rattle.law_family.specs.model_play.specs.Play.{is_done, command_with_rest, send, piece_commands, section_commands, load_commands}
+use Rattle.law_family.specs.model_card.proofs.ItemLemmas.{moves_append}
+use Rattle.law_family.specs.model_device.proofs.ListLemmas.{pair_bytes}
+use Rattle.law_family.specs.model_device.proofs.ImageLemmas.{all_append}
+use Rattle.law_family.specs.law_machine.proofs.AppSizes.{Limited, limited_done}
+use Rattle.law_family.specs.law_manager.specs.Orders.{Order, Opens, Loads, Creates, order_of, ins_of_part, managed}
+use Rattle.law_family.specs.law_manager.specs.Answers as quiet
+use Rattle.law_family.specs.law_manager.specs.OnCard.{IsCommand}
+use Rattle.law_family.specs.law_manager.specs.OnCard as made
+use Rattle.law_family.specs.law_manager.proofs.Orders.{order_law, part_order}
+use Rattle.law_family.specs.law_manager.proofs.OnCard.{commands_law}
 use Rattle.law_family.proofs.CardFacts.{all_take, all_drop, AreOnCard, done_stands}
 use Rattle.law_family.proofs.PlaySizes.{SessionStateFits, command_fits}
 use Rattle.law_family.proofs.FewItems.{IsSent, SessionStateStands, command_stands}

@@ -4,15 +4,15 @@ use Rattle.std.specs.Prelude.{◌==◌, nat_le}
 use Rattle.std.proofs.lemmas.Bool.{eqb-true}
 use Rattle.std.proofs.lemmas.Bool.Decides.{eqb_tells, nat_tests}
 use Rattle.std.proofs.lemmas.List.{length-append}
-use Rattle.model_device.specs.Device.{IsImage}
-use Rattle.model_device.specs.Image.{Journal, One, Two, gate}
-use Rattle.model_device.specs.Card.{heap_start}
-use Rattle.model_device.specs.Stopped.{cost, replay, writes, IsAtomic}
-use Rattle.model_card.specs.Items.{Change, Item, Plain, Atomic, moves}
-use Rattle.model_play.specs.DeckGrammar.{DeckLine}
-use Rattle.model_play.specs.Given.{is_power}
-use Rattle.model_play.specs.Play.{Step, FailedWrite, plays, start, Possible}
-use Rattle.model_play.specs.ReadyAgain.{AreLines}
+use Rattle.law_family.specs.model_device.specs.Device.{IsImage}
+use Rattle.law_family.specs.model_device.specs.Image.{Journal, One, Two, gate}
+use Rattle.law_family.specs.model_device.specs.Card.{heap_start}
+use Rattle.law_family.specs.model_device.specs.Stopped.{cost, replay, writes, IsAtomic}
+use Rattle.law_family.specs.model_card.specs.Items.{Change, Item, Plain, Atomic, moves}
+use Rattle.law_family.specs.model_play.specs.DeckGrammar.{DeckLine}
+use Rattle.law_family.specs.model_play.specs.Given.{is_power}
+use Rattle.law_family.specs.model_play.specs.Play.{Step, FailedWrite, plays, start, Possible}
+use Rattle.law_family.specs.model_play.specs.ReadyAgain.{AreLines}
 use Rattle.law_wear.specs.Laws.{atomic_writes, instructions, times_written, EachWritesFew, WearsGateTwice, WritesFew}
 use Rattle.law_wear.specs.Most.{most_atomic}
 use Rattle.law_wear.specs.OfWord.{MadeByLine, MadeByMigration, MadeByPlay, MadeByRecovery, MadeOf, migrates, most_by_atomic, most_by_migration, most_by_plain, most_of_line, most_of_word, plain_writes, twice_if, NoItems, PlainFirst, AtomicFirst, NothingLeft, Replayed, NoMigration, Migrated, PowerLine, OtherLine, NoLines, LineFirst}

@@ -1,14 +1,14 @@
 -- How a row treats the pending pieces of its frame: what it writes at once, and what it commits.
 use Rattle.std.specs.Prelude.{ℕ, Bool, true, false, cond, ◌||◌, nat_le, ◌==◌, List, [], length, Option, Some, None, ⊤}
 use Rattle.std.proofs.Common.{◌≡◌, ◌⊎◌, refl, sym, subst, ap, inl, inr}
-use Rattle.model_machine.specs.declared.instruction.Ins.{Ins}
-use Rattle.model_machine.specs.declared.instruction.Ins.TheVariants as ins
-use Rattle.model_machine.specs.Frame.{Frame, Effect, Place, Static, Dynamic, Public, static_written, write_effect_at, where_is, write_effect, protect, static_bytes, pending_change}
-use Rattle.model_machine.specs.Primitives.{Around, Done, Primitive, SetProtection, primitive}
-use Rattle.model_machine.specs.Row.{effect}
-use Rattle.law_machine.specs.FewWords.{most_of, most_words}
-use Rattle.law_rows.specs.Shapes.{Act, Writes, Protects, Shape, act_effect, with_flags, meaning, prim_shape, pair_shape, shape}
-use Rattle.law_rows.proofs.RowShapes.{shapes}
+use Rattle.law_family.specs.model_machine.specs.declared.instruction.Ins.{Ins}
+use Rattle.law_family.specs.model_machine.specs.declared.instruction.Ins.TheVariants as ins
+use Rattle.law_family.specs.model_machine.specs.Frame.{Frame, Effect, Place, Static, Dynamic, Public, static_written, write_effect_at, where_is, write_effect, protect, static_bytes, pending_change}
+use Rattle.law_family.specs.model_machine.specs.Primitives.{Around, Done, Primitive, SetProtection, primitive}
+use Rattle.law_family.specs.model_machine.specs.Row.{effect}
+use Rattle.law_family.specs.law_machine.specs.FewWords.{most_of, most_words}
+use Rattle.law_family.specs.law_rows.specs.Shapes.{Act, Writes, Protects, Shape, act_effect, with_flags, meaning, prim_shape, pair_shape, shape}
+use Rattle.law_family.specs.law_rows.proofs.RowShapes.{shapes}
 
 -- A row leaves the pending pieces, and may write at most 33 words at once; or it writes nothing; or it commits: none
 -- are pending after it, and it writes nothing if none were before.

@@ -1,8 +1,8 @@
 -- The number of words that bytes at a place touch.
 use Rattle.std.proofs.Common.{◌≡◌, ℕ, zero, suc, ◌+◌, ◌-◌, ◌*◌, ◌%◌, ◌≤◌, Bool, true, false, cond, List, [], ◌∷◌, take, drop, length, refl, arith}
 use Rattle.std.proofs.lemmas.List.{length-drop, length-replicate}
-use Rattle.model_device.specs.Bytes.{zeros}
-use Rattle.model_card.specs.Manager.{is_empty, in_words, word_parts}
+use Rattle.law_family.specs.model_device.specs.Bytes.{zeros}
+use Rattle.law_family.specs.model_card.specs.Manager.{is_empty, in_words, word_parts}
 
 abbrev parts : ℕ → ℕ → List ℕ → ℕ
 parts n at b = length (in_words n at b)

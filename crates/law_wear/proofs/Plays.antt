@@ -2,21 +2,21 @@
 use Rattle.std.proofs.Common.{◌≡◌, ℕ, zero, suc, ◌+◌, ◌-◌, ◌<◌, ◌≤◌, Bool, true, false, cond, List, [], ◌∷◌, take, Option, Some, None, refl, sym, subst, arith}
 use Rattle.std.specs.Prelude.{⊤, ◌==◌, nat_le}
 use Rattle.std.proofs.lemmas.Bool.{leb-true}
-use Rattle.model_device.specs.declared.device.Stop.TheVariants as stop
-use Rattle.model_device.specs.Device.{IsImage}
-use Rattle.model_device.specs.Image.{One}
-use Rattle.model_device.specs.Stopped.{stands}
-use Rattle.model_device.specs.Card.{Card}
-use Rattle.model_device.specs.PowerUp.{OnCard, migration}
-use Rattle.model_card.specs.Items.{moves, apps_after_items, StopAt, at_stop}
-use Rattle.model_card.specs.Commands.{Command}
-use Rattle.model_play.specs.DeckGrammar.{DeckLine}
-use Rattle.model_play.specs.DeckGrammar as line
-use Rattle.model_play.specs.Play.{Armed, Unarmed, ArmedCut, ArmedFail, Running, Unpowered, Warm, State, BeforePower, AfterPower, Step, line_command, hit_of, moves_with, FailedWrite, live_after, power_after, stopped_power, power_moves, power_step, line_after, step, play_at_power, plays, start, moves_of, MayHit, Possible}
-use Rattle.model_play.specs.Given.{budget_in}
-use Rattle.model_play.specs.ReadyAgain.{IsLine, AreLines}
-use Rattle.model_play.proofs.PlayLemmas.{step_is}
-use Rattle.model_device.proofs.BoolLemmas.{cond_most}
+use Rattle.law_family.specs.model_device.specs.declared.device.Stop.TheVariants as stop
+use Rattle.law_family.specs.model_device.specs.Device.{IsImage}
+use Rattle.law_family.specs.model_device.specs.Image.{One}
+use Rattle.law_family.specs.model_device.specs.Stopped.{stands}
+use Rattle.law_family.specs.model_device.specs.Card.{Card}
+use Rattle.law_family.specs.model_device.specs.PowerUp.{OnCard, migration}
+use Rattle.law_family.specs.model_card.specs.Items.{moves, apps_after_items, StopAt, at_stop}
+use Rattle.law_family.specs.model_card.specs.Commands.{Command}
+use Rattle.law_family.specs.model_play.specs.DeckGrammar.{DeckLine}
+use Rattle.law_family.specs.model_play.specs.DeckGrammar as line
+use Rattle.law_family.specs.model_play.specs.Play.{Armed, Unarmed, ArmedCut, ArmedFail, Running, Unpowered, Warm, State, BeforePower, AfterPower, Step, line_command, hit_of, moves_with, FailedWrite, live_after, power_after, stopped_power, power_moves, power_step, line_after, step, play_at_power, plays, start, moves_of, MayHit, Possible}
+use Rattle.law_family.specs.model_play.specs.Given.{budget_in}
+use Rattle.law_family.specs.model_play.specs.ReadyAgain.{IsLine, AreLines}
+use Rattle.law_family.specs.model_play.proofs.PlayLemmas.{step_is}
+use Rattle.law_family.specs.model_device.proofs.BoolLemmas.{cond_most}
 use Rattle.law_family.proofs.CardFacts.{AreOnCard, done_stands, whole_stand}
 use Rattle.law_family.proofs.FewItems.{CommandStands}
 use Rattle.law_family.proofs.PlaySizes.{StateFits, step_fits}
@@ -26,7 +26,7 @@ use Rattle.law_wear.specs.Laws.{atomic_writes, instructions, WritesFew, EachWrit
 use Rattle.law_wear.proofs.Loads.{Good}
 use Rattle.law_wear.proofs.Lines.{line_wears, line_atomic, most_more}
 use Rattle.law_family.proofs.FewLines.{line_stands, early_stands, BaseStands, after_stop, base_on_card, base_stopped, base_powered, base_cond, warmed_stands}
-use Rattle.model_play.proofs.LineKinds.{past_power, StepKind, Early, Quiet, Powers, Sends, by_kind}
+use Rattle.law_family.specs.model_play.proofs.LineKinds.{past_power, StepKind, Early, Quiet, Powers, Sends, by_kind}
 
 -- ---- the writes that recovery may have to make
 

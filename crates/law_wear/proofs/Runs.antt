@@ -2,27 +2,27 @@
 -- which wrote nothing.
 use Rattle.std.proofs.Common.{◌≡◌, ℕ, zero, suc, ◌+◌, ◌*◌, ◌≤◌, Bool, true, false, cond, List, [], ◌∷◌, length, Option, Some, None, Result, Ok, Err, refl, ap, ◌∙◌, arith, inl, inr}
 use Rattle.std.specs.Prelude.{◌||◌, nat_lt, nat_le}
-use Rattle.model_machine.specs.declared.instruction.Ins.{Ins}
-use Rattle.model_machine.specs.declared.instruction.DecodeFault.{DecodeFault}
-use Rattle.model_machine.specs.declared.instruction.DecodeFault.TheVariants.{Undefined, Past}
-use Rattle.model_machine.specs.declared.machine.Abend.{Abend}
-use Rattle.model_device.specs.Bytes.{lookup}
-use Rattle.model_machine.specs.Apdu.{ApduParts}
-use Rattle.model_machine.specs.Code.{Shaped, instruction_at}
-use Rattle.model_device.specs.Card.{App}
-use Rattle.model_machine.specs.Frame.{Frame, la_of}
-use Rattle.model_machine.specs.Primitives.{Then, Goes, Exits, Delegates}
-use Rattle.model_machine.specs.Row.{Does, causes, effect, first_cause, row_end, row}
-use Rattle.model_machine.specs.Chain.{Outcome, Write, Chain, Ran, Acted, Follows, Continues, Ends, code_in, write_of, chain_after_effect, is_active, depth_of, called_app, chain_after_call, after_exit, follows, row_turn, turn_of_fetch, frame_at, around, turn_of_chain, run_after_turn, run_of_chain, start_app, start}
-use Rattle.law_machine.specs.FewWords.{words_in, most_words}
-use Rattle.law_machine.specs.FewRuns.{AreCoded}
-use Rattle.law_machine.proofs.RowWords.{none_holds, DoneRowFacts, row_few, reported_any, most_64}
-use Rattle.law_machine.proofs.FewRuns.{FewChain, FewNext, reported_by, acted_few, start_few}
-use Rattle.law_machine.proofs.RunSizes.{ChainFits, NextFits, acted_fits, start_fits}
+use Rattle.law_family.specs.model_machine.specs.declared.instruction.Ins.{Ins}
+use Rattle.law_family.specs.model_machine.specs.declared.instruction.DecodeFault.{DecodeFault}
+use Rattle.law_family.specs.model_machine.specs.declared.instruction.DecodeFault.TheVariants.{Undefined, Past}
+use Rattle.law_family.specs.model_machine.specs.declared.machine.Abend.{Abend}
+use Rattle.law_family.specs.model_device.specs.Bytes.{lookup}
+use Rattle.law_family.specs.model_machine.specs.Apdu.{ApduParts}
+use Rattle.law_family.specs.model_machine.specs.Code.{Shaped, instruction_at}
+use Rattle.law_family.specs.model_device.specs.Card.{App}
+use Rattle.law_family.specs.model_machine.specs.Frame.{Frame, la_of}
+use Rattle.law_family.specs.model_machine.specs.Primitives.{Then, Goes, Exits, Delegates}
+use Rattle.law_family.specs.model_machine.specs.Row.{Does, causes, effect, first_cause, row_end, row}
+use Rattle.law_family.specs.model_machine.specs.Chain.{Outcome, Write, Chain, Ran, Acted, Follows, Continues, Ends, code_in, write_of, chain_after_effect, is_active, depth_of, called_app, chain_after_call, after_exit, follows, row_turn, turn_of_fetch, frame_at, around, turn_of_chain, run_after_turn, run_of_chain, start_app, start}
+use Rattle.law_family.specs.law_machine.specs.FewWords.{words_in, most_words}
+use Rattle.law_family.specs.law_machine.specs.FewRuns.{AreCoded}
+use Rattle.law_family.specs.law_machine.proofs.RowWords.{none_holds, DoneRowFacts, row_few, reported_any, most_64}
+use Rattle.law_family.specs.law_machine.proofs.FewRuns.{FewChain, FewNext, reported_by, acted_few, start_few}
+use Rattle.law_family.specs.law_machine.proofs.RunSizes.{ChainFits, NextFits, acted_fits, start_fits}
 use Rattle.std.specs.Prelude.{is_some, filter, ◌++◌}
-use Rattle.model_machine.specs.Frame.{Effect}
-use Rattle.model_machine.specs.Chain.{Turn, run}
-use Rattle.model_card.specs.Items.{moves, write_items}
+use Rattle.law_family.specs.model_machine.specs.Frame.{Effect}
+use Rattle.law_family.specs.model_machine.specs.Chain.{Turn, run}
+use Rattle.law_family.specs.model_card.specs.Items.{moves, write_items}
 use Rattle.law_wear.specs.Laws.{atomic_writes, instructions}
 use Rattle.law_wear.proofs.Pays.{Pays, effect_pays}
 use Rattle.law_family.proofs.DefinitionLemmas.{turn_count}

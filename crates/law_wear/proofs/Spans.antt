@@ -3,10 +3,10 @@ use Rattle.std.proofs.Common.{◌≡◌, ℕ, ◌<◌, ◌≤◌, Bool, true, fa
 use Rattle.std.specs.Prelude.{⊤, nat_lt, bytes_eq}
 use Rattle.std.specs.List.{AllByRecursion}
 use Rattle.std.proofs.lemmas.Bool.{ltb-true}
-use Rattle.model_device.specs.Bytes.{lookup, insert, remove, name_before, AscendByName}
-use Rattle.model_device.specs.Card.{App, words_of_app}
-use Rattle.model_device.specs.Layout.{put_at, spans_of}
-use Rattle.model_device.proofs.MapLemmas.{same_name, not_after}
+use Rattle.law_family.specs.model_device.specs.Bytes.{lookup, insert, remove, name_before, AscendByName}
+use Rattle.law_family.specs.model_device.specs.Card.{App, words_of_app}
+use Rattle.law_family.specs.model_device.specs.Layout.{put_at, spans_of}
+use Rattle.law_family.specs.model_device.proofs.MapLemmas.{same_name, not_after}
 
 abbrev pub Span : Type 0
 Span = ℕ × ℕ

@@ -1,22 +1,22 @@
 -- Computed plays: what each line of a deck wears, and the most that it may.
 use Rattle.std.specs.Prelude.{ℕ, List, [], ◌∷◌, replicate, Result, Ok, Err}
-use Rattle.model_play.specs.declared.deck.DeckCause.{DeckCause}
-use Rattle.model_device.specs.Bytes.{zeros}
-use Rattle.model_device.specs.Card.{blocks_from, apps_of}
-use Rattle.model_device.specs.Pieces.{touched_words}
-use Rattle.model_device.specs.Image.{targets_1, targets_2, pairs}
-use Rattle.model_device.specs.Layout.{layout, step_of, bad_block, bad_record}
-use Rattle.model_card.specs.Units.{name_of}
-use Rattle.model_machine.specs.Apdu.{apdu_read}
-use Rattle.model_machine.specs.Frame.{bytes_at, write_effect, too_many}
-use Rattle.model_machine.specs.Primitives.{later_causes, prim_effect}
-use Rattle.model_machine.specs.Row.{causes, effect, row}
-use Rattle.model_machine.specs.Chain.{turn_of_chain, run_of_chain}
-use Rattle.model_card.specs.Manager.{manage}
-use Rattle.model_card.specs.Commands.{command}
-use Rattle.model_play.specs.DeckGrammar.{DeckLine, deck_read}
-use Rattle.model_play.specs.Given.{budget_in}
-use Rattle.model_play.specs.Play.{Step, start, send, play_at_power, step, plays, moves_of, steady_failures}
+use Rattle.law_family.specs.model_play.specs.declared.deck.DeckCause.{DeckCause}
+use Rattle.law_family.specs.model_device.specs.Bytes.{zeros}
+use Rattle.law_family.specs.model_device.specs.Card.{blocks_from, apps_of}
+use Rattle.law_family.specs.model_device.specs.Pieces.{touched_words}
+use Rattle.law_family.specs.model_device.specs.Image.{targets_1, targets_2, pairs}
+use Rattle.law_family.specs.model_device.specs.Layout.{layout, step_of, bad_block, bad_record}
+use Rattle.law_family.specs.model_card.specs.Units.{name_of}
+use Rattle.law_family.specs.model_machine.specs.Apdu.{apdu_read}
+use Rattle.law_family.specs.model_machine.specs.Frame.{bytes_at, write_effect, too_many}
+use Rattle.law_family.specs.model_machine.specs.Primitives.{later_causes, prim_effect}
+use Rattle.law_family.specs.model_machine.specs.Row.{causes, effect, row}
+use Rattle.law_family.specs.model_machine.specs.Chain.{turn_of_chain, run_of_chain}
+use Rattle.law_family.specs.model_card.specs.Manager.{manage}
+use Rattle.law_family.specs.model_card.specs.Commands.{command}
+use Rattle.law_family.specs.model_play.specs.DeckGrammar.{DeckLine, deck_read}
+use Rattle.law_family.specs.model_play.specs.Given.{budget_in}
+use Rattle.law_family.specs.model_play.specs.Play.{Step, start, send, play_at_power, step, plays, moves_of, steady_failures}
 use Rattle.law_wear.specs.Most.{most_atomic, most_writes}
 use Rattle.law_wear.specs.Laws.{atomic_writes, writes_of_play, most_of_play}
 use Rattle.law_wear.specs.OfWord.{most_of_word}

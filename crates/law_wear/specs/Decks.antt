@@ -1,11 +1,11 @@
 -- The decks of worked rows: in each the last line writes as much as its row of the table says, or near it.
 use Rattle.std.specs.Prelude.{ℕ, zero, suc, ◌+◌, ◌-◌, ◌*◌, List, [], ◌∷◌, ◌++◌, codes, replicate}
-use Rattle.model_device.specs.Image.{One, opening}
-use Rattle.model_device.specs.Stopped.{word_of_number}
-use Rattle.model_device.specs.Card.{heap_start}
-use Rattle.model_device.specs.Layout.{root, hole_header}
-use Rattle.model_play.specs.DeckGrammar.{DeckLine}
-use Rattle.model_play.specs.DeckGrammar as line
+use Rattle.law_family.specs.model_device.specs.Image.{One, opening}
+use Rattle.law_family.specs.model_device.specs.Stopped.{word_of_number}
+use Rattle.law_family.specs.model_device.specs.Card.{heap_start}
+use Rattle.law_family.specs.model_device.specs.Layout.{root, hole_header}
+use Rattle.law_family.specs.model_play.specs.DeckGrammar.{DeckLine}
+use Rattle.law_family.specs.model_play.specs.DeckGrammar as line
 
 -- 64 pairs of journal 1 from pair i on, each with word 200 as its target
 abbrev pub sixty_four : ℕ → ℕ → List (ℕ × DeckLine)

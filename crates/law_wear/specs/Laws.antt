@@ -1,14 +1,14 @@
 -- The laws of wear: of each line of a play, of a whole play, and of each word in an atomic write.
 use Rattle.std.specs.Prelude.{◌≡◌, ◌≢◌, ℕ, ◌+◌, ◌≤◌, cond, ◌==◌, List, [], ◌∷◌, length, take, filter, is_some, Option, ⊤}
-use Rattle.model_device.specs.Device.{IsImage}
-use Rattle.model_device.specs.Image.{Journal, gate}
-use Rattle.model_device.specs.Stopped.{cost, replay, writes, IsAtomic}
-use Rattle.model_machine.specs.Chain.{Turn}
-use Rattle.model_card.specs.Items.{Item, Plain, Atomic}
-use Rattle.model_play.specs.DeckGrammar.{DeckLine}
-use Rattle.model_play.specs.Play.{Step, FailedWrite, plays, start, Possible}
-use Rattle.model_play.specs.Given.{budget_in}
-use Rattle.model_play.specs.ReadyAgain.{AreLines}
+use Rattle.law_family.specs.model_device.specs.Device.{IsImage}
+use Rattle.law_family.specs.model_device.specs.Image.{Journal, gate}
+use Rattle.law_family.specs.model_device.specs.Stopped.{cost, replay, writes, IsAtomic}
+use Rattle.law_family.specs.model_machine.specs.Chain.{Turn}
+use Rattle.law_family.specs.model_card.specs.Items.{Item, Plain, Atomic}
+use Rattle.law_family.specs.model_play.specs.DeckGrammar.{DeckLine}
+use Rattle.law_family.specs.model_play.specs.Play.{Step, FailedWrite, plays, start, Possible}
+use Rattle.law_family.specs.model_play.specs.Given.{budget_in}
+use Rattle.law_family.specs.model_play.specs.ReadyAgain.{AreLines}
 use Rattle.law_wear.specs.Most.{most_atomic, most_writes}
 
 -- ---- lines

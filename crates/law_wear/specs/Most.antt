@@ -1,12 +1,12 @@
 -- The greatest number of device writes of each kind of line: what a line wears at the most, whatever was cut or
 -- failed before it.
 use Rattle.std.specs.Prelude.{ℕ, ◌+◌, ◌*◌, cond, ◌==◌, length}
-use Rattle.model_device.specs.Limits.{most_static}
-use Rattle.model_device.specs.Bytes.{up}
-use Rattle.model_card.specs.Units.{UnitParts}
-use Rattle.model_card.specs.Manager.{Route, WrongLength, WrongClass, ToSelect, ToManager, ToApplication, route}
-use Rattle.model_play.specs.DeckGrammar.{DeckLine}
-use Rattle.model_play.specs.DeckGrammar as line
+use Rattle.law_family.specs.model_device.specs.Limits.{most_static}
+use Rattle.law_family.specs.model_device.specs.Bytes.{up}
+use Rattle.law_family.specs.model_card.specs.Units.{UnitParts}
+use Rattle.law_family.specs.model_card.specs.Manager.{Route, WrongLength, WrongClass, ToSelect, ToManager, ToApplication, route}
+use Rattle.law_family.specs.model_play.specs.DeckGrammar.{DeckLine}
+use Rattle.law_family.specs.model_play.specs.DeckGrammar as line
 
 -- the most device writes of a power-up: 65 of a recovery, and 6 of the migration
 abbrev pub most_of_power : ℕ

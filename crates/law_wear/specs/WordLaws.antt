@@ -1,10 +1,10 @@
 -- The laws of the wear of one word: in the items of a line, and in a play.
 use Rattle.std.specs.Prelude.{◌≡◌, ℕ, ◌+◌, ◌≤◌, List, length, take, Option}
-use Rattle.model_device.specs.Device.{IsImage}
-use Rattle.model_card.specs.Items.{Item, moves}
-use Rattle.model_play.specs.DeckGrammar.{DeckLine}
-use Rattle.model_play.specs.Play.{FailedWrite, plays, start, Possible}
-use Rattle.model_play.specs.ReadyAgain.{AreLines}
+use Rattle.law_family.specs.model_device.specs.Device.{IsImage}
+use Rattle.law_family.specs.model_card.specs.Items.{Item, moves}
+use Rattle.law_family.specs.model_play.specs.DeckGrammar.{DeckLine}
+use Rattle.law_family.specs.model_play.specs.Play.{FailedWrite, plays, start, Possible}
+use Rattle.law_family.specs.model_play.specs.ReadyAgain.{AreLines}
 use Rattle.law_wear.specs.Laws.{atomic_writes, times_written}
 use Rattle.law_wear.specs.OfWord.{MadeOf, MadeByPlay, most_by_atomic, most_by_plain, most_of_word, plain_writes}
 

@@ -2,9 +2,9 @@
 #![tactic(auto, unfolding(crate::specs::Computed::last_atomic, crate::specs::Computed::last_line_failure, crate::specs::Computed::last_failure, crate::specs::Computed::play_failure, crate::specs::Computed::most_in_play))]
 
 ghost use Rattle.std.specs.Prelude.{◌≡◌, [], ◌∷◌};
-ghost use Rattle.model_device.specs.Bytes.{zeros};
-ghost use Rattle.model_device.specs.Image.{Two};
-ghost use Rattle.model_device.specs.Stopped.{writes};
+ghost use Rattle.law_family.specs.model_device.specs.Bytes.{zeros};
+ghost use Rattle.law_family.specs.model_device.specs.Image.{Two};
+ghost use Rattle.law_family.specs.model_device.specs.Stopped.{writes};
 ghost use Rattle.law_wear.specs.Laws.{times_written};
 ghost use Rattle.law_wear.specs.Computed.{last_atomic, most_in_play, last_line_failure, last_failure, play_failure};
 ghost use Rattle.law_wear.specs.Decks.{clearing, creation, deletion, first_load, longest_power, odd_piece, three_instructions, two_instructions};

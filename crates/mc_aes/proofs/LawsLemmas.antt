@@ -12,7 +12,7 @@ use Rattle.model_machine.proofs.ModesLemmas.{all_below, below_at, added_back, le
 use Rattle.model_machine.specs.Aes.{times2, mul_bits, mul, sub, sub_back, dot, times_matrix, bytes_at_places, shift_rows, shift_rows_back, columns_times_matrix, mix_columns, mix_columns_back, round, last_round, round_back, last_round_back, next_key_word, next_key, round_keys_from, round_keys, rounds, rounds_back, cipher_block, inverse_cipher_block, aes_encipher, aes_decipher}
 use Rattle.mc_aes.proofs.CipherLemmas.{rounds_cons, rounds_last, rounds_back_cons, rounds_back_last, enciphered_cons, deciphered_cons}
 use Rattle.mc_aes.proofs.AesLemmas.{aes_encipher_open, aes_decipher_open}
-use Rattle.model_device.proofs.ListLemmas.{bit_cases}
+use Rattle.model_machine.specs.model_device.proofs.ListLemmas.{bit_cases}
 
 -- ---- bytes
 

@@ -8,7 +8,7 @@ use Rattle.model_machine.specs.Modes.{bit_sum}
 use Rattle.model_machine.specs.Aes.{mul, times_matrix}
 use Rattle.mc_aes.specs.State.{word, state_bytes}
 use Rattle.mc_aes.specs.declared.state.State.{State}
-use Rattle.model_device.proofs.ListLemmas.{byte_xor}
+use Rattle.model_machine.specs.model_device.proofs.ListLemmas.{byte_xor}
 
 pub word_xor : (a b : ℕ) → word (bit_xor a b) ≡ bit_sum (word a) (word b)
 unfolding word

@@ -1,6 +1,6 @@
 -- Known answers of public standards, as numbers of 16 bytes: a key, a block, and the enciphered block.
 use Rattle.std.specs.Prelude.{ℕ, Bool, true, ◌&&◌, List, [], ◌∷◌, bytes_eq}
-use Rattle.model_device.specs.Bytes.{bytes}
+use Rattle.model_machine.specs.model_device.specs.Bytes.{bytes}
 use Rattle.model_machine.specs.Aes.{aes_encipher, aes_decipher}
 
 -- a known answer: a key, a block and the enciphered block

@@ -1,7 +1,7 @@
 // Known answers of public standards, as theorems about the definition.
 
 ghost use Rattle.std.specs.Prelude.{◌≡◌, true, ℕ, ◌<◌, take};
-ghost use Rattle.model_device.specs.Bytes.{bytes};
+ghost use Rattle.model_machine.specs.model_device.specs.Bytes.{bytes};
 ghost use Rattle.model_machine.specs.Aes.{aes_signature, inverse, mul};
 ghost use Rattle.mc_aes.specs.Vectors.{all_encipher, all_decipher, cipher_examples, ecb_examples, blocks, keys};
 

@@ -3,7 +3,7 @@ use Rattle.std.proofs.Common.{◌≡◌, ◌≢◌, ℕ, zero, suc, ◌+◌, ◌
 use Rattle.std.specs.Prelude.{nat_eq, nat_le, option_map}
 use Rattle.std.proofs.lemmas.Bool.{eqb-true}
 use Rattle.std.proofs.lemmas.Bool.Decides.{nat_tests}
-use Rattle.model_device.specs.Bytes.{be2}
+use Rattle.model_machine.specs.model_device.specs.Bytes.{be2}
 use Rattle.model_machine.specs.Apdu.{ApduParts, Rest, short_le, extended_le, short_rest, extended_body, extended_rest, rest_read, apdu_read, HasHeader, IsShort3, IsShort4, IsExtended3, IsExtended4, IsApdu}
 
 -- the two branches of a conditional

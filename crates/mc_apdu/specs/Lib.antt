@@ -1,1 +1,3 @@
 pub mod Command
+-- the libraries below that those above cite through this one
+pub use Rattle.model_machine as model_machine

@@ -2,9 +2,9 @@
 use Rattle.std.proofs.Common.{◌≡◌, ℕ, zero, suc, ◌+◌, ◌*◌, ◌/◌, ◌%◌, ◌^◌, ◌<◌, ◌≤◌, Bool, List, [], ◌∷◌, length, refl, sym, ◌∙◌, ap, arith}
 use Rattle.std.proofs.Math.Arith.{digits_div, digits_mod}
 use Rattle.std.proofs.Math.Nat.{pow-succ'}
-use Rattle.model_device.specs.Bytes.{num, bytes, AreBytes}
+use Rattle.model_machine.specs.model_device.specs.Bytes.{num, bytes, AreBytes}
 use Rattle.model_machine.specs.Blocks.{Worked, result_with_flags, is_zero}
-use Rattle.model_device.proofs.ListLemmas.{length_bytes}
+use Rattle.model_machine.specs.model_device.proofs.ListLemmas.{length_bytes}
 
 pub pow_more : (n : ℕ) → 256 ^ suc n ≡ 256 * 256 ^ n
 pow_more n = pow-succ' 256 n

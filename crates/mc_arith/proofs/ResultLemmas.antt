@@ -2,12 +2,12 @@
 use Rattle.std.proofs.Common.{◌≡◌, ℕ, ◌+◌, ◌-◌, ◌*◌, ◌%◌, ◌^◌, ◌<◌, ◌≢◌, Bool, true, false, List, length, get_or, drop, refl, sym, ◌∙◌, ap, subst, arith, length-drop, ◌⊎◌, inl, inr}
 use Rattle.std.specs.Prelude.{nat_le, nat_lt, nat_eq, cond}
 use Rattle.std.proofs.Math.Arith.{digits_mod}
-use Rattle.model_device.specs.Bytes.{num, AreBytes}
+use Rattle.model_machine.specs.model_device.specs.Bytes.{num, AreBytes}
 use Rattle.model_machine.specs.Blocks.{Worked, result_with_flags, is_zero, add_blocks, sub_blocks, inc_block, dec_block}
 use Rattle.mc_arith.specs.Carry.{carry_of}
 use Rattle.mc_arith.proofs.BlockLemmas.{num_below, num_bytes, pow_positive, times_at_most, worked_is}
 use Rattle.mc_arith.proofs.StepLemmas.{num_drop}
-use Rattle.model_device.proofs.ListLemmas.{bytes_from}
+use Rattle.model_machine.specs.model_device.proofs.ListLemmas.{bytes_from}
 
 lt_or_at : (x y : ℕ) → x ≢ y → (b : Bool) → nat_lt x y ≡ b → (x < y) ⊎ (y < x)
 lt_or_at x y ne true e = inl (grind (arith, e))

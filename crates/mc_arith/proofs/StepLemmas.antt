@@ -1,7 +1,7 @@
 -- One byte of a loop over blocks: from the bytes after an index to the bytes from it on.
 use Rattle.std.proofs.Common.{◌≡◌, ℕ, zero, suc, ◌+◌, ◌-◌, ◌*◌, ◌/◌, ◌%◌, ◌^◌, ◌<◌, List, [], ◌∷◌, length, get_or, drop, set, refl, sym, ◌∙◌, ap, arith, drop-cons, length-drop, length-set}
 use Rattle.std.proofs.lemmas.List.{drop-set, drop-set-lt}
-use Rattle.model_device.specs.Bytes.{num}
+use Rattle.model_machine.specs.model_device.specs.Bytes.{num}
 use Rattle.mc_arith.proofs.BlockLemmas.{pow_more}
 
 -- a power, and the number of a block from a place on, by one byte more

@@ -1,6 +1,6 @@
 // Addition, from the last byte to the first.
 ghost use Rattle.std.specs.Prelude.{◌≡◌, ◌+◌, ◌*◌, ◌^◌, ◌≤◌, length};
-ghost use Rattle.model_device.specs.Bytes.{num};
+ghost use Rattle.model_machine.specs.model_device.specs.Bytes.{num};
 ghost use Rattle.model_machine.specs.Blocks.{add_blocks, inc_block};
 ghost use Rattle.mc_arith.specs.Carry.{carry_of};
 

@@ -1,6 +1,6 @@
 // Subtraction, from the last byte to the first, and comparison.
 ghost use Rattle.std.specs.Prelude.{◌≡◌, ◌+◌, ◌*◌, ◌^◌, ◌≤◌, length};
-ghost use Rattle.model_device.specs.Bytes.{num};
+ghost use Rattle.model_machine.specs.model_device.specs.Bytes.{num};
 ghost use Rattle.model_machine.specs.Blocks.{dec_block, sub_blocks};
 ghost use Rattle.mc_arith.specs.Carry.{carry_of};
 

@@ -1,11 +1,11 @@
 -- Texts without separators, and lines that are composed of them.
 use Rattle.std.proofs.Common.{◌≡◌, ℕ, Bool, true, false, List, [], ◌∷◌, ◌++◌, append-nil, map, Option, Some, None, Ok, arith, refl, ap, ◌∙◌}
 use Rattle.std.specs.Prelude.{◌==◌, ◌&&◌, not, nat_lt, nat_le}
-use Rattle.model_device.specs.Bytes.{lookup}
+use Rattle.model_text.specs.model_device.specs.Bytes.{lookup}
 use Rattle.model_text.specs.Text.{first_cut, pieces, is_blank, is_empty, trim, trim_front, trim_end, before_trimmed, every}
 use Rattle.model_text.specs.Assembly.{WordForm, CodeItem, words, item_of_word, operands, word_and_operands, line_read}
 use Rattle.std.proofs.lemmas.Bool.{and_from as and_both, not-true}
-use Rattle.model_device.proofs.BoolLemmas.{and_first, and_second}
+use Rattle.model_text.specs.model_device.proofs.BoolLemmas.{and_first, and_second}
 use Rattle.model_text.proofs.TextLemmas.{every_append}
 
 -- a character of an operand: above the blank, and no comma, colon or semicolon

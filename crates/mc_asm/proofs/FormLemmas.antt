@@ -1,7 +1,7 @@
 -- The table of words by families.
 use Rattle.std.proofs.Common.{◌≡◌, ℕ, zero, suc, Bool, true, false, cond, List, [], ◌∷◌, take, drop, Option, Some, refl, ap, ◌∙◌}
 use Rattle.std.specs.Prelude.{bytes_eq}
-use Rattle.model_device.specs.Bytes.{lookup, or_else}
+use Rattle.model_text.specs.model_device.specs.Bytes.{lookup, or_else}
 use Rattle.model_text.specs.Assembly.{words, WordForm}
 use Rattle.mc_asm.specs.Forms.{register_words, stack_words, call_words, memory_words, number_words, block_words}
 

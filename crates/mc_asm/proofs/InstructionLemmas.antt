@@ -4,11 +4,11 @@ use Rattle.std.specs.Prelude.{ℤ, FitsSigned, ◌==◌, nat_le, codes, decimal}
 use Rattle.std.specs.List.{AllByRecursion}
 use Rattle.std.specs.Int.{w8}
 use Rattle.std.specs.Fmt.{signed_decimal}
-use Rattle.model_device.specs.Bytes.{lookup, zeros}
+use Rattle.model_text.specs.model_device.specs.Bytes.{lookup, zeros}
 use Rattle.model_text.specs.Text.{every}
-use Rattle.model_machine.specs.declared.instruction.Ins.{Ins}
-use Rattle.model_machine.specs.declared.instruction.Ins.TheVariants.{Nop, Setsw, Setla, Setswla, Exit, Exitsw, Exitla, Exitswla, Branch, Jump, Call, Pushz, Pushb, Pushw, Popn, Popb, Popw, Prim, Ret, Reti, Reto, Retio, Load, Store, Loadi, Storei, Loada, Index, Setb, Cmpb, Addb, Subb, Setw, Cmpw, Addw, Subw, Clearn, Testn, Incn, Decn, Notn, Cmpn, Addn, Subn, Andn, Orn, Xorn}
-use Rattle.model_machine.specs.Code.{Shaped, IsTarget, IsAddress, IsPrimitive}
+use Rattle.model_text.specs.model_machine.specs.declared.instruction.Ins.{Ins}
+use Rattle.model_text.specs.model_machine.specs.declared.instruction.Ins.TheVariants.{Nop, Setsw, Setla, Setswla, Exit, Exitsw, Exitla, Exitswla, Branch, Jump, Call, Pushz, Pushb, Pushw, Popn, Popb, Popw, Prim, Ret, Reti, Reto, Retio, Load, Store, Loadi, Storei, Loada, Index, Setb, Cmpb, Addb, Subb, Setw, Cmpw, Addw, Subw, Clearn, Testn, Incn, Decn, Notn, Cmpn, Addn, Subn, Andn, Orn, Xorn}
+use Rattle.model_text.specs.model_machine.specs.Code.{Shaped, IsTarget, IsAddress, IsPrimitive}
 use Rattle.model_text.specs.Listing.{hex_word, condition_name, address_text, arguments_text, byte_line, word_line, words_line, target_line, address_line, operand_line, text_of}
 use Rattle.model_text.specs.Assembly.{WordForm, Bare, OfByte, OfBytes, OfWord, OfWords, ByDistance, ByPlace, Primitive, Addressed, AddressedByte, AddressedWord, Plain, words, item_of_word, line_read, all_bytes}
 use Rattle.mc_asm.proofs.CleanLemmas.{Solid, AllSolid, written, joined, behind_word, line_is_read, word_written}

@@ -5,8 +5,8 @@ use Rattle.mc_asm.specs.Items.{texts}
 use Rattle.mc_asm.specs.Parts.{pair_of}
 use Rattle.model_text.specs.declared.assembler.AsmCause.{AsmCause}
 use Rattle.model_text.specs.declared.assembler.AsmCause.TheVariants.{BadOperands}
-use Rattle.model_machine.specs.declared.instruction.Ins.{Ins}
-use Rattle.model_machine.specs.declared.instruction.Ins.TheVariants.{Prim}
+use Rattle.model_text.specs.model_machine.specs.declared.instruction.Ins.{Ins}
+use Rattle.model_text.specs.model_machine.specs.declared.instruction.Ins.TheVariants.{Prim}
 use Rattle.model_text.specs.Text.{ok_as}
 use Rattle.model_text.specs.Assembly.{WordForm, CodeItem, byte, both, all_bytes, primitive, Plain, item_of_word, ByDistance, ByPlace, AddressedByte, AddressedWord, Primitive}
 

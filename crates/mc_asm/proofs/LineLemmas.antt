@@ -3,7 +3,7 @@ use Rattle.std.proofs.Common.{◌≡◌, ◌≢◌, ℕ, suc, ◌≤◌, false, 
 use Rattle.std.specs.Prelude.{map, nat_le, ◌==◌}
 use Rattle.model_text.specs.Text.{first_cut, trim, is_empty}
 use Rattle.model_text.specs.Assembly.{WordForm, Bare, OfByte, OfBytes, OfWord, OfWords, RawByte, ByDistance, ByPlace, Primitive, Addressed, AddressedByte, AddressedWord, words, operands, item_of_word, word_and_operands, label_and_rest, line_read, CodeItem, Line}
-use Rattle.model_device.specs.Bytes.{lookup}
+use Rattle.model_text.specs.model_device.specs.Bytes.{lookup}
 use Rattle.model_text.specs.declared.assembler.AsmCause.{AsmCause}
 use Rattle.mc_asm.specs.Items.{texts}
 use Rattle.mc_text.proofs.ReadingLemmas.{pieces_at, pieces_cut}

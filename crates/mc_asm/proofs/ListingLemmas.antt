@@ -2,10 +2,10 @@
 use Rattle.std.proofs.Common.{◌≡◌, ℕ, zero, suc, ◌+◌, ◌<◌, ◌≤◌, List, [], ◌∷◌, ◌++◌, length, drop, Option, Some, None, Result, Ok, Err, arith, refl, sym, ap, length-drop, append_assoc, ◌∙◌}
 use Rattle.std.specs.Prelude.{codes}
 use Rattle.model_text.specs.Text.{ok_as}
-use Rattle.model_machine.specs.Code.{Form, form, made_of, front, from_place, instruction_at}
+use Rattle.model_text.specs.model_machine.specs.Code.{Form, form, made_of, front, from_place, instruction_at}
 use Rattle.model_text.specs.Listing.{text_of, line_before, listing_from, listing_of_code}
-use Rattle.model_machine.specs.declared.instruction.DecodeFault.{DecodeFault}
-use Rattle.model_machine.specs.declared.instruction.Ins.{Ins}
+use Rattle.model_text.specs.model_machine.specs.declared.instruction.DecodeFault.{DecodeFault}
+use Rattle.model_text.specs.model_machine.specs.declared.instruction.Ins.{Ins}
 use Rattle.std.proofs.lemmas.List.{drop-drop}
 
 -- an instruction has at least one byte

@@ -9,7 +9,7 @@ use Rattle.model_text.specs.Text.{every, is_digit, is_empty, digits_onto, decima
 use Rattle.model_text.specs.Listing.{hex_digit, hex_word, condition_name, register_name, register_names, address_text}
 use Rattle.model_text.specs.Assembly.{natural, fits_signed, byte, word, signed_operand, condition, address, is_label, place_among}
 use Rattle.mc_asm.proofs.CleanLemmas.{Solid, solid, every_as, pieces_none, pieces_there}
-use Rattle.model_device.proofs.BoolLemmas.{and_false, and_first, and_second}
+use Rattle.model_text.specs.model_device.proofs.BoolLemmas.{and_false, and_first, and_second}
 use Rattle.model_text.proofs.TextLemmas.{every_append}
 
 -- ---- decimal digits

@@ -4,7 +4,7 @@ use Rattle.std.specs.Prelude.{bytes_eq, nat_le, MatchResult, IfOk, IfErr}
 use Rattle.std.specs.Ordering.{is_eq, nat_cmp}
 use Rattle.std.specs.Cmp.Lexicographic.{slice_cmp}
 use Rattle.std.proofs.lemmas.Map.Text.{is_eq-slice_cmp}
-use Rattle.model_device.specs.Bytes.{lookup}
+use Rattle.model_text.specs.model_device.specs.Bytes.{lookup}
 use Rattle.model_text.specs.Text.{◌>>=◌, ok_as, err_as, only_if, lines, with_numbers}
 use Rattle.model_text.specs.declared.assembler.AsmCause.{AsmCause}
 use Rattle.model_text.specs.declared.assembler.AsmCause.TheVariants.{TooLong, LabelTwice}

@@ -4,12 +4,12 @@ use Rattle.std.specs.Prelude.{◌==◌, not, nat_le, codes, slice_index, IfOk}
 use Rattle.std.specs.List.{AllByRecursion}
 use Rattle.std.proofs.lemmas.List.{take-append-drop}
 use Rattle.model_text.specs.Text.{◌>>=◌, ok_as, every, lines, with_numbers}
-use Rattle.model_machine.specs.declared.instruction.DecodeFault.{DecodeFault}
-use Rattle.model_machine.specs.declared.instruction.Ins.{Ins}
-use Rattle.model_machine.specs.Code.{Shaped, DecodesTo, spell, front, from_place}
+use Rattle.model_text.specs.model_machine.specs.declared.instruction.DecodeFault.{DecodeFault}
+use Rattle.model_text.specs.model_machine.specs.declared.instruction.Ins.{Ins}
+use Rattle.model_text.specs.model_machine.specs.Code.{Shaped, DecodesTo, spell, front, from_place}
 use Rattle.model_text.specs.Listing.{text_of, line_before, listing_with, length_of, listing_from, listing_of_code}
 use Rattle.model_text.specs.Assembly.{assembly_of, line_laid}
-use Rattle.model_device.specs.Bytes.{AreBytes}
+use Rattle.model_text.specs.model_device.specs.Bytes.{AreBytes}
 use Rattle.mc_isa.proofs.PlaceLemmas.{decoded_stands}
 use Rattle.mc_text.specs.Reading.{next_line, without_return}
 use Rattle.mc_asm.specs.Passes.{places, code_of_lines, label_and_end, code_and_end}
@@ -17,7 +17,7 @@ use Rattle.mc_asm.proofs.PassLemmas.{two_passes, numbered_some, places_more, pla
 use Rattle.mc_asm.proofs.ListingLemmas.{whole_listed, no_bytes, front_some}
 use Rattle.mc_asm.proofs.CleanLemmas.{written, every_as, cut_there}
 use Rattle.mc_asm.proofs.InstructionLemmas.{ReadsAs, instruction_read}
-use Rattle.model_device.proofs.BoolLemmas.{and_first, and_second}
+use Rattle.model_text.specs.model_device.proofs.BoolLemmas.{and_first, and_second}
 
 -- ---- the first line of a listing
 

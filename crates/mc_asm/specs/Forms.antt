@@ -1,8 +1,8 @@
 -- The forms of operands of the code, as values of the definition.
 use Rattle.std.specs.Prelude.{ℕ, ℤ, List, take, drop}
-use Rattle.model_machine.specs.Code.{Shaped}
-use Rattle.model_machine.specs.declared.instruction.Ins.{Ins}
-use Rattle.model_machine.specs.declared.instruction.Ins.TheVariants.{Setsw, Setla, Setswla, Exitsw, Exitla, Exitswla, Branch, Jump, Call, Pushz, Pushb, Pushw, Popn, Reti, Reto, Retio, Load, Store, Loadi, Storei, Loada, Index, Setb, Cmpb, Addb, Subb, Setw, Cmpw, Addw, Subw, Clearn, Testn, Incn, Decn, Notn, Cmpn, Addn, Subn, Andn, Orn, Xorn}
+use Rattle.model_text.specs.model_machine.specs.Code.{Shaped}
+use Rattle.model_text.specs.model_machine.specs.declared.instruction.Ins.{Ins}
+use Rattle.model_text.specs.model_machine.specs.declared.instruction.Ins.TheVariants.{Setsw, Setla, Setswla, Exitsw, Exitla, Exitswla, Branch, Jump, Call, Pushz, Pushb, Pushw, Popn, Reti, Reto, Retio, Load, Store, Loadi, Storei, Loada, Index, Setb, Cmpb, Addb, Subb, Setw, Cmpw, Addw, Subw, Clearn, Testn, Incn, Decn, Notn, Cmpn, Addn, Subn, Andn, Orn, Xorn}
 use Rattle.model_text.specs.Assembly
 use Rattle.model_text.specs.Assembly.{words}
 use Rattle.mc_asm.specs.declared.words.ByteWord.{ByteWord}

@@ -1,8 +1,8 @@
 -- Lines and items of the code, as values of the definition.
 use Rattle.std.specs.Prelude.{ℕ, ◌<◌, List, map, option_map}
 use denote.Ref.{Bor}
-use Rattle.model_machine.specs.Code.{Shaped}
-use Rattle.model_machine.specs.declared.instruction.Ins.TheVariants.{Branch}
+use Rattle.model_text.specs.model_machine.specs.Code.{Shaped}
+use Rattle.model_text.specs.model_machine.specs.declared.instruction.Ins.TheVariants.{Branch}
 use Rattle.model_text.specs.Assembly
 use Rattle.mc_asm.specs.declared.item.Item.{Item}
 use Rattle.mc_asm.specs.declared.line.Line.{Line}

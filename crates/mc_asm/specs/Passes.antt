@@ -5,8 +5,8 @@ use Rattle.std.specs.Cmp.Lexicographic.{slice_cmp}
 use Rattle.std.specs.BTreeMap
 use Rattle.std.specs.BTreeMap.{BTreeMap}
 use denote.Ref.{Bor}
-use Rattle.model_device.specs.Limits.{most_code}
-use Rattle.model_device.specs.Bytes.{lookup}
+use Rattle.model_text.specs.model_device.specs.Limits.{most_code}
+use Rattle.model_text.specs.model_device.specs.Bytes.{lookup}
 use Rattle.model_text.specs.Text.{◌>>=◌, ok_as, err_as, only_if}
 use Rattle.model_text.specs.declared.assembler.AsmCause.{AsmCause}
 use Rattle.model_text.specs.declared.assembler.AsmCause.TheVariants.{TooLong}

@@ -1,7 +1,7 @@
 -- The refusals of a text, and of code.
 use Rattle.std.specs.Prelude.{◌≡◌, ℕ, List, Result, Err, ⊤}
 use Rattle.model_text.specs.declared.assembler.AsmCause.{AsmCause}
-use Rattle.model_machine.specs.declared.instruction.DecodeFault.{DecodeFault}
+use Rattle.model_text.specs.model_machine.specs.declared.instruction.DecodeFault.{DecodeFault}
 use Rattle.mc_asm.specs.declared.refusal.AsmRefusal.{AsmRefusal}
 use Rattle.mc_asm.specs.declared.refusal.AsmRefusal.TheVariants.{At, NoMemory}
 use Rattle.mc_asm.specs.declared.refusal.ListRefusal.{ListRefusal}

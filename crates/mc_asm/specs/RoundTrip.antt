@@ -1,7 +1,7 @@
 -- From code to its listing and back.
 use Rattle.std.specs.Prelude.{◌≡◌, ℕ, ◌<◌, ◌≤◌, List, length, Ok}
 use Rattle.std.specs.List.{AllByRecursion}
-use Rattle.model_device.specs.Limits.{most_code}
+use Rattle.model_text.specs.model_device.specs.Limits.{most_code}
 use Rattle.model_text.specs.Assembly.{assembly_of}
 use Rattle.model_text.specs.Listing.{listing_of_code}
 

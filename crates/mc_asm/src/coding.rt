@@ -1,6 +1,6 @@
 // The second pass, which makes the code, and the whole assembler.
 ghost use Rattle.std.specs.Prelude.{◌≡◌, ◌+◌, ◌≤◌, ℕ, pos, ◌-ℤ◌, List, [], ◌∷◌, ◌++◌, length, Some, None, Ok, Err, IfOk, IfErr, MatchResult, OnOk, vec_len};
-ghost use Rattle.model_device.specs.Limits.{most_code};
+ghost use Rattle.model_text.specs.model_device.specs.Limits.{most_code};
 ghost use Rattle.model_text.specs.Text.{lines, with_numbers};
 ghost use Rattle.model_text.specs.Assembly.{bytes_of_item, size, assembly_of, assembled_lines};
 ghost use Rattle.mc_asm.specs.Items.{item_of, Ready};
@@ -15,8 +15,8 @@ use crate::refusal::AsmRefusal;
 use arrayvec::ArrayVec;
 use mc_isa::encode;
 use mc_text::next_line;
-use model_machine::Ins;
 use model_text::AsmCause;
+use model_text::model_machine::Ins;
 use std::alloc::Global;
 
 // The displacement of a branch at a place: the distance from the place after the branch.

@@ -1,10 +1,10 @@
 // The item of a word with its operands.
 ghost use Rattle.std.specs.Prelude.{◌≡◌, ◌+◌, ◌<◌, ◌≤◌, ℕ, [], ◌∷◌, length, map, option_map, take, Some, None, Ok, Err, IfOk, Result};
 ghost use Rattle.std.specs.List.{AllByRecursion};
-ghost use Rattle.model_machine.specs.Code.{Shaped};
+ghost use Rattle.model_text.specs.model_machine.specs.Code.{Shaped};
 ghost use Rattle.model_text.specs.Text.{ok_as};
 ghost use Rattle.model_text.specs.Assembly.{byte, both, item_of_word, Bare, OfByte, OfBytes, OfWord, OfWords, RawByte, ByDistance, ByPlace, Primitive, Addressed, AddressedByte, AddressedWord, Plain};
-ghost use Rattle.model_machine.specs.declared.instruction.Ins.TheVariants.{Branch, Retio, Prim, Loada};
+ghost use Rattle.model_text.specs.model_machine.specs.declared.instruction.Ins.TheVariants.{Branch, Retio, Prim, Loada};
 ghost use Rattle.mc_asm.specs.Forms.{form_of, of_byte, of_word, of_words, by_place, addressed_byte, addressed_word, BareShaped};
 ghost use Rattle.mc_asm.specs.Parts.{pair_of};
 ghost use Rattle.mc_asm.specs.Items.{item_of, texts, Ready};
@@ -14,8 +14,8 @@ use crate::operand::{address, both, condition, is_label};
 use crate::words::{
     AddressedByteWord, AddressedWordWord, ByteWord, Form, PlaceWord, WordWord, WordsWord,
 };
-use model_machine::Ins;
 use model_text::AsmCause;
+use model_text::model_machine::Ins;
 
 /// The item of a line, from which its code is made.
 #[derive(Clone, Copy)]

@@ -1,7 +1,7 @@
 // Labels and their places: the first pass.
 ghost use Rattle.std.specs.Prelude.{◌≡◌, ◌+◌, ◌≤◌, ℕ, List, [], length, option_map, Some, None, Ok, Err, IfOk, IfErr, OnOk, MatchResult};
-ghost use Rattle.model_device.specs.Limits.{most_code};
-ghost use Rattle.model_device.specs.Bytes.{lookup};
+ghost use Rattle.model_text.specs.model_device.specs.Limits.{most_code};
+ghost use Rattle.model_text.specs.model_device.specs.Bytes.{lookup};
 ghost use Rattle.model_text.specs.Text.{ok_as, only_if};
 ghost use Rattle.model_text.specs.Assembly.{is_new, line_laid, line_read, size, with_label};
 ghost use Rattle.model_text.specs.declared.assembler.AsmCause.TheVariants.{TooLong};

@@ -1,14 +1,14 @@
 // The listing of code.
 ghost use Rattle.std.specs.Prelude.{◌≡◌, ◌≤◌, ◌++◌, length, codes, Ok, IfOk, IfErr, OnOk};
-ghost use Rattle.model_device.specs.Limits.{most_code};
+ghost use Rattle.model_text.specs.model_device.specs.Limits.{most_code};
 ghost use Rattle.model_text.specs.Listing.{listing_of_code, text_of};
-ghost use Rattle.model_machine.specs.Code.{Shaped};
+ghost use Rattle.model_text.specs.model_machine.specs.Code.{Shaped};
 ghost use Rattle.model_text.specs.Assembly.{assembly_of};
 ghost use Rattle.mc_asm.specs.Refusals.{RefusesListing};
 
 use crate::refusal::ListRefusal;
 use mc_isa::{decode, text_of};
-use model_machine::Ins;
+use model_text::model_machine::Ins;
 use std::alloc::{AllocError, Global};
 
 // Appends the line of an instruction to a text.

@@ -1,5 +1,5 @@
-use model_machine::DecodeFault;
 use model_text::AsmCause;
+use model_text::model_machine::DecodeFault;
 use std::alloc::AllocError;
 use thiserror::Error;
 

@@ -1,12 +1,12 @@
 // The table of words: the form of the operands of each, and the instruction that they make.
 ghost use Rattle.std.specs.Prelude.{◌≡◌, ◌<◌, ◌≤◌, ℕ, List, take, drop, option_map, IfSome, Some, None};
-ghost use Rattle.model_device.specs.Bytes.{lookup};
-ghost use Rattle.model_machine.specs.Code.{Shaped};
+ghost use Rattle.model_text.specs.model_device.specs.Bytes.{lookup};
+ghost use Rattle.model_text.specs.model_machine.specs.Code.{Shaped};
 ghost use Rattle.model_text.specs.Assembly.{words};
 ghost use Rattle.mc_asm.specs.Forms.{form_of, of_byte, of_word, of_words, by_place, addressed_byte, addressed_word, BareShaped, register_words, stack_words, call_words, memory_words, number_words, block_words};
-ghost use Rattle.model_machine.specs.declared.instruction.Ins.TheVariants.{Loada};
+ghost use Rattle.model_text.specs.model_machine.specs.declared.instruction.Ins.TheVariants.{Loada};
 
-use model_machine::Ins;
+use model_text::model_machine::Ins;
 
 /// The words with one byte.
 #[derive(Clone, Copy)]

@@ -2,7 +2,7 @@
 use Rattle.std.proofs.Common.{◌≡◌, ℕ, false, List, [], ◌∷◌, Option, Some, Ok, Err, refl, sym, subst, ◌∙◌, inl, inr}
 use Rattle.model_card.specs.declared.card.Part.{Part}
 use Rattle.model_card.specs.declared.card.Sizes.{Sizes}
-use Rattle.model_device.specs.Orders.{Answer, InOrder}
+use Rattle.model_card.specs.model_device.specs.Orders.{Answer, InOrder}
 use Rattle.model_card.specs.Items.{Site, BankItem, Commit}
 use Rattle.mc_bank.specs.Bank.{BankState, IsGoodSite, StayGood, BytesStay, Spares, Changes, item_done, apps_after_commit}
 

@@ -6,9 +6,9 @@ use Rattle.std.proofs.lemmas.List.{length-take-le, length-drop, length-set, take
 use Rattle.model_card.specs.declared.card.Part.{Part}
 use Rattle.model_card.specs.declared.card.Part.TheVariants.{Code, Data, Dir, Fci}
 use Rattle.model_card.specs.declared.card.Sizes.{Sizes}
-use Rattle.model_device.specs.Orders.{InOrder}
-use Rattle.model_device.specs.Bytes.{splice}
-use Rattle.model_device.specs.Card.{App}
+use Rattle.model_card.specs.model_device.specs.Orders.{InOrder}
+use Rattle.model_card.specs.model_device.specs.Bytes.{splice}
+use Rattle.model_card.specs.model_device.specs.Card.{App}
 use Rattle.model_card.specs.Items.{Site, Piece}
 use Rattle.model_card.specs.Manager.{in_words}
 use Rattle.mc_bank.specs.declared.bank.Facts.{Facts}
@@ -19,7 +19,7 @@ use Rattle.mc_bank.specs.EntryLaws.{facts_kept, whole_at, apps_free}
 use Rattle.mc_bank.specs.MemoryLaws.{set_self, entry_set, piece_keeps_facts}
 use Rattle.mc_bank.specs.Left.{FillLeft}
 use Rattle.mc_bank.proofs.LeftLemmas.{front_piece, splice_splice, same_named, memory_kept, free_place}
-use Rattle.model_device.proofs.ListLemmas.{splice_none, length_splice}
+use Rattle.model_card.specs.model_device.proofs.ListLemmas.{splice_none, length_splice}
 
 -- ---- one entry
 

@@ -5,10 +5,10 @@ use Rattle.std.specs.List.{AllByRecursion}
 use Rattle.std.proofs.lemmas.List.{length-take-le, length-append, length-replicate, length-set, take-take, drop-take}
 use Rattle.std.proofs.lemmas.List.Edits.{paste-paste}
 use Rattle.std.proofs.Math.Seq.{take-length, take-append-add}
-use Rattle.model_device.specs.Orders.{Answer, InOrder}
-use Rattle.model_device.specs.Bytes.{zeros, splice, lookup}
-use Rattle.model_device.specs.Pieces.{laid_pieces, word_pieces}
-use Rattle.model_device.specs.Card.{App}
+use Rattle.model_card.specs.model_device.specs.Orders.{Answer, InOrder}
+use Rattle.model_card.specs.model_device.specs.Bytes.{zeros, splice, lookup}
+use Rattle.model_card.specs.model_device.specs.Pieces.{laid_pieces, word_pieces}
+use Rattle.model_card.specs.model_device.specs.Card.{App}
 use Rattle.model_card.specs.Items.{Site, BankItem, Blank, Note, Commit, Enter, Remove}
 use Rattle.model_card.specs.Manager.{word_parts}
 use Rattle.mc_base.specs.Name.{IsName}
@@ -23,7 +23,7 @@ use Rattle.mc_bank.specs.Slots.{slot_place, name_of_slot}
 use Rattle.mc_bank.specs.SlotLaws.{slot_stays, commit_sized}
 use Rattle.mc_bank.specs.Left.{CommitLeft, CreateLeft, DeleteLeft}
 use Rattle.mc_bank.proofs.ShownLemmas.{name_at, slot_at, slot_within}
-use Rattle.model_device.proofs.ListLemmas.{length_splice}
+use Rattle.model_card.specs.model_device.proofs.ListLemmas.{length_splice}
 
 -- ---- lists of bytes
 

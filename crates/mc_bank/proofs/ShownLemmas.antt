@@ -2,7 +2,7 @@
 use Rattle.std.proofs.Common.{◌≡◌, ℕ, zero, suc, ◌+◌, ◌≤◌, ◌<◌, true, List, [], ◌∷◌, length, take, drop, Option, Some, None, refl, sym, ap, subst, ◌∙◌, arith, slice_index_or}
 use Rattle.std.specs.Prelude.{is_some, IsSome}
 use Rattle.std.proofs.lemmas.List.{length-take-le, take-take, drop-take}
-use Rattle.model_device.specs.Card.{App}
+use Rattle.model_card.specs.model_device.specs.Card.{App}
 use Rattle.mc_bank.specs.declared.bank.Facts.{Facts}
 use Rattle.mc_bank.specs.declared.entries.Entry.{Entry}
 use Rattle.mc_bank.specs.Bank.{app_of, sizes_of}
@@ -12,8 +12,8 @@ use Rattle.mc_bank.specs.MemoryLaws.{split, app_is}
 use Rattle.mc_bank.specs.Slots.{slot_number, slot_place, AreDigits}
 use Rattle.mc_bank.specs.SlotLaws.{place_back, sizes_back, slot_named, name_there as slot_name_there}
 use Rattle.mc_bank.specs.Shown.{app_at, IsFront, AreFactsOf, EntryShows}
-use Rattle.model_device.proofs.MapLemmas.{same_name}
-use Rattle.model_device.proofs.BoolLemmas.{some_is}
+use Rattle.model_card.specs.model_device.proofs.MapLemmas.{same_name}
+use Rattle.model_card.specs.model_device.proofs.BoolLemmas.{some_is}
 
 -- an element is what a list has at its place, whatever replaces a missing one
 pub entry_is : (m : List Entry) (k : ℕ) (e : Entry) → k < length m → e ≡ slice_index_or m k e → e ≡ entry_at m k

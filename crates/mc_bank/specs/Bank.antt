@@ -6,14 +6,14 @@ use Rattle.model_card.specs.declared.card.Part.TheVariants.{Code, Data, Dir, Fci
 use Rattle.model_card.specs.declared.card.Sizes.{Sizes}
 use Rattle.model_card.specs.declared.card.OpenRefusal.{OpenRefusal}
 use Rattle.model_card.specs.declared.card.OpenRefusal.TheVariants.{Apps, NoRoom}
-use Rattle.model_device.specs.declared.device.Stop.{Stop}
-use Rattle.model_device.specs.declared.device.Stop.TheVariants.{Off, Worn}
-use Rattle.model_device.specs.Limits.{most_code}
-use Rattle.model_device.specs.Orders.{Answer}
-use Rattle.model_device.specs.Counts.{Rose}
-use Rattle.model_device.specs.Bytes.{AscendByName, zeros, lookup, insert, remove}
-use Rattle.model_device.specs.Pieces.{laid_words, ArePending}
-use Rattle.model_device.specs.Card.{App}
+use Rattle.model_card.specs.model_device.specs.declared.device.Stop.{Stop}
+use Rattle.model_card.specs.model_device.specs.declared.device.Stop.TheVariants.{Off, Worn}
+use Rattle.model_card.specs.model_device.specs.Limits.{most_code}
+use Rattle.model_card.specs.model_device.specs.Orders.{Answer}
+use Rattle.model_card.specs.model_device.specs.Counts.{Rose}
+use Rattle.model_card.specs.model_device.specs.Bytes.{AscendByName, zeros, lookup, insert, remove}
+use Rattle.model_card.specs.model_device.specs.Pieces.{laid_words, ArePending}
+use Rattle.model_card.specs.model_device.specs.Card.{App}
 use Rattle.model_card.specs.Items.{Site, BankItem, Piece, Blank, Note, Commit, Enter, Remove}
 use Rattle.mc_base.specs.Name.{IsName}
 

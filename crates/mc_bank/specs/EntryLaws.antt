@@ -5,14 +5,14 @@ use Rattle.std.proofs.Common.{refl, ap, sym, subst, ◌∙◌, arith}
 use Rattle.std.proofs.lemmas.List.{length-take}
 use Rattle.std.proofs.Math.Nat.{min-eq_left}
 use Rattle.model_card.specs.declared.card.Sizes.{Sizes}
-use Rattle.model_device.specs.Bytes.{lookup, insert, AscendByName}
-use Rattle.model_device.specs.Card.{App}
+use Rattle.model_card.specs.model_device.specs.Bytes.{lookup, insert, AscendByName}
+use Rattle.model_card.specs.model_device.specs.Card.{App}
 use Rattle.mc_bank.specs.declared.bank.Facts.{Facts}
 use Rattle.mc_bank.specs.declared.entries.Entry.{Entry}
 use Rattle.mc_bank.specs.Bank.{IsApplication, AreApps, FitsLimits, sizes_of}
 use Rattle.mc_bank.specs.Memory.{facts_in, name_in, name_of_entry, first_free, count_of_used, has, is_named, IsApart, AreApart, app_in, with_entry, apps_from, entry_at, AreFacts, IsWholeEntry, IsMemory}
-use Rattle.model_device.proofs.MapLemmas.{same_name, name_is_itself, other_way, lookup_inserted_lem, lookup_beside, length_inserted, insert_swap, each_inserted, ascending_inserted}
-use Rattle.model_device.proofs.BoolLemmas.{no_value}
+use Rattle.model_card.specs.model_device.proofs.MapLemmas.{same_name, name_is_itself, other_way, lookup_inserted_lem, lookup_beside, length_inserted, insert_swap, each_inserted, ascending_inserted}
+use Rattle.model_card.specs.model_device.proofs.BoolLemmas.{no_value}
 
 -- ---- facts
 

@@ -1,8 +1,8 @@
 -- The entries of a bank in memory after each call.
 use Rattle.std.specs.Prelude.{◌≡◌, ◌≢◌, ℕ, List, [], ◌∷◌, map, IsSome, Some, Ok}
 use Rattle.model_card.specs.declared.card.Part.{Part}
-use Rattle.model_device.specs.Orders.{InOrder}
-use Rattle.model_device.specs.Bytes.{splice, insert, remove}
+use Rattle.model_card.specs.model_device.specs.Orders.{InOrder}
+use Rattle.model_card.specs.model_device.specs.Bytes.{splice, insert, remove}
 use Rattle.model_card.specs.Items.{Site, Piece, Commit, Remove}
 use Rattle.model_card.specs.Manager.{word_parts, create_items}
 use Rattle.mc_bank.specs.declared.entries.Entry.{Entry}

@@ -6,3 +6,5 @@ pub mod EntryLaws
 pub mod MemoryLaws
 pub mod Shown
 pub mod Left
+-- the libraries below that those above cite through this one
+pub use Rattle.model_card as model_card

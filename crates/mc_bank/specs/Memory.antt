@@ -4,11 +4,11 @@ use Rattle.std.specs.List.{AllByRecursion}
 use Rattle.model_card.specs.declared.card.Part.{Part}
 use Rattle.model_card.specs.declared.card.Part.TheVariants.{Code, Data, Dir, Fci}
 use Rattle.model_card.specs.declared.card.Sizes.{Sizes}
-use Rattle.model_device.specs.Limits.{most_code}
-use Rattle.model_device.specs.Orders.{Answer}
-use Rattle.model_device.specs.Bytes.{zeros, splice, insert}
-use Rattle.model_device.specs.Pieces.{laid_pieces, word_pieces}
-use Rattle.model_device.specs.Card.{App}
+use Rattle.model_card.specs.model_device.specs.Limits.{most_code}
+use Rattle.model_card.specs.model_device.specs.Orders.{Answer}
+use Rattle.model_card.specs.model_device.specs.Bytes.{zeros, splice, insert}
+use Rattle.model_card.specs.model_device.specs.Pieces.{laid_pieces, word_pieces}
+use Rattle.model_card.specs.model_device.specs.Card.{App}
 use Rattle.model_card.specs.Items.{Site, BankItem, Piece, Blank, Note, Commit, Enter, Remove}
 use Rattle.mc_base.specs.Name.{IsName}
 use Rattle.mc_bank.specs.declared.bank.Facts.{Facts}

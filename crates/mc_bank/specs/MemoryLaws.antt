@@ -7,10 +7,10 @@ use Rattle.std.proofs.lemmas.List.{length-replicate, length-take-le, length-appe
 use Rattle.std.proofs.lemmas.List.Edits.{take-paste}
 use Rattle.model_card.specs.declared.card.Part.{Part}
 use Rattle.model_card.specs.declared.card.Part.TheVariants.{Code, Data, Dir, Fci}
-use Rattle.model_device.specs.Orders.{Answer}
-use Rattle.model_device.specs.Bytes.{zeros, splice, lookup, insert, remove}
-use Rattle.model_device.specs.Pieces.{laid_pieces, word_pieces, laid_words}
-use Rattle.model_device.specs.Card.{App}
+use Rattle.model_card.specs.model_device.specs.Orders.{Answer}
+use Rattle.model_card.specs.model_device.specs.Bytes.{zeros, splice, lookup, insert, remove}
+use Rattle.model_card.specs.model_device.specs.Pieces.{laid_pieces, word_pieces, laid_words}
+use Rattle.model_card.specs.model_device.specs.Card.{App}
 use Rattle.model_card.specs.Items.{Site, BankItem, Piece, Blank, Note, Commit, Enter, Remove}
 use Rattle.mc_bank.specs.declared.bank.Facts.{Facts}
 use Rattle.mc_bank.specs.declared.entries.Entry.{Entry}
@@ -19,8 +19,8 @@ use Rattle.mc_bank.specs.Memory.{facts_in, name_of_entry, memory_named, first_fr
 use Rattle.mc_bank.specs.Slots.{slot_place}
 use Rattle.mc_bank.specs.SlotLaws.{HasSizes, EntersNot, has_sizes, slot_named, item_sized}
 use Rattle.mc_bank.specs.EntryLaws.{facts_set, facts_kept, named_here, named_other, named_is, free_has_no_name, free_named, name_gone, not_named_freed, lookup_none, apps_free, apps_set}
-use Rattle.model_device.proofs.MapLemmas.{lookup_inserted_lem, insert_twice, remove_inserted, length_same}
-use Rattle.model_device.proofs.ListLemmas.{splice_longer}
+use Rattle.model_card.specs.model_device.proofs.MapLemmas.{lookup_inserted_lem, insert_twice, remove_inserted, length_same}
+use Rattle.model_card.specs.model_device.proofs.ListLemmas.{splice_longer}
 
 -- ---- lists of bytes
 

@@ -1,7 +1,7 @@
 -- The application of a slot, as its entry has it.
 use Rattle.std.specs.Prelude.{◌≡◌, ℕ, ◌+◌, ◌≤◌, List, length, take, drop, IsSome, Some}
-use Rattle.model_device.specs.Bytes.{lookup}
-use Rattle.model_device.specs.Card.{App}
+use Rattle.model_card.specs.model_device.specs.Bytes.{lookup}
+use Rattle.model_card.specs.model_device.specs.Card.{App}
 use Rattle.mc_bank.specs.declared.bank.Facts.{Facts}
 use Rattle.mc_bank.specs.declared.entries.Entry.{Entry}
 use Rattle.mc_bank.specs.Bank.{app_of, sizes_of, FitsLimits}

@@ -5,15 +5,15 @@ use Rattle.std.proofs.lemmas.List.{length-take-le}
 use Rattle.std.proofs.lemmas.Bool.{false_from_ne_true}
 use Rattle.model_card.specs.declared.card.Part.{Part}
 use Rattle.model_card.specs.declared.card.Sizes.{Sizes}
-use Rattle.model_device.specs.Bytes.{lookup, insert, remove, splice}
-use Rattle.model_device.specs.Pieces.{laid_pieces, laid_words, word_pieces}
-use Rattle.model_device.specs.Card.{App}
+use Rattle.model_card.specs.model_device.specs.Bytes.{lookup, insert, remove, splice}
+use Rattle.model_card.specs.model_device.specs.Pieces.{laid_pieces, laid_words, word_pieces}
+use Rattle.model_card.specs.model_device.specs.Card.{App}
 use Rattle.model_card.specs.Items.{Site, BankItem, Piece, Blank, Note, Commit, Enter, Remove}
-use Rattle.model_device.proofs.ListLemmas.{splice_longer as splice-long}
+use Rattle.model_card.specs.model_device.proofs.ListLemmas.{splice_longer as splice-long}
 use Rattle.mc_bank.specs.Bank.{app_of, no_app, sizes_of, with_words, app_of_site, item_done, Spares}
 use Rattle.mc_bank.specs.Slots.{slot_number, digit, slot_place, slot_sizes, list_of_sizes, same_sizes, name_of_slot, AreDigits}
-use Rattle.model_device.proofs.MapLemmas.{same_name, name_is_itself, lookup_inserted_lem, lookup_beside, lookup_left}
-use Rattle.model_device.proofs.BoolLemmas.{some_is}
+use Rattle.model_card.specs.model_device.proofs.MapLemmas.{same_name, name_is_itself, lookup_inserted_lem, lookup_beside, lookup_left}
+use Rattle.model_card.specs.model_device.proofs.BoolLemmas.{some_is}
 
 -- ---- digits
 

@@ -1,7 +1,7 @@
 -- A slot as one number: the place by which a bank knows an application, and the application's sizes.
 use Rattle.std.specs.Prelude.{ℕ, zero, suc, ◌+◌, ◌*◌, ◌/◌, ◌%◌, ◌<◌, Bool, cond, List, [], ◌∷◌, bytes_eq, Option, Some, None}
 use Rattle.model_card.specs.declared.card.Sizes.{Sizes}
-use Rattle.model_device.specs.Card.{App}
+use Rattle.model_card.specs.model_device.specs.Card.{App}
 use Rattle.mc_bank.specs.Bank.{app_of, sizes_of}
 
 -- a place and sizes, each below 65,536, as the digits of one number

@@ -1,8 +1,8 @@
 ghost use Rattle.std.specs.Prelude.{◌≡◌, ◌≢◌, ℕ, ◌+◌, ◌≤◌, false, List, [], ◌∷◌, length, take, drop, map, nat_le, Option, Some, None, is_some, IsSome, IfSome, IfOk, OnOk};
 ghost use Rattle.model_card.specs.declared.card.Part.{Part};
 ghost use Rattle.model_card.specs.declared.card.Sizes.{Sizes};
-ghost use Rattle.model_device.specs.Orders.{Answer, InOrder};
-ghost use Rattle.model_device.specs.Bytes.{lookup, insert, remove, splice};
+ghost use Rattle.model_card.specs.model_device.specs.Orders.{Answer, InOrder};
+ghost use Rattle.model_card.specs.model_device.specs.Bytes.{lookup, insert, remove, splice};
 ghost use Rattle.model_card.specs.Items.{Site as SiteValue, BankItem, Piece, Commit, Remove};
 ghost use Rattle.model_card.specs.Manager.{word_parts, create_items};
 ghost use Rattle.mc_bank.specs.Slots.{slot_number, slot_place, slot_sizes};

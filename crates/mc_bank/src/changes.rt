@@ -1,5 +1,5 @@
 ghost use Rattle.std.specs.Prelude.{◌≡◌, ◌+◌, ◌≤◌, length, vec_len, IsSome, None};
-ghost use Rattle.model_device.specs.Bytes.{lookup};
+ghost use Rattle.model_card.specs.model_device.specs.Bytes.{lookup};
 ghost use Rattle.mc_base.specs.Name.{IsName};
 ghost use Rattle.mc_bank.specs.Bank.{CanCommit, IsGoodSite, part_len};
 ghost use Rattle.mc_bank.specs.Memory.{memory_named, apps_from, memory_room, IsMemory};

@@ -1,7 +1,7 @@
 ghost use Rattle.std.specs.Prelude.{◌≡◌, ◌+◌, ◌-◌, ◌*◌, ◌<◌, ◌≤◌, length, take, drop, slice_set, Some, None, is_some, IsSome, IfSome};
 ghost use Rattle.std.specs.List.{AllByRecursion};
-ghost use Rattle.model_device.specs.Bytes.{splice, zeros};
-ghost use Rattle.model_device.specs.Pieces.{laid_pieces, word_pieces};
+ghost use Rattle.model_card.specs.model_device.specs.Bytes.{splice, zeros};
+ghost use Rattle.model_card.specs.model_device.specs.Pieces.{laid_pieces, word_pieces};
 ghost use Rattle.mc_bank.specs.Memory.{facts_in, name_of_entry, memory_named, first_free, count_of_used, has, is_named, part_of, with_piece, with_list, with_app, IsMemory};
 ghost use Rattle.mc_bank.specs.Shown.{EntryShows};
 

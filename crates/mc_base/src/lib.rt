@@ -11,6 +11,7 @@ mod refusals;
 pub use aid::Aid;
 pub use ledger::Steps;
 pub use limits::{MOST_CODE, limits_code};
+pub use model_device;
 pub use model_device::Stop;
 pub use numbers::{bytes_of, number_of};
 pub use refusals::NoMemory;

@@ -3,12 +3,12 @@ use Rattle.std.proofs.Common.{◌≡◌, ℕ, ◌+◌, ◌<◌, ◌≤◌, Bool,
 use Rattle.std.specs.Prelude.{nat_le, nat_lt, ◌==◌, slice_index, bytes_eq, MatchBool}
 use Rattle.std.proofs.lemmas.Bool.{and_parts, leb-true, eqb-true, false_from_ne_true}
 use Rattle.std.proofs.lemmas.List.{map-append}
-use Rattle.model_device.specs.Bytes.{be2, has_name, up}
-use Rattle.model_device.specs.Card.{Block, word, header, blocks, record_at, name_in, words_of_lengths}
-use Rattle.model_device.specs.Layout.{is_record, bad_record}
+use Rattle.mc_base.specs.model_device.specs.Bytes.{be2, has_name, up}
+use Rattle.mc_base.specs.model_device.specs.Card.{Block, word, header, blocks, record_at, name_in, words_of_lengths}
+use Rattle.mc_base.specs.model_device.specs.Layout.{is_record, bad_record}
 use Rattle.mc_blocks.specs.Blocks.{block_within, blocks_at, is_admissible, Admits}
 use Rattle.mc_blocks.proofs.Steps.{blocks_step, blocks_stop, blocks_all}
-use Rattle.model_device.proofs.BoolLemmas.{or_swap as swapped}
+use Rattle.mc_base.specs.model_device.proofs.BoolLemmas.{or_swap as swapped}
 
 -- a block of fewer than six words has no record
 pub long_enough : (r : List ℕ) (w : ℕ) → is_record r w ≡ true → 6 ≤ w

@@ -1,6 +1,6 @@
 ghost use Rattle.std.specs.Prelude.{◌≡◌, ◌+◌, ◌≤◌, length, MatchOption, true, false};
-ghost use Rattle.model_device.specs.Card.{header, word};
-ghost use Rattle.model_device.specs.Layout.{bad_header};
+ghost use Rattle.mc_base.specs.model_device.specs.Card.{header, word};
+ghost use Rattle.mc_base.specs.model_device.specs.Layout.{bad_header};
 ghost use Rattle.mc_blocks.specs.Blocks.{block_of, read_block, block_within};
 
 use crate::header::{HOLE, USED};

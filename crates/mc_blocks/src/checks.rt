@@ -1,8 +1,8 @@
 // The checks of an image, each over the whole image before the next: the root, the headers, the records.
 ghost use Rattle.std.specs.Prelude.{◌≡◌, ◌+◌, ◌≤◌, [], length, map, true, false, MatchOption};
-ghost use Rattle.model_device.specs.Bytes.{has_name};
-ghost use Rattle.model_device.specs.Card.{heap_start, word, header, blocks, name_in};
-ghost use Rattle.model_device.specs.Layout.{no_root, bad_header, bad_block, bad_record};
+ghost use Rattle.mc_base.specs.model_device.specs.Bytes.{has_name};
+ghost use Rattle.mc_base.specs.model_device.specs.Card.{heap_start, word, header, blocks, name_in};
+ghost use Rattle.mc_base.specs.model_device.specs.Layout.{no_root, bad_header, bad_block, bad_record};
 ghost use Rattle.mc_blocks.specs.Blocks.{block_of, is_root_word, FollowsBlock, Admits};
 
 use crate::block::{Block, block_at};

@@ -1,8 +1,8 @@
 ghost use Rattle.std.specs.Prelude.{◌≡◌, ◌-◌, ◌≤◌, [], ◌∷◌};
-ghost use Rattle.model_device.specs.Bytes.{zeros};
-ghost use Rattle.model_device.specs.Image.{shut_word};
-ghost use Rattle.model_device.specs.Card.{heap_start};
-ghost use Rattle.model_device.specs.Layout.{root, hole_header};
+ghost use Rattle.mc_base.specs.model_device.specs.Bytes.{zeros};
+ghost use Rattle.mc_base.specs.model_device.specs.Image.{shut_word};
+ghost use Rattle.mc_base.specs.model_device.specs.Card.{heap_start};
+ghost use Rattle.mc_base.specs.model_device.specs.Layout.{root, hole_header};
 
 use crate::header::{HEAP, hole_word, root_word};
 use mc_base::Word;

@@ -1,7 +1,7 @@
 ghost use Rattle.std.specs.Prelude.{◌≡◌, ◌<◌, ◌==◌, length, slice_index};
-ghost use Rattle.model_device.specs.Bytes.{be2};
-ghost use Rattle.model_device.specs.Card.{word, used_tag};
-ghost use Rattle.model_device.specs.Layout.{hole_header, used_header, root};
+ghost use Rattle.mc_base.specs.model_device.specs.Bytes.{be2};
+ghost use Rattle.mc_base.specs.model_device.specs.Card.{word, used_tag};
+ghost use Rattle.mc_base.specs.model_device.specs.Layout.{hole_header, used_header, root};
 
 use mc_base::{Word, bytes_of};
 use mc_nvm::Nvm;

@@ -1,8 +1,8 @@
 ghost use Rattle.std.specs.Prelude.{◌≡◌, ◌+◌, ◌≤◌, true, length, slice_index};
-ghost use Rattle.model_device.specs.Image.{Closed, look};
-ghost use Rattle.model_device.specs.Stopped.{IsAtomic};
-ghost use Rattle.model_device.specs.Card.{means, word};
-ghost use Rattle.model_device.specs.Layout.{spans, gaps, put_at, IsWellLaid};
+ghost use Rattle.mc_base.specs.model_device.specs.Image.{Closed, look};
+ghost use Rattle.mc_base.specs.model_device.specs.Stopped.{IsAtomic};
+ghost use Rattle.mc_base.specs.model_device.specs.Card.{means, word};
+ghost use Rattle.mc_base.specs.model_device.specs.Layout.{spans, gaps, put_at, IsWellLaid};
 ghost use Rattle.mc_blocks.specs.Plans.{plan, without, has_room, has_span, take_front, put_hole};
 
 use crate::header::{hole_word, used_word};

@@ -1,13 +1,13 @@
 -- A card after the atomic writes of a chain.
 use Rattle.std.proofs.Common.{◌≡◌, ℕ, true, false, List, length, Option, Some, None, Ok, refl, sym, ◌∙◌, subst}
 use Rattle.std.specs.Prelude.{option_map}
-use Rattle.model_card.specs.declared.card.Part.{Part}
-use Rattle.model_device.specs.Orders.{Answer, InOrder}
-use Rattle.model_device.specs.Device.{DeviceState, Wrote as DeviceWrote}
-use Rattle.model_device.specs.Card.{Card as ModelCard, means}
-use Rattle.model_card.specs.Items.{Site, BankItem, card_done, write_items}
-use Rattle.model_card.specs.Manager.{Selected, SessionState}
-use Rattle.model_machine.specs.Chain.{Write}
+use Rattle.mc_bank.specs.model_card.specs.declared.card.Part.{Part}
+use Rattle.mc_base.specs.model_device.specs.Orders.{Answer, InOrder}
+use Rattle.mc_base.specs.model_device.specs.Device.{DeviceState, Wrote as DeviceWrote}
+use Rattle.mc_base.specs.model_device.specs.Card.{Card as ModelCard, means}
+use Rattle.mc_bank.specs.model_card.specs.Items.{Site, BankItem, card_done, write_items}
+use Rattle.mc_bank.specs.model_card.specs.Manager.{Selected, SessionState}
+use Rattle.mc_apdu.specs.model_machine.specs.Chain.{Write}
 use Rattle.mc_bank.specs.Bank.{BankState, app_of}
 use Rattle.mc_bank.proofs.Commits.{slots_in_order, sites_in_order}
 use Rattle.mc_store.specs.declared.store.Store.{Store}

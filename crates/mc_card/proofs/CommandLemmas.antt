@@ -1,15 +1,15 @@
 -- A command on a card: one that the manager answers, and one that the selected application runs.
 use Rattle.std.proofs.Common.{◌≡◌, ℕ, ◌+◌, ◌≤◌, Bool, true, false, cond, List, length, Option, Some, None, Result, Ok, Err, refl, sym, ◌∙◌, ap, subst, arith}
 use Rattle.std.specs.Prelude.{◌==◌, ◌&&◌, is_some, option_map, IsSome, IfOk, OnOk, OnErr}
-use Rattle.model_device.specs.declared.device.Stop.{Stop}
-use Rattle.model_device.specs.Orders.{Answer, InOrder, answer_of}
-use Rattle.model_machine.specs.Apdu.{ApduParts, apdu_read}
-use Rattle.model_device.specs.Device.{DeviceState, IsSized, Wrote as DeviceWrote}
-use Rattle.model_device.specs.Card.{App, Card as ModelCard}
-use Rattle.model_card.specs.Items.{BankItem, write_items}
-use Rattle.model_machine.specs.Chain.{Chain, Ran, start, run}
-use Rattle.model_card.specs.Manager.{Selected, SessionState, Route, WrongClass, ToSelect, ToManager, ToApplication, route_of_parts, route}
-use Rattle.model_card.specs.Commands.{Command, command, status, ran_command, application_command, by_route}
+use Rattle.mc_base.specs.model_device.specs.declared.device.Stop.{Stop}
+use Rattle.mc_base.specs.model_device.specs.Orders.{Answer, InOrder, answer_of}
+use Rattle.mc_apdu.specs.model_machine.specs.Apdu.{ApduParts, apdu_read}
+use Rattle.mc_base.specs.model_device.specs.Device.{DeviceState, IsSized, Wrote as DeviceWrote}
+use Rattle.mc_base.specs.model_device.specs.Card.{App, Card as ModelCard}
+use Rattle.mc_bank.specs.model_card.specs.Items.{BankItem, write_items}
+use Rattle.mc_apdu.specs.model_machine.specs.Chain.{Chain, Ran, start, run}
+use Rattle.mc_bank.specs.model_card.specs.Manager.{Selected, SessionState, Route, WrongClass, ToSelect, ToManager, ToApplication, route_of_parts, route}
+use Rattle.mc_bank.specs.model_card.specs.Commands.{Command, command, status, ran_command, application_command, by_route}
 use Rattle.mc_apdu.specs.declared.reply.Reply.{Reply}
 use Rattle.mc_bank.specs.Bank.{BankState, app_of, name_or}
 use Rattle.mc_manager.specs.declared.selection.Selection.{Selection}

@@ -2,21 +2,21 @@
 use Rattle.std.proofs.Common.{◌≡◌, ℕ, Bool, true, false, cond, List, [], length, Option, Some, None, Ok, Err, refl, sym, ◌∙◌, ap, subst}
 use Rattle.std.specs.Prelude.{◌==◌, ◌&&◌, Result, bytes_eq, is_some, option_map, unwrap_or, IsSome}
 use Rattle.std.proofs.lemmas.List.{length-replicate}
-use Rattle.model_card.specs.declared.card.Sizes.{Sizes}
-use Rattle.model_device.specs.declared.device.Stop.{Stop}
-use Rattle.model_device.specs.Orders.{Answer, InOrder}
-use Rattle.model_machine.specs.Apdu.{ApduParts}
-use Rattle.model_device.specs.Bytes.{zeros, lookup, insert}
-use Rattle.model_device.specs.Device.{DeviceState, Wrote}
-use Rattle.model_device.specs.Card.{App, Card as ModelCard}
-use Rattle.model_card.specs.Items.{BankItem}
-use Rattle.model_card.specs.Manager.{Selected, SessionState, Managed, Declines, Accepts, Accepted, Route, WrongLength, WrongClass, ToSelect, ToManager, ToApplication, route_of_parts, fresh, first_status, answer_unless, select_refusals, select_done, select, is_selected, manage, room_on}
-use Rattle.model_machine.specs.Chain.{Reply}
-use Rattle.model_card.specs.Commands.{Command, manager_command, application_command, by_route}
-use Rattle.law_manager.specs.Orders.{Order, order_of}
-use Rattle.law_manager.specs.Answers.{IsAnswer}
-use Rattle.law_manager.specs.Answers as answer
-use Rattle.law_manager.proofs.Orders.{answer_made}
+use Rattle.mc_bank.specs.model_card.specs.declared.card.Sizes.{Sizes}
+use Rattle.mc_base.specs.model_device.specs.declared.device.Stop.{Stop}
+use Rattle.mc_base.specs.model_device.specs.Orders.{Answer, InOrder}
+use Rattle.mc_apdu.specs.model_machine.specs.Apdu.{ApduParts}
+use Rattle.mc_base.specs.model_device.specs.Bytes.{zeros, lookup, insert}
+use Rattle.mc_base.specs.model_device.specs.Device.{DeviceState, Wrote}
+use Rattle.mc_base.specs.model_device.specs.Card.{App, Card as ModelCard}
+use Rattle.mc_bank.specs.model_card.specs.Items.{BankItem}
+use Rattle.mc_bank.specs.model_card.specs.Manager.{Selected, SessionState, Managed, Declines, Accepts, Accepted, Route, WrongLength, WrongClass, ToSelect, ToManager, ToApplication, route_of_parts, fresh, first_status, answer_unless, select_refusals, select_done, select, is_selected, manage, room_on}
+use Rattle.mc_apdu.specs.model_machine.specs.Chain.{Reply}
+use Rattle.mc_bank.specs.model_card.specs.Commands.{Command, manager_command, application_command, by_route}
+use Rattle.mc_manager.specs.law_manager.specs.Orders.{Order, order_of}
+use Rattle.mc_manager.specs.law_manager.specs.Answers.{IsAnswer}
+use Rattle.mc_manager.specs.law_manager.specs.Answers as answer
+use Rattle.mc_manager.specs.law_manager.proofs.Orders.{answer_made}
 use Rattle.mc_bank.specs.Bank.{no_app, app_of}
 use Rattle.mc_bank.specs.Slots.{slot_place}
 use Rattle.mc_bank.specs.SlotLaws.{has_sizes}
@@ -39,7 +39,7 @@ use Rattle.mc_card.specs.Ends.{is_passed}
 use Rattle.mc_card.specs.Managing.{IsAnswered, IsPassed}
 use Rattle.mc_card.proofs.StaticLemmas.{going_apps}
 use Rattle.mc_card.proofs.ManagerLemmas.{due_made}
-use Rattle.model_device.proofs.MapLemmas.{same_name, lookup_beside, lookup_left, other_way}
+use Rattle.mc_base.specs.model_device.proofs.MapLemmas.{same_name, lookup_beside, lookup_left, other_way}
 
 -- ---- the verdict on a command, and what it does
 

@@ -1,25 +1,25 @@
 -- The number of device writes of each item that a command began.
 use Rattle.std.proofs.Common.{◌≡◌, ℕ, zero, suc, ◌+◌, ◌-◌, ◌≤◌, true, false, not, List, [], ◌∷◌, ◌++◌, length, Option, Some, None, Ok, Err, refl, sym, ap, subst, inl, inr, arith, length-append}
 use Rattle.std.specs.List.{AllByRecursion}
-use Rattle.model_device.specs.declared.device.Stop.{Stop}
-use Rattle.model_device.specs.Orders.{Answer, InOrder}
-use Rattle.model_device.specs.Image.{Two}
-use Rattle.model_device.specs.Stopped.{cost}
-use Rattle.model_machine.specs.Apdu.{ApduParts}
-use Rattle.model_device.specs.Device.{DeviceState, IsSized, Wrote as DeviceWrote}
-use Rattle.model_device.specs.Card.{App, Card, means}
-use Rattle.model_machine.specs.Chain.{Write, no_app}
-use Rattle.model_card.specs.Items.{Fixed, Created, Item, Plain, Atomic, weight, moves, card_done, BankItem, write_items}
-use Rattle.model_card.specs.Manager.{SessionState, Selected, Route, WrongLength, WrongClass, ToSelect, ToManager, ToApplication, p1p2, word_parts, fresh, select, manage, room_on}
-use Rattle.model_card.specs.Commands.{Command, atomic_of, manager_command, by_route}
-use Rattle.model_device.proofs.OrdersLemmas.{in_order_append}
-use Rattle.law_machine.proofs.FewHeaders.{few_headers_law}
-use Rattle.law_machine.proofs.RowWords.{few_writes_law}
-use Rattle.law_manager.specs.Orders.{Order, order_of}
-use Rattle.law_manager.specs.OnCard.{IsCommand, IsSelect, plains, blank_words}
-use Rattle.law_manager.specs.OnCard as made
-use Rattle.law_manager.proofs.OnCard.{command_made, selects_law}
-use Rattle.law_manager.proofs.Plains.{plains_are}
+use Rattle.mc_base.specs.model_device.specs.declared.device.Stop.{Stop}
+use Rattle.mc_base.specs.model_device.specs.Orders.{Answer, InOrder}
+use Rattle.mc_base.specs.model_device.specs.Image.{Two}
+use Rattle.mc_base.specs.model_device.specs.Stopped.{cost}
+use Rattle.mc_apdu.specs.model_machine.specs.Apdu.{ApduParts}
+use Rattle.mc_base.specs.model_device.specs.Device.{DeviceState, IsSized, Wrote as DeviceWrote}
+use Rattle.mc_base.specs.model_device.specs.Card.{App, Card, means}
+use Rattle.mc_apdu.specs.model_machine.specs.Chain.{Write, no_app}
+use Rattle.mc_bank.specs.model_card.specs.Items.{Fixed, Created, Item, Plain, Atomic, weight, moves, card_done, BankItem, write_items}
+use Rattle.mc_bank.specs.model_card.specs.Manager.{SessionState, Selected, Route, WrongLength, WrongClass, ToSelect, ToManager, ToApplication, p1p2, word_parts, fresh, select, manage, room_on}
+use Rattle.mc_bank.specs.model_card.specs.Commands.{Command, atomic_of, manager_command, by_route}
+use Rattle.mc_base.specs.model_device.proofs.OrdersLemmas.{in_order_append}
+use Rattle.mc_machine.specs.law_machine.proofs.FewHeaders.{few_headers_law}
+use Rattle.mc_machine.specs.law_machine.proofs.RowWords.{few_writes_law}
+use Rattle.mc_manager.specs.law_manager.specs.Orders.{Order, order_of}
+use Rattle.mc_manager.specs.law_manager.specs.OnCard.{IsCommand, IsSelect, plains, blank_words}
+use Rattle.mc_manager.specs.law_manager.specs.OnCard as made
+use Rattle.mc_manager.specs.law_manager.proofs.OnCard.{command_made, selects_law}
+use Rattle.mc_manager.specs.law_manager.proofs.Plains.{plains_are}
 use Rattle.mc_bank.specs.Bank.{BankState, AreApps}
 use Rattle.mc_store.specs.declared.store.Store.{Store}
 use Rattle.mc_store.specs.Store.{apps_in, is_going, store_state}
@@ -33,7 +33,7 @@ use Rattle.mc_card.specs.Ends.{is_passed, most_weight}
 use Rattle.mc_card.proofs.StaticLemmas.{going_apps}
 use Rattle.mc_card.proofs.MadeLemmas.{card_found}
 use Rattle.mc_card.proofs.WriteLemmas.{write_made, goes_on}
-use Rattle.model_card.proofs.ItemLemmas.{moves_append}
+use Rattle.mc_bank.specs.model_card.proofs.ItemLemmas.{moves_append}
 use Rattle.mc_card.proofs.StoreBank.{store_bank}
 
 -- ---- items that were begun

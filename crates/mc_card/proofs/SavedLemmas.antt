@@ -1,7 +1,7 @@
 -- A session state that was saved fits the words of its card, and a card with it is ready.
 use Rattle.std.proofs.Common.{◌≡◌, ℕ, List, length, Option, Some, None, refl, sym, ap, subst}
 use Rattle.std.specs.Option.{ForSome}
-use Rattle.model_device.specs.Device.{DeviceState}
+use Rattle.mc_base.specs.model_device.specs.Device.{DeviceState}
 use Rattle.mc_store.specs.Power.{count_of}
 use Rattle.mc_manager.specs.ManagerState.{BankView, ManagerState, Loaded, ManagerFits, FitsLoad}
 use Rattle.mc_card.specs.declared.card.Card.{Card}

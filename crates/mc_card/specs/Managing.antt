@@ -1,11 +1,11 @@
 -- How the manager of a card handles a command.
 use Rattle.std.specs.Prelude.{◌≡◌, ℕ, false, List, Option, Some, None, Result, Ok, Err}
-use Rattle.model_device.specs.declared.device.Stop.{Stop}
-use Rattle.model_device.specs.Orders.{Answer}
-use Rattle.model_device.specs.Device.{DeviceState}
-use Rattle.model_machine.specs.Apdu.{ApduParts}
-use Rattle.model_card.specs.Manager.{ToApplication, route_of_parts}
-use Rattle.model_card.specs.Commands.{by_route}
+use Rattle.mc_base.specs.model_device.specs.declared.device.Stop.{Stop}
+use Rattle.mc_base.specs.model_device.specs.Orders.{Answer}
+use Rattle.mc_base.specs.model_device.specs.Device.{DeviceState}
+use Rattle.mc_apdu.specs.model_machine.specs.Apdu.{ApduParts}
+use Rattle.mc_bank.specs.model_card.specs.Manager.{ToApplication, route_of_parts}
+use Rattle.mc_bank.specs.model_card.specs.Commands.{by_route}
 use Rattle.mc_apdu.specs.declared.reply.Reply.{Reply}
 use Rattle.mc_machine.specs.declared.outcome.Outcome.{Outcome}
 use Rattle.mc_machine.specs.declared.outcome.Outcome.TheVariants as outcome

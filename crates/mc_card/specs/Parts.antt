@@ -2,12 +2,12 @@
 -- that runs on it.
 use Rattle.std.specs.Prelude.{◌≡◌, ℕ, true, List, length, option_map, Some, None}
 use Rattle.std.specs.Option.{ForSome}
-use Rattle.model_device.specs.Device.{DeviceState}
-use Rattle.model_device.specs.Card.{means}
-use Rattle.model_device.specs.Card as model
-use Rattle.model_machine.specs.Chain.{Chain, first_frame}
-use Rattle.model_card.specs.Manager.{Selected, SessionState}
-use Rattle.model_card.specs.Commands.{Command, command}
+use Rattle.mc_base.specs.model_device.specs.Device.{DeviceState}
+use Rattle.mc_base.specs.model_device.specs.Card.{means}
+use Rattle.mc_base.specs.model_device.specs.Card as model
+use Rattle.mc_apdu.specs.model_machine.specs.Chain.{Chain, first_frame}
+use Rattle.mc_bank.specs.model_card.specs.Manager.{Selected, SessionState}
+use Rattle.mc_bank.specs.model_card.specs.Commands.{Command, command}
 use Rattle.mc_bank.specs.Bank.{app_of}
 use Rattle.mc_store.specs.Store.{is_going, store_state, store_named, store_room, store_site_bytes}
 use Rattle.mc_store.specs.Power.{device_of, count_of, over}

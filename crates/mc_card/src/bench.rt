@@ -1,6 +1,6 @@
 // A card over a bench: its size, its power, its words before a power-up, and its armed stops.
 ghost use Rattle.std.specs.Prelude.{◌≡◌, ◌≤◌, ◌<◌, length, slice_set, true, Some, None};
-ghost use Rattle.model_device.specs.Device.{next_count, bench_after_poke, IsImage};
+ghost use Rattle.mc_base.specs.model_device.specs.Device.{next_count, bench_after_poke, IsImage};
 ghost use Rattle.mc_card.specs.Parts.{device_in, with_device};
 
 use crate::card::Card;

@@ -1,11 +1,11 @@
 ghost use Rattle.std.specs.Prelude.{◌≡◌, ◌+◌, ◌-◌, ◌≤◌, ℕ, true, length, take, drop, option_map, Ok, Some, None, IsSome, IfSome, IfOk, OnOk};
-ghost use Rattle.model_device.specs.Bytes.{lookup};
-ghost use Rattle.model_device.specs.Orders.{answer_of};
-ghost use Rattle.model_device.specs.Device.{Makes, Ended, IsSized};
-ghost use Rattle.model_machine.specs.Chain.{Chain as ModelChain, turn_of};
-ghost use Rattle.model_card.specs.Manager.{empty_session_state, route};
-ghost use Rattle.model_machine.specs.Code.{Shaped};
-ghost use Rattle.model_card.specs.Commands.{status};
+ghost use Rattle.mc_base.specs.model_device.specs.Bytes.{lookup};
+ghost use Rattle.mc_base.specs.model_device.specs.Orders.{answer_of};
+ghost use Rattle.mc_base.specs.model_device.specs.Device.{Makes, Ended, IsSized};
+ghost use Rattle.mc_apdu.specs.model_machine.specs.Chain.{Chain as ModelChain, turn_of};
+ghost use Rattle.mc_bank.specs.model_card.specs.Manager.{empty_session_state, route};
+ghost use Rattle.mc_apdu.specs.model_machine.specs.Code.{Shaped};
+ghost use Rattle.mc_bank.specs.model_card.specs.Commands.{status};
 ghost use Rattle.mc_bank.specs.Bank.{app_of};
 ghost use Rattle.mc_machine.specs.declared.outcome.Outcome.TheVariants as outcome;
 ghost use Rattle.mc_machine.specs.Turns.{outcome_value, run_outcome, reply_or_stop, IsReply, WritesFew};

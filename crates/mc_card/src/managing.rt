@@ -1,7 +1,7 @@
 // A command that the manager of a card handles, with the session bytes of a selection.
 ghost use Rattle.std.specs.Prelude.{◌≡◌, ◌+◌, ◌≤◌, true, IsSome, length};
-ghost use Rattle.model_device.specs.Bytes.{zeros};
-ghost use Rattle.model_device.specs.Layout.{gaps};
+ghost use Rattle.mc_base.specs.model_device.specs.Bytes.{zeros};
+ghost use Rattle.mc_base.specs.model_device.specs.Layout.{gaps};
 ghost use Rattle.mc_apdu.specs.Command.{parts_of};
 ghost use Rattle.mc_bank.specs.Bank.{app_of};
 ghost use Rattle.mc_manager.specs.CommandDue.{most_ticks};

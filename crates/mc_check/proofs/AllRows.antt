@@ -2,17 +2,17 @@
 use Rattle.std.proofs.Common.{◌≡◌, ◌⊎◌, ℕ, ◌+◌, ◌-◌, ◌≤◌, ℤ, Bool, true, false, cond, List, length, Option, Some, None, refl, sym, ap, subst, ◌∙◌, inl, inr, arith}
 use Rattle.std.specs.Prelude.{◌==◌, ◌&&◌, ◌||◌, not}
 use Rattle.std.proofs.lemmas.Bool.{true≢false, eqb-true, false_from_ne_true, not_from_false}
-use Rattle.model_machine.specs.declared.instruction.Ins.{Ins}
-use Rattle.model_machine.specs.declared.instruction.Ins.TheVariants as ins
-use Rattle.model_machine.specs.declared.machine.Abend.{Abend}
-use Rattle.model_machine.specs.Code.{Shaped}
-use Rattle.model_machine.specs.Frame.{Frame, public_base, public_end, moved_address}
-use Rattle.model_machine.specs.Primitives.{Around, Then, Goes, Exits, Delegates, Done}
-use Rattle.model_machine.specs.Chain.{frame_at}
-use Rattle.model_machine.specs.Row.{causes, first_cause, effect, holds, no_place, address_or_zero, row_end, row, Does}
+use Rattle.law_family.specs.model_machine.specs.declared.instruction.Ins.{Ins}
+use Rattle.law_family.specs.model_machine.specs.declared.instruction.Ins.TheVariants as ins
+use Rattle.law_family.specs.model_machine.specs.declared.machine.Abend.{Abend}
+use Rattle.law_family.specs.model_machine.specs.Code.{Shaped}
+use Rattle.law_family.specs.model_machine.specs.Frame.{Frame, public_base, public_end, moved_address}
+use Rattle.law_family.specs.model_machine.specs.Primitives.{Around, Then, Goes, Exits, Delegates, Done}
+use Rattle.law_family.specs.model_machine.specs.Chain.{frame_at}
+use Rattle.law_family.specs.model_machine.specs.Row.{causes, first_cause, effect, holds, no_place, address_or_zero, row_end, row, Does}
 use Rattle.model_stack.specs.StackRows.{need, height_after, row_uses, WritesNothing, row_writing, always_abends, is_indirect, counts, goes_on, call_target}
-use Rattle.law_rows.proofs.Keeping.{effect_keeps}
-use Rattle.law_machine.proofs.RowWords.{none_holds}
+use Rattle.law_family.specs.law_rows.proofs.Keeping.{effect_keeps}
+use Rattle.law_family.specs.law_machine.proofs.RowWords.{none_holds}
 use Rattle.mc_check.specs.Standing.{StandsAt}
 use Rattle.mc_check.proofs.RowFacts.{GoesTo, RowStays, RowsAreCalm}
 use Rattle.mc_check.proofs.CalmAddresses.{IsSafe}

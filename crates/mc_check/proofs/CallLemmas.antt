@@ -2,11 +2,11 @@
 use Rattle.std.proofs.Common.{◌≡◌, ℕ, ◌+◌, ◌<◌, ◌≤◌, Bool, true, false, not, List, [], ◌∷◌, length, Option, Some, None, Result, Ok, Err, refl, sym, ap, subst, ◌∙◌, arith}
 use Rattle.std.specs.Prelude.{◌&&◌, ◌||◌, nat_lt, is_some}
 use Rattle.std.proofs.lemmas.Bool.{ltb-true, and_parts}
-use Rattle.model_machine.specs.declared.instruction.Ins.{Ins}
-use Rattle.model_machine.specs.declared.instruction.DecodeFault.{DecodeFault}
-use Rattle.model_machine.specs.declared.instruction.DecodeFault.TheVariants as fault
-use Rattle.model_text.specs.declared.checker.CheckCause.TheVariants.{Indirect, Returns, Under, Target}
-use Rattle.model_machine.specs.Code.{instruction_at}
+use Rattle.law_family.specs.model_machine.specs.declared.instruction.Ins.{Ins}
+use Rattle.law_family.specs.model_machine.specs.declared.instruction.DecodeFault.{DecodeFault}
+use Rattle.law_family.specs.model_machine.specs.declared.instruction.DecodeFault.TheVariants as fault
+use Rattle.law_family.specs.model_text.specs.declared.checker.CheckCause.TheVariants.{Indirect, Returns, Under, Target}
+use Rattle.law_family.specs.model_machine.specs.Code.{instruction_at}
 use Rattle.model_stack.specs.StackRows.{need, is_indirect, counts, goes_on, jump_target, call_target, target_inside, call_inside, places_inside}
 use Rattle.model_stack.specs.StackShape.{Routine, Main, At, Fact, fact, is_main, FactLook, Stands, first_bad, fact_look, look, Reached, IsAt, Calls, IsBase, NoRecursion, ReachesItself}
 use Rattle.model_stack.specs.StackShape as shape

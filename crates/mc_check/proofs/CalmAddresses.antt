@@ -4,13 +4,13 @@ use Rattle.std.proofs.Common.{◌≡◌, ◌⊎◌, ℕ, zero, suc, ◌+◌, ◌
 use Rattle.std.specs.Prelude.{◌==◌, ◌&&◌, not, nat_lt, nat_le, is_none}
 use Rattle.std.proofs.lemmas.Bool.{and_parts, leb-true, ltb-true, eqb-true}
 use Rattle.std.proofs.lemmas.List.{length-take, length-drop}
-use Rattle.model_device.specs.Bytes.{splice}
-use Rattle.model_machine.specs.Code.{IsAddress}
-use Rattle.model_device.specs.Pieces.{laid_pieces}
-use Rattle.model_machine.specs.Frame.{Frame, Place, Static, Dynamic, Public, where_is, floor, dynamic_base, dynamic_end, public_base, public_end, moved_address, static_bytes, bytes_in, bytes_at, is_outside, no_access}
-use Rattle.model_machine.specs.Row.{address_or_zero, place_of}
+use Rattle.law_family.specs.model_device.specs.Bytes.{splice}
+use Rattle.law_family.specs.model_machine.specs.Code.{IsAddress}
+use Rattle.law_family.specs.model_device.specs.Pieces.{laid_pieces}
+use Rattle.law_family.specs.model_machine.specs.Frame.{Frame, Place, Static, Dynamic, Public, where_is, floor, dynamic_base, dynamic_end, public_base, public_end, moved_address, static_bytes, bytes_in, bytes_at, is_outside, no_access}
+use Rattle.law_family.specs.model_machine.specs.Row.{address_or_zero, place_of}
 use Rattle.model_stack.specs.StackRows.{Writing, WritesAt, WritesAnywhere, is_plain, is_plain_at}
-use Rattle.model_device.proofs.ListLemmas.{splice_longer}
+use Rattle.law_family.specs.model_device.proofs.ListLemmas.{splice_longer}
 use Rattle.mc_check.specs.Standing.{StandsAt}
 use Rattle.mc_check.proofs.CalmWrites.{IsRoomy, IsSafeAt, MissesCalls, session, stack, none}
 

@@ -3,21 +3,21 @@
 use Rattle.std.proofs.Common.{◌≡◌, ℕ, ◌+◌, ◌-◌, ◌≤◌, Bool, true, false, cond, List, ◌++◌, length, take, drop, Option, Some, None, refl, sym, ap, subst, ◌∙◌, inl, inr, arith}
 use Rattle.std.specs.Prelude.{◌⊎◌, ◌==◌, not}
 use Rattle.std.proofs.lemmas.Bool.{false_from_ne_true, eqb-true}
-use Rattle.model_machine.specs.declared.instruction.Ins.{Ins}
-use Rattle.model_machine.specs.declared.instruction.Ins.TheVariants as ins
-use Rattle.model_machine.specs.declared.machine.Abend.{Abend}
-use Rattle.model_device.specs.Bytes.{bytes2, num, splice}
-use Rattle.model_machine.specs.Frame.{Frame, dynamic_base, top, frame_after_pop, frame_after_entry}
-use Rattle.model_machine.specs.Primitives.{Around, Done, Goes, effect_and_next, frame_effect}
-use Rattle.model_machine.specs.Row.{causes, effect, first_cause, row_end, row, Abends, Does, holds}
-use Rattle.model_machine.specs.Row as rows
-use Rattle.model_machine.specs.Chain.{frame_at}
+use Rattle.law_family.specs.model_machine.specs.declared.instruction.Ins.{Ins}
+use Rattle.law_family.specs.model_machine.specs.declared.instruction.Ins.TheVariants as ins
+use Rattle.law_family.specs.model_machine.specs.declared.machine.Abend.{Abend}
+use Rattle.law_family.specs.model_device.specs.Bytes.{bytes2, num, splice}
+use Rattle.law_family.specs.model_machine.specs.Frame.{Frame, dynamic_base, top, frame_after_pop, frame_after_entry}
+use Rattle.law_family.specs.model_machine.specs.Primitives.{Around, Done, Goes, effect_and_next, frame_effect}
+use Rattle.law_family.specs.model_machine.specs.Row.{causes, effect, first_cause, row_end, row, Abends, Does, holds}
+use Rattle.law_family.specs.model_machine.specs.Row as rows
+use Rattle.law_family.specs.model_machine.specs.Chain.{frame_at}
 use Rattle.model_stack.specs.StackRows.{call_target, is_conditional}
 use Rattle.model_stack.specs.StackShape.{Routine, At, fact, Reached, calls, passes, Depth, called, Accepts, Gives}
 use Rattle.mc_check.specs.Standing.{OpenCalls, call}
 use Rattle.mc_check.proofs.AcceptedFacts.{GoodAt, HasStackRoom, HasBases, room_at, gives_at}
 use Rattle.mc_check.proofs.OpenCalls.{IsAtFact, open_front, open_depth, spliced_above, spliced_words}
-use Rattle.model_device.proofs.ListLemmas.{length_splice}
+use Rattle.law_family.specs.model_device.proofs.ListLemmas.{length_splice}
 
 -- ---- the end of a row
 

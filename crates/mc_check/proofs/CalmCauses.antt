@@ -2,15 +2,15 @@
 use Rattle.std.proofs.Common.{◌≡◌, ℕ, ◌+◌, ◌-◌, ◌*◌, ◌≤◌, Bool, true, false, cond, List, [], ◌∷◌, Option, Some, None, refl, sym, ap, subst, ◌∙◌, arith, le-ltb}
 use Rattle.std.specs.Prelude.{◌==◌, ◌&&◌, ◌||◌, not, nat_lt}
 use Rattle.std.proofs.lemmas.Bool.{and_parts, and_left, and_right, not_from_true}
-use Rattle.model_machine.specs.declared.instruction.Ins.{Ins}
-use Rattle.model_machine.specs.declared.instruction.Ins.TheVariants as ins
-use Rattle.model_machine.specs.declared.machine.Abend.{Abend}
-use Rattle.model_machine.specs.declared.machine.Abend.TheVariants.{A06}
-use Rattle.model_device.specs.Bytes.{num}
-use Rattle.model_machine.specs.Frame.{Frame, floor, dynamic_end, is_under, is_over, frame_after_pop, top}
-use Rattle.model_machine.specs.Primitives.{Around, Primitive, LoadCcr, DelegatorAid, BitByte, primitive, prim_causes, later_causes, reported_causes}
-use Rattle.model_machine.specs.Chain.{frame_at}
-use Rattle.model_machine.specs.Row.{causes, first_cause, holds, no_place, on_stack}
+use Rattle.law_family.specs.model_machine.specs.declared.instruction.Ins.{Ins}
+use Rattle.law_family.specs.model_machine.specs.declared.instruction.Ins.TheVariants as ins
+use Rattle.law_family.specs.model_machine.specs.declared.machine.Abend.{Abend}
+use Rattle.law_family.specs.model_machine.specs.declared.machine.Abend.TheVariants.{A06}
+use Rattle.law_family.specs.model_device.specs.Bytes.{num}
+use Rattle.law_family.specs.model_machine.specs.Frame.{Frame, floor, dynamic_end, is_under, is_over, frame_after_pop, top}
+use Rattle.law_family.specs.model_machine.specs.Primitives.{Around, Primitive, LoadCcr, DelegatorAid, BitByte, primitive, prim_causes, later_causes, reported_causes}
+use Rattle.law_family.specs.model_machine.specs.Chain.{frame_at}
+use Rattle.law_family.specs.model_machine.specs.Row.{causes, first_cause, holds, no_place, on_stack}
 use Rattle.model_stack.specs.StackRows.{need, always_abends, prim_abends, height_after, pair_uses, prim_uses, row_uses, is_indirect, counts, call_target, is_inside, target_inside, call_inside, goes_on, jump_target, places_inside}
 use Rattle.mc_check.specs.Checked.{is_excluded}
 use Rattle.mc_check.specs.Standing.{StandsAt}

@@ -4,32 +4,32 @@ use Rattle.std.proofs.Common.{◌≡◌, ℕ, ◌-◌, ◌≤◌, ◌<◌, Bool,
 use Rattle.std.specs.Prelude.{unwrap_or, bytes_eq, ◌||◌, nat_lt, nat_le}
 use Rattle.std.specs.List.{AllByRecursion}
 use Rattle.std.proofs.lemmas.List.{length-append, length-replicate}
-use Rattle.model_machine.specs.declared.instruction.DecodeFault.{DecodeFault}
-use Rattle.model_machine.specs.declared.instruction.DecodeFault.TheVariants.{Undefined, Past}
-use Rattle.model_machine.specs.declared.instruction.Ins.{Ins}
-use Rattle.model_device.specs.Bytes.{bytes2, lookup, insert, zeros}
-use Rattle.model_device.specs.Card.{App}
-use Rattle.model_machine.specs.Code.{instruction_at}
-use Rattle.model_machine.specs.Frame.{Frame, Effect, dynamic_base, public_base, public_end, new_frame, with_sw, la_of}
-use Rattle.model_machine.specs.Primitives.{Around, Then, Goes, Exits, Delegates, Done}
-use Rattle.model_machine.specs.Row.{RowEnd, Abends, Does, row}
-use Rattle.model_machine.specs.Chain.{Chain, Outcome, Reply, Abended, Follows, Continues, Ends, code_in, around, with_pieces, changed_app, map_changed, chain_after_effect, chain_after_call, called_app, is_active, depth_of, after_exit, follows, end_of, reported_frame, row_turn, frame_at, turn_of_fetch, turn_of_chain}
-use Rattle.model_device.specs.Limits.{most_static, most_code}
+use Rattle.law_family.specs.model_machine.specs.declared.instruction.DecodeFault.{DecodeFault}
+use Rattle.law_family.specs.model_machine.specs.declared.instruction.DecodeFault.TheVariants.{Undefined, Past}
+use Rattle.law_family.specs.model_machine.specs.declared.instruction.Ins.{Ins}
+use Rattle.law_family.specs.model_device.specs.Bytes.{bytes2, lookup, insert, zeros}
+use Rattle.law_family.specs.model_device.specs.Card.{App}
+use Rattle.law_family.specs.model_machine.specs.Code.{instruction_at}
+use Rattle.law_family.specs.model_machine.specs.Frame.{Frame, Effect, dynamic_base, public_base, public_end, new_frame, with_sw, la_of}
+use Rattle.law_family.specs.model_machine.specs.Primitives.{Around, Then, Goes, Exits, Delegates, Done}
+use Rattle.law_family.specs.model_machine.specs.Row.{RowEnd, Abends, Does, row}
+use Rattle.law_family.specs.model_machine.specs.Chain.{Chain, Outcome, Reply, Abended, Follows, Continues, Ends, code_in, around, with_pieces, changed_app, map_changed, chain_after_effect, chain_after_call, called_app, is_active, depth_of, after_exit, follows, end_of, reported_frame, row_turn, frame_at, turn_of_fetch, turn_of_chain}
+use Rattle.law_family.specs.model_device.specs.Limits.{most_static, most_code}
 use Rattle.model_stack.specs.StackShape.{Main, fact, begins, main, Accepts}
 use Rattle.mc_bank.specs.Bank.{no_app, app_of}
-use Rattle.model_device.proofs.ListLemmas.{splice_longer}
+use Rattle.law_family.specs.model_device.proofs.ListLemmas.{splice_longer}
 use Rattle.mc_check.specs.Checked.{ends_excluded, RunsCode, IsCalm, OnFollows}
-use Rattle.law_machine.specs.Limited.{AreLimited}
+use Rattle.law_family.specs.law_machine.specs.Limited.{AreLimited}
 use Rattle.mc_machine.specs.Sound.{IsSoundFrame, IsSoundChain}
 use Rattle.mc_check.specs.Standing.{none}
-use Rattle.law_rows.specs.Keeping.{ChangeWithin, Keeps, OnDone}
-use Rattle.law_rows.proofs.Keeping.{fixed_length, row_keeps}
+use Rattle.law_family.specs.law_rows.specs.Keeping.{ChangeWithin, Keeps, OnDone}
+use Rattle.law_family.specs.law_rows.proofs.Keeping.{fixed_length, row_keeps}
 use Rattle.mc_machine.proofs.SoundChains.{SameLengths, sizes_changed}
 use Rattle.mc_check.proofs.RowFacts.{RowsAreCalm}
 use Rattle.mc_check.proofs.AcceptedFacts.{HasBases, room_at, undefined_never, past_never, GoodAt, good_at}
 use Rattle.mc_check.proofs.OpenCalls.{IsStanding}
 use Rattle.mc_check.proofs.CalmTurns.{OnGoing, IsLow, DoneCalm, RowCalm, FixedStays, row_calm, low_at}
-use Rattle.model_device.proofs.MapLemmas.{same_name, lookup_inserted_lem, lookup_beside}
+use Rattle.law_family.specs.model_device.proofs.MapLemmas.{same_name, lookup_inserted_lem, lookup_beside}
 
 -- ---- applications with the code
 

@@ -4,23 +4,23 @@ use Rattle.std.proofs.Common.{◌≡◌, ℕ, ◌+◌, ◌-◌, ◌*◌, ◌≤�
 use Rattle.std.specs.Prelude.{◌==◌, slice_index, take, drop}
 use Rattle.std.proofs.lemmas.Bool.{or_parts}
 use Rattle.std.proofs.lemmas.List.{length-replicate}
-use Rattle.model_machine.specs.declared.instruction.Ins.{Ins}
-use Rattle.model_machine.specs.declared.instruction.Ins.TheVariants as ins
-use Rattle.model_machine.specs.Blocks.{and_blocks, or_blocks, xor_blocks, not_block}
-use Rattle.model_machine.specs.Code.{IsAddress, Shaped}
-use Rattle.model_machine.specs.Frame.{Frame, Effect, dynamic_end, public_base, public_end, moved_address, address_at, is_outside, no_access, top}
-use Rattle.model_machine.specs.Primitives.{Around, Done, Primitive, MemoryCopy, DelegatorAid, Digest, CopyFixed, Encipher, Decipher, Sign, BitByte, ShiftLeft, ShiftRight, BitWord, primitive, masked_bytes}
-use Rattle.model_machine.specs.Row.{causes, first_cause, effect, holds, address_or_zero, on_stack, operand, place_of}
+use Rattle.law_family.specs.model_machine.specs.declared.instruction.Ins.{Ins}
+use Rattle.law_family.specs.model_machine.specs.declared.instruction.Ins.TheVariants as ins
+use Rattle.law_family.specs.model_machine.specs.Blocks.{and_blocks, or_blocks, xor_blocks, not_block}
+use Rattle.law_family.specs.model_machine.specs.Code.{IsAddress, Shaped}
+use Rattle.law_family.specs.model_machine.specs.Frame.{Frame, Effect, dynamic_end, public_base, public_end, moved_address, address_at, is_outside, no_access, top}
+use Rattle.law_family.specs.model_machine.specs.Primitives.{Around, Done, Primitive, MemoryCopy, DelegatorAid, Digest, CopyFixed, Encipher, Decipher, Sign, BitByte, ShiftLeft, ShiftRight, BitWord, primitive, masked_bytes}
+use Rattle.law_family.specs.model_machine.specs.Row.{causes, first_cause, effect, holds, address_or_zero, on_stack, operand, place_of}
 use Rattle.model_stack.specs.StackRows.{Uses, uses, WritesAt, WritesAnywhere, height_after, pair_uses, prim_uses, row_uses, prim_writing, row_writing, is_indirect, counts, call_target}
-use Rattle.law_rows.specs.Shapes.{Act, Stays, Answers, Jumps, Calls, Returns, Pushes, Replaces, Writes, Protects, Shape, with_status, with_length, act_effect, with_flags, meaning, delegator_shape, prim_shape, pair_shape, shape}
-use Rattle.law_rows.proofs.RowShapes.{shapes}
-use Rattle.law_machine.proofs.RowWords.{none_holds}
-use Rattle.law_machine.proofs.BlockLengths.{worked_short, each_short, map_short, stacked_short, at_short}
+use Rattle.law_family.specs.law_rows.specs.Shapes.{Act, Stays, Answers, Jumps, Calls, Returns, Pushes, Replaces, Writes, Protects, Shape, with_status, with_length, act_effect, with_flags, meaning, delegator_shape, prim_shape, pair_shape, shape}
+use Rattle.law_family.specs.law_rows.proofs.RowShapes.{shapes}
+use Rattle.law_family.specs.law_machine.proofs.RowWords.{none_holds}
+use Rattle.law_family.specs.law_machine.proofs.BlockLengths.{worked_short, each_short, map_short, stacked_short, at_short}
 use Rattle.mc_check.specs.Standing.{StandsAt}
 use Rattle.mc_check.proofs.CalmWrites.{IsRoomy, stands_roomy, KeepsCalls, IsSafeAt, framed_kept, gone_kept, flagged_kept, pushed_kept, topped_kept, written_kept, protect_kept}
 use Rattle.mc_check.proofs.CalmAddresses.{IsSafe, operand_safe, anywhere_safe, operand_whole, at_whole}
 use Rattle.mc_check.proofs.CalmCauses.{row_pops}
-use Rattle.model_device.proofs.ListLemmas.{zeros_short}
+use Rattle.law_family.specs.model_device.proofs.ListLemmas.{zeros_short}
 
 -- ---- no cause
 

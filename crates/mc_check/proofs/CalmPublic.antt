@@ -2,9 +2,9 @@
 use Rattle.std.proofs.Common.{ℕ, ◌-◌, ◌≤◌, ◌∷◌, ◌++◌, [], length, arith}
 use Rattle.std.specs.Prelude.{unwrap_or}
 use Rattle.std.proofs.lemmas.List.{length-append, length-replicate}
-use Rattle.model_machine.specs.Apdu.{ApduParts}
-use Rattle.model_device.specs.Bytes.{bytes2, zeros}
-use Rattle.model_machine.specs.Frame.{public_base, public_end, new_public}
+use Rattle.law_family.specs.model_machine.specs.Apdu.{ApduParts}
+use Rattle.law_family.specs.model_device.specs.Bytes.{bytes2, zeros}
+use Rattle.law_family.specs.model_machine.specs.Frame.{public_base, public_end, new_public}
 
 -- the public segment of a command is whole
 pub begun_whole : (a : ApduParts) → public_end - public_base ≤ length (new_public a)

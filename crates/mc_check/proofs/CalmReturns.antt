@@ -4,23 +4,23 @@ use Rattle.std.proofs.Common.{◌≡◌, ℕ, ◌+◌, ◌-◌, ◌≤◌, ◌<�
 use Rattle.std.specs.Prelude.{◌&&◌, ◌||◌, not, nat_lt, nat_le, is_some}
 use Rattle.std.proofs.lemmas.Bool.{and_parts, and_from, ltb-true, lt-ltb, le-leb, cases_lt, not_from_true}
 use Rattle.std.proofs.lemmas.List.{length-take, length-drop, drop-drop}
-use Rattle.model_text.specs.declared.checker.CheckCause.TheVariants.{Under}
-use Rattle.model_machine.specs.declared.instruction.Ins.{Ins}
-use Rattle.model_machine.specs.declared.instruction.Ins.TheVariants as ins
-use Rattle.model_device.specs.Bytes.{bytes2, num, splice}
-use Rattle.model_machine.specs.Frame.{Frame, dynamic_base, floor, top, saved_address, no_return, come_back}
-use Rattle.model_machine.specs.Primitives.{Around, effect_and_next, frame_effect}
-use Rattle.model_machine.specs.Row.{causes, effect, first_cause, return_causes, no_place}
-use Rattle.model_machine.specs.Chain.{frame_at}
+use Rattle.law_family.specs.model_text.specs.declared.checker.CheckCause.TheVariants.{Under}
+use Rattle.law_family.specs.model_machine.specs.declared.instruction.Ins.{Ins}
+use Rattle.law_family.specs.model_machine.specs.declared.instruction.Ins.TheVariants as ins
+use Rattle.law_family.specs.model_device.specs.Bytes.{bytes2, num, splice}
+use Rattle.law_family.specs.model_machine.specs.Frame.{Frame, dynamic_base, floor, top, saved_address, no_return, come_back}
+use Rattle.law_family.specs.model_machine.specs.Primitives.{Around, effect_and_next, frame_effect}
+use Rattle.law_family.specs.model_machine.specs.Row.{causes, effect, first_cause, return_causes, no_place}
+use Rattle.law_family.specs.model_machine.specs.Chain.{frame_at}
 use Rattle.model_stack.specs.StackRows.{need, counts, goes_on, jump_target, call_target, target_inside, call_inside, places_inside}
 use Rattle.model_stack.specs.StackShape.{Routine, At, fact, Reached, returns, Gives, ReturnsWith, Accepts}
 use Rattle.mc_check.specs.Standing.{StandsAt, OpenCalls, none, call}
 use Rattle.mc_check.proofs.AcceptedFacts.{GoodAt, good_at, HasStackRoom, HasBases, room_at}
 use Rattle.mc_check.proofs.FactLooks.{fine}
 use Rattle.mc_check.proofs.OpenCalls.{IsAtFact, IsStanding, open_front, open_depth, spliced_above, num_bytes2}
-use Rattle.model_device.proofs.ListLemmas.{length_splice}
+use Rattle.law_family.specs.model_device.proofs.ListLemmas.{length_splice}
 use Rattle.mc_check.proofs.ClosingPlaces.{call_goes_on}
-use Rattle.model_device.specs.Limits.{most_code}
+use Rattle.law_family.specs.model_device.specs.Limits.{most_code}
 
 -- ---- the rows of returns
 

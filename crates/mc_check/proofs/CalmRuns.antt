@@ -3,14 +3,14 @@
 use Rattle.std.proofs.Common.{◌≡◌, ℕ, zero, suc, ◌≤◌, ◌<◌, List, length, Option, Some, None, refl, sym, ap, ◌∙◌}
 use Rattle.std.specs.Prelude.{unwrap_or}
 use Rattle.std.specs.List.{AllByRecursion}
-use Rattle.model_machine.specs.Apdu.{ApduParts}
-use Rattle.model_device.specs.Bytes.{lookup}
-use Rattle.model_device.specs.Card.{App}
-use Rattle.model_machine.specs.Chain.{Chain, Follows, Continues, Ends, turn_of_chain, turn_of, no_app, start, start_app}
+use Rattle.law_family.specs.model_machine.specs.Apdu.{ApduParts}
+use Rattle.law_family.specs.model_device.specs.Bytes.{lookup}
+use Rattle.law_family.specs.model_device.specs.Card.{App}
+use Rattle.law_family.specs.model_machine.specs.Chain.{Chain, Follows, Continues, Ends, turn_of_chain, turn_of, no_app, start, start_app}
 use Rattle.model_stack.specs.StackShape.{Accepts}
 use Rattle.mc_bank.specs.Bank.{app_of}
 use Rattle.mc_check.specs.Checked.{RunsCode, IsCalm, OnFollows, RunsCalmly, IsChecked}
-use Rattle.law_machine.specs.Limited.{session_in, AreLimited}
+use Rattle.law_family.specs.law_machine.specs.Limited.{session_in, AreLimited}
 use Rattle.mc_machine.specs.Sound.{IsSoundChain}
 use Rattle.mc_machine.proofs.SoundChains.{FollowsSound, turn_sound}
 use Rattle.mc_machine.proofs.SoundRuns.{start_sound}
@@ -19,7 +19,7 @@ use Rattle.mc_check.proofs.AcceptedFacts.{HasBases}
 use Rattle.mc_check.proofs.CalmPublic.{begun_whole}
 use Rattle.mc_check.proofs.CalmTurns.{low_at}
 use Rattle.mc_check.proofs.CalmChains.{StandsIfRunning, IsHeldChain, new_held, acted_held, acted_calm}
-use Rattle.model_device.specs.Limits.{most_code}
+use Rattle.law_family.specs.model_device.specs.Limits.{most_code}
 
 -- what holds of each sound chain whose frames are at facts holds of the one that follows
 on_follows : (code : List ℕ) (session : ℕ) (ch : Chain) (apps : List (List ℕ × App)) (f : Follows) (holds : Chain → Type 0) → FollowsSound ch apps f → OnFollows f (IsHeldChain code session)

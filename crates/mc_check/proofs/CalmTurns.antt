@@ -4,15 +4,15 @@ use Rattle.std.proofs.Common.{◌≡◌, ℕ, ◌+◌, ◌-◌, ◌≤◌, ◌<�
 use Rattle.std.specs.Prelude.{◌⊎◌}
 use Rattle.std.specs.List.{AllByRecursion}
 use Rattle.std.proofs.lemmas.Bool.{cases_Bool}
-use Rattle.model_text.specs.declared.checker.CheckCause.TheVariants.{Wild}
-use Rattle.model_machine.specs.declared.instruction.DecodeFault.{DecodeFault}
-use Rattle.model_machine.specs.declared.instruction.Ins.{Ins}
-use Rattle.model_machine.specs.declared.machine.Abend.{Abend}
-use Rattle.model_machine.specs.Code.{Shaped, DecodesTo, instruction_at}
-use Rattle.model_machine.specs.Frame.{Frame, dynamic_base, public_base, public_end, come_back}
-use Rattle.model_machine.specs.Primitives.{Around, Then, Goes, Exits, Delegates, Done, effect_and_next, frame_effect}
-use Rattle.model_machine.specs.Row.{effect, first_cause, row, RowEnd, Abends, Does}
-use Rattle.model_machine.specs.Chain.{frame_at}
+use Rattle.law_family.specs.model_text.specs.declared.checker.CheckCause.TheVariants.{Wild}
+use Rattle.law_family.specs.model_machine.specs.declared.instruction.DecodeFault.{DecodeFault}
+use Rattle.law_family.specs.model_machine.specs.declared.instruction.Ins.{Ins}
+use Rattle.law_family.specs.model_machine.specs.declared.machine.Abend.{Abend}
+use Rattle.law_family.specs.model_machine.specs.Code.{Shaped, DecodesTo, instruction_at}
+use Rattle.law_family.specs.model_machine.specs.Frame.{Frame, dynamic_base, public_base, public_end, come_back}
+use Rattle.law_family.specs.model_machine.specs.Primitives.{Around, Then, Goes, Exits, Delegates, Done, effect_and_next, frame_effect}
+use Rattle.law_family.specs.model_machine.specs.Row.{effect, first_cause, row, RowEnd, Abends, Does}
+use Rattle.law_family.specs.model_machine.specs.Chain.{frame_at}
 use Rattle.model_stack.specs.StackRows.{height_after, always_abends, writing, is_plain, counts, goes_on, jump_target, call_target}
 use Rattle.model_stack.specs.StackShape.{Routine, fact, Reached, goes, jumps, Gives, Depth, Accepts}
 use Rattle.mc_isa.proofs.PlaceLemmas.{decoded_stands}
@@ -25,7 +25,7 @@ use Rattle.mc_check.proofs.HeightLemmas.{moves, jump_height, exit_height}
 use Rattle.mc_check.proofs.CalmCalls.{row_cause, row_done, CallEnd, call_end, call_room, entered_at, passed_at}
 use Rattle.mc_check.proofs.FactLooks.{fine}
 use Rattle.mc_check.proofs.CalmReturns.{returning, Back, comes_back}
-use Rattle.model_device.specs.Limits.{most_code}
+use Rattle.law_family.specs.model_device.specs.Limits.{most_code}
 
 -- a property of a frame, if it does not exit
 abbrev pub OnGoing : Then → Type 0 → Type 0

@@ -4,10 +4,10 @@ use Rattle.std.proofs.Common.{◌≡◌, ℕ, ◌+◌, ◌-◌, ◌≤◌, Bool,
 use Rattle.std.specs.Prelude.{◌==◌, ◌&&◌, ◌||◌, nat_le}
 use Rattle.std.proofs.lemmas.Bool.{and_parts, leb-true}
 use Rattle.std.proofs.lemmas.List.{length-append, length-take-le, take-append-le, drop-take}
-use Rattle.model_device.specs.Bytes.{splice}
-use Rattle.model_machine.specs.Frame.{Frame, Effect, Place, Static, Dynamic, Public, where_is, floor, dynamic_base, dynamic_end, static_written, write_effect_at, write_effect, frame_after_push, frame_with_top, protect, static_bytes, pending_change}
-use Rattle.model_machine.specs.Primitives.{frame_effect, effect_flagged}
-use Rattle.model_device.proofs.ListLemmas.{length_splice}
+use Rattle.law_family.specs.model_device.specs.Bytes.{splice}
+use Rattle.law_family.specs.model_machine.specs.Frame.{Frame, Effect, Place, Static, Dynamic, Public, where_is, floor, dynamic_base, dynamic_end, static_written, write_effect_at, write_effect, frame_after_push, frame_with_top, protect, static_bytes, pending_change}
+use Rattle.law_family.specs.model_machine.specs.Primitives.{frame_effect, effect_flagged}
+use Rattle.law_family.specs.model_device.proofs.ListLemmas.{length_splice}
 use Rattle.mc_check.specs.Standing.{StandsAt, calls_of}
 
 -- ---- lists

@@ -2,17 +2,17 @@
 use Rattle.std.proofs.Common.{ℕ, zero, suc, Bool, true, false, List, [], ◌∷◌, Option, Some, None}
 use Rattle.std.specs.Prelude.{drop}
 use Rattle.std.specs.List.{AllByRecursion}
-use Rattle.model_device.proofs.ImageLemmas.{all_append}
-use Rattle.model_machine.specs.Apdu.{ApduParts}
-use Rattle.model_device.specs.Card.{App, Card}
-use Rattle.model_machine.specs.Chain.{Chain, Turn, Follows, Continues, Ends, turn_of_chain}
-use Rattle.model_card.specs.Items.{card_done}
-use Rattle.model_card.specs.Manager.{Selected, SessionState, Route, WrongLength, WrongClass, ToSelect, ToManager, ToApplication, route}
-use Rattle.model_play.specs.DeckGrammar.{DeckLine}
-use Rattle.model_play.specs.Laws.{bytes_of}
-use Rattle.model_play.specs.Play.{FailedWrite, Live, Running, Unpowered, Muted, State, BeforePower, AfterPower, is_done, first_failure, plays, start, step}
-use Rattle.model_device.specs.PowerUp.{Base, OnCard, AtFault}
-use Rattle.model_card.specs.Commands.{command}
+use Rattle.law_family.specs.model_device.proofs.ImageLemmas.{all_append}
+use Rattle.law_family.specs.model_machine.specs.Apdu.{ApduParts}
+use Rattle.law_family.specs.model_device.specs.Card.{App, Card}
+use Rattle.law_family.specs.model_machine.specs.Chain.{Chain, Turn, Follows, Continues, Ends, turn_of_chain}
+use Rattle.law_family.specs.model_card.specs.Items.{card_done}
+use Rattle.law_family.specs.model_card.specs.Manager.{Selected, SessionState, Route, WrongLength, WrongClass, ToSelect, ToManager, ToApplication, route}
+use Rattle.law_family.specs.model_play.specs.DeckGrammar.{DeckLine}
+use Rattle.law_family.specs.model_play.specs.Laws.{bytes_of}
+use Rattle.law_family.specs.model_play.specs.Play.{FailedWrite, Live, Running, Unpowered, Muted, State, BeforePower, AfterPower, is_done, first_failure, plays, start, step}
+use Rattle.law_family.specs.model_device.specs.PowerUp.{Base, OnCard, AtFault}
+use Rattle.law_family.specs.model_card.specs.Commands.{command}
 use Rattle.law_family.specs.Begins.{BehindDone, OnPassed, OnRouted, OnSent, OnTaken, OnLine, OnEachRun}
 use Rattle.law_family.proofs.EachRun.{each_run}
 use Rattle.mc_check.specs.Checked.{RunsCode, IsCalm, OnFollows, RunsCalmly}

@@ -2,7 +2,7 @@
 use Rattle.std.proofs.Common.{◌≡◌, ◌⊎◌, ◌<◌, ◌≤◌, ◌+◌, ℕ, List, length, slice_get, Option, Some, Result, OnOk, Ok, Err, sym, ap, ap₂, ◌∙◌, subst, inl, inr, arith}
 use Rattle.std.proofs.lemmas.Bool.{cases_eq}
 use Rattle.std.proofs.lemmas.Option.{slice_get_within}
-use Rattle.model_machine.specs.declared.instruction.Ins.{Ins}
+use Rattle.law_family.specs.model_machine.specs.declared.instruction.Ins.{Ins}
 use Rattle.model_stack.specs.StackRows.{counts, call_target}
 use Rattle.model_stack.specs.StackShape.{Routine, At, Fact, Stands, look, Reached}
 use Rattle.mc_check.specs.declared.table.Entry.{Entry}

@@ -1,9 +1,9 @@
 -- The places that an instruction goes to: they are in the code, and a CALL, a return and the rest are apart.
 use Rattle.std.proofs.Common.{◌≡◌, ◌<◌, ℕ, Bool, true, false, not, ◌&&◌, ◌||◌, nat_lt, List, length, Option, Some, None, option_and_then, refl, ap, subst, ltb-true, arith}
 use Rattle.std.proofs.lemmas.Bool.{and_parts}
-use Rattle.model_machine.specs.declared.instruction.Ins.{Ins}
-use Rattle.model_machine.specs.declared.instruction.Ins.TheVariants as ins
-use Rattle.model_machine.specs.Code.{Shaped}
+use Rattle.law_family.specs.model_machine.specs.declared.instruction.Ins.{Ins}
+use Rattle.law_family.specs.model_machine.specs.declared.instruction.Ins.TheVariants as ins
+use Rattle.law_family.specs.model_machine.specs.Code.{Shaped}
 use Rattle.model_stack.specs.StackRows.{counts, goes_on, jump_target, call_target, target_inside, call_inside}
 use Rattle.model_stack.specs.StackShape.{Routine, Main, At, Fact, Stands, look, Reached, begins, goes, jumps, calls, passes, returns}
 use Rattle.mc_check.proofs.FactLooks.{fine}

@@ -2,8 +2,8 @@
 -- refusals that are due.
 use Rattle.std.proofs.Common.{◌≡◌, ◌≢◌, ◌⊎◌, ◌<◌, ◌≤◌, ◌+◌, ◌-◌, ℕ, Bool, true, false, ◌&&◌, nat_eq, eq-eqb, List, slice_get, Option, Some, None, sym, ap, ap₂, ◌∙◌, subst, inl, inr, arith}
 use Rattle.std.proofs.lemmas.Bool.{cases_eq, true≢false, and_from}
-use Rattle.model_text.specs.declared.checker.CheckCause.TheVariants.{Returns, Under}
-use Rattle.model_machine.specs.declared.instruction.Ins.{Ins}
+use Rattle.law_family.specs.model_text.specs.declared.checker.CheckCause.TheVariants.{Returns, Under}
+use Rattle.law_family.specs.model_machine.specs.declared.instruction.Ins.{Ins}
 use Rattle.model_stack.specs.StackRows.{counts, goes_on, jump_target, call_target, is_conditional, height_after}
 use Rattle.model_stack.specs.StackShape.{At, Fact, fact, Stands, look, Gives, Reached, ReturnsWith, Refuses}
 use Rattle.model_stack.specs.StackShape as shape

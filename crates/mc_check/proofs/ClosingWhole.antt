@@ -1,6 +1,6 @@
 -- The search at its end: no place waits, so the table has all facts.
 use Rattle.std.proofs.Common.{◌≡◌, ℕ, List, [], Option, Some, sym, ap, ◌∙◌, arith, inl, inr}
-use Rattle.model_machine.specs.declared.instruction.Ins.{Ins}
+use Rattle.law_family.specs.model_machine.specs.declared.instruction.Ins.{Ins}
 use Rattle.model_stack.specs.StackRows.{counts}
 use Rattle.model_stack.specs.StackShape.{Routine, Main, At, Fact, fact, Stands, look, Reached, begins, goes, jumps, calls, passes, returns, IsAt, Differs, TakesMore}
 use Rattle.mc_check.specs.declared.shape.Counts.{Counts as Pair}

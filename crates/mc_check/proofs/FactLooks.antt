@@ -1,12 +1,12 @@
 -- The look of a fact: why a bad one is refused, and what holds of a good one.
 use Rattle.std.proofs.Common.{◌≡◌, ℕ, Bool, true, false, cond, not, ◌&&◌, nat_lt, List, length, is_some, Result, Ok, Err, refl, sym, ap, ◌∙◌, subst, inl, ltb-true}
 use Rattle.std.proofs.lemmas.Bool.{not-true, not-false}
-use Rattle.model_text.specs.declared.checker.CheckCause.{CheckCause}
-use Rattle.model_text.specs.declared.checker.CheckCause.TheVariants.{Undefined, Past, Indirect, Returns, Under, Target}
-use Rattle.model_machine.specs.declared.instruction.DecodeFault.{DecodeFault}
-use Rattle.model_machine.specs.declared.instruction.DecodeFault.TheVariants as fault
-use Rattle.model_machine.specs.declared.instruction.Ins.{Ins}
-use Rattle.model_machine.specs.Code.{instruction_at}
+use Rattle.law_family.specs.model_text.specs.declared.checker.CheckCause.{CheckCause}
+use Rattle.law_family.specs.model_text.specs.declared.checker.CheckCause.TheVariants.{Undefined, Past, Indirect, Returns, Under, Target}
+use Rattle.law_family.specs.model_machine.specs.declared.instruction.DecodeFault.{DecodeFault}
+use Rattle.law_family.specs.model_machine.specs.declared.instruction.DecodeFault.TheVariants as fault
+use Rattle.law_family.specs.model_machine.specs.declared.instruction.Ins.{Ins}
+use Rattle.law_family.specs.model_machine.specs.Code.{instruction_at}
 use Rattle.model_stack.specs.StackRows.{need, is_indirect, counts, places_inside}
 use Rattle.model_stack.specs.StackShape.{Fact, FactLook, Bad, Stands, is_main, fact_look, look, Reached, IsAt, Breaks, Refuses}
 use Rattle.mc_check.specs.Table.{IsGoodFact}

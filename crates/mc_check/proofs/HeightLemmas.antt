@@ -1,11 +1,11 @@
 -- Instructions that do not go on to the next place leave the height of the stack as it was.
 use Rattle.std.proofs.Common.{◌≡◌, ℕ, Bool, true, false, List, Option, Some, None, refl, ap, inl, inr, arith}
 use Rattle.std.specs.Prelude.{◌⊎◌, ◌&&◌, not}
-use Rattle.model_machine.specs.declared.instruction.Ins.{Ins}
-use Rattle.model_machine.specs.declared.instruction.Ins.TheVariants as ins
-use Rattle.model_machine.specs.Frame.{Frame}
-use Rattle.model_machine.specs.Primitives.{Around, Exits, Primitive, CheckCase, primitive, prim_done, prim_effect}
-use Rattle.model_machine.specs.Row.{effect}
+use Rattle.law_family.specs.model_machine.specs.declared.instruction.Ins.{Ins}
+use Rattle.law_family.specs.model_machine.specs.declared.instruction.Ins.TheVariants as ins
+use Rattle.law_family.specs.model_machine.specs.Frame.{Frame}
+use Rattle.law_family.specs.model_machine.specs.Primitives.{Around, Exits, Primitive, CheckCase, primitive, prim_done, prim_effect}
+use Rattle.law_family.specs.model_machine.specs.Row.{effect}
 use Rattle.model_stack.specs.StackRows.{always_abends, goes_on, jump_target, call_target, height_after}
 
 -- an instruction that may be done goes on, if it is no call, or leaves the height

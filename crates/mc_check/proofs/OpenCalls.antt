@@ -2,10 +2,10 @@
 -- have bytes spliced in.
 use Rattle.std.proofs.Common.{◌≡◌, ℕ, ◌+◌, ◌-◌, ◌≤◌, ◌<◌, true, List, ◌++◌, length, take, drop, Some, refl, sym, ap, ◌∙◌, arith}
 use Rattle.std.proofs.lemmas.List.{length-take-le, take-take, drop-take, drop-drop, take_at, drop_at, append_assoc}
-use Rattle.model_machine.specs.declared.instruction.Ins.{Ins}
-use Rattle.model_machine.specs.declared.instruction.Ins.TheVariants as ins
-use Rattle.model_device.specs.Bytes.{bytes2, num, splice}
-use Rattle.model_machine.specs.Frame.{Frame, floor}
+use Rattle.law_family.specs.model_machine.specs.declared.instruction.Ins.{Ins}
+use Rattle.law_family.specs.model_machine.specs.declared.instruction.Ins.TheVariants as ins
+use Rattle.law_family.specs.model_device.specs.Bytes.{bytes2, num, splice}
+use Rattle.law_family.specs.model_machine.specs.Frame.{Frame, floor}
 use Rattle.model_stack.specs.StackRows.{call_target, is_call}
 use Rattle.model_stack.specs.StackShape.{Routine, fact, Reached, Depth, main, called}
 use Rattle.mc_check.proofs.FactLooks.{fine}

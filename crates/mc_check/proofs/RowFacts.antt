@@ -1,12 +1,12 @@
 -- The facts of a row of accepted code: the causes that it never has, and what it leaves of its frame.
 use Rattle.std.specs.Prelude.{◌≡◌, ◌⊎◌, ◌≤◌, ◌+◌, ◌-◌, ℕ, true, false, List, length, Some, None}
-use Rattle.model_machine.specs.declared.instruction.Ins.{Ins}
-use Rattle.model_machine.specs.declared.machine.Abend.{Abend}
-use Rattle.model_machine.specs.Code.{Shaped}
-use Rattle.model_machine.specs.Frame.{Frame, dynamic_base, public_base, public_end}
-use Rattle.model_machine.specs.Primitives.{Around, Then, Goes, Exits, Delegates, Done}
-use Rattle.model_machine.specs.Row.{causes, first_cause, row, Does}
-use Rattle.model_machine.specs.Chain.{frame_at}
+use Rattle.law_family.specs.model_machine.specs.declared.instruction.Ins.{Ins}
+use Rattle.law_family.specs.model_machine.specs.declared.machine.Abend.{Abend}
+use Rattle.law_family.specs.model_machine.specs.Code.{Shaped}
+use Rattle.law_family.specs.model_machine.specs.Frame.{Frame, dynamic_base, public_base, public_end}
+use Rattle.law_family.specs.model_machine.specs.Primitives.{Around, Then, Goes, Exits, Delegates, Done}
+use Rattle.law_family.specs.model_machine.specs.Row.{causes, first_cause, row, Does}
+use Rattle.law_family.specs.model_machine.specs.Chain.{frame_at}
 use Rattle.model_stack.specs.StackRows.{need, height_after, always_abends, writing, is_plain, is_indirect, counts, goes_on, jump_target, call_target, places_inside}
 use Rattle.mc_check.specs.Checked.{is_excluded}
 use Rattle.mc_check.specs.Standing.{StandsAt, calls_of}

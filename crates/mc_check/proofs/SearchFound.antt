@@ -5,8 +5,8 @@ use Rattle.std.proofs.lemmas.Bool.{cases_eq}
 use Rattle.std.proofs.lemmas.List.{length-map, length-replicate, get_or-replicate}
 use Rattle.std.proofs.lemmas.List.Sums.{count_by-le-length}
 use Rattle.std.proofs.lemmas.Option.{slice_get-get_or, slice_get_within, slice_get-map, get_or_from_slice_get, same_Some}
-use Rattle.model_machine.specs.declared.instruction.Ins.{Ins}
-use Rattle.model_text.specs.declared.checker.CheckCause.{CheckCause}
+use Rattle.law_family.specs.model_machine.specs.declared.instruction.Ins.{Ins}
+use Rattle.law_family.specs.model_text.specs.declared.checker.CheckCause.{CheckCause}
 use Rattle.model_stack.specs.StackShape.{Routine, Main, At, Fact, fact, FactLook, Bad, Stands, look, Reached, IsBase, ReachesItself, Breaks}
 use Rattle.model_stack.specs.StackShape as shape
 use Rattle.mc_check.specs.Table.{routine_of, base_in, AreBases, IsFaultDue, IsRefusalOf}

@@ -20,7 +20,7 @@ use Rattle.mc_check.specs.Searching.{CallReports, Answers, is_unseen, count_of_u
 use Rattle.mc_check.proofs.ListPlaces.{get_set_same, get_set_other, get_push_before, get_push_last, get_push, before, last, get_take, take_get}
 use Rattle.mc_check.proofs.CallReporting.{called_is_inside, caller_is_inside}
 use Rattle.mc_check.proofs.ReportedBases.{reported_unseen, reported_open, reported_bound, base_found}
-use Rattle.model_device.specs.Limits.{most_code}
+use Rattle.law_family.specs.model_device.specs.Limits.{most_code}
 
 -- ---- one change of a state
 

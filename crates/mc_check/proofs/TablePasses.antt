@@ -5,12 +5,12 @@ use Rattle.std.proofs.lemmas.Bool.{ltb-true, ltb-false}
 use borrow.Author.Count.{below_more}
 use Rattle.std.specs.Ordering.{ord_max, nat_cmp, is_lt}
 use Rattle.std.specs.declared.cmp.Ordering.TheVariants.{Less, Equal, Greater}
-use Rattle.model_text.specs.declared.checker.CheckCause.{CheckCause}
-use Rattle.model_text.specs.declared.checker.CheckCause.TheVariants.{Undefined, Past, Indirect, Returns, Under, Target, Recursive, Heights, Wild, Deep}
-use Rattle.model_machine.specs.declared.instruction.DecodeFault.{DecodeFault}
-use Rattle.model_machine.specs.declared.instruction.DecodeFault.TheVariants as fault
-use Rattle.model_machine.specs.declared.instruction.Ins.{Ins}
-use Rattle.model_machine.specs.Code.{instruction_at}
+use Rattle.law_family.specs.model_text.specs.declared.checker.CheckCause.{CheckCause}
+use Rattle.law_family.specs.model_text.specs.declared.checker.CheckCause.TheVariants.{Undefined, Past, Indirect, Returns, Under, Target, Recursive, Heights, Wild, Deep}
+use Rattle.law_family.specs.model_machine.specs.declared.instruction.DecodeFault.{DecodeFault}
+use Rattle.law_family.specs.model_machine.specs.declared.instruction.DecodeFault.TheVariants as fault
+use Rattle.law_family.specs.model_machine.specs.declared.instruction.Ins.{Ins}
+use Rattle.law_family.specs.model_machine.specs.Code.{instruction_at}
 use Rattle.model_stack.specs.StackRows.{need, is_indirect, counts, places_inside, is_call, is_plain, writing}
 use Rattle.model_stack.specs.StackShape.{Routine, Main, At, Fact, fact, is_main, Bad, look, Reached, HoldsAtFact, ReachesItself, SharesPlace, WritesWild, TooDeep, Depth, Breaks, Accepts, Refuses}
 use Rattle.mc_check.specs.declared.table.Entry.{Entry}

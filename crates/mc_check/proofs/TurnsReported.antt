@@ -1,20 +1,20 @@
 -- The turns of a line are those of its runs.
 use Rattle.std.proofs.Common.{◌≡◌, ℕ, zero, suc, Bool, true, false, List, [], ◌∷◌, ◌++◌, Option, Some, None, refl, sym, ap, subst, ◌∙◌, inl}
 use Rattle.std.proofs.lemmas.List.{map-append, append-nil}
-use Rattle.model_machine.specs.Apdu.{ApduParts}
-use Rattle.model_device.specs.Card.{Card}
-use Rattle.model_machine.specs.Chain.{Chain, Turn, Acted, Ran, Follows, Continues, Ends, turn_of_chain, chain_session, run_of_chain, run_after_turn, start as begun}
-use Rattle.model_card.specs.Items.{card_done}
-use Rattle.model_card.specs.Manager.{Selected, SessionState, Route, WrongLength, WrongClass, ToSelect, ToManager, ToApplication, Managed, Declines, Accepts, select, manage, room_on, route}
-use Rattle.model_play.specs.DeckGrammar.{DeckLine}
-use Rattle.model_play.specs.DeckGrammar as line
-use Rattle.model_play.specs.Laws.{bytes_of}
-use Rattle.model_play.specs.Play.{FailedWrite, Live, Running, Unpowered, Muted, State, BeforePower, AfterPower, is_done, send, command_with_rest, line_command, step, select_bytes, delete_bytes, Step}
-use Rattle.model_device.specs.PowerUp.{Base, OnCard, AtFault}
-use Rattle.model_card.specs.Commands.{Command, command, manager_command, application_command, by_route}
-use Rattle.model_play.proofs.PlayLemmas.{step_is}
+use Rattle.law_family.specs.model_machine.specs.Apdu.{ApduParts}
+use Rattle.law_family.specs.model_device.specs.Card.{Card}
+use Rattle.law_family.specs.model_machine.specs.Chain.{Chain, Turn, Acted, Ran, Follows, Continues, Ends, turn_of_chain, chain_session, run_of_chain, run_after_turn, start as begun}
+use Rattle.law_family.specs.model_card.specs.Items.{card_done}
+use Rattle.law_family.specs.model_card.specs.Manager.{Selected, SessionState, Route, WrongLength, WrongClass, ToSelect, ToManager, ToApplication, Managed, Declines, Accepts, select, manage, room_on, route}
+use Rattle.law_family.specs.model_play.specs.DeckGrammar.{DeckLine}
+use Rattle.law_family.specs.model_play.specs.DeckGrammar as line
+use Rattle.law_family.specs.model_play.specs.Laws.{bytes_of}
+use Rattle.law_family.specs.model_play.specs.Play.{FailedWrite, Live, Running, Unpowered, Muted, State, BeforePower, AfterPower, is_done, send, command_with_rest, line_command, step, select_bytes, delete_bytes, Step}
+use Rattle.law_family.specs.model_device.specs.PowerUp.{Base, OnCard, AtFault}
+use Rattle.law_family.specs.model_card.specs.Commands.{Command, command, manager_command, application_command, by_route}
+use Rattle.law_family.specs.model_play.proofs.PlayLemmas.{step_is}
 use Rattle.mc_check.specs.Turns.{turns_on, turns_from, turns_passed, turns_routed, turns_behind, turns_sent, turns_taken, turns_in, turns_with, bare}
-use Rattle.model_play.proofs.LineKinds.{IsUnheard, StepKind, Early, Quiet, Powers, Sends, by_kind, unheard_bytes}
+use Rattle.law_family.specs.model_play.proofs.LineKinds.{IsUnheard, StepKind, Early, Quiet, Powers, Sends, by_kind, unheard_bytes}
 
 -- ---- runs
 

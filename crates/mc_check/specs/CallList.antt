@@ -1,8 +1,8 @@
 -- The calls between the routines of code as a list, and the bases by that list.
 use Rattle.std.specs.Prelude.{◌≡◌, ◌<◌, ◌≤◌, ◌+◌, ℕ, List, length, slice_get, slice_index, Option, Some, None, Result, Ok, Err}
-use Rattle.model_machine.specs.declared.instruction.Ins.{Ins}
-use Rattle.model_machine.specs.declared.instruction.DecodeFault.{DecodeFault}
-use Rattle.model_text.specs.declared.checker.CheckCause.TheVariants.{Recursive}
+use Rattle.law_family.specs.model_machine.specs.declared.instruction.Ins.{Ins}
+use Rattle.law_family.specs.model_machine.specs.declared.instruction.DecodeFault.{DecodeFault}
+use Rattle.law_family.specs.model_text.specs.declared.checker.CheckCause.TheVariants.{Recursive}
 use Rattle.model_stack.specs.StackRows.{call_target}
 use Rattle.model_stack.specs.StackShape.{Routine, Main, At, fact, Reached, IsAt, Calls}
 use Rattle.mc_check.specs.Table.{routine_of, IsGoodFact}

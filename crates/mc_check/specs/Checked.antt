@@ -1,13 +1,13 @@
 -- The property of accepted code in every run.
 use Rattle.std.specs.Prelude.{◌≡◌, ◌≤◌, ◌+◌, ℕ, zero, suc, Bool, true, false, List, length, Option, Some, None}
-use Rattle.model_machine.specs.declared.machine.Abend.{Abend}
-use Rattle.model_machine.specs.declared.machine.Abend.TheVariants.{A01, A02, A04, A05}
-use Rattle.model_device.specs.Bytes.{lookup}
-use Rattle.model_machine.specs.Apdu.{ApduParts}
-use Rattle.model_device.specs.Card.{App}
-use Rattle.model_machine.specs.Frame.{dynamic_base}
-use Rattle.model_machine.specs.Chain.{Chain, Turn, Outcome, Reply, Abended, Follows, Continues, Ends, turn_of, start}
-use Rattle.law_machine.specs.Limited.{session_in, AreLimited}
+use Rattle.law_family.specs.model_machine.specs.declared.machine.Abend.{Abend}
+use Rattle.law_family.specs.model_machine.specs.declared.machine.Abend.TheVariants.{A01, A02, A04, A05}
+use Rattle.law_family.specs.model_device.specs.Bytes.{lookup}
+use Rattle.law_family.specs.model_machine.specs.Apdu.{ApduParts}
+use Rattle.law_family.specs.model_device.specs.Card.{App}
+use Rattle.law_family.specs.model_machine.specs.Frame.{dynamic_base}
+use Rattle.law_family.specs.model_machine.specs.Chain.{Chain, Turn, Outcome, Reply, Abended, Follows, Continues, Ends, turn_of, start}
+use Rattle.law_family.specs.law_machine.specs.Limited.{session_in, AreLimited}
 
 -- whether an abend is one with which accepted code ends no turn: 01, 02, 04 or 05
 abbrev pub is_excluded : Abend → Bool

@@ -1,7 +1,7 @@
 -- The search for all facts: the invariant of its tables while it runs, and the facts that are still to be followed.
 use Rattle.std.specs.Prelude.{◌≡◌, ◌⊎◌, ◌<◌, ◌≤◌, ◌+◌, ◌-◌, ◌*◌, ℕ, true, List, [], ◌∷◌, length, slice_get, Option, Some, None}
-use Rattle.model_machine.specs.declared.instruction.Ins.{Ins}
-use Rattle.model_machine.specs.Code.{Shaped}
+use Rattle.law_family.specs.model_machine.specs.declared.instruction.Ins.{Ins}
+use Rattle.law_family.specs.model_machine.specs.Code.{Shaped}
 use Rattle.model_stack.specs.StackRows.{height_after, counts, goes_on, jump_target, call_target, is_conditional}
 use Rattle.model_stack.specs.StackShape.{Routine, Main, At, Fact, fact, Stands, look, ReturnsWith}
 use Rattle.mc_check.specs.declared.table.Entry.{Entry}

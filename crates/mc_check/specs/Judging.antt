@@ -1,9 +1,9 @@
 -- The results of the last pass over the table.
 use Rattle.std.specs.Prelude.{ℕ, ◌≡◌, ◌+◌, ◌<◌, Bool, true, false, cond, nat_lt, List, slice_get, Option, Some, Result, Ok, Err}
-use Rattle.model_text.specs.declared.checker.CheckCause.TheVariants.{Deep, Wild}
-use Rattle.model_machine.specs.declared.instruction.DecodeFault.{DecodeFault}
-use Rattle.model_machine.specs.declared.instruction.Ins.{Ins}
-use Rattle.model_machine.specs.Code.{instruction_at}
+use Rattle.law_family.specs.model_text.specs.declared.checker.CheckCause.TheVariants.{Deep, Wild}
+use Rattle.law_family.specs.model_machine.specs.declared.instruction.DecodeFault.{DecodeFault}
+use Rattle.law_family.specs.model_machine.specs.declared.instruction.Ins.{Ins}
+use Rattle.law_family.specs.model_machine.specs.Code.{instruction_at}
 use Rattle.model_stack.specs.StackRows.{is_call, is_plain, writing}
 use Rattle.model_stack.specs.StackShape.{Routine, Main, At}
 use Rattle.mc_check.specs.declared.table.Entry.{Entry}

@@ -1,8 +1,8 @@
 -- The property of accepted code in every play.
 use Rattle.std.specs.Prelude.{◌≡◌, ℕ, List, Option}
 use Rattle.std.specs.List.{AllByRecursion}
-use Rattle.model_play.specs.DeckGrammar.{DeckLine}
-use Rattle.model_play.specs.Play.{FailedWrite, Step, plays, start}
+use Rattle.law_family.specs.model_play.specs.DeckGrammar.{DeckLine}
+use Rattle.law_family.specs.model_play.specs.Play.{FailedWrite, Step, plays, start}
 use Rattle.mc_check.specs.declared.verdict.Verdict.TheVariants.{Accept}
 use Rattle.mc_check.specs.Checked.{RunsCode, IsCalm}
 use Rattle.mc_check.specs.Turns.{bare, turns_with}

@@ -1,9 +1,9 @@
 -- The properties of an instruction in the code, as those of the definition.
 use Rattle.std.specs.Prelude.{ℕ, Result, Ok, Err}
-use Rattle.model_text.specs.declared.checker.CheckCause.{CheckCause}
-use Rattle.model_text.specs.declared.checker.CheckCause.TheVariants.{Undefined, Past}
-use Rattle.model_machine.specs.declared.instruction.DecodeFault.{DecodeFault}
-use Rattle.model_machine.specs.declared.instruction.DecodeFault.TheVariants as fault
+use Rattle.law_family.specs.model_text.specs.declared.checker.CheckCause.{CheckCause}
+use Rattle.law_family.specs.model_text.specs.declared.checker.CheckCause.TheVariants.{Undefined, Past}
+use Rattle.law_family.specs.model_machine.specs.declared.instruction.DecodeFault.{DecodeFault}
+use Rattle.law_family.specs.model_machine.specs.declared.instruction.DecodeFault.TheVariants as fault
 use Rattle.model_stack.specs.StackRows as shape
 use Rattle.model_stack.specs.StackShape.{FactLook, Bad, Stands}
 use Rattle.mc_check.specs.declared.shape.Counts.{Counts}

@@ -1,8 +1,8 @@
 -- A frame that runs accepted code: its place and its stack, and its open calls.
 use Rattle.std.specs.Prelude.{◌≡◌, ◌≤◌, ◌+◌, ◌-◌, ℕ, List, length, take, drop, Some}
-use Rattle.model_machine.specs.declared.instruction.Ins.{Ins}
-use Rattle.model_device.specs.Bytes.{bytes2}
-use Rattle.model_machine.specs.Frame.{Frame, floor, dynamic_base}
+use Rattle.law_family.specs.model_machine.specs.declared.instruction.Ins.{Ins}
+use Rattle.law_family.specs.model_device.specs.Bytes.{bytes2}
+use Rattle.law_family.specs.model_machine.specs.Frame.{Frame, floor, dynamic_base}
 use Rattle.model_stack.specs.StackRows.{call_target}
 use Rattle.model_stack.specs.StackShape.{Routine, Main, At, fact, Reached, Gives}
 

@@ -1,6 +1,6 @@
 -- The checker's table of facts, one a place, against the facts of the stack shape.
 use Rattle.std.specs.Prelude.{◌≡◌, ℕ, List, length, slice_get, slice_index, Option, Some}
-use Rattle.model_machine.specs.declared.instruction.Ins.{Ins}
+use Rattle.law_family.specs.model_machine.specs.declared.instruction.Ins.{Ins}
 use Rattle.model_stack.specs.StackShape.{Routine, Main, At, Fact, fact, Stands, look, Reached, Refuses, Differs, TakesMore, NoRecursion, IsBase}
 use Rattle.mc_check.specs.declared.table.Entry.{Entry}
 use Rattle.mc_check.specs.declared.table.Fault.{Fault}

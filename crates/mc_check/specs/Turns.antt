@@ -1,14 +1,14 @@
 -- The turns of a play, each with its chain.
 use Rattle.std.specs.Prelude.{ℕ, zero, suc, Bool, true, false, List, [], ◌∷◌, ◌++◌, map, Option, Some, None}
-use Rattle.model_machine.specs.Apdu.{ApduParts}
-use Rattle.model_device.specs.Card.{App, Card}
-use Rattle.model_machine.specs.Chain.{Chain, Turn, Follows, Continues, Ends, turn_of, start as begun}
-use Rattle.model_card.specs.Items.{card_done}
-use Rattle.model_card.specs.Manager.{Selected, SessionState, Route, WrongLength, WrongClass, ToSelect, ToManager, ToApplication, route}
-use Rattle.model_play.specs.Play.{Live, Running, Unpowered, Muted, State, BeforePower, AfterPower, Step, is_done}
-use Rattle.model_device.specs.PowerUp.{Base, OnCard, AtFault}
-use Rattle.model_card.specs.Commands.{command}
-use Rattle.model_play.specs.Laws.{bytes_of}
+use Rattle.law_family.specs.model_machine.specs.Apdu.{ApduParts}
+use Rattle.law_family.specs.model_device.specs.Card.{App, Card}
+use Rattle.law_family.specs.model_machine.specs.Chain.{Chain, Turn, Follows, Continues, Ends, turn_of, start as begun}
+use Rattle.law_family.specs.model_card.specs.Items.{card_done}
+use Rattle.law_family.specs.model_card.specs.Manager.{Selected, SessionState, Route, WrongLength, WrongClass, ToSelect, ToManager, ToApplication, route}
+use Rattle.law_family.specs.model_play.specs.Play.{Live, Running, Unpowered, Muted, State, BeforePower, AfterPower, Step, is_done}
+use Rattle.law_family.specs.model_device.specs.PowerUp.{Base, OnCard, AtFault}
+use Rattle.law_family.specs.model_card.specs.Commands.{command}
+use Rattle.law_family.specs.model_play.specs.Laws.{bytes_of}
 
 -- the turns of the chain that goes on, if one does
 abbrev pub turns_on : Follows → (Chain → List (Chain × Turn)) → List (Chain × Turn)

@@ -1,14 +1,14 @@
 // The bases of routines, or a call by which a routine reaches itself: a search along the calls, from routines to their
 // callers.
 ghost use Rattle.std.specs.Prelude.{◌≡◌, ◌<◌, ◌≤◌, ◌-◌, ◌^◌, ◌++◌, ◌∷◌, ℕ, [], length, replicate, map, take, slice_get, slice_set, Some, OnOk, IfOk, IfErr};
-ghost use Rattle.model_device.specs.Limits.{most_code};
+ghost use Rattle.law_family.specs.model_device.specs.Limits.{most_code};
 ghost use Rattle.mc_check.specs.Table.{IsWholeTable, AreBases, IsFaultDue};
 ghost use Rattle.mc_check.specs.CallList.{AreClosed, AreBasesIn, IsCalled, IsRing};
 ghost use Rattle.mc_check.specs.Searching.{answer_of_call, Answers, AreBelow, IsSeen, StaySeen, Searches, remaining_work, base_of};
 
 use crate::calls::{Call, list_calls};
 use crate::table::{Entry, Fault, Refusal, Routine};
-use model_text::CheckCause;
+use law_family::model_text::CheckCause;
 use std::alloc::{AllocError, Global};
 
 // The progress of the search with a routine.

@@ -1,7 +1,7 @@
 // The calls between the routines of code.
 ghost use Rattle.std.specs.Prelude.{◌≡◌, ◌≤◌, length, option_map, IfSome, IfOk};
-ghost use Rattle.model_device.specs.Limits.{most_code};
-ghost use Rattle.model_machine.specs.Code.{instruction_at};
+ghost use Rattle.law_family.specs.model_device.specs.Limits.{most_code};
+ghost use Rattle.law_family.specs.model_machine.specs.Code.{instruction_at};
 ghost use Rattle.mc_check.specs.Table.{IsWholeTable};
 ghost use Rattle.mc_check.specs.CallList.{AreCalls, call_of, target_of};
 

@@ -1,6 +1,6 @@
 // The search for all facts of code. It ends with a table of them, or at the first fact that breaks a rule.
 ghost use Rattle.std.specs.Prelude.{◌≡◌, ◌⊎◌, ℕ, ◌+◌, ◌<◌, ◌≤◌, true, [], ◌∷◌, length, replicate, slice_get, OnOk, IfOk, IfErr};
-ghost use Rattle.model_device.specs.Limits.{most_code};
+ghost use Rattle.law_family.specs.model_device.specs.Limits.{most_code};
 ghost use Rattle.model_stack.specs.StackRows as shape;
 ghost use Rattle.model_stack.specs.StackShape as stack;
 ghost use Rattle.mc_check.specs.Table.{fact_of, IsFaultDue, IsGoodFact, IsIn, IsWholeTable};
@@ -11,7 +11,7 @@ use crate::shape::{
     return_counts,
 };
 use crate::table::{Entry, Fault, Refusal, Routine};
-use model_text::CheckCause;
+use law_family::model_text::CheckCause;
 use std::alloc::Global;
 
 // From a height above this one no fact follows.

@@ -1,8 +1,8 @@
 // The last pass over the facts, when the bases of the routines are known: it finds the facts at which the
 // stack grows too deep or a write may touch an open call, and the greatest depth of the stack.
 ghost use Rattle.std.specs.Prelude.{◌≡◌, ◌≤◌, ◌<◌, ◌&&◌, not, length, IfOk, IfErr, MatchBool};
-ghost use Rattle.model_device.specs.Limits.{most_code};
-ghost use Rattle.model_machine.specs.Code.{instruction_at};
+ghost use Rattle.law_family.specs.model_device.specs.Limits.{most_code};
+ghost use Rattle.law_family.specs.model_machine.specs.Code.{instruction_at};
 ghost use Rattle.model_stack.specs.StackShape.{Accepts};
 ghost use Rattle.mc_check.specs.Judging.{calls_at, plain_at, depth_of, BeginsWithin, HasCall, HasNoCall};
 ghost use Rattle.mc_check.specs.Verdicts.{IsVerdictOf};
@@ -11,8 +11,8 @@ ghost use Rattle.mc_check.specs.Table.{routine_of, base_in, IsWholeTable, AreBas
 use crate::shape::{is_call, is_plain};
 use crate::table::{Entry, Refusal, Routine};
 use crate::verdict::Verdict;
+use law_family::model_text::CheckCause;
 use mc_isa::decode;
-use model_text::CheckCause;
 
 // The bytes of the dynamic segment that session data and the stack share.
 const ROOM: u64 = 512;

@@ -17,8 +17,8 @@ mod uses;
 mod verdict;
 mod writing;
 
+pub use law_family::model_text::CheckCause;
 pub use laws::checked_plays;
-pub use model_text::CheckCause;
 pub use shape::{
     Counts, Seen, call_target, goes_on, height_after, is_call, is_conditional, jump_target, look,
     return_counts,

@@ -1,6 +1,6 @@
 // The effect of a primitive on the stack, the address at which it writes, and whether it always abends.
 ghost use Rattle.std.specs.Prelude.{◌≡◌};
-ghost use Rattle.model_machine.specs.Primitives as model;
+ghost use Rattle.law_family.specs.model_machine.specs.Primitives as model;
 ghost use Rattle.model_stack.specs.StackRows as shape;
 ghost use Rattle.mc_prims.specs.Table.{primitive_of};
 ghost use Rattle.mc_check.specs.Seen.{uses_of, writing_of};

@@ -1,7 +1,7 @@
 // Code whose verdict is known.
 use crate::verdict::{Verdict, check};
+use law_family::model_text::CheckCause;
 use mc_base::{MOST_CODE, NoMemory};
-use model_text::CheckCause;
 use std::alloc::Global;
 use std::test::Fail;
 

@@ -1,8 +1,8 @@
 // The places that an instruction goes to, and the rules that a fact may break by itself.
 ghost use Rattle.std.specs.Prelude.{◌≡◌, ◌≤◌, ◌==◌, ◌&&◌, if◌then◌else◌, IfOk, is_some, length, option_map, option_and_then};
-ghost use Rattle.model_device.specs.Limits.{most_code};
-ghost use Rattle.model_machine.specs.Code.{Shaped};
-ghost use Rattle.model_machine.specs.Frame as frame;
+ghost use Rattle.law_family.specs.model_device.specs.Limits.{most_code};
+ghost use Rattle.law_family.specs.model_machine.specs.Code.{Shaped};
+ghost use Rattle.law_family.specs.model_machine.specs.Frame as frame;
 ghost use Rattle.model_stack.specs.StackRows as shape;
 ghost use Rattle.model_stack.specs.StackShape.{is_main, look, fact_look};
 ghost use Rattle.mc_check.specs.Seen.{pair_of, cause_of, fact_look_of};
@@ -12,9 +12,9 @@ use crate::table::{Entry, Routine};
 pub use crate::uses::height_after;
 use crate::uses::{always_abends, need};
 pub use crate::writing::is_plain;
+use law_family::model_machine::{DecodeFault, Ins};
+use law_family::model_text::CheckCause;
 use mc_isa::decode;
-use model_machine::{DecodeFault, Ins};
-use model_text::CheckCause;
 
 // The condition of a jump or call that always goes.
 const ALWAYS: u8 = 7;

@@ -1,5 +1,5 @@
 // The checker's table: for each place of the code at most one fact.
-use model_text::CheckCause;
+use law_family::model_text::CheckCause;
 use std::alloc::{AllocError, AllocFailed};
 
 /// The routine of a place of code: the main code, or the routine that begins at a place.

@@ -1,13 +1,13 @@
 // The effect of an instruction on the stack: the bytes that it needs, pops and pushes.
 ghost use Rattle.std.specs.Prelude.{◌≡◌, ◌≤◌, ◌*◌};
-ghost use Rattle.model_machine.specs.Code.{Shaped};
-ghost use Rattle.model_machine.specs.Primitives as model;
+ghost use Rattle.law_family.specs.model_machine.specs.Code.{Shaped};
+ghost use Rattle.law_family.specs.model_machine.specs.Primitives as model;
 ghost use Rattle.model_stack.specs.StackRows as shape;
-ghost use Rattle.model_machine.specs.Row as row;
+ghost use Rattle.law_family.specs.model_machine.specs.Row as row;
 ghost use Rattle.mc_check.specs.Seen.{uses_of};
 
 use crate::primitives::{pair_abends, pair_uses};
-use model_machine::Ins;
+use law_family::model_machine::Ins;
 
 // The bytes of the stack that an instruction needs, those that it pops, and those that it pushes then.
 #[derive(Clone, Copy)]

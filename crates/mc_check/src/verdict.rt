@@ -1,6 +1,6 @@
 // The verdict on code.
 ghost use Rattle.std.specs.Prelude.{◌≤◌, length, IfOk, IfErr};
-ghost use Rattle.model_device.specs.Limits.{most_code};
+ghost use Rattle.law_family.specs.model_device.specs.Limits.{most_code};
 ghost use Rattle.mc_check.specs.Verdicts.{IsVerdictOf, KeepsTo};
 ghost use Rattle.mc_check.specs.Table.{IsFaultDue};
 
@@ -8,8 +8,8 @@ use crate::bases::find_bases;
 use crate::closing::close;
 use crate::judging::judge;
 use crate::table::Fault;
+use law_family::model_text::CheckCause;
 use mc_base::NoMemory;
-use model_text::CheckCause;
 use std::alloc::Global;
 
 /// A verdict on code: the most bytes of stack that it takes, or the place and cause of a rule that it breaks.

@@ -1,12 +1,12 @@
 // The addresses at which instructions write, and those that are plain: they touch no byte of an open call.
 ghost use Rattle.std.specs.Prelude.{◌≡◌, ◌<◌};
-ghost use Rattle.model_machine.specs.Primitives as model;
+ghost use Rattle.law_family.specs.model_machine.specs.Primitives as model;
 ghost use Rattle.model_stack.specs.StackRows as shape;
 ghost use Rattle.mc_check.specs.Seen.{writing_of};
 
 use crate::primitives::primitive_writing;
 use crate::uses::always_abends;
-use model_machine::Ins;
+use law_family::model_machine::Ins;
 
 // The write of an instruction: at no address, at n bytes of an address by tag and offset, or at an address
 // that comes from the stack or from memory.

@@ -2,7 +2,7 @@
 use Rattle.std.proofs.Common.{◌≡◌, ℕ, suc, ◌<◌, Bool, true, false, List, [], ◌∷◌, ◌++◌, length, Bor, Option, Some, None, arith, refl, sym, ap, subst, ◌∙◌}
 use Rattle.std.specs.Prelude.{filter, not, nat_eq}
 use Rattle.std.specs.List.{AllByRecursion}
-use Rattle.model_text.specs.Text.{first_cut, fields, is_blank, is_empty, pieces}
+use Rattle.model_play.specs.model_text.specs.Text.{first_cut, fields, is_blank, is_empty, pieces}
 use Rattle.mc_asm.specs.Items.{texts}
 use Rattle.mc_text.proofs.ReadingLemmas.{pieces_at, pieces_cut}
 use Rattle.mc_asm.proofs.LineLemmas.{texts_one}

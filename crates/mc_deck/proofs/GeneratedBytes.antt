@@ -3,12 +3,12 @@ use Rattle.std.proofs.Common.{◌≡◌, ℕ, zero, suc, ◌+◌, ◌/◌, ◌%�
 use Rattle.std.specs.Prelude.{nat_lt, ◌==◌}
 use Rattle.std.specs.List.{AllByRecursion}
 use Rattle.std.proofs.lemmas.Bool.{and_parts, ltb-true}
-use Rattle.model_device.specs.Bytes.{AreBytes, bytes}
-use Rattle.model_text.specs.Text.{with_numbers, every}
+use Rattle.model_play.specs.model_device.specs.Bytes.{AreBytes, bytes}
+use Rattle.model_play.specs.model_text.specs.Text.{with_numbers, every}
 use Rattle.model_play.specs.DeckGrammar.{DeckLine, Power, Sent, Load, Select, Delete, Apdu}
 use Rattle.model_play.specs.Generator.{command, next, draw, turns, line_of, opening_lines, closing_lines, cut_line, purse_line, deck_of_number, counter, purse, relay, counter_aid, purse_aid, relay_aid}
 use Rattle.model_play.specs.ReadyAgain.{IsLine}
-use Rattle.model_device.proofs.ImageLemmas.{all_append}
+use Rattle.model_play.specs.model_device.proofs.ImageLemmas.{all_append}
 
 -- numbers that are all computed to be below 256
 low : (l : List ℕ) → every (λ b. nat_lt b 256) l ≡ true → AreBytes l

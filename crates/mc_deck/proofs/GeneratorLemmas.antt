@@ -2,8 +2,8 @@
 use Rattle.std.proofs.Common.{◌≡◌, ◌==◌, ◌/◌, ℕ, zero, suc, ◌+◌, ◌-◌, ◌<◌, ◌≤◌, ◌%◌, Bool, true, false, cond, List, [], ◌∷◌, ◌++◌, length, append-nil, append_assoc, add-one, arith, refl, sym, ap, ◌∙◌}
 use Rattle.std.specs.Prelude.{nat_lt}
 use Rattle.std.specs.List.{AllByRecursion}
-use Rattle.model_device.specs.Bytes.{bytes, zeros}
-use Rattle.model_text.specs.Text.{with_numbers}
+use Rattle.model_play.specs.model_device.specs.Bytes.{bytes, zeros}
+use Rattle.model_play.specs.model_text.specs.Text.{with_numbers}
 use Rattle.model_play.specs.DeckGrammar.{DeckLine, Format, Power, Named, Sent, Load, Select, Delete, Dump, Apdu, made_unit}
 use Rattle.model_play.specs.Generator.{command, next, draw, turns, line_of, opening_lines, closing_lines, opening_word, cut_line, purse_line, deck_of_number, counter, purse, relay, counter_aid, purse_aid, relay_aid}
 use Rattle.mc_unit.proofs.Made.{made_name}

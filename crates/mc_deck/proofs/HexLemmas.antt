@@ -6,7 +6,7 @@ use Rattle.hex.specs.Hex
 use Rattle.hex.specs.Hex.{decode_of, decode_pairs, decode_sized, digit_or_error, hex_digit_value}
 use Rattle.hex.specs.declared.error.FromHexError.{FromHexError}
 use Rattle.hex.proofs.HexLemmas.{decode_of-even, decode_of-odd, decode_of-ok, decode_pairs-ok}
-use Rattle.model_text.specs.Text.{hex_value, hex_values, before_values, bytes_of_digits, hex_bytes}
+use Rattle.model_play.specs.model_text.specs.Text.{hex_value, hex_values, before_values, bytes_of_digits, hex_bytes}
 use Rattle.model_play.specs.DeckGrammar.{hex_field}
 use Rattle.model_play.specs.declared.deck.DeckCause.TheVariants.{BadHex}
 

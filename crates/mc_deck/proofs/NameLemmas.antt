@@ -4,8 +4,8 @@ use Rattle.std.specs.Prelude.{bytes_eq, option_map, IfSome}
 use Rattle.std.specs.Ordering.{is_eq, nat_cmp}
 use Rattle.std.specs.Cmp.Lexicographic.{slice_cmp}
 use Rattle.std.proofs.lemmas.Map.Text.{is_eq-slice_cmp}
-use Rattle.model_device.specs.Bytes.{lookup}
-use Rattle.model_card.specs.Units.{UnitParts}
+use Rattle.model_play.specs.model_device.specs.Bytes.{lookup}
+use Rattle.model_play.specs.model_card.specs.Units.{UnitParts}
 use Rattle.mc_deck.specs.declared.unit.OwnedUnit.{OwnedUnit}
 use Rattle.mc_deck.specs.Lines.{unit_at, owned_parts}
 use Rattle.mc_deck.proofs.LineLemmas.{unit_front, unit_last, one_longer}

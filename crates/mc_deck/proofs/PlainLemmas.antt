@@ -1,7 +1,7 @@
 -- A line that is `apdu`, one blank and digits.
 use Rattle.std.proofs.Common.{◌≡◌, ℕ, ◌<◌, true, List, [], ◌∷◌, length, Option, Some, None, Ok, arith, refl, ap, ◌∙◌}
 use Rattle.std.specs.Prelude.{not, option_and_then, ok_or}
-use Rattle.model_text.specs.Text.{hex_value, hex_values, before_values, bytes_of_digits, every, is_blank, fields}
+use Rattle.model_play.specs.model_text.specs.Text.{hex_value, hex_values, before_values, bytes_of_digits, every, is_blank, fields}
 use Rattle.model_play.specs.declared.deck.DeckCause.TheVariants.{BadHex}
 use Rattle.model_play.specs.DeckGrammar.{Context, Says, Sent, Apdu, hex_field, statement_of}
 use Rattle.mc_asm.proofs.CleanLemmas.{pieces_none}

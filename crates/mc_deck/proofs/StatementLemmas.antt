@@ -1,9 +1,9 @@
 -- Statements by their words and fields.
 use Rattle.std.proofs.Common.{◌≡◌, ℕ, Bool, true, false, cond, List, [], ◌∷◌, ◌++◌, Option, Some, None, Ok, Err, refl, sym, ap, ◌∙◌}
 use Rattle.std.specs.Prelude.{bytes_eq, option_map}
-use Rattle.model_device.specs.Bytes.{lookup, or_else}
-use Rattle.model_text.specs.Text.{◌>>=◌, err_as}
-use Rattle.model_card.specs.Units.{unit_read}
+use Rattle.model_play.specs.model_device.specs.Bytes.{lookup, or_else}
+use Rattle.model_play.specs.model_text.specs.Text.{◌>>=◌, err_as}
+use Rattle.model_play.specs.model_card.specs.Units.{unit_read}
 use Rattle.model_play.specs.declared.deck.DeckCause.TheVariants as causes
 use Rattle.model_play.specs.declared.deck.DeckCause.TheVariants.{BadLine}
 use Rattle.mc_asm.specs.Parts.{pair_of}

@@ -1,8 +1,8 @@
 -- Turns: a line between statements, and a line of a section.
 use Rattle.std.proofs.Common.{◌≡◌, ◌≢◌, ◌≤◌, Bor, arith, ℕ, ◌+◌, append_assoc, Bool, true, false, List, [], ◌∷◌, ◌++◌, Option, Some, None, Result, Ok, Err, append-nil, refl, sym, ap, subst, ◌∙◌}
 use Rattle.std.specs.Prelude.{⊤, ◌==◌, option_map, MatchOption, MatchResult, IfOk, IfErr}
-use Rattle.model_text.specs.Text.{◌>>=◌, ok_as, fields, lines, with_numbers}
-use Rattle.model_card.specs.Units.{UnitParts}
+use Rattle.model_play.specs.model_text.specs.Text.{◌>>=◌, ok_as, fields, lines, with_numbers}
+use Rattle.model_play.specs.model_card.specs.Units.{UnitParts}
 use Rattle.std.specs.BTreeMap.{BTreeMap}
 use Rattle.model_play.specs.declared.deck.DeckCause.{DeckCause}
 use Rattle.model_play.specs.declared.deck.DeckCause.TheVariants.{NoEnd}

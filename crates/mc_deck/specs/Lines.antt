@@ -1,8 +1,8 @@
 -- The lines of a deck as the code has them, and the lines of the grammar that they are.
 use Rattle.std.specs.Prelude.{◌≡◌, ℕ, ◌<◌, ◌≤◌, Bool, true, false, List, [], ◌∷◌, length, map, slice_index_or, Ok}
 use Rattle.std.specs.List.{AllByRecursion}
-use Rattle.model_device.specs.Bytes.{zeros}
-use Rattle.model_card.specs.Units.{UnitParts, FitsUnit, name_of}
+use Rattle.model_play.specs.model_device.specs.Bytes.{zeros}
+use Rattle.model_play.specs.model_card.specs.Units.{UnitParts, FitsUnit, name_of}
 use Rattle.model_play.specs.DeckGrammar
 use Rattle.model_play.specs.DeckGrammar.{DeckLine}
 use Rattle.mc_unit.specs.Parts.{parts_of}

@@ -3,8 +3,8 @@ use Rattle.std.specs.Prelude.{◌≡◌, ℕ, Bool, false, cond, List, [], ◌�
 use Rattle.std.specs.List.{AllByRecursion}
 use Rattle.std.specs.BTreeMap.{BTreeMap}
 use denote.Ref.{Bor}
-use Rattle.model_device.specs.Bytes.{lookup}
-use Rattle.model_text.specs.Text.{◌>>=◌, ok_as, err_as, begins}
+use Rattle.model_play.specs.model_device.specs.Bytes.{lookup}
+use Rattle.model_play.specs.model_text.specs.Text.{◌>>=◌, ok_as, err_as, begins}
 use Rattle.model_play.specs.DeckGrammar.{DeckLine, Context, Stated, LineTurn, Mode, Between, Within, deck_words, statement_of}
 use Rattle.model_play.specs.declared.deck.DeckCause.{DeckCause}
 use Rattle.model_play.specs.declared.deck.DeckCause.TheVariants.{BadLine}

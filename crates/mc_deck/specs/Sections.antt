@@ -1,9 +1,9 @@
 -- Sections as the code has them, and the sections of the grammar that they are.
 use Rattle.std.specs.Prelude.{ℕ, List, Result}
-use Rattle.model_text.specs.Text.{err_as}
-use Rattle.model_card.specs.Units.{UnitParts}
+use Rattle.model_play.specs.model_text.specs.Text.{err_as}
+use Rattle.model_play.specs.model_card.specs.Units.{UnitParts}
 use Rattle.model_play.specs.DeckGrammar
-use Rattle.model_text.specs.Assembly.{assembled_lines}
+use Rattle.model_play.specs.model_text.specs.Assembly.{assembled_lines}
 use Rattle.model_play.specs.DeckGrammar.{section_program, unit_within}
 use Rattle.model_play.specs.declared.deck.DeckCause.{DeckCause}
 use Rattle.model_play.specs.declared.deck.DeckCause.TheVariants.{Asm, Unit}

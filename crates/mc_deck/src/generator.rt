@@ -1,8 +1,8 @@
 // The deck that a number generates.
 ghost use Rattle.std.specs.Prelude.{◌≡◌, ◌≢◌, ◌<◌, ◌≤◌, ◌*◌, ◌+◌, ◌^◌, ℕ, List, [], ◌∷◌, ◌++◌, length, IfOk, OnOk};
 ghost use Rattle.std.specs.List.{AllByRecursion};
-ghost use Rattle.model_text.specs.Text.{with_numbers};
-ghost use Rattle.model_device.specs.Bytes.{bytes};
+ghost use Rattle.model_play.specs.model_text.specs.Text.{with_numbers};
+ghost use Rattle.model_play.specs.model_device.specs.Bytes.{bytes};
 ghost use Rattle.model_play.specs.Generator.{closing_lines, cut_line, deck_of_number, line_of, next, opening_lines, purse_line, turns};
 ghost use Rattle.mc_deck.specs.Lines.{grammar_line, said_lines, UnitWithin};
 ghost use Rattle.mc_deck.specs.Generated.{AreUnits};

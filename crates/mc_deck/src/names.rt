@@ -1,7 +1,7 @@
 // The units that were named.
 ghost use Rattle.std.specs.Prelude.{◌≡◌, ◌+◌, ◌<◌, ◌++◌, ◌∷◌, [], ℕ, List, length, option_map, IfSome, IfErr, OnOk};
-ghost use Rattle.model_device.specs.Bytes.{lookup};
-ghost use Rattle.model_card.specs.Units.{UnitParts};
+ghost use Rattle.model_play.specs.model_device.specs.Bytes.{lookup};
+ghost use Rattle.model_play.specs.model_card.specs.Units.{UnitParts};
 ghost use Rattle.mc_deck.specs.declared.refusal.DeckRefusal.TheVariants.{NoMemory};
 ghost use Rattle.mc_deck.specs.Lines.{owned_parts, unit_at};
 ghost use Rattle.mc_deck.specs.Contexts.{AreNames};

@@ -1,6 +1,6 @@
 // Commands as nearly all decks write them.
 ghost use Rattle.std.specs.Prelude.{◌≡◌, ◌<◌, ◌∷◌, ℕ, length, Ok, Some, IfSome};
-ghost use Rattle.model_text.specs.Text.{fields};
+ghost use Rattle.model_play.specs.model_text.specs.Text.{fields};
 ghost use Rattle.model_play.specs.DeckGrammar.{Sent, Apdu, Context, Says};
 ghost use Rattle.mc_deck.specs.Readers.{line_stated};
 

@@ -1,7 +1,7 @@
 // Decks, read line by line.
 ghost use Rattle.std.specs.Prelude.{◌≡◌, ◌≢◌, ◌==◌, ◌≤◌, ◌<◌, ◌++◌, ◌∷◌, [], ⊤, true, length, option_map, Ok, Err, Some, None, IfOk, IfErr, OnOk, MatchOption, MatchResult};
 ghost use Rattle.std.specs.List.{AllByRecursion};
-ghost use Rattle.model_text.specs.Text.{begins, fields};
+ghost use Rattle.model_play.specs.model_text.specs.Text.{begins, fields};
 ghost use Rattle.model_play.specs.DeckGrammar.{between, deck_read, turn_at, turn_in, turn_of, with_unit, Context, Named, Within};
 ghost use Rattle.model_play.specs.ReadyAgain.{IsLine};
 ghost use Rattle.mc_asm.specs.Items.{texts};

@@ -1,7 +1,7 @@
 // Sections: an application in assembly, up to its line `end`.
 ghost use Rattle.std.specs.Prelude.{◌≡◌, ◌<◌, ◌≤◌, length, vec_len, Ok, Err, IfOk, IfErr, MatchResult};
-ghost use Rattle.model_device.specs.Limits.{most_code};
-ghost use Rattle.model_text.specs.Text.{fields};
+ghost use Rattle.model_play.specs.model_device.specs.Limits.{most_code};
+ghost use Rattle.model_play.specs.model_text.specs.Text.{fields};
 ghost use Rattle.model_play.specs.DeckGrammar.{data_hex, data_of_line, is_data, is_end, made_unit, section_data, section_program, section_unit};
 ghost use Rattle.mc_asm.specs.Items.{texts};
 ghost use Rattle.mc_asm.specs.Passes.{numbered_lines};
@@ -16,8 +16,8 @@ use crate::text::fields;
 use crate::unit::{OwnedUnit, made};
 use mc_asm::{AsmRefusal, NumberedLine, assemble_lines};
 use mc_base::Aid;
-use model_card::UnitRefusal;
 use model_play::DeckCause;
+use model_play::model_card::UnitRefusal;
 use std::alloc::Global;
 
 /// A section that is open: the number of its first line, its name and AID, and its other lines so far.

@@ -1,9 +1,9 @@
 // Statements: a line by its word and its fields.
 ghost use Rattle.std.specs.Prelude.{◌≡◌, ◌<◌, ◌+◌, ℕ, Bool, false, List, [], ◌∷◌, length, option_map, Ok, Err, IfOk, MatchResult};
 ghost use Rattle.std.specs.List.{AllByRecursion};
-ghost use Rattle.model_device.specs.Bytes.{lookup};
-ghost use Rattle.model_text.specs.Text.{err_as};
-ghost use Rattle.model_card.specs.Units.{unit_read};
+ghost use Rattle.model_play.specs.model_device.specs.Bytes.{lookup};
+ghost use Rattle.model_play.specs.model_text.specs.Text.{err_as};
+ghost use Rattle.model_play.specs.model_card.specs.Units.{unit_read};
 ghost use Rattle.model_play.specs.declared.deck.DeckCause.TheVariants.{Unit};
 ghost use Rattle.model_play.specs.DeckGrammar.{deck_words, new_name, statement_of, Context, FormatWord, PowerWord, UnitWord, AppWord, LoadWord, SelectWord, DeleteWord, DumpWord, ApduWord, BudgetWord, CutWord, FailWord, PokeWord};
 ghost use Rattle.mc_asm.specs.Items.{texts};

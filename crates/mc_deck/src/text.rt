@@ -1,7 +1,7 @@
 // The fields of a line.
 ghost use Rattle.std.specs.Prelude.{◌≡◌, ◌<◌, length, take};
 ghost use Rattle.std.specs.List.{AllByRecursion};
-ghost use Rattle.model_text.specs.Text.{fields};
+ghost use Rattle.model_play.specs.model_text.specs.Text.{fields};
 ghost use Rattle.mc_asm.specs.Items.{texts};
 
 use arrayvec::ArrayVec;

@@ -1,6 +1,6 @@
 // Load units that own their bytes.
 ghost use Rattle.std.specs.Prelude.{◌≡◌, ◌≤◌, length, IfOk};
-ghost use Rattle.model_card.specs.Units.{object};
+ghost use Rattle.model_play.specs.model_card.specs.Units.{object};
 ghost use Rattle.model_play.specs.DeckGrammar.{made_unit};
 ghost use Rattle.mc_unit.specs.Parts.{parts_of};
 ghost use Rattle.mc_deck.specs.Lines.{owned_parts, NumberWithin};

@@ -4,7 +4,7 @@ use Rattle.std.specs.Int.Bits.{bit_xor, xor_zero_r}
 use Rattle.std.proofs.Math.Nat.{div-div-eq-div-mul}
 use Rattle.std.proofs.lemmas.Nat.{xor_shr, xor_mod, pow-add}
 use Rattle.std.proofs.lemmas.List.{length-replicate, append-nil}
-use Rattle.model_device.specs.Bytes.{zeros}
+use Rattle.model_machine.specs.model_device.specs.Bytes.{zeros}
 use Rattle.model_machine.specs.Modes.{bit_sum}
 use Rattle.model_machine.specs.Des.{bits, pick}
 use Rattle.mc_des.specs.Words.{alone, key_bits}

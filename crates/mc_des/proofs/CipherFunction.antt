@@ -7,7 +7,7 @@ use Rattle.std.proofs.Math.Nat.{div-div-eq-div-mul, zero-mul}
 use Rattle.std.proofs.Math.Pow.{pow_pos}
 use Rattle.std.proofs.lemmas.Nat.{xor_shr, or_block, and_mask}
 use Rattle.std.proofs.lemmas.List.{append-nil, take_at, drop_at}
-use Rattle.model_device.specs.Bytes.{zeros}
+use Rattle.model_machine.specs.model_device.specs.Bytes.{zeros}
 use Rattle.model_machine.specs.Modes.{bit_sum}
 use Rattle.model_machine.specs.Des.{bits, pick, f, through, box_at, boxes, expansion, permutation}
 use Rattle.model_machine.proofs.ModesLemmas.{length_added}

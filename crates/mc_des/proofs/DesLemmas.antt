@@ -8,7 +8,7 @@ use Rattle.std.proofs.lemmas.List.{reverse-append, length-drop, take_all, map-ap
 use Rattle.model_machine.proofs.ModesLemmas.{chain_step}
 use Rattle.model_machine.specs.Modes.{bit_sum, blocks_of, last_of_chain}
 use Rattle.model_machine.specs.Des.{des_block, round_keys, des_encipher, des_decipher, tdes_encipher, tdes_decipher, des_signature, tdes_signature}
-use Rattle.model_device.proofs.ListLemmas.{byte_xor}
+use Rattle.model_machine.specs.model_device.proofs.ListLemmas.{byte_xor}
 
 -- ---- the definitions, unfolded once
 

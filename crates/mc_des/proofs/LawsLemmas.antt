@@ -10,7 +10,7 @@ use Rattle.mc_des.proofs.BitsLemmas.{length_bits, length_pick}
 use Rattle.mc_des.proofs.BlockLemmas.{number_bits, rounds_cons, rounds_none, with_keys_open, ciphered_open, bytes_of_open, bytes_of_none, bits_of_open}
 use Rattle.mc_des.proofs.CipherFunction.{f_open}
 use Rattle.mc_des.proofs.DesLemmas.{des_encipher_open, des_decipher_open, tdes_encipher_open, tdes_decipher_open}
-use Rattle.model_device.proofs.ListLemmas.{bit_cases}
+use Rattle.model_machine.specs.model_device.proofs.ListLemmas.{bit_cases}
 
 -- ---- lists of bits
 

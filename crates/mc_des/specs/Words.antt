@@ -1,6 +1,6 @@
 -- Words of the code as lists of bits.
 use Rattle.std.specs.Prelude.{ℕ, ◌-◌, ◌*◌, ◌/◌, ◌^◌, List, [], ◌++◌, take, drop, slice_index_or}
-use Rattle.model_device.specs.Bytes.{zeros}
+use Rattle.model_machine.specs.model_device.specs.Bytes.{zeros}
 use Rattle.model_machine.specs.Des.{bits, box_at, boxes, rounds}
 
 -- n nibbles, of which the one at `place` is `four` and the others are zero

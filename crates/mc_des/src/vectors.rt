@@ -1,7 +1,7 @@
 // Known answers of public standards, as theorems about the definition.
 
 ghost use Rattle.std.specs.Prelude.{◌≡◌, true, [], ◌∷◌, ◌++◌, codes};
-ghost use Rattle.model_device.specs.Bytes.{bytes};
+ghost use Rattle.model_machine.specs.model_device.specs.Bytes.{bytes};
 ghost use Rattle.model_machine.specs.Des.{tdes_encipher, tdes_decipher, des_signature, tdes_signature};
 ghost use Rattle.mc_des.specs.Vectors.{all_encipher, all_decipher, known_answers, variable_plaintext, variable_key, permutation_operation, substitution_table};
 

@@ -1,7 +1,7 @@
 -- The bytes that were read of an input, or why it is rejected.
 use Rattle.std.specs.Prelude.{◌≡◌, ℕ, ◌+◌, ◌≤◌, List, length, Option, Some, None, Result, Ok, Err, ⊤}
-use Rattle.model_play.specs.DeckGrammar.{DeckLine}
-use Rattle.model_play.specs.declared.deck.DeckCause.{DeckCause}
+use Rattle.mc_deck.specs.model_play.specs.DeckGrammar.{DeckLine}
+use Rattle.mc_deck.specs.model_play.specs.declared.deck.DeckCause.{DeckCause}
 use Rattle.mc_streams.specs.Streams.{one_more, Took, AtEnd, TookAtMost, TookMore}
 use Rattle.mc_streams.specs.declared.source.Source as source
 use Rattle.mc_filter.specs.declared.rejection.Rejection.{Rejection}

@@ -1,7 +1,7 @@
 -- The lines that refuse an input.
 use Rattle.std.specs.Prelude.{ℕ, List, ◌++◌, codes, decimal}
-use Rattle.model_play.specs.Words.{deck_word}
-use Rattle.model_play.specs.declared.deck.DeckCause.{DeckCause}
+use Rattle.mc_deck.specs.model_play.specs.Words.{deck_word}
+use Rattle.mc_deck.specs.model_play.specs.declared.deck.DeckCause.{DeckCause}
 
 -- the line of a refusal: the kind, `line` or `place`, its number, and the cause
 abbrev pub refusal_line : List ℕ → ℕ → List ℕ → List ℕ

@@ -1,6 +1,6 @@
 // The deck of an input.
 ghost use Rattle.std.specs.Prelude.{◌≡◌, Ok, IfErr, IfOk};
-ghost use Rattle.model_play.specs.DeckGrammar.{deck_read};
+ghost use Rattle.mc_deck.specs.model_play.specs.DeckGrammar.{deck_read};
 ghost use Rattle.mc_filter.specs.Inputs.{refused_deck, Rejects};
 
 use crate::lines::refused;

@@ -1,7 +1,7 @@
 ghost use Rattle.std.specs.Prelude.{◌≡◌, ◌≤◌, true, length, OnOk};
-ghost use Rattle.model_device.specs.Device.{Makes};
-ghost use Rattle.model_device.specs.Image.{targets};
-ghost use Rattle.model_device.specs.Stopped.{entries};
+ghost use Rattle.mc_base.specs.model_device.specs.Device.{Makes};
+ghost use Rattle.mc_base.specs.model_device.specs.Image.{targets};
+ghost use Rattle.mc_base.specs.model_device.specs.Stopped.{entries};
 ghost use Rattle.mc_gate.specs.Layouts.{journal_of};
 ghost use Rattle.mc_gate.specs.Look.{target_list};
 

@@ -1,5 +1,5 @@
 ghost use Rattle.std.specs.Prelude.{◌≡◌, ◌<◌, ◌≤◌};
-ghost use Rattle.model_device.specs.Image.{gate, opening};
+ghost use Rattle.mc_base.specs.model_device.specs.Image.{gate, opening};
 ghost use Rattle.mc_gate.specs.Layouts.{journal_of, place_of_value};
 
 use mc_base::Word;

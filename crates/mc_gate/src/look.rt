@@ -1,5 +1,5 @@
 ghost use Rattle.std.specs.Prelude.{◌≡◌, ◌≤◌, length, IfSome, MatchResult};
-ghost use Rattle.model_device.specs.Image.{within, look_by_targets, pairs, number, is_count, is_open, look_j};
+ghost use Rattle.mc_base.specs.model_device.specs.Image.{within, look_by_targets, pairs, number, is_count, is_open, look_j};
 ghost use Rattle.mc_gate.specs.Layouts.{journal_of};
 ghost use Rattle.mc_gate.specs.Look.{look_of, target_list, HasCount};
 

@@ -1,5 +1,5 @@
 ghost use Rattle.std.specs.Prelude.{◌≡◌};
-ghost use Rattle.model_device.specs.Stopped.{word_of_number};
+ghost use Rattle.mc_base.specs.model_device.specs.Stopped.{word_of_number};
 
 use mc_base::{Word, bytes_of};
 

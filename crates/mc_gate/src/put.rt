@@ -1,8 +1,8 @@
 ghost use Rattle.std.specs.Prelude.{◌≡◌, ◌≤◌, true, [], ◌∷◌, length, OnOk};
 ghost use Rattle.std.specs.List.{AllByRecursion};
-ghost use Rattle.model_device.specs.Device.{Makes};
-ghost use Rattle.model_device.specs.Image.{within, gate, opening};
-ghost use Rattle.model_device.specs.Stopped.{word_of_number, replay};
+ghost use Rattle.mc_base.specs.model_device.specs.Device.{Makes};
+ghost use Rattle.mc_base.specs.model_device.specs.Image.{within, gate, opening};
+ghost use Rattle.mc_base.specs.model_device.specs.Stopped.{word_of_number, replay};
 ghost use Rattle.mc_gate.specs.Layouts.{journal_of};
 
 use crate::layouts::{HEAD, Layout, SHUT};

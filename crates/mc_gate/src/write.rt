@@ -1,7 +1,7 @@
 ghost use Rattle.std.specs.Prelude.{◌≡◌, ◌≤◌, true, false, length};
-ghost use Rattle.model_device.specs.Device.{Makes};
-ghost use Rattle.model_device.specs.Image.{is_open};
-ghost use Rattle.model_device.specs.Stopped.{IsAtomic, writes, WriteEnds};
+ghost use Rattle.mc_base.specs.model_device.specs.Device.{Makes};
+ghost use Rattle.mc_base.specs.model_device.specs.Image.{is_open};
+ghost use Rattle.mc_base.specs.model_device.specs.Stopped.{IsAtomic, writes, WriteEnds};
 ghost use Rattle.mc_gate.specs.Layouts.{journal_of};
 
 use crate::journals::Journal;

@@ -2,14 +2,14 @@
 use Rattle.std.proofs.Common.{◌≡◌, ℕ, zero, suc, ◌+◌, ◌<◌, ◌≤◌, Bool, true, false, cond, List, [], ◌∷◌, ◌++◌, length, take, drop, Option, Some, None, Result, Ok, Err, arith, refl, sym, ap, subst, inl, inr, ◌∙◌, length-drop, length-take}
 use Rattle.std.specs.Prelude.{nat_le, option_map, slice_index}
 use Rattle.std.proofs.lemmas.List.{take-append-drop}
-use Rattle.model_machine.specs.Code.{Form, instruction_of_form, made_of, operands, total, form, spell, front, instruction_at, IsUndefined, IsPast, DecodesTo, kinds, from_place, Kind}
-use Rattle.model_machine.specs.declared.instruction.DecodeFault.{DecodeFault}
-use Rattle.model_machine.specs.declared.instruction.DecodeFault.TheVariants.{Undefined, Past}
-use Rattle.model_machine.specs.declared.instruction.Ins.{Ins}
+use Rattle.model_text.specs.model_machine.specs.Code.{Form, instruction_of_form, made_of, operands, total, form, spell, front, instruction_at, IsUndefined, IsPast, DecodesTo, kinds, from_place, Kind}
+use Rattle.model_text.specs.model_machine.specs.declared.instruction.DecodeFault.{DecodeFault}
+use Rattle.model_text.specs.model_machine.specs.declared.instruction.DecodeFault.TheVariants.{Undefined, Past}
+use Rattle.model_text.specs.model_machine.specs.declared.instruction.Ins.{Ins}
 use Rattle.mc_isa.proofs.RowLemmas.{Good, GoodRow, good_form, made_good}
-use Rattle.model_device.specs.Bytes.{AreBytes}
+use Rattle.model_text.specs.model_device.specs.Bytes.{AreBytes}
 use Rattle.mc_isa.proofs.SpellingLemmas.{front_spell}
-use Rattle.model_device.proofs.ListLemmas.{bytes_from}
+use Rattle.model_text.specs.model_device.proofs.ListLemmas.{bytes_from}
 use Rattle.std.proofs.lemmas.Bool.{leb-false, leb-true}
 
 -- ---- the byte at a place

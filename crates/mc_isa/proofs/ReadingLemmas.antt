@@ -3,10 +3,10 @@ use Rattle.std.proofs.Common.{◌≡◌, ℕ, ◌+◌, ◌*◌, ◌/◌, ◌%◌
 use Rattle.std.specs.Prelude.{nat_eq, ℤ, FitsSigned}
 use Rattle.std.specs.Int.{w8, w16, cast_signed, cast_unsigned}
 use Rattle.std.proofs.lemmas.Int.{ints, to_z-of_z, of_z-to_z}
-use Rattle.model_device.specs.Bytes.{bytes2}
-use Rattle.model_machine.specs.Code.{Form, Plain, OneByte, TwoBytes, Word, TwoWords, Near, Target, Offset, ByteOffset, WordOffset, made_of, IsTarget, IsAddress, offset, target}
-use Rattle.model_machine.specs.declared.instruction.Ins.{Ins}
-use Rattle.model_device.proofs.ListLemmas.{two_bytes as word_of}
+use Rattle.model_text.specs.model_device.specs.Bytes.{bytes2}
+use Rattle.model_text.specs.model_machine.specs.Code.{Form, Plain, OneByte, TwoBytes, Word, TwoWords, Near, Target, Offset, ByteOffset, WordOffset, made_of, IsTarget, IsAddress, offset, target}
+use Rattle.model_text.specs.model_machine.specs.declared.instruction.Ins.{Ins}
+use Rattle.model_text.specs.model_device.proofs.ListLemmas.{two_bytes as word_of}
 
 -- an instruction is no longer than its opcode byte and the operand bytes that it is made of
 pub made_of_inside : (o : Option Form) (bs : List ℕ) (i : Ins) (n : ℕ) → made_of o bs ≡ Ok (i, n) → n ≤ length bs + 1

@@ -4,9 +4,9 @@ use Rattle.std.specs.Prelude.{nat_le, nat_eq, option_and_then, ℤ, FitsSigned, 
 use Rattle.std.specs.List.{AllByRecursion}
 use Rattle.std.specs.Int.{w8, cast_signed, cast_unsigned}
 use Rattle.std.proofs.lemmas.Int.{ints}
-use Rattle.model_device.specs.Bytes.{bytes2, AreBytes}
-use Rattle.model_machine.specs.Code.{Form, Plain, OneByte, TwoBytes, Word, TwoWords, Near, Target, Primitive, Offset, ByteOffset, WordOffset, instruction_of_form, operands, total, behind, U16, I16, row_at, rows, form, register_rows, stack_rows, call_rows, Shaped, IsTarget, IsAddress, spell, offset, target, offset_in, target_in}
-use Rattle.model_machine.specs.declared.instruction.Ins.TheVariants.{Branch, Prim}
+use Rattle.model_text.specs.model_device.specs.Bytes.{bytes2, AreBytes}
+use Rattle.model_text.specs.model_machine.specs.Code.{Form, Plain, OneByte, TwoBytes, Word, TwoWords, Near, Target, Primitive, Offset, ByteOffset, WordOffset, instruction_of_form, operands, total, behind, U16, I16, row_at, rows, form, register_rows, stack_rows, call_rows, Shaped, IsTarget, IsAddress, spell, offset, target, offset_in, target_in}
+use Rattle.model_text.specs.model_machine.specs.declared.instruction.Ins.TheVariants.{Branch, Prim}
 use Rattle.mc_isa.proofs.ReadingLemmas.{bytes2_of, unsigned8, unsigned16, fits8, fits16}
 
 -- ---- each row spells what it makes

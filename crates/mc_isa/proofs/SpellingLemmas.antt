@@ -2,11 +2,11 @@
 use Rattle.std.proofs.Common.{◌≡◌, ℕ, zero, suc, ◌+◌, ◌*◌, ◌<◌, false, List, [], ◌∷◌, ◌++◌, length, take, Some, Result, Ok, Err, arith, refl, sym, ap, ◌∙◌, length-append, append-nil, zero-add}
 use Rattle.std.specs.Prelude.{nat_eq, ℤ, FitsSigned}
 use Rattle.std.specs.Int.{w8, cast_unsigned}
-use Rattle.model_device.specs.Bytes.{bytes2}
-use Rattle.model_machine.specs.Code.{Near, Target, Offset, ByteOffset, WordOffset, made_of, row_of, form, Shaped, IsTarget, IsAddress, IsPrimitive, spell, offset, target, front, instruction_at, from_place}
-use Rattle.model_machine.specs.declared.instruction.DecodeFault.{DecodeFault}
-use Rattle.model_machine.specs.declared.instruction.Ins.{Ins}
-use Rattle.model_machine.specs.declared.instruction.Ins.TheVariants.{Nop, Setsw, Setla, Setswla, Exit, Exitsw, Exitla, Exitswla, Branch, Jump, Call, Pushz, Pushb, Pushw, Popn, Popb, Popw, Prim, Ret, Reti, Reto, Retio, Load, Store, Loadi, Storei, Loada, Index, Setb, Cmpb, Addb, Subb, Setw, Cmpw, Addw, Subw, Clearn, Testn, Incn, Decn, Notn, Cmpn, Addn, Subn, Andn, Orn, Xorn}
+use Rattle.model_text.specs.model_device.specs.Bytes.{bytes2}
+use Rattle.model_text.specs.model_machine.specs.Code.{Near, Target, Offset, ByteOffset, WordOffset, made_of, row_of, form, Shaped, IsTarget, IsAddress, IsPrimitive, spell, offset, target, front, instruction_at, from_place}
+use Rattle.model_text.specs.model_machine.specs.declared.instruction.DecodeFault.{DecodeFault}
+use Rattle.model_text.specs.model_machine.specs.declared.instruction.Ins.{Ins}
+use Rattle.model_text.specs.model_machine.specs.declared.instruction.Ins.TheVariants.{Nop, Setsw, Setla, Setswla, Exit, Exitsw, Exitla, Exitswla, Branch, Jump, Call, Pushz, Pushb, Pushw, Popn, Popb, Popw, Prim, Ret, Reti, Reto, Retio, Load, Store, Loadi, Storei, Loada, Index, Setb, Cmpb, Addb, Subb, Setw, Cmpw, Addw, Subw, Clearn, Testn, Incn, Decn, Notn, Cmpn, Addn, Subn, Andn, Orn, Xorn}
 use Rattle.mc_isa.proofs.ReadingLemmas.{op_of, tag_of, back_plain, back_byte, back_bytes, back_word, back_words, back_near, back_offset_at, back_byte_offset_at, back_word_offset_at, back_target_at}
 use Rattle.std.proofs.lemmas.List.{nil_from_length}
 

@@ -1,6 +1,6 @@
 -- The lengths of instructions in bytes, by their first byte.
 use Rattle.std.specs.Prelude.{ℕ, ◌+◌, ◌*◌, List, [], ◌∷◌, map, option_map, unwrap_or}
-use Rattle.model_machine.specs.Code.{kinds, total}
+use Rattle.model_text.specs.model_machine.specs.Code.{kinds, total}
 
 -- the length in bytes of the instruction that a byte begins, 0 if it begins none
 abbrev pub length_at : ℕ → ℕ

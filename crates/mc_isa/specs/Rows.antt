@@ -2,8 +2,8 @@
 use Rattle.std.specs.Prelude.{ℕ, ◌<◌, List, [], ◌∷◌, ◌++◌, take, codes, decimal}
 use Rattle.std.specs.Int.{w8, cast_unsigned}
 use Rattle.std.specs.Fmt.{signed_decimal}
-use Rattle.model_device.specs.Bytes.{bytes2}
-use Rattle.model_machine.specs.Code.{target, offset}
+use Rattle.model_text.specs.model_device.specs.Bytes.{bytes2}
+use Rattle.model_text.specs.model_machine.specs.Code.{target, offset}
 use Rattle.model_text.specs.Listing.{byte_line, word_line, words_line, target_line, address_line, operand_line, arguments_text, condition_name, hex_word}
 use Rattle.mc_isa.specs.declared.rows.Operands.{Operands}
 use Rattle.mc_isa.specs.declared.rows.Operands.TheVariants.{Plain, Byte, Bytes, Word, Words, Near, Target, Primitive, Address, WithByte, WithWord}

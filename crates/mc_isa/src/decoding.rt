@@ -1,16 +1,16 @@
 // From bytes to instructions: the table of machine rows, by op and tag. A row returns the instruction and its
 // length.
 ghost use Rattle.std.specs.Prelude.{◌≡◌, ℕ, ◌+◌, ◌*◌, ◌/◌, ◌%◌, ◌<◌, ◌≤◌, length, take, drop, ◌++◌};
-ghost use Rattle.model_machine.specs.declared.instruction.Ins.TheVariants.{Branch, Jump, Call};
-ghost use Rattle.model_device.specs.Limits.{most_code};
-ghost use Rattle.model_machine.specs.Code.{made_of, row_at, row_of, register_rows, stack_rows, call_rows, near_row, target_row, form, front, instruction_at, DecodesTo};
+ghost use Rattle.model_text.specs.model_machine.specs.declared.instruction.Ins.TheVariants.{Branch, Jump, Call};
+ghost use Rattle.model_text.specs.model_device.specs.Limits.{most_code};
+ghost use Rattle.model_text.specs.model_machine.specs.Code.{made_of, row_at, row_of, register_rows, stack_rows, call_rows, near_row, target_row, form, front, instruction_at, DecodesTo};
 ghost use Rattle.mc_isa.specs.Operations.{TakesByte, TakesWord};
 
 use crate::reading::{
     arguments, byte, byte_and_offset, bytes, displacement, offset, offset_size, target,
     target_size, word, word_and_offset, words,
 };
-use model_machine::{DecodeFault, Ins};
+use model_text::model_machine::{DecodeFault, Ins};
 
 // Op 00: the status registers and exits.
 #[inline(always)]

@@ -1,13 +1,13 @@
 // From rows to bytes.
 ghost use Rattle.std.specs.Prelude.{◌≡◌, ◌+◌, ◌<◌, ◌≤◌, ◌++◌, take};
 ghost use Rattle.arrayvec.specs.ArrayVec.{array_vec_len};
-ghost use Rattle.model_device.specs.Bytes.{bytes2};
-ghost use Rattle.model_machine.specs.Code.{Shaped, spell, target, offset};
+ghost use Rattle.model_text.specs.model_device.specs.Bytes.{bytes2};
+ghost use Rattle.model_text.specs.model_machine.specs.Code.{Shaped, spell, target, offset};
 ghost use Rattle.mc_isa.specs.Rows.{operand_bytes, OperandsInRange};
 
 use crate::rows::{Operands, row_of};
 use arrayvec::ArrayVec;
-use model_machine::Ins;
+use model_text::model_machine::Ins;
 
 // Appends a word, high byte first.
 fn put_word(bytes: &mut ArrayVec<u8, 6>, word: u16)

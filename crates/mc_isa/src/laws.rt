@@ -1,9 +1,9 @@
 // Laws of the table, the spelling and the decoder.
 ghost use Rattle.std.specs.Prelude.{◌≡◌, ◌+◌, ◌<◌, ℕ, List, [], ◌++◌, length, Result};
 ghost use Rattle.std.specs.List.{AllByRecursion};
-ghost use Rattle.model_machine.specs.Code.{Shaped, spell, instruction_at, DecodesTo};
-ghost use Rattle.model_machine.specs.declared.instruction.DecodeFault.{DecodeFault};
-ghost use Rattle.model_machine.specs.declared.instruction.Ins.{Ins};
+ghost use Rattle.model_text.specs.model_machine.specs.Code.{Shaped, spell, instruction_at, DecodesTo};
+ghost use Rattle.model_text.specs.model_machine.specs.declared.instruction.DecodeFault.{DecodeFault};
+ghost use Rattle.model_text.specs.model_machine.specs.declared.instruction.Ins.{Ins};
 
 /// At each place of code exactly one result holds: one instruction with one next place, `Undefined`, or
 /// `Past`.

@@ -14,7 +14,8 @@ pub use decoding::decode;
 pub use encoding::encode;
 pub use laws::{a_spelling_is_decoded, one_answer_at_each_place, spellings_are_prefix_free};
 pub use listing::text_of;
-pub use model_machine::{DecodeFault, Ins};
+pub use model_text::model_machine;
+pub use model_text::model_machine::{DecodeFault, Ins};
 pub use worked::{
     addressed_rows_as_bytes, addressed_rows_as_text, blocks_rows_as_bytes, blocks_rows_as_text,
     code_that_ends_too_early, control_rows_as_bytes, control_rows_as_text,

@@ -2,14 +2,14 @@
 ghost use Rattle.std.specs.Prelude.{◌≡◌, ◌+◌, ◌<◌, ◌≤◌, ◌++◌, ◌∷◌, [], length, take, drop, codes, decimal, cond, ◌==◌, ◌*◌};
 ghost use Rattle.std.specs.Fmt.{signed_decimal};
 ghost use Rattle.arrayvec.specs.ArrayVec.{array_vec_len};
-ghost use Rattle.model_machine.specs.Code.{Shaped};
+ghost use Rattle.model_text.specs.model_machine.specs.Code.{Shaped};
 ghost use Rattle.model_text.specs.Listing.{text_of, hex_digit, hex_word, condition_name, register_name, address_text, address_line, arguments_text, byte_line, target_line, words_line};
 ghost use Rattle.mc_isa.specs.Rows.{line_of, OperandsInRange};
 
 use crate::rows::{Operands, row_of};
 use arrayvec::ArrayVec;
 use itoa::Buffer;
-use model_machine::Ins;
+use model_text::model_machine::Ins;
 
 type Line = ArrayVec<u8, 40>;
 

@@ -1,11 +1,11 @@
 // The operands in the bytes after an instruction byte. Each call fails with `Past` if the bytes are too few.
 ghost use Rattle.std.specs.Prelude.{◌≡◌, ◌+◌, ◌<◌, ◌≤◌, length, slice_index, replicate, ◌∷◌, ◌++◌, take, drop, ◌-◌};
 ghost use Rattle.std.specs.Int.{w8, cast_signed};
-ghost use Rattle.model_device.specs.Bytes.{be2, zeros};
-ghost use Rattle.model_machine.specs.Code.{offset_in, target_in, behind, total, U8, U16, I16};
+ghost use Rattle.model_text.specs.model_device.specs.Bytes.{be2, zeros};
+ghost use Rattle.model_text.specs.model_machine.specs.Code.{offset_in, target_in, behind, total, U8, U16, I16};
 ghost use Rattle.mc_isa.specs.Reading.{ReadsOperand};
 
-use model_machine::DecodeFault;
+use model_text::model_machine::DecodeFault;
 
 // One byte.
 #[inline(always)]

@@ -1,13 +1,13 @@
 // From instructions to their rows: the table again, in the order of `Ins`.
 ghost use Rattle.std.specs.Prelude.{◌≡◌, ◌≤◌, ◌∷◌, length};
-ghost use Rattle.model_machine.specs.Code.{Shaped, spell};
+ghost use Rattle.model_text.specs.model_machine.specs.Code.{Shaped, spell};
 ghost use Rattle.model_text.specs.Listing.{text_of};
 ghost use Rattle.mc_isa.specs.Rows.{operand_bytes, line_of, OperandsInRange};
 
 use Operands::{
     Address, Byte, Bytes, Near, Plain, Primitive, Target, WithByte, WithWord, Word, Words,
 };
-use model_machine::Ins;
+use model_text::model_machine::Ins;
 
 /// The operands of an instruction by their shape. A tag of 0 has no offset, and a condition of 0 no address.
 #[derive(Clone, Copy)]

@@ -1,10 +1,10 @@
 // Worked rows: each instruction once as bytes and as text, written down from the table of the machine by hand.
 ghost use Rattle.std.specs.Prelude.{◌≡◌, [], ◌∷◌, ◌++◌, codes, length, pos, negsuc, ℕ, Result};
-ghost use Rattle.model_machine.specs.Code.{instruction_at, spell};
+ghost use Rattle.model_text.specs.model_machine.specs.Code.{instruction_at, spell};
 ghost use Rattle.model_text.specs.Listing.{listing_of_code, text_of};
 ghost use Rattle.mc_isa.specs.Lengths.{lengths};
-ghost use Rattle.model_machine.specs.declared.instruction.DecodeFault.TheVariants.{Past, Undefined};
-ghost use Rattle.model_machine.specs.declared.instruction.Ins.TheVariants.{Nop, Setsw, Setla, Setswla, Exit, Exitsw, Exitla, Exitswla, Branch, Jump, Call, Pushz, Pushb, Pushw, Popn, Popb, Popw, Prim, Ret, Reti, Reto, Retio, Load, Store, Loadi, Storei, Loada, Index, Setb, Cmpb, Addb, Subb, Setw, Cmpw, Addw, Subw, Clearn, Testn, Incn, Decn, Notn, Cmpn, Addn, Subn, Andn, Orn, Xorn};
+ghost use Rattle.model_text.specs.model_machine.specs.declared.instruction.DecodeFault.TheVariants.{Past, Undefined};
+ghost use Rattle.model_text.specs.model_machine.specs.declared.instruction.Ins.TheVariants.{Nop, Setsw, Setla, Setswla, Exit, Exitsw, Exitla, Exitswla, Branch, Jump, Call, Pushz, Pushb, Pushw, Popn, Popb, Popw, Prim, Ret, Reti, Reto, Retio, Load, Store, Loadi, Storei, Loada, Index, Setb, Cmpb, Addb, Subb, Setw, Cmpw, Addw, Subw, Clearn, Testn, Incn, Decn, Notn, Cmpn, Addn, Subn, Andn, Orn, Xorn};
 
 /// The registers, branches, jumps and calls. As bytes.
 pub fn control_rows_as_bytes()

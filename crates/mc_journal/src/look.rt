@@ -1,5 +1,5 @@
 ghost use Rattle.std.specs.Prelude.{◌≡◌, ◌≤◌, length};
-ghost use Rattle.model_device.specs.Image.{One, within, targets, number};
+ghost use Rattle.mc_base.specs.model_device.specs.Image.{One, within, targets, number};
 ghost use Rattle.mc_gate.specs.Look.{target_list};
 
 use arrayvec::ArrayVec;

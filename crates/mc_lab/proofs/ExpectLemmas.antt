@@ -1,7 +1,7 @@
 -- Expectations compared one by one, and the report of them.
 use Rattle.std.proofs.Common.{◌≡◌, ◌+◌, ◌<◌, ◌≤◌, refl, sym, ◌∙◌, ap, subst, ℕ, zero, suc, List, [], ◌∷◌, ◌++◌, length, drop, filter, not, Bool, true, false, cond, Result, Ok, Err, IsErr, arith, zero-add, append_assoc}
 use Rattle.std.specs.Prelude.{slice_index_or}
-use Rattle.model_play.specs.Play.{Step}
+use Rattle.law_explore.specs.model_play.specs.Play.{Step}
 use Rattle.mc_asm.proofs.PassLemmas.{no_line}
 use Rattle.mc_streams.specs.declared.refusals.WriteFault.{WriteFault}
 use Rattle.mc_text.specs.Texts.{Sunk, Puts, Writes, Fails}

@@ -2,8 +2,8 @@
 use Rattle.std.proofs.Common.{◌≡◌, ◌+◌, ◌<◌, refl, sym, ◌∙◌, ap, subst, ℕ, suc, List, [], ◌∷◌, length, drop, Bool, true, false, cond, Option, Some, None, Result, Ok, Err, arith}
 use Rattle.std.specs.Prelude.{◌==◌, nat_lt}
 use Rattle.std.proofs.lemmas.Bool.Decides.{nat_tests}
-use Rattle.model_play.specs.DeckGrammar.{DeckLine, deck_read}
-use Rattle.model_play.specs.declared.deck.DeckCause.{DeckCause}
+use Rattle.law_explore.specs.model_play.specs.DeckGrammar.{DeckLine, deck_read}
+use Rattle.law_explore.specs.model_play.specs.declared.deck.DeckCause.{DeckCause}
 use Rattle.mc_deck.specs.Refused.{DeckRefuses}
 use Rattle.mc_deck.specs.declared.refusal.DeckRefusal.{DeckRefusal}
 use Rattle.mc_deck.specs.declared.refusal.DeckRefusal.TheVariants as deck

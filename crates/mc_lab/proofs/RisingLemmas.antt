@@ -1,14 +1,14 @@
 -- The line numbers of a deck ascend.
 use Rattle.std.proofs.Common.{◌≡◌, ◌<◌, ◌≤◌, refl, subst, ℕ, suc, List, [], ◌∷◌, ◌++◌, Bool, true, false, cond, Option, Some, None, Result, Ok, Err, arith}
 use Rattle.std.specs.Prelude.{◌==◌, not, ok_or}
-use Rattle.model_play.specs.declared.deck.DeckCause.{DeckCause}
-use Rattle.model_play.specs.declared.deck.DeckCause.TheVariants.{BadLine, UnknownName, LateLine}
-use Rattle.model_play.specs.declared.deck.DeckCause.TheVariants as causes
-use Rattle.model_device.specs.Bytes.{lookup}
-use Rattle.model_card.specs.Units.{UnitParts, unit_read}
-use Rattle.model_text.specs.Text.{◌>>=◌, ok_as, err_as, only_if, begins, fields, lines, with_numbers}
-use Rattle.model_play.specs.DeckGrammar.{DeckLine, Named, Context, Section, Stated, Says, Opens, Word, FormatWord, PowerWord, UnitWord, AppWord, LoadWord, SelectWord, DeleteWord, DumpWord, ApduWord, BudgetWord, CutWord, FailWord, PokeWord, Mode, Between, Within, LineTurn, statement_of, deck_words, turn_of, between, within, turn_in, turn_at, lines_at_end, deck_lines, deck_read, section_unit, with_unit, is_end, name_field, hex_field, aid_field, fill_field, number_field, new_name}
-use Rattle.model_play.specs.DeckGrammar as line
+use Rattle.law_explore.specs.model_play.specs.declared.deck.DeckCause.{DeckCause}
+use Rattle.law_explore.specs.model_play.specs.declared.deck.DeckCause.TheVariants.{BadLine, UnknownName, LateLine}
+use Rattle.law_explore.specs.model_play.specs.declared.deck.DeckCause.TheVariants as causes
+use Rattle.law_explore.specs.model_device.specs.Bytes.{lookup}
+use Rattle.law_explore.specs.model_card.specs.Units.{UnitParts, unit_read}
+use Rattle.law_explore.specs.model_text.specs.Text.{◌>>=◌, ok_as, err_as, only_if, begins, fields, lines, with_numbers}
+use Rattle.law_explore.specs.model_play.specs.DeckGrammar.{DeckLine, Named, Context, Section, Stated, Says, Opens, Word, FormatWord, PowerWord, UnitWord, AppWord, LoadWord, SelectWord, DeleteWord, DumpWord, ApduWord, BudgetWord, CutWord, FailWord, PokeWord, Mode, Between, Within, LineTurn, statement_of, deck_words, turn_of, between, within, turn_in, turn_at, lines_at_end, deck_lines, deck_read, section_unit, with_unit, is_end, name_field, hex_field, aid_field, fill_field, number_field, new_name}
+use Rattle.law_explore.specs.model_play.specs.DeckGrammar as line
 use Rattle.mc_lab.specs.Rising.{Rising}
 use Rattle.mc_lab.specs.Expectations.{line_number}
 

@@ -2,16 +2,16 @@
 use Rattle.std.proofs.Common.{◌≡◌, ℕ, Bool, true, false, not, List, [], ◌∷◌, ◌++◌, Option, Some, None, Result, Ok, Err, refl, sym, ap, ◌∙◌}
 use Rattle.std.specs.Prelude.{◌==◌, ⊤, bytes_eq, codes, ok_or, IfOk, OnOk}
 use Rattle.std.proofs.lemmas.Bool.{eqb-true}
-use Rattle.model_device.specs.Bytes.{lookup}
-use Rattle.model_device.proofs.MapLemmas.{each_found}
-use Rattle.model_text.specs.Text.{ok_as, err_as, ◌>>=◌, begins, fields, lines, with_numbers}
-use Rattle.model_card.specs.Units.{unit_read}
-use Rattle.model_play.specs.declared.deck.DeckCause.{DeckCause}
-use Rattle.model_play.specs.declared.deck.DeckCause.TheVariants.{BadLine, LateLine, UnknownName}
-use Rattle.model_play.specs.declared.deck.DeckCause.TheVariants as causes
-use Rattle.model_play.specs.DeckGrammar.{hex_field, aid_field, fill_field, name_field, number_field, Context, Section, Stated, Says, Opens, Word, FormatWord, PowerWord, UnitWord, AppWord, LoadWord, SelectWord, DeleteWord, DumpWord, ApduWord, BudgetWord, CutWord, FailWord, PokeWord, deck_words, new_name, early, with_unit, statement_of, is_end, section_unit, Mode, Between, Within, LineTurn, turn_of, between, within, turn_at, deck_lines, deck_read}
-use Rattle.model_play.specs.DeckGrammar as line
-use Rattle.law_family.proofs.AssembledBytes.{as_ok, err_ok, only_ok, cond_ok, any_ok}
+use Rattle.law_explore.specs.model_device.specs.Bytes.{lookup}
+use Rattle.law_explore.specs.model_device.proofs.MapLemmas.{each_found}
+use Rattle.law_explore.specs.model_text.specs.Text.{ok_as, err_as, ◌>>=◌, begins, fields, lines, with_numbers}
+use Rattle.law_explore.specs.model_card.specs.Units.{unit_read}
+use Rattle.law_explore.specs.model_play.specs.declared.deck.DeckCause.{DeckCause}
+use Rattle.law_explore.specs.model_play.specs.declared.deck.DeckCause.TheVariants.{BadLine, LateLine, UnknownName}
+use Rattle.law_explore.specs.model_play.specs.declared.deck.DeckCause.TheVariants as causes
+use Rattle.law_explore.specs.model_play.specs.DeckGrammar.{hex_field, aid_field, fill_field, name_field, number_field, Context, Section, Stated, Says, Opens, Word, FormatWord, PowerWord, UnitWord, AppWord, LoadWord, SelectWord, DeleteWord, DumpWord, ApduWord, BudgetWord, CutWord, FailWord, PokeWord, deck_words, new_name, early, with_unit, statement_of, is_end, section_unit, Mode, Between, Within, LineTurn, turn_of, between, within, turn_at, deck_lines, deck_read}
+use Rattle.law_explore.specs.model_play.specs.DeckGrammar as line
+use Rattle.mc_deck.specs.law_family.proofs.AssembledBytes.{as_ok, err_ok, only_ok, cond_ok, any_ok}
 use Rattle.mc_lab.specs.declared.remark.Mark.{Mark}
 use Rattle.mc_lab.specs.Remarks.{Remark, above_after, after_line, in_section, just, remark_at, remarks, remarks_from, text_in}
 use Rattle.law_explore.specs.Rules.{stays_inside}

@@ -1,15 +1,15 @@
 -- A play that is compared: line by line, on a steady bench.
 use Rattle.std.proofs.Common.{◌≡◌, ◌+◌, ◌≤◌, refl, sym, ◌∙◌, ap, subst, ℕ, zero, suc, List, [], ◌∷◌, drop, true, cond, Option, Some, arith, add-one}
 use Rattle.std.specs.Prelude.{nat_lt, slice_get, option_map}
-use Rattle.model_device.specs.Device.{DeviceState, BenchState}
-use Rattle.model_machine.specs.Chain.{Turn}
-use Rattle.model_play.specs.DeckGrammar.{DeckLine}
-use Rattle.model_play.specs.Play.{State, Step, FailedWrite, armed_stop_in, moves_of, plays, start, steady_at, steady_failures, step}
+use Rattle.law_explore.specs.model_device.specs.Device.{DeviceState, BenchState}
+use Rattle.law_explore.specs.model_machine.specs.Chain.{Turn}
+use Rattle.law_explore.specs.model_play.specs.DeckGrammar.{DeckLine}
+use Rattle.law_explore.specs.model_play.specs.Play.{State, Step, FailedWrite, armed_stop_in, moves_of, plays, start, steady_at, steady_failures, step}
 use Rattle.mc_script.specs.declared.answer.Answer.{Answer}
 use Rattle.mc_script.specs.declared.player.Player.{Player}
 use Rattle.mc_script.specs.Players.{answer_value, device_of, IsPlayerAt, IsPlaying}
 use Rattle.mc_script.specs.Lines.{LineDone}
-use Rattle.model_play.proofs.PlayLemmas.{step_is}
+use Rattle.law_explore.specs.model_play.proofs.PlayLemmas.{step_is}
 use Rattle.mc_lab.specs.Rising.{Rising, count_below, last_of}
 use Rattle.mc_lab.specs.Expectations.{line_number, result_above, result_text, steady_from, steady_steps, step_text}
 use Rattle.mc_lab.specs.Stages.{Staged}

@@ -1,7 +1,7 @@
 -- Accounts of different lengths are not equal.
 use Rattle.std.specs.Prelude.{◌≡◌, ◌≢◌, ℕ, Bool, true, false, ◌&&◌, List, [], ◌∷◌, length, map, Option, refl}
 use Rattle.std.proofs.Common.{arith, sym, ◌∙◌}
-use Rattle.model_device.proofs.ListLemmas.{length_map as map-length}
+use Rattle.law_explore.specs.model_device.proofs.ListLemmas.{length_map as map-length}
 use Rattle.mc_lab.specs.Sweeps.{is_same_held, are_same_held}
 
 neither_same : (b c : Bool) → false ≡ c → false ≡ (b && c)

@@ -4,11 +4,11 @@ use Rattle.std.proofs.Common.{arith, ap, sym, subst, ◌∙◌}
 use Rattle.std.proofs.lemmas.Slice.Eq.{bytes_eq-Decides}
 use Rattle.std.proofs.lemmas.Bool.{lt-ltb, leb-true, eqb-true, and_from as joined, not-false, not-true, or_from, and_right, leb-false, and_parts}
 use Rattle.std.proofs.lemmas.Bool.Decides.{nat_tests}
-use Rattle.model_device.specs.Image.{Two}
-use Rattle.model_device.specs.Image as image
-use Rattle.model_device.specs.Stopped.{cost, opens_at, stands}
-use Rattle.model_device.specs.Card.{App}
-use Rattle.model_card.specs.Items.{Change, Item, Plain, Atomic, moves, apps_after_change, apps_after_items, at_stop, Stopped}
+use Rattle.law_explore.specs.model_device.specs.Image.{Two}
+use Rattle.law_explore.specs.model_device.specs.Image as image
+use Rattle.law_explore.specs.model_device.specs.Stopped.{cost, opens_at, stands}
+use Rattle.law_explore.specs.model_device.specs.Card.{App}
+use Rattle.law_explore.specs.model_card.specs.Items.{Change, Item, Plain, Atomic, moves, apps_after_change, apps_after_items, at_stop, Stopped}
 use Rattle.mc_lab.specs.Sweeps.{static_bytes_under, is_same_held, are_same_held}
 use Rattle.mc_lab.specs.SweepLaws.{changes, count_of_changes, opening_write}
 

@@ -4,14 +4,14 @@ use Rattle.std.proofs.Common.{arith, ap, sym, subst, inl, inr, ◌∙◌, append
 use Rattle.std.proofs.lemmas.Bool.{le-leb, cases_lt, and_from, and_left, and_parts}
 use Rattle.std.proofs.lemmas.List.{append-nil}
 use Rattle.std.proofs.Math.ListN.{drop_of_length-le}
-use Rattle.model_device.specs.Card.{Card}
-use Rattle.model_play.specs.Play.{Live, Running, Unpowered, Muted, Warm, State, BeforePower, AfterPower, FailedWrite, step, card_line, line_command, hit_of, play_at_power, power_moves, power_after, stopped_power, line_after, armed_stop_in, is_card_line, plays, steady_failures}
-use Rattle.model_device.specs.PowerUp.{Base, OnCard, AtFault}
-use Rattle.model_card.specs.Commands.{Command}
-use Rattle.model_card.specs.Items.{StopAt, moves}
-use Rattle.model_play.specs.DeckGrammar.{DeckLine}
-use Rattle.model_play.specs.DeckGrammar as line
-use Rattle.model_device.proofs.ListLemmas.{length_map as map-length}
+use Rattle.law_explore.specs.model_device.specs.Card.{Card}
+use Rattle.law_explore.specs.model_play.specs.Play.{Live, Running, Unpowered, Muted, Warm, State, BeforePower, AfterPower, FailedWrite, step, card_line, line_command, hit_of, play_at_power, power_moves, power_after, stopped_power, line_after, armed_stop_in, is_card_line, plays, steady_failures}
+use Rattle.law_explore.specs.model_device.specs.PowerUp.{Base, OnCard, AtFault}
+use Rattle.law_explore.specs.model_card.specs.Commands.{Command}
+use Rattle.law_explore.specs.model_card.specs.Items.{StopAt, moves}
+use Rattle.law_explore.specs.model_play.specs.DeckGrammar.{DeckLine}
+use Rattle.law_explore.specs.model_play.specs.DeckGrammar as line
+use Rattle.law_explore.specs.model_device.proofs.ListLemmas.{length_map as map-length}
 use Rattle.mc_lab.specs.Remarks.{Remark}
 use Rattle.mc_lab.specs.declared.sweep_trial.Place.{Place}
 use Rattle.mc_lab.specs.declared.sweep_text.Sums.{Sums}
@@ -22,7 +22,7 @@ use Rattle.mc_lab.specs.SweepEnds.{free_behind, is_open, is_open_at, sweeps_at, 
 use Rattle.mc_lab.proofs.SweepPlays.{played_one}
 use Rattle.mc_lab.proofs.SweepPlayers.{take_one}
 use Rattle.mc_lab.proofs.SweepLoops.{counted_length, SweptAs}
-use Rattle.model_device.proofs.BoolLemmas.{and_false}
+use Rattle.law_explore.specs.model_device.proofs.BoolLemmas.{and_false}
 use Rattle.std.proofs.lemmas.Option.{slice_get-get_or}
 use Rattle.mc_lab.proofs.BelowLemmas.{drop_at}
 

@@ -2,18 +2,18 @@
 use Rattle.std.specs.Prelude.{◌≡◌, ℕ, ◌+◌, ◌<◌, ◌≤◌, Bool, true, false, cond, ◌==◌, List, [], ◌∷◌, length, take, Option, Some, None, IfSome, refl}
 use Rattle.std.proofs.Common.{arith, ap, sym, subst, ◌∙◌}
 use Rattle.std.proofs.lemmas.List.{length-take-le, take-take}
-use Rattle.model_device.specs.Card.{Card}
-use Rattle.model_device.specs.Device.{DeviceState, BenchState, Entry, blank_words, device_words}
-use Rattle.model_device.specs.Image.{Two}
-use Rattle.model_device.specs.PowerUp.{Base, OnCard, migration, base_after_migration}
-use Rattle.model_device.proofs.LayoutLemmas.{closed_means}
-use Rattle.model_card.specs.Manager.{SessionState}
-use Rattle.model_machine.specs.Chain.{Turn}
-use Rattle.model_play.specs.DeckGrammar.{DeckLine}
-use Rattle.model_play.specs.DeckGrammar as line
-use Rattle.model_play.specs.Family.{is_running, live_in}
-use Rattle.model_play.specs.Play as play
-use Rattle.model_play.specs.Play.{Armed, Unarmed, Running, Unpowered, Muted, Warm, State, BeforePower, AfterPower, FailedWrite, start, step, steady_at, moves_of, armed_stop_in, play_at_power, power_after, power_live, words_left}
+use Rattle.law_explore.specs.model_device.specs.Card.{Card}
+use Rattle.law_explore.specs.model_device.specs.Device.{DeviceState, BenchState, Entry, blank_words, device_words}
+use Rattle.law_explore.specs.model_device.specs.Image.{Two}
+use Rattle.law_explore.specs.model_device.specs.PowerUp.{Base, OnCard, migration, base_after_migration}
+use Rattle.law_explore.specs.model_device.proofs.LayoutLemmas.{closed_means}
+use Rattle.law_explore.specs.model_card.specs.Manager.{SessionState}
+use Rattle.law_explore.specs.model_machine.specs.Chain.{Turn}
+use Rattle.law_explore.specs.model_play.specs.DeckGrammar.{DeckLine}
+use Rattle.law_explore.specs.model_play.specs.DeckGrammar as line
+use Rattle.law_explore.specs.model_play.specs.Family.{is_running, live_in}
+use Rattle.law_explore.specs.model_play.specs.Play as play
+use Rattle.law_explore.specs.model_play.specs.Play.{Armed, Unarmed, Running, Unpowered, Muted, Warm, State, BeforePower, AfterPower, FailedWrite, start, step, steady_at, moves_of, armed_stop_in, play_at_power, power_after, power_live, words_left}
 use Rattle.mc_store.specs.GoingLaws.{going_is}
 use Rattle.mc_store.specs.Power.{HoldsBase, base_of_words, count_of}
 use Rattle.mc_card.specs.declared.card.Card.{Card as CodeCard}

@@ -2,20 +2,20 @@
 use Rattle.std.specs.Prelude.{◌≡◌, ℕ, ◌+◌, ◌≤◌, Bool, true, false, cond, nat_le, List, Some, None, refl}
 use Rattle.std.proofs.Common.{arith, ap, sym, ◌∙◌}
 use Rattle.std.proofs.lemmas.Bool.{lt-leb}
-use Rattle.model_device.specs.declared.device.Stop.TheVariants as stop
-use Rattle.model_device.specs.Image.{Journal}
-use Rattle.model_device.specs.Card.{Card}
-use Rattle.model_card.specs.Items.{moves, StopAt}
-use Rattle.model_play.specs.Play.{Armed, Unarmed, ArmedCut, ArmedFail, Live, Running, Unpowered, Muted, Warm, State, BeforePower, AfterPower, step, moves_of, armed_stop_in, is_card_line, play_at_power, power_moves, power_step, power_result, card_line, command_step, line_command}
-use Rattle.model_device.specs.PowerUp.{Base, OnCard, AtFault}
-use Rattle.model_card.specs.Commands.{Command}
-use Rattle.model_play.specs.DeckGrammar.{DeckLine}
-use Rattle.model_play.specs.DeckGrammar as line
+use Rattle.law_explore.specs.model_device.specs.declared.device.Stop.TheVariants as stop
+use Rattle.law_explore.specs.model_device.specs.Image.{Journal}
+use Rattle.law_explore.specs.model_device.specs.Card.{Card}
+use Rattle.law_explore.specs.model_card.specs.Items.{moves, StopAt}
+use Rattle.law_explore.specs.model_play.specs.Play.{Armed, Unarmed, ArmedCut, ArmedFail, Live, Running, Unpowered, Muted, Warm, State, BeforePower, AfterPower, step, moves_of, armed_stop_in, is_card_line, play_at_power, power_moves, power_step, power_result, card_line, command_step, line_command}
+use Rattle.law_explore.specs.model_device.specs.PowerUp.{Base, OnCard, AtFault}
+use Rattle.law_explore.specs.model_card.specs.Commands.{Command}
+use Rattle.law_explore.specs.model_play.specs.DeckGrammar.{DeckLine}
+use Rattle.law_explore.specs.model_play.specs.DeckGrammar as line
 use Rattle.mc_lab.specs.Sweeps.{steady_step, state_on_blank, cut_statement}
 use Rattle.mc_script.specs.Cuts.{is_off}
 use Rattle.mc_lab.specs.SweepLaws.{HitsWithin}
 use Rattle.mc_lab.proofs.SweepPlays.{next, played_one, warmed_moves}
-use Rattle.model_play.proofs.LineKinds.{past_power}
+use Rattle.law_explore.specs.model_play.proofs.LineKinds.{past_power}
 
 abbrev cut_at : ℕ → List ℕ → StopAt
 cut_at k x = record { kind = stop.Off; at = k; left = x }

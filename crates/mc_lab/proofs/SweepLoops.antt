@@ -3,10 +3,10 @@ use Rattle.std.specs.Prelude.{◌≡◌, ℕ, zero, suc, ◌+◌, ◌*◌, slice
 use Rattle.std.proofs.Common.{arith, ap, sym, ◌∙◌}
 use Rattle.std.proofs.lemmas.Bool.{leb-true}
 use Rattle.std.proofs.lemmas.Bool.Decides.{nat_tests}
-use Rattle.model_play.specs.Play.{Unarmed, AfterPower, armed_stop_in}
-use Rattle.model_device.proofs.ListLemmas.{length_map as map-length}
+use Rattle.law_explore.specs.model_play.specs.Play.{Unarmed, AfterPower, armed_stop_in}
+use Rattle.law_explore.specs.model_device.proofs.ListLemmas.{length_map as map-length}
 use Rattle.mc_lab.specs.Sweeps.{Tried, plays_of, state_on_blank, ReportedState, is_same, all_same, count_from, cut_statement, power, under_cut, ones, cut_write}
-use Rattle.model_device.specs.Bytes.{zeros}
+use Rattle.law_explore.specs.model_device.specs.Bytes.{zeros}
 use Rattle.std.proofs.Common.{length-append}
 use Rattle.mc_lab.specs.declared.sweep_word.SweepWord.{SweepWord}
 use Rattle.mc_lab.specs.SweepBodies.{word_with, cut_write_at, IsUnarmedLine, OpensNoGate, front_of, line_in, hit_in, state_at_place, writes_in, again_in, recovery_states_at}
@@ -14,7 +14,7 @@ use Rattle.mc_lab.specs.declared.sweep_trial.Place.{Place}
 use Rattle.mc_lab.specs.declared.sweep_trial.TrialLines.TheVariants as trial
 use Rattle.mc_lab.proofs.SweepPlays.{played_two, line_cut, unarmed_is}
 use Rattle.mc_lab.proofs.SweepHits.{line_hit}
-use Rattle.model_device.proofs.BoolLemmas.{and_true}
+use Rattle.law_explore.specs.model_device.proofs.BoolLemmas.{and_true}
 
 module _ (p : Place) (open_line : IsUnarmedLine p) where
   at_front : armed_stop_in (state_on_blank (front_of p)) ≡ Unarmed

@@ -1,7 +1,7 @@
 -- The names of the rest of the lines.
 use Rattle.std.specs.Prelude.{◌≡◌, ℕ, ◌+◌, List, drop, slice_get, Some}
 use Rattle.std.proofs.Common.{ap, sym, ◌∙◌}
-use Rattle.model_play.specs.DeckGrammar.{DeckLine}
+use Rattle.law_explore.specs.model_play.specs.DeckGrammar.{DeckLine}
 use Rattle.mc_lab.specs.Sweeps.{names_from, with_names, names_in_line}
 use Rattle.mc_lab.proofs.BelowLemmas.{drop_at}
 

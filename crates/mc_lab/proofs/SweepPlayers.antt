@@ -3,18 +3,18 @@ use Rattle.std.specs.Prelude.{◌≡◌, ℕ, zero, suc, ◌+◌, ◌<◌, ◌�
 use Rattle.std.proofs.Common.{arith, ap, sym, subst, ◌∙◌}
 use Rattle.std.proofs.lemmas.List.{length-set, take_all}
 use Rattle.mc_blocks.specs.declared.image.Unusable.{Unusable}
-use Rattle.model_device.specs.Bytes.{lookup}
-use Rattle.model_device.specs.Card.{App, heap_start}
-use Rattle.model_machine.specs.Chain.{Turn}
-use Rattle.model_device.specs.Device.{blank_words, device_words, DeviceState, BenchState, Entry}
-use Rattle.model_device.specs.declared.device.Stop.{Stop}
-use Rattle.model_device.specs.declared.device.Stop.TheVariants as stop
-use Rattle.model_card.specs.Items.{StopAt}
-use Rattle.model_play.specs.Play.{Armed, Live, Running, Unpowered, Muted, Warm, State, BeforePower, AfterPower, FailedWrite, LineResult, Ready, hit_of, power_result, power_says, result_of_stop, step, card_line, static_of, steady_at, moves_of, armed_stop_in, play_at_power, power_moves, laid_entries, words_left, start, formatted_image, plays, steady_failures}
-use Rattle.model_device.specs.PowerUp.{Base, OnCard, AtFault}
-use Rattle.model_play.specs.DeckGrammar.{DeckLine}
-use Rattle.model_play.specs.DeckGrammar as line
-use Rattle.law_family.proofs.ReadyLines.{owed_most, migration_most}
+use Rattle.law_explore.specs.model_device.specs.Bytes.{lookup}
+use Rattle.law_explore.specs.model_device.specs.Card.{App, heap_start}
+use Rattle.law_explore.specs.model_machine.specs.Chain.{Turn}
+use Rattle.law_explore.specs.model_device.specs.Device.{blank_words, device_words, DeviceState, BenchState, Entry}
+use Rattle.law_explore.specs.model_device.specs.declared.device.Stop.{Stop}
+use Rattle.law_explore.specs.model_device.specs.declared.device.Stop.TheVariants as stop
+use Rattle.law_explore.specs.model_card.specs.Items.{StopAt}
+use Rattle.law_explore.specs.model_play.specs.Play.{Armed, Live, Running, Unpowered, Muted, Warm, State, BeforePower, AfterPower, FailedWrite, LineResult, Ready, hit_of, power_result, power_says, result_of_stop, step, card_line, static_of, steady_at, moves_of, armed_stop_in, play_at_power, power_moves, laid_entries, words_left, start, formatted_image, plays, steady_failures}
+use Rattle.law_explore.specs.model_device.specs.PowerUp.{Base, OnCard, AtFault}
+use Rattle.law_explore.specs.model_play.specs.DeckGrammar.{DeckLine}
+use Rattle.law_explore.specs.model_play.specs.DeckGrammar as line
+use Rattle.mc_deck.specs.law_family.proofs.ReadyLines.{owed_most, migration_most}
 use Rattle.mc_script.specs.declared.answer.Answer.{Answer}
 use Rattle.mc_script.specs.declared.answer.Answer.TheVariants as answer
 use Rattle.mc_script.specs.declared.player.Power.{Power}
@@ -26,7 +26,7 @@ use Rattle.mc_script.proofs.CutLemmas.{off_answer}
 use Rattle.mc_script.specs.Cuts.{is_off, off_in}
 use Rattle.mc_script.specs.Players.{answer_value, device_of, dump_value, statics_by, statics_in, LiveIs, StateIs, IsPlayerAt, IsPlaying}
 use Rattle.mc_script.specs.Lines.{LineDone}
-use Rattle.model_device.proofs.ImageLemmas.{length_laid as laid-size}
+use Rattle.law_explore.specs.model_device.proofs.ImageLemmas.{length_laid as laid-size}
 use Rattle.mc_lab.specs.Sweeps.{steady_step, state_on_blank, state_after_lines, state_after_power, state_by_result, Holds, static_bytes_under, running_apps, running_in, cut_statement, under_cut}
 use Rattle.mc_lab.specs.SweepBodies.{state_by_fault, next, trial_lines, hits, front_of, line_in, names_in, state_at_place, hit_in, again_in, IsRecoveryBound}
 use Rattle.mc_lab.specs.SweepPlayers.{fault_in, most_in, TrialOn, CutOn, IsSteadyAt, LineOn}

@@ -2,21 +2,21 @@
 use Rattle.std.specs.Prelude.{◌≡◌, ℕ, ◌-◌, ◌≤◌, Bool, true, false, cond, ◌&&◌, ◌||◌, ◌⊎◌, nat_lt, nat_le, ◌==◌, List, [], ◌∷◌, ◌++◌, Option, Some, None, refl}
 use Rattle.std.proofs.Common.{arith, ap, sym, inl, inr, ◌∙◌}
 use Rattle.std.proofs.lemmas.Bool.{le-leb}
-use Rattle.model_device.specs.declared.device.Stop.TheVariants as stop
-use Rattle.model_device.specs.Image.{Journal, One, Two}
-use Rattle.model_device.specs.Stopped.{cost, opens_at, stands}
-use Rattle.model_device.specs.Card.{Card}
-use Rattle.model_card.specs.Items.{Item, Plain, Atomic, moves, at_stop, Stopped, StopAt, card_done}
-use Rattle.model_device.specs.Bytes.{zeros}
-use Rattle.model_play.specs.Given.{apps_in}
-use Rattle.model_play.specs.Play.{Armed, Unarmed, ArmedCut, ArmedFail, Live, Running, Unpowered, Muted, Warm, State, BeforePower, AfterPower, step, plays, steady_failures, steady_at, moves_of, armed_stop_in, is_card_line, play_at_power, power_moves, power_step, power_after, stopped_power, hit_of, FailedWrite, card_line, command_step, stopped_line, line_command}
-use Rattle.model_device.specs.PowerUp.{Base, OnCard, AtFault, base_after_migration}
-use Rattle.model_card.specs.Commands.{Command}
-use Rattle.model_play.specs.DeckGrammar.{DeckLine}
-use Rattle.model_play.specs.DeckGrammar as line
+use Rattle.law_explore.specs.model_device.specs.declared.device.Stop.TheVariants as stop
+use Rattle.law_explore.specs.model_device.specs.Image.{Journal, One, Two}
+use Rattle.law_explore.specs.model_device.specs.Stopped.{cost, opens_at, stands}
+use Rattle.law_explore.specs.model_device.specs.Card.{Card}
+use Rattle.law_explore.specs.model_card.specs.Items.{Item, Plain, Atomic, moves, at_stop, Stopped, StopAt, card_done}
+use Rattle.law_explore.specs.model_device.specs.Bytes.{zeros}
+use Rattle.law_explore.specs.model_play.specs.Given.{apps_in}
+use Rattle.law_explore.specs.model_play.specs.Play.{Armed, Unarmed, ArmedCut, ArmedFail, Live, Running, Unpowered, Muted, Warm, State, BeforePower, AfterPower, step, plays, steady_failures, steady_at, moves_of, armed_stop_in, is_card_line, play_at_power, power_moves, power_step, power_after, stopped_power, hit_of, FailedWrite, card_line, command_step, stopped_line, line_command}
+use Rattle.law_explore.specs.model_device.specs.PowerUp.{Base, OnCard, AtFault, base_after_migration}
+use Rattle.law_explore.specs.model_card.specs.Commands.{Command}
+use Rattle.law_explore.specs.model_play.specs.DeckGrammar.{DeckLine}
+use Rattle.law_explore.specs.model_play.specs.DeckGrammar as line
 use Rattle.mc_lab.specs.Sweeps.{is_unarmed, steady_step, state_after_lines, state_on_blank, ReportedState, Holds, NoCard, static_bytes_under, state_of_step, state_after_power, ones, cut_statement, power}
 use Rattle.mc_lab.specs.SweepBodies.{OpensNoGate}
-use Rattle.model_play.proofs.LineKinds.{past_power}
+use Rattle.law_explore.specs.model_play.proofs.LineKinds.{past_power}
 
 -- ---- plays, line by line
 

@@ -4,15 +4,15 @@ use Rattle.std.specs.List.{AllByRecursion}
 use Rattle.std.proofs.Common.{arith, ap, sym, subst, inl, inr, ◌∙◌}
 use Rattle.std.proofs.lemmas.Bool.{leb-true, eq-eqb, and_from as both-true, and_parts}
 use Rattle.std.proofs.lemmas.Slice.Eq.{bytes_eq-Decides}
-use Rattle.model_device.proofs.ImageLemmas.{all_append}
-use Rattle.model_device.specs.Bytes.{zeros}
-use Rattle.model_device.specs.Card.{App, Card}
-use Rattle.model_card.specs.Items.{Item, moves, apps_after_items, at_stop}
-use Rattle.model_play.specs.Given.{apps_in}
-use Rattle.model_device.specs.Words.{cause_text}
-use Rattle.model_play.specs.Play.{Unarmed, State, AfterPower, moves_of, armed_stop_in, is_card_line}
-use Rattle.model_device.specs.PowerUp.{Base, OnCard}
-use Rattle.model_play.specs.DeckGrammar.{DeckLine}
+use Rattle.law_explore.specs.model_device.proofs.ImageLemmas.{all_append}
+use Rattle.law_explore.specs.model_device.specs.Bytes.{zeros}
+use Rattle.law_explore.specs.model_device.specs.Card.{App, Card}
+use Rattle.law_explore.specs.model_card.specs.Items.{Item, moves, apps_after_items, at_stop}
+use Rattle.law_explore.specs.model_play.specs.Given.{apps_in}
+use Rattle.law_explore.specs.model_device.specs.Words.{cause_text}
+use Rattle.law_explore.specs.model_play.specs.Play.{Unarmed, State, AfterPower, moves_of, armed_stop_in, is_card_line}
+use Rattle.law_explore.specs.model_device.specs.PowerUp.{Base, OnCard}
+use Rattle.law_explore.specs.model_play.specs.DeckGrammar.{DeckLine}
 use Rattle.mc_lab.specs.Sweeps.{state_on_blank, ReportedState, Holds, NoCard, static_bytes_under, are_same_held, state_after_power, is_same, word_by, word_if, word_of, all_same, ones, cut_statement, power, under_cut, under_cuts, writes_behind, recovery_states, cut_write, is_unarmed, is_swept}
 use Rattle.mc_lab.specs.declared.sweep_word.SweepWord.{SweepWord}
 use Rattle.mc_lab.specs.declared.sweep_word.SweepWord.TheVariants.{Before, After, Same}

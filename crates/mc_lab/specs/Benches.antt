@@ -1,9 +1,9 @@
 -- The relations of the laboratory's plays by the bench of their player as a whole, as contracts cite them. Each is that
 -- of the same name in `Stages` or `SweepPlayers`, which lemmas cite by the functions of the bench.
 use Rattle.std.specs.Prelude.{ℕ, Bool, List, Option}
-use Rattle.model_play.specs.DeckGrammar.{DeckLine}
-use Rattle.model_device.specs.Card.{Card}
-use Rattle.model_play.specs.Play.{State, Step}
+use Rattle.law_explore.specs.model_play.specs.DeckGrammar.{DeckLine}
+use Rattle.law_explore.specs.model_device.specs.Card.{Card}
+use Rattle.law_explore.specs.model_play.specs.Play.{State, Step}
 use Rattle.mc_script.specs.declared.answer.Answer.{Answer}
 use Rattle.mc_script.specs.declared.player.Player.{Player}
 use Rattle.mc_script.specs.Benches.{BenchMembers}

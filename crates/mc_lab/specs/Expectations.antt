@@ -1,12 +1,12 @@
 -- Expectations: remarks of a deck that begin with `#>`, each with a pattern for the result of the statement above it.
 use Rattle.std.specs.Prelude.{ℕ, Bool, true, false, cond, not, ◌&&◌, nat_lt, List, [], ◌∷◌, ◌++◌, length, take, drop, filter, flat_map, codes, decimal, Option, Some, None, Result, Ok, Err}
-use Rattle.model_text.specs.Text.{first_cut, is_blank, pieces}
-use Rattle.model_play.specs.declared.deck.DeckCause.{DeckCause}
-use Rattle.model_play.specs.DeckGrammar.{DeckLine, deck_read}
-use Rattle.model_play.specs.DeckGrammar as line
-use Rattle.model_play.specs.Play.{LineResult, State, Step, plays, start, steady_failures}
-use Rattle.model_play.specs.Transcript.{text_of_result}
-use Rattle.model_play.specs.Patterns.{is_star, without_blanks}
+use Rattle.law_explore.specs.model_text.specs.Text.{first_cut, is_blank, pieces}
+use Rattle.law_explore.specs.model_play.specs.declared.deck.DeckCause.{DeckCause}
+use Rattle.law_explore.specs.model_play.specs.DeckGrammar.{DeckLine, deck_read}
+use Rattle.law_explore.specs.model_play.specs.DeckGrammar as line
+use Rattle.law_explore.specs.model_play.specs.Play.{LineResult, State, Step, plays, start, steady_failures}
+use Rattle.law_explore.specs.model_play.specs.Transcript.{text_of_result}
+use Rattle.law_explore.specs.model_play.specs.Patterns.{is_star, without_blanks}
 use Rattle.law_explore.specs.Matching.{fits}
 use Rattle.mc_lab.specs.declared.remark.Mark.TheVariants as mark
 use Rattle.mc_lab.specs.Remarks.{Remark, remarks}

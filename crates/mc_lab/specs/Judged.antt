@@ -1,6 +1,6 @@
 -- A result without its value, and the part of the report that is still to be written.
 use Rattle.std.specs.Prelude.{List, ◌++◌, length, ℕ, Result, Ok, Err}
-use Rattle.model_play.specs.Play.{Step}
+use Rattle.law_explore.specs.model_play.specs.Play.{Step}
 use Rattle.mc_lab.specs.Remarks.{Remark}
 use Rattle.mc_lab.specs.Expectations.{count_failed, count_text, failed_lines}
 

@@ -1,7 +1,7 @@
-pub use Rattle.model_text.specs.Text
-pub use Rattle.model_play.specs.DeckGrammar
-pub use Rattle.model_play.specs.Play
-pub use Rattle.model_play.specs.Transcript
+pub use Rattle.law_explore.specs.model_text.specs.Text
+pub use Rattle.law_explore.specs.model_play.specs.DeckGrammar
+pub use Rattle.law_explore.specs.model_play.specs.Play
+pub use Rattle.law_explore.specs.model_play.specs.Transcript
 pub use Rattle.mc_asm.specs.Passes
 pub use Rattle.mc_script.specs.Players
 pub use Rattle.law_explore.specs.Matching

@@ -1,8 +1,8 @@
 -- Remarks: comment lines of a deck that the laboratory reads, each with the last statement above it.
 use Rattle.std.specs.Prelude.{ℕ, Bool, true, false, cond, not, ◌&&◌, ◌==◌, List, [], ◌∷◌, ◌++◌, bytes_eq, codes, Option, Some, None, Result, Ok, Err}
-use Rattle.model_text.specs.Text.{trim, trim_front, fields, lines, with_numbers}
-use Rattle.model_play.specs.declared.deck.DeckCause.{DeckCause}
-use Rattle.model_play.specs.DeckGrammar.{Mode, Between, Within, LineTurn, statement_of, within, turn_at}
+use Rattle.law_explore.specs.model_text.specs.Text.{trim, trim_front, fields, lines, with_numbers}
+use Rattle.law_explore.specs.model_play.specs.declared.deck.DeckCause.{DeckCause}
+use Rattle.law_explore.specs.model_play.specs.DeckGrammar.{Mode, Between, Within, LineTurn, statement_of, within, turn_at}
 use Rattle.mc_lab.specs.declared.remark.Mark.{Mark}
 use Rattle.mc_lab.specs.declared.remark.Mark.TheVariants as mark
 

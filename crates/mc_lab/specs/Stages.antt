@@ -1,8 +1,8 @@
 -- A play of a deck up to some of its lines.
 use Rattle.std.specs.Prelude.{◌≡◌, ℕ, true, List, drop}
-use Rattle.model_device.specs.Device.{DeviceState, BenchState}
-use Rattle.model_play.specs.DeckGrammar.{DeckLine}
-use Rattle.model_play.specs.Play.{State, Step}
+use Rattle.law_explore.specs.model_device.specs.Device.{DeviceState, BenchState}
+use Rattle.law_explore.specs.model_play.specs.DeckGrammar.{DeckLine}
+use Rattle.law_explore.specs.model_play.specs.Play.{State, Step}
 use Rattle.mc_script.specs.declared.player.Player.{Player}
 use Rattle.mc_script.specs.Players.{device_of, IsPlayerAt}
 use Rattle.mc_lab.specs.Rising.{last_of}

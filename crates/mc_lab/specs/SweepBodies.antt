@@ -2,10 +2,10 @@
 use Rattle.std.specs.Prelude.{◌≡◌, ℕ, ◌+◌, ◌≤◌, ◌<◌, Bool, true, false, List, [], ◌∷◌, ◌++◌, length, take, get_or, map, option_map, Option, Some, None, bytes_eq}
 use Rattle.arrayvec.specs.ArrayVec.{ArrayVec}
 use Rattle.mc_blocks.specs.declared.image.Unusable.{Unusable}
-use Rattle.model_device.specs.Image.{opening, Two}
-use Rattle.model_play.specs.Play.{State, armed_stop_in, is_card_line}
-use Rattle.model_play.specs.DeckGrammar.{DeckLine}
-use Rattle.model_play.specs.DeckGrammar as line
+use Rattle.law_explore.specs.model_device.specs.Image.{opening, Two}
+use Rattle.law_explore.specs.model_play.specs.Play.{State, armed_stop_in, is_card_line}
+use Rattle.law_explore.specs.model_play.specs.DeckGrammar.{DeckLine}
+use Rattle.law_explore.specs.model_play.specs.DeckGrammar as line
 use Rattle.mc_lab.specs.declared.sweep_word.SweepWord.{SweepWord}
 use Rattle.mc_lab.specs.Sweeps.{word_if, word_by, recovery_states, state_after_power, Tried, cut_write, steady_step, state_on_blank, cut_statement, power, under_cut, under_cuts, writes_behind, is_unarmed, ReportedState, Holds, NoCard}
 use Rattle.mc_script.specs.Cuts.{is_off}

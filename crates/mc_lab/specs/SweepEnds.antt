@@ -1,8 +1,8 @@
 -- A sweep line by line, and the ends of the call.
 use Rattle.std.specs.Prelude.{◌≡◌, ℕ, ◌+◌, ◌*◌, ◌≤◌, ◌<◌, Bool, true, false, ◌&&◌, List, [], length, take, drop, Result, Ok, Err}
-use Rattle.model_play.specs.Play.{armed_stop_in, is_card_line}
-use Rattle.model_play.specs.DeckGrammar.{DeckLine}
-use Rattle.model_play.specs.DeckGrammar as line
+use Rattle.law_explore.specs.model_play.specs.Play.{armed_stop_in, is_card_line}
+use Rattle.law_explore.specs.model_play.specs.DeckGrammar.{DeckLine}
+use Rattle.law_explore.specs.model_play.specs.DeckGrammar as line
 use Rattle.mc_text.specs.Texts.{Sunk, Writes, Fails}
 use Rattle.mc_lab.specs.Sweeps.{state_on_blank, is_unarmed, is_swept, line_sweep, sweeps_with, are_fine, is_broken, MarksLeft, Row, Swept, sweep_behind, total, writes_behind, names_from}
 use Rattle.mc_lab.specs.Remarks.{Remark}

@@ -1,11 +1,11 @@
 -- The lines of a deck that were played once for all trials of the next one, and what is kept of their play.
 use Rattle.std.specs.Prelude.{◌≡◌, ℕ, ◌≤◌, Bool, true, false, List, length, take, Option, Some, None}
-use Rattle.model_device.specs.Card.{Card}
-use Rattle.model_device.specs.Image.{Two}
-use Rattle.model_device.specs.PowerUp.{OnCard}
-use Rattle.model_play.specs.DeckGrammar.{DeckLine}
-use Rattle.model_play.specs.Family.{is_running}
-use Rattle.model_play.specs.Play.{Unarmed, State, AfterPower, Warm, start}
+use Rattle.law_explore.specs.model_device.specs.Card.{Card}
+use Rattle.law_explore.specs.model_device.specs.Image.{Two}
+use Rattle.law_explore.specs.model_device.specs.PowerUp.{OnCard}
+use Rattle.law_explore.specs.model_play.specs.DeckGrammar.{DeckLine}
+use Rattle.law_explore.specs.model_play.specs.Family.{is_running}
+use Rattle.law_explore.specs.model_play.specs.Play.{Unarmed, State, AfterPower, Warm, start}
 use Rattle.mc_store.specs.Power.{HoldsBase}
 use Rattle.mc_script.specs.declared.live.Live.{Live}
 use Rattle.mc_script.specs.declared.live.Live.TheVariants as live

@@ -2,14 +2,14 @@
 -- its line where its gate opens.
 use Rattle.std.specs.Prelude.{◌≡◌, ◌≢◌, ℕ, ◌+◌, ◌≤◌, Bool, true, false, cond, not, nat_le, List, [], ◌∷◌, ◌++◌, Option, Some, None, ⊤}
 use Rattle.std.specs.List.{AllByRecursion}
-use Rattle.model_device.specs.Image.{Two}
-use Rattle.model_device.specs.Stopped.{opens_at}
-use Rattle.model_device.specs.Card.{App}
-use Rattle.model_card.specs.Items.{Item, Plain, Atomic, weight, apps_after_items}
-use Rattle.model_play.specs.Given.{apps_in}
+use Rattle.law_explore.specs.model_device.specs.Image.{Two}
+use Rattle.law_explore.specs.model_device.specs.Stopped.{opens_at}
+use Rattle.law_explore.specs.model_device.specs.Card.{App}
+use Rattle.law_explore.specs.model_card.specs.Items.{Item, Plain, Atomic, weight, apps_after_items}
+use Rattle.law_explore.specs.model_play.specs.Given.{apps_in}
 use Rattle.mc_script.specs.Cuts.{is_off}
-use Rattle.model_play.specs.Play.{Unarmed, step, armed_stop_in, is_card_line}
-use Rattle.model_play.specs.DeckGrammar.{DeckLine}
+use Rattle.law_explore.specs.model_play.specs.Play.{Unarmed, step, armed_stop_in, is_card_line}
+use Rattle.law_explore.specs.model_play.specs.DeckGrammar.{DeckLine}
 use Rattle.mc_lab.specs.Sweeps.{steady_step, state_on_blank, cut_statement, static_bytes_under, are_same_held, Swept, line_sweep, is_swept, writes_behind, names_from, Run, runs, sweep}
 use Rattle.mc_lab.specs.declared.sweep_word.SweepWord.{SweepWord}
 use Rattle.mc_lab.specs.declared.sweep_word.SweepWord.TheVariants.{Before, After, Same, Between, Torn}

@@ -1,12 +1,12 @@
 -- The states of the model that a player represents in the plays of a sweep.
 use Rattle.std.specs.Prelude.{◌≡◌, ℕ, true, false, Bool, List, option_map, Option, Some, None}
 use Rattle.mc_blocks.specs.declared.image.Unusable.{Unusable}
-use Rattle.model_device.specs.Device.{DeviceState, BenchState}
-use Rattle.model_device.specs.Card.{Card}
-use Rattle.model_device.specs.PowerUp.{OnCard}
-use Rattle.model_play.specs.Family.{is_running}
-use Rattle.model_play.specs.Play.{State, AfterPower, Warm, Unarmed}
-use Rattle.model_play.specs.DeckGrammar.{DeckLine}
+use Rattle.law_explore.specs.model_device.specs.Device.{DeviceState, BenchState}
+use Rattle.law_explore.specs.model_device.specs.Card.{Card}
+use Rattle.law_explore.specs.model_device.specs.PowerUp.{OnCard}
+use Rattle.law_explore.specs.model_play.specs.Family.{is_running}
+use Rattle.law_explore.specs.model_play.specs.Play.{State, AfterPower, Warm, Unarmed}
+use Rattle.law_explore.specs.model_play.specs.DeckGrammar.{DeckLine}
 use Rattle.mc_script.specs.declared.answer.Answer.{Answer}
 use Rattle.mc_script.specs.declared.answer.Answer.TheVariants as answer
 use Rattle.mc_script.specs.declared.player.Player.{Player}

@@ -1,15 +1,15 @@
 -- Sweeps: power cut in every device write of every line of a deck, and in every write of the recovery after it, and the
 -- observed states of the card.
 use Rattle.std.specs.Prelude.{ℕ, zero, suc, ◌+◌, Bool, true, false, cond, not, ◌&&◌, ◌||◌, nat_le, nat_lt, ◌==◌, List, [], ◌∷◌, ◌++◌, length, map, replicate, bytes_eq, codes, decimal, Option, Some, None, option_map}
-use Rattle.model_device.specs.declared.cause.Cause.{Cause}
-use Rattle.model_device.specs.Bytes.{zeros, has_name, lookup}
-use Rattle.model_device.specs.Device.{blank_words, device_words}
-use Rattle.model_device.specs.Card.{App}
-use Rattle.model_play.specs.Play.{Armed, Unarmed, ArmedCut, ArmedFail, Live, Running, State, BeforePower, AfterPower, Step, LineResult, Unusable, start, step, plays, steady_failures, steady_at, last_state, moves_of, armed_stop_in, is_card_line}
-use Rattle.model_device.specs.PowerUp.{Base, OnCard}
-use Rattle.model_device.specs.Words.{cause_text}
-use Rattle.model_play.specs.DeckGrammar.{DeckLine}
-use Rattle.model_play.specs.DeckGrammar as line
+use Rattle.law_explore.specs.model_device.specs.declared.cause.Cause.{Cause}
+use Rattle.law_explore.specs.model_device.specs.Bytes.{zeros, has_name, lookup}
+use Rattle.law_explore.specs.model_device.specs.Device.{blank_words, device_words}
+use Rattle.law_explore.specs.model_device.specs.Card.{App}
+use Rattle.law_explore.specs.model_play.specs.Play.{Armed, Unarmed, ArmedCut, ArmedFail, Live, Running, State, BeforePower, AfterPower, Step, LineResult, Unusable, start, step, plays, steady_failures, steady_at, last_state, moves_of, armed_stop_in, is_card_line}
+use Rattle.law_explore.specs.model_device.specs.PowerUp.{Base, OnCard}
+use Rattle.law_explore.specs.model_device.specs.Words.{cause_text}
+use Rattle.law_explore.specs.model_play.specs.DeckGrammar.{DeckLine}
+use Rattle.law_explore.specs.model_play.specs.DeckGrammar as line
 use Rattle.mc_lab.specs.Remarks.{Remark}
 use Rattle.mc_lab.specs.declared.sweep_word.SweepWord.{SweepWord}
 use Rattle.mc_lab.specs.declared.sweep_word.SweepWord.TheVariants.{Before, After, Same, Between, Torn}

@@ -1,21 +1,21 @@
 -- The text of a sweep of a deck's text.
 use Rattle.std.specs.Prelude.{ℕ, List, ◌++◌, codes, Result, Ok, Err}
 use Rattle.std.specs.Fmt.{digits}
-use Rattle.model_play.specs.declared.deck.DeckCause.{DeckCause}
-use Rattle.model_card.specs.Units.{name_of}
-use Rattle.model_machine.specs.Apdu.{apdu_read}
-use Rattle.model_device.specs.Pieces.{touched_words}
-use Rattle.model_device.specs.Image.{targets_1, targets_2, pairs}
-use Rattle.model_device.specs.Card.{blocks_from, apps_of}
-use Rattle.model_device.specs.Layout.{layout, step_of, bad_block, bad_record}
-use Rattle.model_machine.specs.Frame.{bytes_at, write_effect, too_many}
-use Rattle.model_machine.specs.Primitives.{later_causes, prim_effect}
-use Rattle.model_machine.specs.Row.{causes, effect, row}
-use Rattle.model_machine.specs.Chain.{turn_of_chain, run_of_chain}
-use Rattle.model_card.specs.Manager.{manage}
-use Rattle.model_card.specs.Commands.{command}
-use Rattle.model_play.specs.Play.{send, play_at_power, step, plays, moves_of, steady_failures}
-use Rattle.model_play.specs.DeckGrammar.{DeckLine, deck_read}
+use Rattle.law_explore.specs.model_play.specs.declared.deck.DeckCause.{DeckCause}
+use Rattle.law_explore.specs.model_card.specs.Units.{name_of}
+use Rattle.law_explore.specs.model_machine.specs.Apdu.{apdu_read}
+use Rattle.law_explore.specs.model_device.specs.Pieces.{touched_words}
+use Rattle.law_explore.specs.model_device.specs.Image.{targets_1, targets_2, pairs}
+use Rattle.law_explore.specs.model_device.specs.Card.{blocks_from, apps_of}
+use Rattle.law_explore.specs.model_device.specs.Layout.{layout, step_of, bad_block, bad_record}
+use Rattle.law_explore.specs.model_machine.specs.Frame.{bytes_at, write_effect, too_many}
+use Rattle.law_explore.specs.model_machine.specs.Primitives.{later_causes, prim_effect}
+use Rattle.law_explore.specs.model_machine.specs.Row.{causes, effect, row}
+use Rattle.law_explore.specs.model_machine.specs.Chain.{turn_of_chain, run_of_chain}
+use Rattle.law_explore.specs.model_card.specs.Manager.{manage}
+use Rattle.law_explore.specs.model_card.specs.Commands.{command}
+use Rattle.law_explore.specs.model_play.specs.Play.{send, play_at_power, step, plays, moves_of, steady_failures}
+use Rattle.law_explore.specs.model_play.specs.DeckGrammar.{DeckLine, deck_read}
 use Rattle.mc_lab.specs.declared.remark.Mark.TheVariants as mark
 use Rattle.mc_lab.specs.Remarks.{Remark, remarks}
 use Rattle.mc_lab.specs.Sweeps.{sweep_text}

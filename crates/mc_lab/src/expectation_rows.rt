@@ -2,7 +2,7 @@
 
 // Worked rows: reports of the expectations of decks.
 ghost use Rattle.std.specs.Prelude.{◌≡◌, ◌++◌, [], codes, Ok, Err};
-ghost use Rattle.model_play.specs.declared.deck.DeckCause.TheVariants.{BadLine};
+ghost use Rattle.law_explore.specs.model_play.specs.declared.deck.DeckCause.TheVariants.{BadLine};
 ghost use Rattle.mc_lab.specs.Computed.{expectation_report};
 ghost use Rattle.mc_lab.specs.Expectations.{laid_out, DeckFault, NoAnswer, NoExpectation};
 

@@ -1,6 +1,6 @@
 // Remarks: comment lines of a deck that the laboratory reads.
 ghost use Rattle.std.specs.Prelude.{◌≡◌, ◌<◌, ◌&&◌, option_map};
-ghost use Rattle.model_text.specs.Text.{fields, trim_front};
+ghost use Rattle.law_explore.specs.model_text.specs.Text.{fields, trim_front};
 ghost use Rattle.mc_lab.specs.Remarks.{above_after, begins_statement, is_only, is_whole_mark};
 ghost use Rattle.mc_lab.specs.Remarks.{pattern_in, remark_at, text_in};
 ghost use Rattle.mc_lab.specs.Remarked.{line_value, some_value};

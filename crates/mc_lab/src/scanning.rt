@@ -1,6 +1,6 @@
 // The remarks of a deck's text.
 ghost use Rattle.std.specs.Prelude.{◌≡◌, ◌^◌, ◌<◌, ◌++◌, length, IfOk, OnOk};
-ghost use Rattle.model_play.specs.DeckGrammar.{deck_read};
+ghost use Rattle.law_explore.specs.model_play.specs.DeckGrammar.{deck_read};
 ghost use Rattle.mc_lab.specs.Remarks.{just, remarks};
 ghost use Rattle.mc_lab.specs.Remarked.{remark_values, some_value};
 

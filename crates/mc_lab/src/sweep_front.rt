@@ -1,9 +1,9 @@
 // The lines before a line: they are played once, and what a play holds after them is kept.
 ghost use Rattle.std.specs.Prelude.{◌≡◌, ◌≤◌, ℕ, true, List, length, take, Some, IfSome};
-ghost use Rattle.model_device.specs.Card.{Card};
-ghost use Rattle.model_device.specs.Image.{Two};
-ghost use Rattle.model_device.specs.PowerUp.{OnCard};
-ghost use Rattle.model_play.specs.Play.{State, BeforePower, AfterPower, Unarmed, Warm, start};
+ghost use Rattle.law_explore.specs.model_device.specs.Card.{Card};
+ghost use Rattle.law_explore.specs.model_device.specs.Image.{Two};
+ghost use Rattle.law_explore.specs.model_device.specs.PowerUp.{OnCard};
+ghost use Rattle.law_explore.specs.model_play.specs.Play.{State, BeforePower, AfterPower, Unarmed, Warm, start};
 ghost use Rattle.mc_store.specs.Power.{HoldsBase};
 ghost use Rattle.mc_script.specs.Players.{device_of, IsUnfused};
 ghost use Rattle.mc_script.specs.Benches.{IsPlaying};

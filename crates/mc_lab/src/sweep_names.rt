@@ -1,6 +1,6 @@
 // The names that a deck mentions.
 ghost use Rattle.std.specs.Prelude.{◌≡◌, [], ◌∷◌, IfOk, MatchOption};
-ghost use Rattle.model_device.specs.Bytes.{has_name};
+ghost use Rattle.law_explore.specs.model_device.specs.Bytes.{has_name};
 ghost use Rattle.mc_deck.specs.Lines.{line_of};
 ghost use Rattle.mc_lab.specs.Sweeps.{names_in_line, names_from, with_names};
 

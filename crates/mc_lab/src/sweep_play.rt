@@ -1,12 +1,12 @@
 // The laboratory's device, and the plays on it.
 ghost use Rattle.std.specs.Prelude.{◌≡◌, ◌≤◌, ℕ, List, [], length, map, take, true, IfOk};
-ghost use Rattle.model_play.specs.Play.{State};
-ghost use Rattle.model_play.specs.DeckGrammar.{DeckLine};
+ghost use Rattle.law_explore.specs.model_play.specs.Play.{State};
+ghost use Rattle.law_explore.specs.model_play.specs.DeckGrammar.{DeckLine};
 ghost use Rattle.mc_deck.specs.Lines.{line_of, GoodLine};
 ghost use Rattle.mc_script.specs.Players.{device_of, statics_in, IsUnfused};
 ghost use Rattle.mc_script.specs.Benches.{IsPlaying};
 ghost use Rattle.mc_lab.specs.Sweeps.{state_on_blank};
-ghost use Rattle.model_device.specs.Bytes.{zeros};
+ghost use Rattle.law_explore.specs.model_device.specs.Bytes.{zeros};
 ghost use Rattle.mc_lab.specs.SweepBodies.{account_value, held_value, hit_in, state_at_place, CanCut, AccountFits};
 ghost use Rattle.mc_lab.specs.SweepBodies.{IsRecoveryBound, IsPlace};
 ghost use Rattle.mc_lab.specs.declared.sweep_trial.TrialLines.TheVariants as trial;

@@ -1,7 +1,7 @@
 // The plays of a sweep, and the trait of what plays them.
 ghost use Rattle.std.specs.Prelude.{◌≡◌, ◌≤◌, ℕ, List};
-ghost use Rattle.model_device.specs.Bytes.{zeros};
-ghost use Rattle.model_play.specs.DeckGrammar.{DeckLine};
+ghost use Rattle.law_explore.specs.model_device.specs.Bytes.{zeros};
+ghost use Rattle.law_explore.specs.model_play.specs.DeckGrammar.{DeckLine};
 ghost use Rattle.mc_lab.specs.SweepBodies.{account_value, front_of, hit_in, lines_through, state_at_place, CanCut, AccountFits};
 ghost use Rattle.mc_lab.specs.declared.sweep_trial.TrialLines.TheVariants as trial;
 ghost use Rattle.mc_lab.specs.SweepBodies.{IsRecoveryBound, IsPlace};

@@ -1,7 +1,7 @@
 // Sweeps of a deck.
 ghost use Rattle.std.specs.Prelude.{◌≡◌, ◌+◌, ◌≤◌, ◌<◌, ◌&&◌, Bool, List, [], ◌∷◌, length, not, take, true, false};
 ghost use Rattle.std.specs.Prelude.{IfOk, IfSome, MatchOption, OnOk};
-ghost use Rattle.model_play.specs.Play.{armed_stop_in, is_card_line};
+ghost use Rattle.law_explore.specs.model_play.specs.Play.{armed_stop_in, is_card_line};
 ghost use Rattle.mc_deck.specs.Lines.{line_of};
 ghost use Rattle.mc_text.specs.Texts.{sunk, Puts};
 ghost use Rattle.mc_lab.specs.Judged.{done_of};

@@ -1,17 +1,17 @@
 -- A turn by what its instruction did, and by what followed it.
 use Rattle.std.proofs.Common.{◌≡◌, ◌≢◌, ℕ, zero, suc, ◌+◌, ◌-◌, Bool, false, List, [], ◌∷◌, length, Option, Some, None, Result, Ok, Err, refl, sym, ap, subst, ◌∙◌, arith}
-use Rattle.model_machine.specs.declared.instruction.Ins.{Ins}
-use Rattle.model_machine.specs.declared.instruction.DecodeFault.{DecodeFault}
-use Rattle.model_machine.specs.declared.machine.Abend.{Abend}
-use Rattle.model_device.specs.declared.device.Stop.{Stop}
-use Rattle.model_device.specs.Orders.{InOrder}
-use Rattle.model_device.specs.Bytes.{lookup}
-use Rattle.model_device.specs.Card.{App}
-use Rattle.model_machine.specs.Code.{instruction_at}
-use Rattle.model_machine.specs.Frame.{Frame, Effect, session_of}
-use Rattle.model_machine.specs.Primitives.{Around, Then, Goes, Exits, Delegates}
-use Rattle.model_machine.specs.Row.{RowEnd, Abends, Does, row}
-use Rattle.model_machine.specs.Chain.{Chain, Turn, Outcome, Reply, Abended, Follows, Continues, Ends, code_in, around, first_frame, chain_session, write_of, words_of_write, pair_of, chain_after_effect, follows, abends_at, done_turn, row_turn, frame_at, turn_of_fetch, turn_of_chain, turn_of}
+use Rattle.law_machine.specs.model_machine.specs.declared.instruction.Ins.{Ins}
+use Rattle.law_machine.specs.model_machine.specs.declared.instruction.DecodeFault.{DecodeFault}
+use Rattle.law_machine.specs.model_machine.specs.declared.machine.Abend.{Abend}
+use Rattle.law_machine.specs.model_device.specs.declared.device.Stop.{Stop}
+use Rattle.law_machine.specs.model_device.specs.Orders.{InOrder}
+use Rattle.law_machine.specs.model_device.specs.Bytes.{lookup}
+use Rattle.law_machine.specs.model_device.specs.Card.{App}
+use Rattle.law_machine.specs.model_machine.specs.Code.{instruction_at}
+use Rattle.law_machine.specs.model_machine.specs.Frame.{Frame, Effect, session_of}
+use Rattle.law_machine.specs.model_machine.specs.Primitives.{Around, Then, Goes, Exits, Delegates}
+use Rattle.law_machine.specs.model_machine.specs.Row.{RowEnd, Abends, Does, row}
+use Rattle.law_machine.specs.model_machine.specs.Chain.{Chain, Turn, Outcome, Reply, Abended, Follows, Continues, Ends, code_in, around, first_frame, chain_session, write_of, words_of_write, pair_of, chain_after_effect, follows, abends_at, done_turn, row_turn, frame_at, turn_of_fetch, turn_of_chain, turn_of}
 use Rattle.mc_bank.specs.Bank.{app_of}
 use Rattle.mc_segs.specs.declared.ends.Halt.{Halt}
 use Rattle.mc_segs.specs.declared.ends.Halt.TheVariants as halt

@@ -1,20 +1,20 @@
 -- A row has the same effect on frames with the same reading, whichever pieces their pending bytes come from.
 use Rattle.std.proofs.Common.{◌≡◌, ℕ, List, Option, Some, None, refl, sym, ap, ◌∙◌}
-use Rattle.model_machine.specs.declared.instruction.Ins.{Ins}
-use Rattle.model_machine.specs.declared.machine.Abend.{Abend}
-use Rattle.model_device.specs.Pieces.{laid_pieces, touched_words}
-use Rattle.model_machine.specs.Frame.{Frame}
-use Rattle.model_machine.specs.Primitives.{Around, Done}
-use Rattle.model_machine.specs.Row.{RowEnd, Abends, Does, causes, effect, first_cause, row_end, row}
-use Rattle.model_device.specs.Orders.{Answer}
-use Rattle.model_card.specs.Items.{BankItem}
+use Rattle.law_machine.specs.model_machine.specs.declared.instruction.Ins.{Ins}
+use Rattle.law_machine.specs.model_machine.specs.declared.machine.Abend.{Abend}
+use Rattle.law_machine.specs.model_device.specs.Pieces.{laid_pieces, touched_words}
+use Rattle.law_machine.specs.model_machine.specs.Frame.{Frame}
+use Rattle.law_machine.specs.model_machine.specs.Primitives.{Around, Done}
+use Rattle.law_machine.specs.model_machine.specs.Row.{RowEnd, Abends, Does, causes, effect, first_cause, row_end, row}
+use Rattle.law_machine.specs.model_device.specs.Orders.{Answer}
+use Rattle.law_machine.specs.model_card.specs.Items.{BankItem}
 use Rattle.mc_segs.specs.HeldFrames.{Seen, frame_reading}
 use Rattle.mc_segs.specs.Ends.{IsOneCommit, changed_bytes}
 use Rattle.mc_machine.specs.Alike.{seen_end, seen_change, IsGuarded, SameDone, SameRowEnd}
 use Rattle.mc_machine.proofs.AlikeBytes.{SamePieces, with_pieces}
 use Rattle.mc_machine.proofs.AlikeCauses.{causes_same}
 use Rattle.mc_machine.proofs.AlikeEffects.{effect_same}
-use Rattle.model_device.proofs.PieceLemmas.{held_same}
+use Rattle.law_machine.specs.model_device.proofs.PieceLemmas.{held_same}
 
 judged_same : (fixed : List ℕ) (o : Option Abend) (d e : Done) → SameDone fixed d e → seen_end fixed (row_end o d) ≡ seen_end fixed (row_end o e)
 judged_same fixed (Some a) d e s = refl

@@ -1,11 +1,11 @@
 -- Frames that differ in the pieces that their pending bytes come from: what they read, and the limit of pending words.
 use Rattle.std.proofs.Common.{◌≡◌, ℕ, Bool, true, false, cond, List, [], ◌∷◌, ◌++◌, length, take, drop, Option, Some, None, refl, sym, ap, ◌∙◌}
 use Rattle.std.specs.Prelude.{nat_lt, ◌==◌}
-use Rattle.model_device.specs.Bytes.{zeros}
-use Rattle.model_device.specs.Pieces.{laid_pieces, touched_words, with_touched}
-use Rattle.model_machine.specs.Frame.{Frame, Place, Static, Dynamic, Public, where_is, bytes_in, bytes_at, passes_limit, too_many}
+use Rattle.law_machine.specs.model_device.specs.Bytes.{zeros}
+use Rattle.law_machine.specs.model_device.specs.Pieces.{laid_pieces, touched_words, with_touched}
+use Rattle.law_machine.specs.model_machine.specs.Frame.{Frame, Place, Static, Dynamic, Public, where_is, bytes_in, bytes_at, passes_limit, too_many}
 use Rattle.mc_segs.specs.HeldFrames.{no_pieces}
-use Rattle.model_device.proofs.PieceLemmas.{laid_append, touched_append}
+use Rattle.law_machine.specs.model_device.proofs.PieceLemmas.{laid_append, touched_append}
 use Rattle.mc_segs.proofs.StoreLemmas.{no_pieces_append}
 
 -- pieces that lay the same bytes over a segment, and touch the same words

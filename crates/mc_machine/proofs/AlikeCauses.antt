@@ -1,15 +1,15 @@
 -- Frames that differ in the pieces that their pending bytes come from: a row abends from the same causes.
 use Rattle.std.proofs.Common.{◌≡◌, ℕ, ◌-◌, Bool, true, false, cond, List, [], ◌∷◌, Option, Some, None, refl, ap}
 use Rattle.std.specs.Prelude.{◌==◌, ◌&&◌}
-use Rattle.model_machine.specs.declared.instruction.Ins.{Ins}
-use Rattle.model_machine.specs.declared.instruction.Ins.TheVariants as ins
-use Rattle.model_machine.specs.declared.machine.Abend.{Abend}
-use Rattle.model_machine.specs.declared.machine.Abend.TheVariants.{A02, A04, A05, A06, A0A}
-use Rattle.model_device.specs.Bytes.{num}
-use Rattle.model_device.specs.Pieces.{touched_words}
-use Rattle.model_machine.specs.Frame.{Frame, is_under, is_over, frame_after_pop, top}
-use Rattle.model_machine.specs.Primitives.{Around, Primitive, DelegatorAid, primitive, prim_causes, later_causes, reported_causes, number_below_top, has_bad_argument, is_denied}
-use Rattle.model_machine.specs.Row.{causes, holds, no_place}
+use Rattle.law_machine.specs.model_machine.specs.declared.instruction.Ins.{Ins}
+use Rattle.law_machine.specs.model_machine.specs.declared.instruction.Ins.TheVariants as ins
+use Rattle.law_machine.specs.model_machine.specs.declared.machine.Abend.{Abend}
+use Rattle.law_machine.specs.model_machine.specs.declared.machine.Abend.TheVariants.{A02, A04, A05, A06, A0A}
+use Rattle.law_machine.specs.model_device.specs.Bytes.{num}
+use Rattle.law_machine.specs.model_device.specs.Pieces.{touched_words}
+use Rattle.law_machine.specs.model_machine.specs.Frame.{Frame, is_under, is_over, frame_after_pop, top}
+use Rattle.law_machine.specs.model_machine.specs.Primitives.{Around, Primitive, DelegatorAid, primitive, prim_causes, later_causes, reported_causes, number_below_top, has_bad_argument, is_denied}
+use Rattle.law_machine.specs.model_machine.specs.Row.{causes, holds, no_place}
 use Rattle.mc_machine.proofs.AlikeBytes.{SamePieces, with_pieces, reads_same, limit_same}
 
 abbrev pub Pieces : Type 0

@@ -2,15 +2,15 @@
 -- same effect on them.
 use Rattle.std.proofs.Common.{◌≡◌, ℕ, Bool, true, false, cond, List, [], ◌∷◌, ◌++◌, length, Option, Some, None, refl, sym, ap, ◌∙◌}
 use Rattle.std.specs.Prelude.{◌==◌, ◌||◌, nat_le}
-use Rattle.model_machine.specs.declared.instruction.Ins.{Ins}
-use Rattle.model_machine.specs.declared.instruction.Ins.TheVariants as ins
-use Rattle.model_device.specs.Bytes.{splice}
-use Rattle.model_device.specs.Pieces.{laid_pieces, touched_words}
-use Rattle.model_machine.specs.Frame.{Frame, Effect, Place, Static, Dynamic, Public, where_is, static_written, write_effect_at, write_effect, frame_after_entry, frame_after_push, frame_with_top, come_back, pending_change, protect}
-use Rattle.model_machine.specs.Primitives.{Around, frame_effect, Primitive, DelegatorAid, primitive}
-use Rattle.model_machine.specs.Row.{effect}
-use Rattle.law_rows.specs.Shapes.{Act, Stays, Answers, Jumps, Calls, Returns, Pushes, Replaces, Writes, Protects, Shape, with_status, with_length, act_effect, with_flags, meaning, delegator_shape, prim_shape, pair_shape, shape}
-use Rattle.law_rows.proofs.RowShapes.{shapes}
+use Rattle.law_machine.specs.model_machine.specs.declared.instruction.Ins.{Ins}
+use Rattle.law_machine.specs.model_machine.specs.declared.instruction.Ins.TheVariants as ins
+use Rattle.law_machine.specs.model_device.specs.Bytes.{splice}
+use Rattle.law_machine.specs.model_device.specs.Pieces.{laid_pieces, touched_words}
+use Rattle.law_machine.specs.model_machine.specs.Frame.{Frame, Effect, Place, Static, Dynamic, Public, where_is, static_written, write_effect_at, write_effect, frame_after_entry, frame_after_push, frame_with_top, come_back, pending_change, protect}
+use Rattle.law_machine.specs.model_machine.specs.Primitives.{Around, frame_effect, Primitive, DelegatorAid, primitive}
+use Rattle.law_machine.specs.model_machine.specs.Row.{effect}
+use Rattle.law_machine.specs.law_rows.specs.Shapes.{Act, Stays, Answers, Jumps, Calls, Returns, Pushes, Replaces, Writes, Protects, Shape, with_status, with_length, act_effect, with_flags, meaning, delegator_shape, prim_shape, pair_shape, shape}
+use Rattle.law_machine.specs.law_rows.proofs.RowShapes.{shapes}
 use Rattle.mc_segs.specs.HeldFrames.{Seen, frame_reading, no_pieces}
 use Rattle.mc_machine.specs.Alike.{seen_change, IsGuarded, SameEffect, SameDone}
 use Rattle.mc_machine.proofs.AlikeBytes.{with_pieces, same_pushed, reads_same}

@@ -3,10 +3,10 @@
 -- left.
 use Rattle.std.proofs.Common.{◌≡◌, ℕ, zero, suc, ◌+◌, ◌<◌, ◌≤◌, Bool, true, false, cond, List, [], ◌∷◌, length, take, drop, Option, Some, None, Result, Ok, Err, arith, refl, sym, ap, subst, inl, inr, ◌∙◌}
 use Rattle.std.specs.Prelude.{min, nat_eq, replicate, slice_index, option_map}
-use Rattle.model_machine.specs.declared.instruction.DecodeFault.{DecodeFault}
-use Rattle.model_machine.specs.declared.instruction.DecodeFault.TheVariants.{Undefined, Past}
-use Rattle.model_machine.specs.declared.instruction.Ins.{Ins}
-use Rattle.model_machine.specs.Code.{Form, Plain, OneByte, TwoBytes, Word, TwoWords, Near, Target, Primitive, Offset, ByteOffset, WordOffset, Kind, U8, U16, I16, operands, total, form, kinds, spell, made_of, DecodesTo, instruction_at, from_place}
+use Rattle.law_machine.specs.model_machine.specs.declared.instruction.DecodeFault.{DecodeFault}
+use Rattle.law_machine.specs.model_machine.specs.declared.instruction.DecodeFault.TheVariants.{Undefined, Past}
+use Rattle.law_machine.specs.model_machine.specs.declared.instruction.Ins.{Ins}
+use Rattle.law_machine.specs.model_machine.specs.Code.{Form, Plain, OneByte, TwoBytes, Word, TwoWords, Near, Target, Primitive, Offset, ByteOffset, WordOffset, Kind, U8, U16, I16, operands, total, form, kinds, spell, made_of, DecodesTo, instruction_at, from_place}
 use Rattle.mc_isa.proofs.PlaceLemmas.{decoded_only}
 use Rattle.mc_isa.proofs.RowLemmas.{Good, GoodRow, good_form}
 use Rattle.std.proofs.lemmas.List.{take-take}

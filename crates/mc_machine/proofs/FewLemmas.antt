@@ -3,18 +3,18 @@
 use Rattle.std.proofs.Common.{◌≡◌, ℕ, ◌≤◌, Bool, true, false, cond, List, [], ◌∷◌, length, Option, Some, None, Result, Ok, Err, refl, sym, ap, subst, ◌∙◌, inl, inr, arith}
 use Rattle.std.specs.Prelude.{⊤, bytes_eq, IfSome}
 use Rattle.std.specs.List.{AllByRecursion}
-use Rattle.model_machine.specs.declared.instruction.Ins.{Ins}
-use Rattle.model_machine.specs.declared.instruction.Ins.TheVariants as ins
-use Rattle.model_machine.specs.declared.machine.Abend.{Abend}
-use Rattle.model_device.specs.declared.device.Stop.{Stop}
-use Rattle.model_device.specs.Orders.{Answer, InOrder}
-use Rattle.model_device.specs.Bytes.{lookup}
-use Rattle.model_device.specs.Card.{App}
-use Rattle.model_machine.specs.Code.{Shaped}
-use Rattle.model_machine.specs.Frame.{Frame}
-use Rattle.model_machine.specs.Primitives.{Around}
-use Rattle.model_machine.specs.Row.{RowEnd, Abends, Does, causes, effect, first_cause, row_end, row}
-use Rattle.model_machine.specs.Chain.{Chain, Write, abends_at, delegator_in, around, write_of, row_turn, frame_at}
+use Rattle.law_machine.specs.model_machine.specs.declared.instruction.Ins.{Ins}
+use Rattle.law_machine.specs.model_machine.specs.declared.instruction.Ins.TheVariants as ins
+use Rattle.law_machine.specs.model_machine.specs.declared.machine.Abend.{Abend}
+use Rattle.law_machine.specs.model_device.specs.declared.device.Stop.{Stop}
+use Rattle.law_machine.specs.model_device.specs.Orders.{Answer, InOrder}
+use Rattle.law_machine.specs.model_device.specs.Bytes.{lookup}
+use Rattle.law_machine.specs.model_device.specs.Card.{App}
+use Rattle.law_machine.specs.model_machine.specs.Code.{Shaped}
+use Rattle.law_machine.specs.model_machine.specs.Frame.{Frame}
+use Rattle.law_machine.specs.model_machine.specs.Primitives.{Around}
+use Rattle.law_machine.specs.model_machine.specs.Row.{RowEnd, Abends, Does, causes, effect, first_cause, row_end, row}
+use Rattle.law_machine.specs.model_machine.specs.Chain.{Chain, Write, abends_at, delegator_in, around, write_of, row_turn, frame_at}
 use Rattle.law_machine.specs.FewWords.{words_in, most_words, EndsWithin, IsReportedName}
 use Rattle.law_machine.proofs.RowWords.{row_words, reported_any, most_is}
 use Rattle.mc_bank.specs.Bank.{BankState, IsApplication, AreApps}
@@ -23,7 +23,7 @@ use Rattle.mc_machine.specs.Chains.{Chained, ReadAll, RunsAs, ChainWrote}
 use Rattle.mc_machine.specs.Turns.{ActDone, WritesFew, is_exit}
 use Rattle.mc_machine.specs.declared.outcome.Step.{Step}
 use Rattle.mc_machine.proofs.ReadsLemmas.{app_is}
-use Rattle.model_device.proofs.MapLemmas.{same_name}
+use Rattle.law_machine.specs.model_device.proofs.MapLemmas.{same_name}
 use Rattle.mc_bank.specs.declared.bank.Bank.{Ghosts}
 
 -- ---- exits

@@ -4,16 +4,16 @@ use Rattle.std.specs.Prelude.{IsSome, bytes_eq, ◌||◌, nat_le, is_some}
 use Rattle.std.specs.List.{AllByRecursion}
 use Rattle.std.proofs.lemmas.Bool.Decides.{nat_tests}
 use Rattle.mc_bank.specs.Bank.{BankState, app_of, name_or, sizes_of}
-use Rattle.model_card.specs.declared.card.Sizes.{Sizes}
-use Rattle.model_device.specs.Bytes.{lookup, zeros}
-use Rattle.model_device.specs.Card.{App}
-use Rattle.model_machine.specs.Frame.{Frame, with_sw}
-use Rattle.model_machine.specs.Chain.{Chain, is_active, depth_of, chain_after_call, called_app, entered_app}
+use Rattle.law_machine.specs.model_card.specs.declared.card.Sizes.{Sizes}
+use Rattle.law_machine.specs.model_device.specs.Bytes.{lookup, zeros}
+use Rattle.law_machine.specs.model_device.specs.Card.{App}
+use Rattle.law_machine.specs.model_machine.specs.Frame.{Frame, with_sw}
+use Rattle.law_machine.specs.model_machine.specs.Chain.{Chain, is_active, depth_of, chain_after_call, called_app, entered_app}
 use Rattle.mc_segs.specs.HeldFrames.{new_held}
 use Rattle.mc_machine.specs.Chains.{Chained, RunsAs}
 use Rattle.mc_machine.specs.Turns.{has_frame}
 use Rattle.mc_machine.proofs.ReadsLemmas.{as_many, active_runs, app_by, entered_reads}
-use Rattle.model_device.proofs.MapLemmas.{other_way}
+use Rattle.law_machine.specs.model_device.proofs.MapLemmas.{other_way}
 
 neither : (a b : Bool) → false ≡ (a || b) → (a ≡ false) × (b ≡ false)
 neither true b e = absurd (cc e)

@@ -3,17 +3,17 @@
 use Rattle.std.proofs.Common.{◌≡◌, ℕ, ◌+◌, ◌-◌, ◌≤◌, Bool, true, false, cond, List, length, Option, Some, None, refl, sym, subst, ◌∙◌, arith}
 use Rattle.std.specs.Prelude.{◌==◌, ◌&&◌, ◌||◌, nat_le}
 use Rattle.std.proofs.lemmas.Bool.Decides.{nat_tests}
-use Rattle.model_machine.specs.declared.instruction.Ins.{Ins}
-use Rattle.model_device.specs.Bytes.{bytes2}
-use Rattle.model_machine.specs.Frame.{Frame, Effect, Place, Static, Dynamic, Public, where_is, public_base, public_end, static_written, write_effect_at, write_effect, protect}
-use Rattle.model_machine.specs.Primitives.{Around, Done}
-use Rattle.model_machine.specs.Row.{effect, causes, first_cause, row}
-use Rattle.law_rows.specs.Keeping.{Keeps, after_change}
-use Rattle.law_rows.specs.Shapes.{Act, Answers, Jumps, Calls, Writes, Protects, Shape, with_status, with_length, act_effect, with_flags, meaning, shape}
-use Rattle.law_rows.proofs.RowShapes.{shapes}
-use Rattle.law_rows.proofs.Keeping.{effect_keeps as parts_kept, on_done}
+use Rattle.law_machine.specs.model_machine.specs.declared.instruction.Ins.{Ins}
+use Rattle.law_machine.specs.model_device.specs.Bytes.{bytes2}
+use Rattle.law_machine.specs.model_machine.specs.Frame.{Frame, Effect, Place, Static, Dynamic, Public, where_is, public_base, public_end, static_written, write_effect_at, write_effect, protect}
+use Rattle.law_machine.specs.model_machine.specs.Primitives.{Around, Done}
+use Rattle.law_machine.specs.model_machine.specs.Row.{effect, causes, first_cause, row}
+use Rattle.law_machine.specs.law_rows.specs.Keeping.{Keeps, after_change}
+use Rattle.law_machine.specs.law_rows.specs.Shapes.{Act, Answers, Jumps, Calls, Writes, Protects, Shape, with_status, with_length, act_effect, with_flags, meaning, shape}
+use Rattle.law_machine.specs.law_rows.proofs.RowShapes.{shapes}
+use Rattle.law_machine.specs.law_rows.proofs.Keeping.{effect_keeps as parts_kept, on_done}
 use Rattle.mc_segs.specs.Ends.{changed_bytes}
-use Rattle.model_device.proofs.ListLemmas.{length_splice}
+use Rattle.law_machine.specs.model_device.proofs.ListLemmas.{length_splice}
 use Rattle.mc_machine.specs.Alike.{IsGuarded, KeepsEffect, KeepsRow}
 
 -- what an effect keeps besides the parts that every row keeps: the size of the code, the guard, and the length of a

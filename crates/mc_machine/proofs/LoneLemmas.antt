@@ -1,13 +1,13 @@
 -- A turn of an application that no frame waits for, by what its instruction did.
 use Rattle.std.proofs.Common.{◌≡◌, ◌≢◌, ℕ, ◌-◌, Bool, true, false, cond, List, [], ◌∷◌, Option, Some, None, Result, Ok, Err, refl, sym, ap, subst, ◌∙◌}
 use Rattle.std.specs.Prelude.{nat_lt, option_map, IsSome}
-use Rattle.model_machine.specs.declared.instruction.Ins.{Ins}
-use Rattle.model_machine.specs.declared.machine.Abend.{Abend}
-use Rattle.model_machine.specs.declared.machine.Abend.TheVariants.{A09}
-use Rattle.model_machine.specs.Frame.{Frame, la_of}
-use Rattle.model_machine.specs.Primitives.{Then, Exits}
-use Rattle.model_machine.specs.Row.{RowEnd, Abends, Does}
-use Rattle.model_machine.specs.Chain.{Chain, Turn, Abended, Follows, Ends as Ended, Acted, frame_at, row_turn, chain_after_effect, follows, after_exit, last_exit, reply_of}
+use Rattle.law_machine.specs.model_machine.specs.declared.instruction.Ins.{Ins}
+use Rattle.law_machine.specs.model_machine.specs.declared.machine.Abend.{Abend}
+use Rattle.law_machine.specs.model_machine.specs.declared.machine.Abend.TheVariants.{A09}
+use Rattle.law_machine.specs.model_machine.specs.Frame.{Frame, la_of}
+use Rattle.law_machine.specs.model_machine.specs.Primitives.{Then, Exits}
+use Rattle.law_machine.specs.model_machine.specs.Row.{RowEnd, Abends, Does}
+use Rattle.law_machine.specs.model_machine.specs.Chain.{Chain, Turn, Abended, Follows, Ends as Ended, Acted, frame_at, row_turn, chain_after_effect, follows, after_exit, last_exit, reply_of}
 use Rattle.mc_bank.specs.Bank.{BankState}
 use Rattle.mc_segs.specs.declared.ends.Next.TheVariants as go
 use Rattle.mc_segs.specs.declared.ends.Next.{Next}

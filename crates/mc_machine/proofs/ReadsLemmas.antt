@@ -3,10 +3,10 @@ use Rattle.std.proofs.Common.{◌≡◌, ℕ, Bool, true, false, List, [], ◌�
 use Rattle.std.specs.Prelude.{IsSome, bytes_eq, ◌||◌, unwrap_or}
 use Rattle.std.proofs.lemmas.List.{length-replicate}
 use Rattle.mc_bank.specs.Bank.{BankState, app_of, name_or, no_app, sizes_of}
-use Rattle.model_device.specs.Bytes.{lookup, zeros}
-use Rattle.model_device.specs.Card.{App}
-use Rattle.model_machine.specs.Frame.{Frame, session_of, new_frame}
-use Rattle.model_machine.specs.Chain.{Chain, delegator_in, first_frame, chain_session, is_active, frame_at}
+use Rattle.law_machine.specs.model_device.specs.Bytes.{lookup, zeros}
+use Rattle.law_machine.specs.model_device.specs.Card.{App}
+use Rattle.law_machine.specs.model_machine.specs.Frame.{Frame, session_of, new_frame}
+use Rattle.law_machine.specs.model_machine.specs.Chain.{Chain, delegator_in, first_frame, chain_session, is_active, frame_at}
 use Rattle.mc_segs.specs.HeldFrames.{Held, Seen, frame_reading, app_under, new_held}
 use Rattle.mc_bank.proofs.LeftLemmas.{some_name}
 use Rattle.mc_machine.specs.Chains.{Chained, FrameReadsAs, ReadAll, RunsAs, first_held, session_in}

@@ -1,12 +1,12 @@
 -- An exit keeps its frame's session bytes; an instruction that is not PRIM is one of the rows.
 use Rattle.std.proofs.Common.{◌≡◌, ◌≢◌, ℕ, List, refl}
-use Rattle.model_machine.specs.declared.instruction.Ins.{Ins}
-use Rattle.model_machine.specs.declared.instruction.Ins.TheVariants as ins
-use Rattle.model_machine.specs.Frame.{Frame, Effect, session_of}
-use Rattle.model_machine.specs.Primitives.{Around, Then, Goes, Exits, Delegates}
-use Rattle.model_machine.specs.Row.{effect, causes, first_cause, row, RowEnd}
-use Rattle.law_rows.specs.Keeping.{Leaves, OnLeave, OnDone}
-use Rattle.law_rows.proofs.Keeping.{effect_leaves, on_done}
+use Rattle.law_machine.specs.model_machine.specs.declared.instruction.Ins.{Ins}
+use Rattle.law_machine.specs.model_machine.specs.declared.instruction.Ins.TheVariants as ins
+use Rattle.law_machine.specs.model_machine.specs.Frame.{Frame, Effect, session_of}
+use Rattle.law_machine.specs.model_machine.specs.Primitives.{Around, Then, Goes, Exits, Delegates}
+use Rattle.law_machine.specs.model_machine.specs.Row.{effect, causes, first_cause, row, RowEnd}
+use Rattle.law_machine.specs.law_rows.specs.Keeping.{Leaves, OnLeave, OnDone}
+use Rattle.law_machine.specs.law_rows.proofs.Keeping.{effect_leaves, on_done}
 use Rattle.mc_rows.specs.Families.{IsNoPrimitive}
 
 -- an instruction that exits keeps its frame's session bytes

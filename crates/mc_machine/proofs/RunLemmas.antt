@@ -2,17 +2,17 @@
 use Rattle.std.proofs.Common.{◌≡◌, ℕ, zero, suc, ◌+◌, ◌-◌, ◌≤◌, ◌<◌, ◌≢◌, false, List, [], Some, None, Result, Ok, Err, arith, refl, sym, ap, subst, ◌∙◌}
 use Rattle.std.specs.Prelude.{option_map, IfOk, OnOk, OnErr}
 use Rattle.std.specs.List.{AllByRecursion}
-use Rattle.model_machine.specs.declared.instruction.Ins.{Ins}
-use Rattle.model_machine.specs.declared.instruction.DecodeFault.{DecodeFault}
-use Rattle.model_machine.specs.declared.instruction.DecodeFault.TheVariants.{Undefined, Past}
-use Rattle.model_machine.specs.declared.machine.Abend.TheVariants.{A07}
-use Rattle.model_device.specs.declared.device.Stop.{Stop}
-use Rattle.model_device.specs.Orders.{Answer, InOrder, answer_of}
-use Rattle.model_device.proofs.OrdersLemmas.{in_order_append, in_order_stopped}
-use Rattle.model_machine.specs.Code.{instruction_at}
-use Rattle.model_device.specs.Bytes.{lookup}
-use Rattle.model_machine.specs.Row.{RowEnd, Abends, Does, row}
-use Rattle.model_machine.specs.Chain.{Chain, Outcome, Abended, Acted, Write, Ran, Follows, Continues, Ends, around, code_in, frame_at, chain_session, row_turn, turn_of_fetch, turn_of_chain, turn_without_budget, turn_of, end_of, ends_with, goes_on, run_after_turn, run_of_chain, chain_after_call}
+use Rattle.law_machine.specs.model_machine.specs.declared.instruction.Ins.{Ins}
+use Rattle.law_machine.specs.model_machine.specs.declared.instruction.DecodeFault.{DecodeFault}
+use Rattle.law_machine.specs.model_machine.specs.declared.instruction.DecodeFault.TheVariants.{Undefined, Past}
+use Rattle.law_machine.specs.model_machine.specs.declared.machine.Abend.TheVariants.{A07}
+use Rattle.law_machine.specs.model_device.specs.declared.device.Stop.{Stop}
+use Rattle.law_machine.specs.model_device.specs.Orders.{Answer, InOrder, answer_of}
+use Rattle.law_machine.specs.model_device.proofs.OrdersLemmas.{in_order_append, in_order_stopped}
+use Rattle.law_machine.specs.model_machine.specs.Code.{instruction_at}
+use Rattle.law_machine.specs.model_device.specs.Bytes.{lookup}
+use Rattle.law_machine.specs.model_machine.specs.Row.{RowEnd, Abends, Does, row}
+use Rattle.law_machine.specs.model_machine.specs.Chain.{Chain, Outcome, Abended, Acted, Write, Ran, Follows, Continues, Ends, around, code_in, frame_at, chain_session, row_turn, turn_of_fetch, turn_of_chain, turn_without_budget, turn_of, end_of, ends_with, goes_on, run_after_turn, run_of_chain, chain_after_call}
 use Rattle.mc_apdu.specs.declared.reply.Reply.{Reply}
 use Rattle.mc_machine.specs.declared.outcome.End.{End}
 use Rattle.mc_machine.specs.declared.outcome.Step.{Step}

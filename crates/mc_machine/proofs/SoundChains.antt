@@ -4,23 +4,23 @@ use Rattle.std.proofs.Common.{◌≡◌, ℕ, zero, suc, ◌-◌, Bool, true, fa
 use Rattle.std.specs.Prelude.{unwrap_or, bytes_eq, ◌||◌, nat_lt, nat_le}
 use Rattle.std.specs.List.{AllByRecursion}
 use Rattle.std.proofs.lemmas.List.{length-append, length-take, length-replicate}
-use Rattle.model_machine.specs.declared.instruction.Ins.{Ins}
-use Rattle.model_machine.specs.declared.instruction.DecodeFault.{DecodeFault}
-use Rattle.model_machine.specs.declared.instruction.DecodeFault.TheVariants.{Undefined, Past}
-use Rattle.model_device.specs.Bytes.{lookup, insert, zeros}
-use Rattle.model_device.specs.Pieces.{touched_words}
-use Rattle.model_device.specs.Card.{App}
-use Rattle.model_machine.specs.Code.{instruction_at}
-use Rattle.model_machine.specs.Frame.{Frame, Effect, new_frame, la_of}
-use Rattle.model_machine.specs.Primitives.{Then, Goes, Exits, Delegates}
-use Rattle.model_machine.specs.Row.{RowEnd, Abends, Does, row}
-use Rattle.model_machine.specs.Chain.{Chain, Write, Acted, Follows, Continues, Ends, code_in, around, first_frame, chain_session, with_pieces, changed_app, map_changed, write_of, chain_after_effect, chain_after_call, called_app, is_active, depth_of, after_exit, follows, row_turn, frame_at, turn_of_fetch, turn_of_chain, turn_of}
-use Rattle.model_card.specs.Items.{apps_after_items, write_items}
+use Rattle.law_machine.specs.model_machine.specs.declared.instruction.Ins.{Ins}
+use Rattle.law_machine.specs.model_machine.specs.declared.instruction.DecodeFault.{DecodeFault}
+use Rattle.law_machine.specs.model_machine.specs.declared.instruction.DecodeFault.TheVariants.{Undefined, Past}
+use Rattle.law_machine.specs.model_device.specs.Bytes.{lookup, insert, zeros}
+use Rattle.law_machine.specs.model_device.specs.Pieces.{touched_words}
+use Rattle.law_machine.specs.model_device.specs.Card.{App}
+use Rattle.law_machine.specs.model_machine.specs.Code.{instruction_at}
+use Rattle.law_machine.specs.model_machine.specs.Frame.{Frame, Effect, new_frame, la_of}
+use Rattle.law_machine.specs.model_machine.specs.Primitives.{Then, Goes, Exits, Delegates}
+use Rattle.law_machine.specs.model_machine.specs.Row.{RowEnd, Abends, Does, row}
+use Rattle.law_machine.specs.model_machine.specs.Chain.{Chain, Write, Acted, Follows, Continues, Ends, code_in, around, first_frame, chain_session, with_pieces, changed_app, map_changed, write_of, chain_after_effect, chain_after_call, called_app, is_active, depth_of, after_exit, follows, row_turn, frame_at, turn_of_fetch, turn_of_chain, turn_of}
+use Rattle.law_machine.specs.model_card.specs.Items.{apps_after_items, write_items}
 use Rattle.mc_bank.specs.Bank.{no_app, app_of}
 use Rattle.mc_machine.specs.Sound.{IsSoundFrame, IsSoundChain}
-use Rattle.law_rows.specs.Keeping.{PiecesWithin, ChangeWithin, Keeps, OnDone}
-use Rattle.law_rows.proofs.Keeping.{length_laid, fixed_length, row_keeps}
-use Rattle.model_device.proofs.MapLemmas.{same_name, lookup_inserted_lem, lookup_beside}
+use Rattle.law_machine.specs.law_rows.specs.Keeping.{PiecesWithin, ChangeWithin, Keeps, OnDone}
+use Rattle.law_machine.specs.law_rows.proofs.Keeping.{length_laid, fixed_length, row_keeps}
+use Rattle.law_machine.specs.model_device.proofs.MapLemmas.{same_name, lookup_inserted_lem, lookup_beside}
 
 -- ---- applications whose sizes do not change
 

@@ -1,16 +1,16 @@
 -- A run by its turns: its writes lie in the static segments of their applications, and the number of session bytes that
 -- it leaves.
 use Rattle.std.proofs.Common.{◌≡◌, ℕ, zero, suc, List, [], ◌∷◌, ◌++◌, length, Some, Result, Ok, Err, refl, ap, subst, ◌∙◌}
-use Rattle.model_machine.specs.declared.instruction.Ins.{Ins}
-use Rattle.model_machine.specs.declared.instruction.DecodeFault.{DecodeFault}
-use Rattle.model_machine.specs.declared.instruction.DecodeFault.TheVariants.{Undefined, Past}
-use Rattle.model_machine.specs.Code.{instruction_at}
-use Rattle.model_device.specs.Bytes.{lookup}
-use Rattle.model_machine.specs.Row.{RowEnd, Abends, Does, row}
-use Rattle.model_device.specs.Card.{App}
-use Rattle.model_machine.specs.Apdu.{ApduParts}
-use Rattle.model_card.specs.Items.{apps_after_items, write_items}
-use Rattle.model_machine.specs.Chain.{Chain, Write, Acted, Ran, Follows, Continues, Ends, around, code_in, frame_at, chain_session, row_turn, turn_of_fetch, turn_of_chain, turn_of, end_of, map_changed, run_after_turn, run_of_chain, start}
+use Rattle.law_machine.specs.model_machine.specs.declared.instruction.Ins.{Ins}
+use Rattle.law_machine.specs.model_machine.specs.declared.instruction.DecodeFault.{DecodeFault}
+use Rattle.law_machine.specs.model_machine.specs.declared.instruction.DecodeFault.TheVariants.{Undefined, Past}
+use Rattle.law_machine.specs.model_machine.specs.Code.{instruction_at}
+use Rattle.law_machine.specs.model_device.specs.Bytes.{lookup}
+use Rattle.law_machine.specs.model_machine.specs.Row.{RowEnd, Abends, Does, row}
+use Rattle.law_machine.specs.model_device.specs.Card.{App}
+use Rattle.law_machine.specs.model_machine.specs.Apdu.{ApduParts}
+use Rattle.law_machine.specs.model_card.specs.Items.{apps_after_items, write_items}
+use Rattle.law_machine.specs.model_machine.specs.Chain.{Chain, Write, Acted, Ran, Follows, Continues, Ends, around, code_in, frame_at, chain_session, row_turn, turn_of_fetch, turn_of_chain, turn_of, end_of, map_changed, run_after_turn, run_of_chain, start}
 use Rattle.mc_bank.specs.Bank.{app_of}
 use Rattle.mc_machine.specs.Sound.{IsSoundChain}
 use Rattle.mc_machine.proofs.SoundChains.{AreSound, FollowsSound, TurnSound, SameLengths, sizes_done, first_in, new_sound, session_size, turn_sound}

@@ -3,13 +3,13 @@ use Rattle.std.proofs.Common.{◌≡◌, ℕ, false, List, [], ◌∷◌, ◌≤
 use Rattle.std.specs.Prelude.{bytes_eq, unwrap_or, IsSome}
 use Rattle.std.proofs.lemmas.List.{length-map}
 use Rattle.std.specs.List.{AllByRecursion}
-use Rattle.model_device.specs.Orders.{Answer, InOrder}
-use Rattle.model_card.specs.Items.{Commit}
-use Rattle.model_device.specs.Pieces.{laid_pieces, laid_words, touched_words, HoldPieces}
-use Rattle.model_device.specs.Bytes.{lookup, insert}
-use Rattle.model_device.specs.Card.{App}
-use Rattle.model_machine.specs.Frame.{Frame, Effect}
-use Rattle.model_machine.specs.Chain.{Chain, changed_app, map_changed, write_of, chain_after_effect}
+use Rattle.law_machine.specs.model_device.specs.Orders.{Answer, InOrder}
+use Rattle.law_machine.specs.model_card.specs.Items.{Commit}
+use Rattle.law_machine.specs.model_device.specs.Pieces.{laid_pieces, laid_words, touched_words, HoldPieces}
+use Rattle.law_machine.specs.model_device.specs.Bytes.{lookup, insert}
+use Rattle.law_machine.specs.model_device.specs.Card.{App}
+use Rattle.law_machine.specs.model_machine.specs.Frame.{Frame, Effect}
+use Rattle.law_machine.specs.model_machine.specs.Chain.{Chain, changed_app, map_changed, write_of, chain_after_effect}
 use Rattle.mc_bank.specs.Bank.{app_of, name_or, no_app, with_words, apps_after_commit, Changes}
 use Rattle.mc_segs.specs.HeldFrames.{Held, Seen, app_under}
 use Rattle.mc_segs.specs.Ends.{IsOneCommit, changed_bytes, scene, EffectDone}
@@ -17,7 +17,7 @@ use Rattle.mc_machine.specs.Alike.{SameEffect, KeepsEffect}
 use Rattle.mc_machine.specs.Chains.{Chained, ReadAll, RunsAs, ChainWrote}
 use Rattle.mc_machine.proofs.Alike.{committed_seen, changed_seen}
 use Rattle.mc_machine.proofs.ReadsLemmas.{name_is, app_is, moved_reads}
-use Rattle.model_device.proofs.MapLemmas.{lookup_inserted_lem, lookup_beside}
+use Rattle.law_machine.specs.model_device.proofs.MapLemmas.{lookup_inserted_lem, lookup_beside}
 use Rattle.mc_bank.proofs.LeftLemmas.{some_name}
 use Rattle.mc_bank.specs.declared.bank.Bank.{Ghosts}
 

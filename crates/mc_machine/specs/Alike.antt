@@ -1,12 +1,12 @@
 -- The reading of a frame, which is all that a row depends on: its pending bytes, and not the pieces that they come
 -- from.
 use Rattle.std.specs.Prelude.{◌≡◌, ℕ, true, false, List, length, option_map, Option}
-use Rattle.model_machine.specs.declared.machine.Abend.{Abend}
-use Rattle.model_device.specs.Pieces.{laid_pieces, touched_words}
-use Rattle.model_machine.specs.Frame.{Frame, Effect}
-use Rattle.model_machine.specs.Primitives.{Then, Done}
-use Rattle.model_machine.specs.Row.{RowEnd, Abends, Does}
-use Rattle.law_rows.specs.Keeping.{OnDone}
+use Rattle.law_machine.specs.model_machine.specs.declared.machine.Abend.{Abend}
+use Rattle.law_machine.specs.model_device.specs.Pieces.{laid_pieces, touched_words}
+use Rattle.law_machine.specs.model_machine.specs.Frame.{Frame, Effect}
+use Rattle.law_machine.specs.model_machine.specs.Primitives.{Then, Done}
+use Rattle.law_machine.specs.model_machine.specs.Row.{RowEnd, Abends, Does}
+use Rattle.law_machine.specs.law_rows.specs.Keeping.{OnDone}
 use Rattle.mc_segs.specs.HeldFrames.{Seen, frame_reading, no_pieces}
 use Rattle.mc_segs.specs.Ends.{changed_bytes}
 

@@ -1,15 +1,15 @@
 -- A chain as the code holds it, the chain of the definitions that it runs, and what a turn and a run do to it.
 use Rattle.std.specs.Prelude.{◌≡◌, ℕ, ◌≤◌, false, List, [], ◌∷◌, length, bytes_eq, unwrap_or, Option, Some}
 use Rattle.std.specs.List.{AllByRecursion}
-use Rattle.model_device.specs.Orders.{Answer}
-use Rattle.model_card.specs.Items.{BankItem, Commit}
-use Rattle.model_device.specs.Pieces.{HoldPieces}
-use Rattle.model_machine.specs.Apdu.{apdu_case}
-use Rattle.model_machine.specs.Frame.{Frame, new_frame, session_of}
-use Rattle.model_machine.specs.Chain.{Chain, Ran, Write, no_app, run}
+use Rattle.law_machine.specs.model_device.specs.Orders.{Answer}
+use Rattle.law_machine.specs.model_card.specs.Items.{BankItem, Commit}
+use Rattle.law_machine.specs.model_device.specs.Pieces.{HoldPieces}
+use Rattle.law_machine.specs.model_machine.specs.Apdu.{apdu_case}
+use Rattle.law_machine.specs.model_machine.specs.Frame.{Frame, new_frame, session_of}
+use Rattle.law_machine.specs.model_machine.specs.Chain.{Chain, Ran, Write, no_app, run}
 use Rattle.mc_bank.specs.Bank.{BankState, app_of, name_or}
-use Rattle.model_device.specs.Bytes.{lookup}
-use Rattle.model_device.specs.Card.{App}
+use Rattle.law_machine.specs.model_device.specs.Bytes.{lookup}
+use Rattle.law_machine.specs.model_device.specs.Card.{App}
 use Rattle.mc_apdu.specs.declared.command.Apdu.{Apdu}
 use Rattle.mc_apdu.specs.Command.{parts_of}
 use Rattle.mc_segs.specs.HeldFrames.{Held, FitsBank, frame_with, frame_reading}

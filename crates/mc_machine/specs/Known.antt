@@ -1,7 +1,7 @@
 -- Instructions that were decoded before.
 use Rattle.std.specs.Prelude.{ℕ, ◌<◌, List, Ok}
 use Rattle.std.specs.List.{All}
-use Rattle.model_machine.specs.Code.{DecodesTo}
+use Rattle.law_machine.specs.model_machine.specs.Code.{DecodesTo}
 use Rattle.mc_machine.specs.declared.known.Known.{Known}
 
 -- an entry of a table is an instruction of some code, or the address of its place is no code address

@@ -1,7 +1,7 @@
 -- A place for a chain: the chain that runs in it, if one runs, and what a turn in it does.
 use Rattle.std.specs.Prelude.{◌≡◌, ℕ, ◌+◌, Bool, true, false, List, Option, Some, None, Result}
-use Rattle.model_device.specs.declared.device.Stop.{Stop}
-use Rattle.model_machine.specs.Chain.{Chain, turn_of}
+use Rattle.law_machine.specs.model_device.specs.declared.device.Stop.{Stop}
+use Rattle.law_machine.specs.model_machine.specs.Chain.{Chain, turn_of}
 use Rattle.mc_bank.specs.Bank.{BankState, AreApps}
 use Rattle.mc_machine.specs.Chains.{Chained, RunsAs, FitsChain}
 use Rattle.mc_machine.specs.Turns.{TurnDone, WritesFew}

@@ -1,11 +1,11 @@
 -- Chains whose frames match their applications as a run begins them: their pending pieces lie in their static segments.
 use Rattle.std.specs.Prelude.{◌≡◌, ℕ, ◌≤◌, List, ◌∷◌, length, Some}
 use Rattle.std.specs.List.{AllByRecursion}
-use Rattle.model_device.specs.Card.{App}
-use Rattle.model_machine.specs.Frame.{Frame}
-use Rattle.model_machine.specs.Chain.{Chain}
+use Rattle.law_machine.specs.model_device.specs.Card.{App}
+use Rattle.law_machine.specs.model_machine.specs.Frame.{Frame}
+use Rattle.law_machine.specs.model_machine.specs.Chain.{Chain}
 use Rattle.mc_bank.specs.Bank.{app_of}
-use Rattle.law_rows.specs.Keeping.{PiecesWithin}
+use Rattle.law_machine.specs.law_rows.specs.Keeping.{PiecesWithin}
 
 -- A frame of one of the given applications: its static segment is as long as the application's, its pending pieces lie
 -- in it, and it has the number of session bytes of the application.

@@ -1,15 +1,15 @@
 -- What a turn of the code returns, and the state that it leaves.
 use Rattle.std.specs.Prelude.{◌≡◌, ℕ, ◌+◌, ◌-◌, Bool, true, false, cond, nat_lt, ◌||◌, ◌≤◌, bytes_eq, min, List, [], ◌∷◌, length, take, option_map, Option, Some, None, IfSome, Result, Ok, Err}
 use Rattle.std.specs.List.{AllByRecursion}
-use Rattle.model_machine.specs.declared.machine.Abend.TheVariants.{A09}
-use Rattle.model_machine.specs.declared.instruction.Ins.{Ins}
-use Rattle.model_machine.specs.declared.instruction.Ins.TheVariants as ins
-use Rattle.model_device.specs.declared.device.Stop.{Stop}
-use Rattle.model_device.specs.Orders.{Answer, InOrder}
-use Rattle.model_card.specs.Items.{BankItem}
-use Rattle.model_machine.specs.Frame.{la_of, sw_of}
-use Rattle.model_machine.specs.Chain.{Chain, Turn as ModelTurn, Acted, Follows, Continues, Ends, chain_session}
-use Rattle.model_machine.specs.Chain as model
+use Rattle.law_machine.specs.model_machine.specs.declared.machine.Abend.TheVariants.{A09}
+use Rattle.law_machine.specs.model_machine.specs.declared.instruction.Ins.{Ins}
+use Rattle.law_machine.specs.model_machine.specs.declared.instruction.Ins.TheVariants as ins
+use Rattle.law_machine.specs.model_device.specs.declared.device.Stop.{Stop}
+use Rattle.law_machine.specs.model_device.specs.Orders.{Answer, InOrder}
+use Rattle.law_machine.specs.model_card.specs.Items.{BankItem}
+use Rattle.law_machine.specs.model_machine.specs.Frame.{la_of, sw_of}
+use Rattle.law_machine.specs.model_machine.specs.Chain.{Chain, Turn as ModelTurn, Acted, Follows, Continues, Ends, chain_session}
+use Rattle.law_machine.specs.model_machine.specs.Chain as model
 use Rattle.law_machine.specs.FewWords.{most_words}
 use Rattle.mc_bank.specs.Bank.{BankState, name_or}
 use Rattle.mc_segs.specs.HeldFrames.{Held, FitsBank}

@@ -1,6 +1,6 @@
 // A chain of frames: its beginning, its end, and what one frame reads of the others.
 ghost use Rattle.std.specs.Prelude.{◌≡◌, ◌≤◌, length, false, IsSome};
-ghost use Rattle.model_machine.specs.Chain.{start};
+ghost use Rattle.law_machine.specs.model_machine.specs.Chain.{start};
 ghost use Rattle.mc_apdu.specs.Command.{parts_of};
 ghost use Rattle.mc_bank.specs.Bank.{app_of, name_or};
 ghost use Rattle.mc_machine.specs.Chains.{FrameReadsAs, RunsAs, first_of, session_in};

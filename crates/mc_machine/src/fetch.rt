@@ -1,6 +1,6 @@
 // The instruction at the code address of a frame.
 ghost use Rattle.std.specs.Prelude.{◌≡◌, ◌+◌, ◌≤◌, false, length, min, take, drop};
-ghost use Rattle.model_machine.specs.Code.{instruction_at, DecodesTo};
+ghost use Rattle.law_machine.specs.model_machine.specs.Code.{instruction_at, DecodesTo};
 ghost use Rattle.mc_segs.specs.HeldFrames.{FitsBank, app_under};
 
 use mc_bank::Bank;

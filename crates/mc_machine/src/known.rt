@@ -1,6 +1,6 @@
 // Instructions that were decoded before, by their code addresses: a loop decodes each of its instructions once.
 ghost use Rattle.std.specs.Prelude.{◌≡◌, ℕ, List, false};
-ghost use Rattle.model_machine.specs.Code.{instruction_at, DecodesTo};
+ghost use Rattle.law_machine.specs.model_machine.specs.Code.{instruction_at, DecodesTo};
 ghost use Rattle.mc_segs.specs.HeldFrames.{FitsBank, app_under};
 ghost use Rattle.mc_machine.specs.Known.{KnowsCode};
 

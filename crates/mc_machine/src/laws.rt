@@ -1,8 +1,8 @@
 ghost use Rattle.std.specs.Prelude.{◌≡◌, ℕ, List};
-ghost use Rattle.model_machine.specs.declared.instruction.Ins.{Ins};
-ghost use Rattle.model_machine.specs.Frame.{Frame, new_frame};
-ghost use Rattle.model_machine.specs.Primitives.{Around};
-ghost use Rattle.model_machine.specs.Row.{row};
+ghost use Rattle.law_machine.specs.model_machine.specs.declared.instruction.Ins.{Ins};
+ghost use Rattle.law_machine.specs.model_machine.specs.Frame.{Frame, new_frame};
+ghost use Rattle.law_machine.specs.model_machine.specs.Primitives.{Around};
+ghost use Rattle.law_machine.specs.model_machine.specs.Row.{row};
 ghost use Rattle.mc_segs.specs.HeldFrames.{frame_reading};
 ghost use Rattle.mc_machine.specs.Alike.{seen_end, IsGuarded, KeepsRow};
 

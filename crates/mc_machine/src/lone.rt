@@ -1,8 +1,8 @@
 // Turns of an application that no frame waits for: the first one of a chain, until it delegates.
 ghost use Rattle.std.specs.Prelude.{◌≡◌, ◌≢◌, ◌+◌, false, ℕ, List, Option, None, Ok};
-ghost use Rattle.model_machine.specs.declared.instruction.Ins.TheVariants.{Prim};
-ghost use Rattle.model_machine.specs.Code.{Shaped, instruction_at, DecodesTo};
-ghost use Rattle.model_machine.specs.Chain.{Chain as ModelChain, turn_of};
+ghost use Rattle.law_machine.specs.model_machine.specs.declared.instruction.Ins.TheVariants.{Prim};
+ghost use Rattle.law_machine.specs.model_machine.specs.Code.{Shaped, instruction_at, DecodesTo};
+ghost use Rattle.law_machine.specs.model_machine.specs.Chain.{Chain as ModelChain, turn_of};
 ghost use Rattle.mc_segs.specs.HeldFrames.{FitsBank, app_under};
 ghost use Rattle.mc_segs.specs.Ends.{scene};
 ghost use Rattle.mc_rows.specs.Rows.{row_result};

@@ -1,7 +1,7 @@
 // How turns and chains end.
 ghost use Rattle.std.specs.Prelude.{◌≡◌, ◌≤◌, ℕ, min, take, Some, None};
-ghost use Rattle.model_machine.specs.Frame.{la_of, sw_of};
-ghost use Rattle.model_card.specs.Commands.{status};
+ghost use Rattle.law_machine.specs.model_machine.specs.Frame.{la_of, sw_of};
+ghost use Rattle.law_machine.specs.model_card.specs.Commands.{status};
 ghost use Rattle.mc_machine.specs.Turns.{end_value, last_end, outcome_by, outcome_value, EndFits, IsReply};
 
 use crate::chain::Chain;

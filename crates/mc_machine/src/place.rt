@@ -1,7 +1,7 @@
 // A place for the chain of a command that is run turn by turn.
 ghost use Rattle.std.specs.Prelude.{◌≡◌, ◌≤◌, ℕ, false, None, IsSome, IfOk, IfSome, length, option_map};
-ghost use Rattle.model_machine.specs.Chain.{start};
-ghost use Rattle.model_machine.specs.Code.{Shaped};
+ghost use Rattle.law_machine.specs.model_machine.specs.Chain.{start};
+ghost use Rattle.law_machine.specs.model_machine.specs.Code.{Shaped};
 ghost use Rattle.mc_apdu.specs.Command.{parts_of};
 ghost use Rattle.mc_bank.specs.Bank.{app_of, name_or};
 ghost use Rattle.mc_machine.specs.Chains.{FitsChain, session_in};

@@ -1,9 +1,9 @@
 // A command to an application, from its first turn to its end.
 ghost use Rattle.std.specs.Prelude.{◌≡◌, ◌+◌, ◌≤◌, length, false, IsSome, IfOk, OnOk, OnErr};
 ghost use Rattle.std.specs.List.{AllByRecursion};
-ghost use Rattle.model_device.specs.Orders.{InOrder, answer_of};
-ghost use Rattle.model_device.specs.Bytes.{lookup};
-ghost use Rattle.model_machine.specs.Chain.{Chain as ModelChain, chain_after_call, run_of_chain};
+ghost use Rattle.law_machine.specs.model_device.specs.Orders.{InOrder, answer_of};
+ghost use Rattle.law_machine.specs.model_device.specs.Bytes.{lookup};
+ghost use Rattle.law_machine.specs.model_machine.specs.Chain.{Chain as ModelChain, chain_after_call, run_of_chain};
 ghost use Rattle.mc_bank.specs.Bank.{app_of};
 ghost use Rattle.mc_machine.specs.Chains.{FitsChain, RunsAs, ChainWrote, run_of_command};
 ghost use Rattle.mc_machine.specs.Lone.{lone_chain, RanDone};

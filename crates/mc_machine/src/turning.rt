@@ -1,9 +1,9 @@
 // One turn of a chain: an executed instruction, or a fetch that abends.
 ghost use Rattle.std.specs.Prelude.{[], ◌≡◌, ◌≢◌, ◌+◌, ◌<◌, ◌≤◌, ◌∷◌, ◌||◌, false, bytes_eq, length, nat_le, option_map, ℕ, List, IfOk, IfSome};
 ghost use Rattle.mc_bank.specs.Bank.{AreApps, name_or};
-ghost use Rattle.model_device.specs.Bytes.{lookup};
-ghost use Rattle.model_machine.specs.Code.{Shaped};
-ghost use Rattle.model_machine.specs.Chain.{Chain as ModelChain, turn_of, chain_after_call, follows};
+ghost use Rattle.law_machine.specs.model_device.specs.Bytes.{lookup};
+ghost use Rattle.law_machine.specs.model_machine.specs.Code.{Shaped};
+ghost use Rattle.law_machine.specs.model_machine.specs.Chain.{Chain as ModelChain, turn_of, chain_after_call, follows};
 ghost use Rattle.mc_segs.specs.HeldFrames.{FitsBank};
 ghost use Rattle.mc_segs.specs.Ends.{scene, RowActs, then_of};
 ghost use Rattle.mc_rows.specs.Rows.{row_result};

@@ -5,11 +5,11 @@ use Rattle.std.specs.Option.{ForSome}
 use Rattle.std.proofs.lemmas.Bool.Decides.{nat_tests}
 use Rattle.model_card.specs.declared.card.Part.{Part}
 use Rattle.model_card.specs.declared.unit.AidFault.{AidFault}
-use Rattle.model_device.specs.declared.device.Stop.{Stop}
-use Rattle.model_device.specs.Orders.{Answer, answer_of, InOrder}
-use Rattle.model_device.specs.Bytes.{zeros, lookup, insert, remove}
-use Rattle.model_machine.specs.Apdu.{ApduParts}
-use Rattle.model_device.specs.Card.{App}
+use Rattle.model_card.specs.model_device.specs.declared.device.Stop.{Stop}
+use Rattle.model_card.specs.model_device.specs.Orders.{Answer, answer_of, InOrder}
+use Rattle.model_card.specs.model_device.specs.Bytes.{zeros, lookup, insert, remove}
+use Rattle.model_card.specs.model_machine.specs.Apdu.{ApduParts}
+use Rattle.model_card.specs.model_device.specs.Card.{App}
 use Rattle.model_card.specs.Items.{Site, BankItem, Piece, Remove}
 use Rattle.model_card.specs.Manager.{Open, Accepted, first_status, answer_unless, select_body, select_done, select, p1p2, is_empty, got_of, size_of, with_got, word_parts, load_refusals, load_done, load_part, create_refusals, create_done, create_items, create, dir_in, is_selected, delete_refusals, delete_done, delete, WrongClass, ToSelect, ToManager, ToApplication, manage}
 use Rattle.model_card.specs.Units.{name_of}
@@ -28,7 +28,7 @@ use Rattle.mc_manager.specs.Ends.{CommandEnds}
 use Rattle.mc_manager.specs.declared.routed.Ruling.{Ruling}
 use Rattle.mc_manager.specs.Ruled.{ruling_with_reply, ruling_or_stop}
 use Rattle.mc_manager.proofs.LoadLemmas.{length_got, same_size, fresh_entered}
-use Rattle.model_device.proofs.MapLemmas.{name_is_itself}
+use Rattle.model_card.specs.model_device.proofs.MapLemmas.{name_is_itself}
 
 -- ---- causes
 

@@ -6,13 +6,13 @@ use Rattle.std.proofs.lemmas.List.{length-take-le, length-append, take_at, take_
 use Rattle.model_card.specs.declared.card.Part.{Part}
 use Rattle.model_card.specs.declared.card.Part.TheVariants.{Code, Data, Dir, Fci}
 use Rattle.model_card.specs.declared.card.Sizes.{Sizes}
-use Rattle.model_device.specs.Bytes.{splice}
+use Rattle.model_card.specs.model_device.specs.Bytes.{splice}
 use Rattle.model_card.specs.Items.{Site}
 use Rattle.model_card.specs.Manager.{got_of, size_of, with_got, is_complete, can_create, fresh}
 use Rattle.mc_bank.specs.Bank.{part_len, IsGoodSite, StayGood, app_of_site}
 use Rattle.mc_manager.specs.ManagerState.{BankView, Loaded, got_len, got_at, open_of, FitsLoad}
 use Rattle.mc_manager.specs.Load.{with_more, is_full}
-use Rattle.model_device.proofs.ListLemmas.{length_splice}
+use Rattle.model_card.specs.model_device.proofs.ListLemmas.{length_splice}
 
 -- ---- sections
 

@@ -2,10 +2,10 @@
 use Rattle.std.proofs.Common.{◌≡◌, ℕ, List, [], ◌∷◌, None, refl, subst, arith}
 use Rattle.std.specs.List.{AllByRecursion}
 use Rattle.mc_base.specs.Name.{IsName}
-use Rattle.model_device.specs.Bytes.{lookup}
-use Rattle.model_device.specs.Card.{App}
+use Rattle.model_card.specs.model_device.specs.Bytes.{lookup}
+use Rattle.model_card.specs.model_device.specs.Card.{App}
 use Rattle.mc_bank.specs.Bank.{IsApplication, AreApps}
-use Rattle.model_device.proofs.MapLemmas.{same_name}
+use Rattle.model_card.specs.model_device.proofs.MapLemmas.{same_name}
 
 -- no entry has bytes as its name that are not a name
 pub not_among : (apps : List (List ℕ × App)) (n : List ℕ) → AllByRecursion IsApplication apps → (IsName n → ⊥) → lookup apps n ≡ None

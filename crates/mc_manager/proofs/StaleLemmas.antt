@@ -2,10 +2,10 @@
 use Rattle.std.proofs.Common.{◌≡◌, ℕ, Bool, true, false, List, [], ◌∷◌, Option, Some, None, Ok, Err, refl, sym, ap, subst, ◌∙◌, inl, inr}
 use Rattle.std.specs.Prelude.{◌⊎◌, cond, ◌==◌, ◌&&◌, bytes_eq}
 use Rattle.model_card.specs.declared.card.Sizes.{Sizes}
-use Rattle.model_device.specs.Orders.{Answer}
-use Rattle.model_device.specs.Bytes.{lookup, insert, remove}
-use Rattle.model_machine.specs.Apdu.{ApduParts}
-use Rattle.model_device.specs.Card.{App}
+use Rattle.model_card.specs.model_device.specs.Orders.{Answer}
+use Rattle.model_card.specs.model_device.specs.Bytes.{lookup, insert, remove}
+use Rattle.model_card.specs.model_machine.specs.Apdu.{ApduParts}
+use Rattle.model_card.specs.model_device.specs.Card.{App}
 use Rattle.model_card.specs.Manager.{Selected, Open, SessionState, Managed, first_status, answer_unless, WrongClass, ToSelect, ToManager, ToApplication, select_refusals, select_done, select, fresh, manage}
 use Rattle.law_manager.specs.Orders.{Order, order_of}
 use Rattle.law_manager.specs.Answers.{IsAnswer}
@@ -14,7 +14,7 @@ use Rattle.law_manager.proofs.Orders.{answer_made}
 use Rattle.mc_bank.specs.Bank.{BankState, Changes}
 use Rattle.mc_manager.specs.ManagerState.{BankView, ManagerState, session_state_of, load_of}
 use Rattle.mc_manager.specs.CommandDue.{CommandDue, due_select, due_manager, due_application, due_on, due, apps_after, NoneStale}
-use Rattle.model_device.proofs.MapLemmas.{same_name, lookup_inserted_lem, lookup_beside, lookup_removed_lem}
+use Rattle.model_card.specs.model_device.proofs.MapLemmas.{same_name, lookup_inserted_lem, lookup_beside, lookup_removed_lem}
 
 -- ---- maps
 

@@ -1,8 +1,8 @@
 -- When each command succeeds, and what of the bank it needs.
 use Rattle.std.specs.Prelude.{◌≡◌, ℕ, Bool, true, false, not, ◌==◌, List, [], ◌∷◌, bytes_eq, is_none, unwrap_or, option_map, Option, Some, None, Ok}
-use Rattle.model_machine.specs.Apdu.{ApduParts}
-use Rattle.model_device.specs.Bytes.{lookup}
-use Rattle.model_device.specs.Card.{App}
+use Rattle.model_card.specs.model_machine.specs.Apdu.{ApduParts}
+use Rattle.model_card.specs.model_device.specs.Bytes.{lookup}
+use Rattle.model_card.specs.model_device.specs.Card.{App}
 use Rattle.model_card.specs.Manager.{p1p2, is_empty, sizes_in, first_status, select_refusals, open_refusals, create_refusals}
 use Rattle.model_card.specs.Units.{name_of}
 use Rattle.mc_manager.specs.declared.selection.Selection.{Selection}

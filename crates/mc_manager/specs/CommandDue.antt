@@ -1,9 +1,9 @@
 -- The verdict on a command by the routing and the manager's table, and its reply. Status words are those of ISO/IEC
 -- 7816-4.
 use Rattle.std.specs.Prelude.{◌≡◌, ◌⊎◌, ℕ, Bool, cond, ◌&&◌, ◌==◌, List, [], option_map, Option, Some, None}
-use Rattle.model_machine.specs.Apdu.{ApduParts}
-use Rattle.model_device.specs.Bytes.{zeros, lookup}
-use Rattle.model_device.specs.Card.{App}
+use Rattle.model_card.specs.model_machine.specs.Apdu.{ApduParts}
+use Rattle.model_card.specs.model_device.specs.Bytes.{zeros, lookup}
+use Rattle.model_card.specs.model_device.specs.Card.{App}
 use Rattle.model_card.specs.Items.{Change, apps_after_change, BankItem}
 use Rattle.model_card.specs.Manager.{Selected, SessionState, Route, WrongLength, WrongClass, ToSelect, ToManager, ToApplication, route_of_parts, Managed, Declines, Accepts, Accepted, Open, fresh, select, manage}
 use Rattle.mc_apdu.specs.declared.reply.Reply.{Reply}

@@ -1,7 +1,7 @@
 -- The end of a command over a bank.
 use Rattle.std.specs.Prelude.{◌≡◌, ℕ, false, List, Result, IfOk, OnOk}
-use Rattle.model_device.specs.declared.device.Stop.{Stop}
-use Rattle.model_device.specs.Orders.{Answer, answer_of, InOrder}
+use Rattle.model_card.specs.model_device.specs.declared.device.Stop.{Stop}
+use Rattle.model_card.specs.model_device.specs.Orders.{Answer, answer_of, InOrder}
 use Rattle.model_card.specs.Items.{BankItem}
 use Rattle.mc_bank.specs.Bank.{Changes}
 use Rattle.mc_manager.specs.declared.routed.Routed.{Routed}

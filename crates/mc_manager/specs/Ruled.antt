@@ -1,6 +1,6 @@
 -- The ruling of a manager with the reply that was written beside it, as the answer to a command.
 use Rattle.std.specs.Prelude.{Result, Ok, Err}
-use Rattle.model_device.specs.declared.device.Stop.{Stop}
+use Rattle.model_card.specs.model_device.specs.declared.device.Stop.{Stop}
 use Rattle.mc_apdu.specs.declared.reply.Reply.{Reply}
 use Rattle.mc_manager.specs.declared.routed.Routed.{Routed}
 use Rattle.mc_manager.specs.declared.routed.Routed.TheVariants as routed

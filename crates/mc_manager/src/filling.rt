@@ -1,6 +1,6 @@
 ghost use Rattle.std.specs.Prelude.{◌≡◌, ◌+◌, ◌≤◌, ℕ, false, length, map, option_map, Some, OnOk};
 ghost use Rattle.std.specs.Option.{ForSome};
-ghost use Rattle.model_device.specs.Orders.{answer_of, InOrder};
+ghost use Rattle.model_card.specs.model_device.specs.Orders.{answer_of, InOrder};
 ghost use Rattle.model_card.specs.Items.{Piece};
 ghost use Rattle.model_card.specs.Manager.{first_status, load_refusals, with_got, word_parts};
 ghost use Rattle.mc_apdu.specs.Command.{parts_of};

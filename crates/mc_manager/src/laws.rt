@@ -1,5 +1,5 @@
 ghost use Rattle.std.specs.Prelude.{◌≡◌, ℕ, List};
-ghost use Rattle.model_device.specs.Orders.{Answer, InOrder};
+ghost use Rattle.model_card.specs.model_device.specs.Orders.{Answer, InOrder};
 ghost use Rattle.mc_bank.proofs.Commits.{Words, commits};
 ghost use Rattle.mc_manager.specs.ManagerState.{view_of, ManagerState, ManagerFits, session_state_of};
 

@@ -1,5 +1,5 @@
 ghost use Rattle.std.specs.Prelude.{◌≡◌, ◌+◌, ◌≤◌, ◌==◌, cond, ℕ, List, false, option_map, Ok, None, IfOk, OnOk};
-ghost use Rattle.model_device.specs.Orders.{InOrder, answer_of};
+ghost use Rattle.model_card.specs.model_device.specs.Orders.{InOrder, answer_of};
 ghost use Rattle.model_card.specs.Manager.{select, open_load, load_part, create, delete, manage};
 ghost use Rattle.mc_apdu.specs.Command.{parts_of};
 ghost use Rattle.mc_bank.specs.Bank.{Changes};

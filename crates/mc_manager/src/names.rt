@@ -1,5 +1,5 @@
 ghost use Rattle.std.specs.Prelude.{◌≡◌, false, IsSome, IfSome, IfNone, Some, None};
-ghost use Rattle.model_device.specs.Bytes.{lookup};
+ghost use Rattle.model_card.specs.model_device.specs.Bytes.{lookup};
 ghost use Rattle.mc_manager.specs.ManagerState.{NamedBy};
 
 use crate::selection::Selection;

@@ -1,7 +1,7 @@
 ghost use Rattle.std.specs.Prelude.{◌≡◌, ℕ, ◌<◌, ◌≤◌, true, List, length, slice_index_or, slice_set, [], Some, None, refl};
 ghost use Rattle.std.proofs.Common.{◌∙◌};
-ghost use Rattle.model_device.specs.Orders.{Answer};
-ghost use Rattle.model_device.specs.Device.{DeviceState, BenchState, IsImage, Wrote, BenchWrote, next_count, bench_after_poke};
+ghost use Rattle.mc_base.specs.model_device.specs.Orders.{Answer};
+ghost use Rattle.mc_base.specs.model_device.specs.Device.{DeviceState, BenchState, IsImage, Wrote, BenchWrote, next_count, bench_after_poke};
 
 use mc_base::{Stop, Word};
 

@@ -1,5 +1,5 @@
 ghost use Rattle.std.specs.Prelude.{◌≡◌, option_map, IfSome};
-ghost use Rattle.model_device.specs.Device.{next_fill, fuse_after_write, due};
+ghost use Rattle.mc_base.specs.model_device.specs.Device.{next_fill, fuse_after_write, due};
 ghost use Rattle.mc_nvm.specs.Sim.{fuse_of, due_of, own};
 
 use mc_base::Word;

@@ -1,5 +1,5 @@
 ghost use Rattle.std.specs.Prelude.{◌≡◌, ◌+◌, ◌<◌, length, slice_index_or, []};
-ghost use Rattle.model_device.specs.Device.{IsImage};
+ghost use Rattle.mc_base.specs.model_device.specs.Device.{IsImage};
 ghost use Rattle.mc_nvm.specs.Probe.{device_of_probe};
 
 use crate::device::Nvm;

@@ -1,5 +1,5 @@
 ghost use Rattle.std.specs.Prelude.{◌≡◌, ◌<◌, ◌≤◌, ℕ, [], length, slice_index_or, IfOk};
-ghost use Rattle.model_device.specs.Bytes.{AreBytes};
+ghost use Rattle.mc_base.specs.model_device.specs.Bytes.{AreBytes};
 ghost use Rattle.mc_nvm.specs.Sim.{blank_sim, Sound, answer_to, next_due, after_write};
 
 use crate::device::{Bench, Nvm};

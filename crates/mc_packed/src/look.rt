@@ -1,5 +1,5 @@
 ghost use Rattle.std.specs.Prelude.{◌≡◌, ◌+◌, ◌≤◌, true, false, ◌++◌, length, min, MatchOption};
-ghost use Rattle.model_device.specs.Image.{Two, within, four, all_zero, ascend, after_all, targets};
+ghost use Rattle.mc_base.specs.model_device.specs.Image.{Two, within, four, all_zero, ascend, after_all, targets};
 ghost use Rattle.mc_gate.specs.Look.{target_list};
 ghost use Rattle.arrayvec.specs.ArrayVec.{array_vec_len};
 

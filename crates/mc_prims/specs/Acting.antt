@@ -2,8 +2,8 @@
 use Rattle.std.specs.Prelude.{◌≡◌, ℕ, ◌+◌, ◌≤◌, Bool, true, false, List, [], ◌∷◌, length, ◌||◌, Option, None, Result, Ok, Err}
 use Rattle.model_machine.specs.declared.machine.Abend.{Abend}
 use Rattle.model_machine.specs.declared.machine.Abend.TheVariants.{A03, A04, A06}
-use Rattle.model_device.specs.Orders.{Answer}
-use Rattle.model_card.specs.Items.{BankItem}
+use Rattle.model_machine.specs.model_device.specs.Orders.{Answer}
+use Rattle.mc_bank.specs.model_card.specs.Items.{BankItem}
 use Rattle.model_machine.specs.Blocks.{sub_blocks}
 use Rattle.model_machine.specs.Frame.{Frame, is_under, frame_after_pop, top, is_outside, bytes_at}
 use Rattle.model_machine.specs.Primitives.{Around, Primitive, Done, effect_and_next, comparison_effect, in_range, count_at, later_causes, prim_effect}

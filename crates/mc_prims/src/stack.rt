@@ -1,6 +1,6 @@
 // The values that primitives take from the stack.
 ghost use Rattle.std.specs.Prelude.{◌≡◌, length, get_or, take, drop, slice_index};
-ghost use Rattle.model_device.specs.Bytes.{num};
+ghost use Rattle.model_machine.specs.model_device.specs.Bytes.{num};
 ghost use Rattle.model_machine.specs.Frame.{stack_bytes, top};
 ghost use Rattle.model_machine.specs.Primitives.{number_below_top};
 ghost use Rattle.mc_prims.specs.Acting.{Pops, PopsInto};

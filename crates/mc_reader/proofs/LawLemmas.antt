@@ -2,18 +2,18 @@
 use Rattle.std.proofs.Common.{◌≡◌, ℕ, ◌+◌, ◌≤◌, Bool, true, false, List, [], ◌∷◌, ◌++◌, length, drop, Option, Some, None, refl, sym, ap, ◌∙◌, arith}
 use Rattle.std.specs.List.{AllByRecursion}
 use Rattle.std.proofs.lemmas.List.{length-append}
-use Rattle.model_device.specs.Bytes.{bytes2, lookup}
-use Rattle.model_device.specs.Card.{App, Card}
-use Rattle.model_device.specs.PowerUp.{base_after_migration, AtFault, Base, OnCard}
-use Rattle.model_device.specs.declared.device.Stop.{Stop}
-use Rattle.model_device.specs.declared.device.Stop.TheVariants as stop
-use Rattle.model_machine.specs.Chain.{Abended, Outcome, Reply}
-use Rattle.model_card.specs.Commands.{Command}
-use Rattle.model_card.specs.Items.{StopAt}
-use Rattle.model_play.specs.DeckGrammar.{DeckLine}
-use Rattle.model_play.specs.DeckGrammar as line
-use Rattle.model_play.specs.Play.{after_power_step, before_power_step, card_line, dump_result, first_failure, line_after, line_command, line_says, play_at_power, plays, power_live, power_moves, power_result, power_says, result_of_stop, start, static_of, step, Absent, AfterPower, Answered, Armed, BeforePower, FailedWrite, FailureStop, Formatted, LineResult, Live, Muted, NoCard, OffAt, Ready, Running, Silenced, State, Static, Step, Unpowered, Unusable, Warm}
-use Rattle.model_play.specs.Play as play
+use Rattle.mc_base.specs.model_device.specs.Bytes.{bytes2, lookup}
+use Rattle.mc_base.specs.model_device.specs.Card.{App, Card}
+use Rattle.mc_base.specs.model_device.specs.PowerUp.{base_after_migration, AtFault, Base, OnCard}
+use Rattle.mc_base.specs.model_device.specs.declared.device.Stop.{Stop}
+use Rattle.mc_base.specs.model_device.specs.declared.device.Stop.TheVariants as stop
+use Rattle.mc_apdu.specs.model_machine.specs.Chain.{Abended, Outcome, Reply}
+use Rattle.mc_deck.specs.model_card.specs.Commands.{Command}
+use Rattle.mc_deck.specs.model_card.specs.Items.{StopAt}
+use Rattle.mc_deck.specs.model_play.specs.DeckGrammar.{DeckLine}
+use Rattle.mc_deck.specs.model_play.specs.DeckGrammar as line
+use Rattle.mc_deck.specs.model_play.specs.Play.{after_power_step, before_power_step, card_line, dump_result, first_failure, line_after, line_command, line_says, play_at_power, plays, power_live, power_moves, power_result, power_says, result_of_stop, start, static_of, step, Absent, AfterPower, Answered, Armed, BeforePower, FailedWrite, FailureStop, Formatted, LineResult, Live, Muted, NoCard, OffAt, Ready, Running, Silenced, State, Static, Step, Unpowered, Unusable, Warm}
+use Rattle.mc_deck.specs.model_play.specs.Play as play
 use Rattle.mc_reader.specs.Answers.{outcome_bytes, result_bytes, steps_behind}
 use Rattle.mc_reader.specs.Lines.{last_number, line_in, line_with_number, lines_of, number_after, session_lines}
 use Rattle.mc_reader.specs.Meanings.{meaning, power_after, Meaning, Nothing, Orders, PowerOff, PowerOn, Refused, ToCard, Unheard, WantsAtr}

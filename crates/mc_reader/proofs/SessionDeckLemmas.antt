@@ -3,15 +3,15 @@ use Rattle.std.proofs.Common.{◌≡◌, ℕ, zero, suc, ◌+◌, ◌-◌, ◌�
 use Rattle.std.specs.Prelude.{◌==◌, codes}
 use Rattle.std.specs.List.{AllByRecursion}
 use Rattle.std.proofs.lemmas.List.{drop_at, map-append}
-use Rattle.model_device.specs.Bytes.{AreBytes}
-use Rattle.model_device.specs.PowerUp.{AtFault, Base, OnCard}
-use Rattle.model_text.specs.Text.{◌>>=◌, lines, ok_as, with_numbers}
-use Rattle.model_play.specs.declared.deck.DeckCause.{DeckCause}
-use Rattle.model_play.specs.DeckGrammar.{deck_lines, deck_read, turn_at, Between, Context, DeckLine, LineTurn, Mode, Within}
-use Rattle.model_play.specs.DeckGrammar as line
-use Rattle.model_play.specs.Play.{after_power_step, before_power_step, card_line, first_failure, last_state, plays, start, step, AfterPower, Armed, BeforePower, FailedWrite, Live, Muted, Running, State, Step, Unpowered, Warm}
-use Rattle.model_play.specs.Transcript.{line_text, plain_text, transcript}
-use Rattle.model_play.proofs.PlayLemmas.{step_is}
+use Rattle.mc_base.specs.model_device.specs.Bytes.{AreBytes}
+use Rattle.mc_base.specs.model_device.specs.PowerUp.{AtFault, Base, OnCard}
+use Rattle.mc_text.specs.model_text.specs.Text.{◌>>=◌, lines, ok_as, with_numbers}
+use Rattle.mc_deck.specs.model_play.specs.declared.deck.DeckCause.{DeckCause}
+use Rattle.mc_deck.specs.model_play.specs.DeckGrammar.{deck_lines, deck_read, turn_at, Between, Context, DeckLine, LineTurn, Mode, Within}
+use Rattle.mc_deck.specs.model_play.specs.DeckGrammar as line
+use Rattle.mc_deck.specs.model_play.specs.Play.{after_power_step, before_power_step, card_line, first_failure, last_state, plays, start, step, AfterPower, Armed, BeforePower, FailedWrite, Live, Muted, Running, State, Step, Unpowered, Warm}
+use Rattle.mc_deck.specs.model_play.specs.Transcript.{line_text, plain_text, transcript}
+use Rattle.mc_deck.specs.model_play.proofs.PlayLemmas.{step_is}
 use Rattle.mc_reader.specs.Meanings.{meaning, power_after}
 use Rattle.mc_reader.specs.Lines.{last_number, line_in, line_with_number, lines_of, number_after}
 use Rattle.mc_reader.specs.Answers.{answer_each, first_result, session_answers, steps_behind}

@@ -1,11 +1,11 @@
 -- The answers to the frames of a session, by the steps of the play. ISO/IEC 7816-3 (the ATR); ISO/IEC 7816-4 (status
 -- bytes).
 use Rattle.std.specs.Prelude.{ℕ, Bool, false, List, [], ◌∷◌, ◌++◌, length, drop, Option, Some, None}
-use Rattle.model_device.specs.Bytes.{bytes2}
-use Rattle.model_machine.specs.Chain.{Outcome, Reply, Abended}
-use Rattle.model_play.specs.DeckGrammar.{DeckLine}
-use Rattle.model_play.specs.Play.{LineResult, FailureStop, Answered, Step}
-use Rattle.model_machine.specs.Words.{abend_code}
+use Rattle.mc_base.specs.model_device.specs.Bytes.{bytes2}
+use Rattle.mc_apdu.specs.model_machine.specs.Chain.{Outcome, Reply, Abended}
+use Rattle.mc_deck.specs.model_play.specs.DeckGrammar.{DeckLine}
+use Rattle.mc_deck.specs.model_play.specs.Play.{LineResult, FailureStop, Answered, Step}
+use Rattle.mc_apdu.specs.model_machine.specs.Words.{abend_code}
 use Rattle.mc_reader.specs.Meanings.{Meaning, PowerOn, PowerOff, WantsAtr, Nothing, Orders, Refused, ToCard, Unheard, meaning, power_after}
 use Rattle.mc_reader.specs.Lines.{line_in}
 

@@ -1,8 +1,8 @@
 -- The relations of a session's lines and frames by the bench of its player as a whole, as contracts cite them. Each is
 -- that of the same name in `Serving`, which lemmas cite by the functions of the bench.
 use Rattle.std.specs.Prelude.{ℕ, Option, Result}
-use Rattle.model_play.specs.DeckGrammar.{DeckLine}
-use Rattle.model_play.specs.Play.{State}
+use Rattle.mc_deck.specs.model_play.specs.DeckGrammar.{DeckLine}
+use Rattle.mc_deck.specs.model_play.specs.Play.{State}
 use Rattle.mc_streams.specs.declared.refusals.WriteFault.{WriteFault}
 use Rattle.mc_text.specs.Texts.{Sunk}
 use Rattle.mc_script.specs.declared.answer.Answer.{Answer}

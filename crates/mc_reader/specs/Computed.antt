@@ -1,9 +1,9 @@
 -- The answers of a session on a blank device of 256 words, from the text of its deck and the bytes of its frames. For
 -- worked rows: no contract rests on it.
 use Rattle.std.specs.Prelude.{ℕ, List, [], Result, Ok, Err}
-use Rattle.model_play.specs.declared.deck.DeckCause.{DeckCause}
-use Rattle.model_device.specs.Device.{blank_words}
-use Rattle.model_play.specs.DeckGrammar.{DeckLine, deck_read}
+use Rattle.mc_deck.specs.model_play.specs.declared.deck.DeckCause.{DeckCause}
+use Rattle.mc_base.specs.model_device.specs.Device.{blank_words}
+use Rattle.mc_deck.specs.model_play.specs.DeckGrammar.{DeckLine, deck_read}
 use Rattle.model_examples.specs.Written.{hex}
 use Rattle.model_examples.specs.Played.{steps_on}
 use Rattle.mc_reader.specs.Frames.{frames_bytes, frames_within, frames_read}

@@ -1,7 +1,7 @@
 -- The lines of a deck that the frames of a session represent.
 use Rattle.std.specs.Prelude.{ℕ, ◌+◌, Bool, false, List, [], ◌∷◌, ◌++◌, Option, Some, None}
-use Rattle.model_play.specs.DeckGrammar.{DeckLine}
-use Rattle.model_play.specs.DeckGrammar as line
+use Rattle.mc_deck.specs.model_play.specs.DeckGrammar.{DeckLine}
+use Rattle.mc_deck.specs.model_play.specs.DeckGrammar as line
 use Rattle.mc_reader.specs.Meanings.{Meaning, PowerOn, Orders, ToCard, meaning, power_after}
 
 -- the line that a frame represents, if it represents one

@@ -2,9 +2,9 @@
 -- command to the card. vpcd's control bytes; ISO/IEC 7816-3, by which no card has the class FF; PC/SC, which reserves
 -- it for readers; this project's commands.
 use Rattle.std.specs.Prelude.{ℕ, Bool, true, false, cond, ◌&&◌, ◌==◌, nat_le, List, [], ◌∷◌, length, take, drop, Result, Ok, Err}
-use Rattle.model_device.specs.Bytes.{num}
-use Rattle.model_play.specs.DeckGrammar.{DeckLine}
-use Rattle.model_play.specs.DeckGrammar as line
+use Rattle.mc_base.specs.model_device.specs.Bytes.{num}
+use Rattle.mc_deck.specs.model_play.specs.DeckGrammar.{DeckLine}
+use Rattle.mc_deck.specs.model_play.specs.DeckGrammar as line
 
 -- the meaning of a frame: power on or a reset; power off; a request of the ATR; nothing; a command to the reader for
 -- this line, or one that is refused with this status word; a command to the card, or one while the card has no power

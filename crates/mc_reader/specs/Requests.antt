@@ -1,7 +1,7 @@
 -- The requests of frames as the code has them, and what they represent.
 use Rattle.std.specs.Prelude.{◌≡◌, ℕ, ◌<◌, length, Result, Ok, Err}
-use Rattle.model_play.specs.DeckGrammar.{DeckLine}
-use Rattle.model_play.specs.DeckGrammar as line
+use Rattle.mc_deck.specs.model_play.specs.DeckGrammar.{DeckLine}
+use Rattle.mc_deck.specs.model_play.specs.DeckGrammar as line
 use Rattle.mc_deck.specs.Lines.{GoodLine}
 use Rattle.mc_reader.specs.Meanings as meaning
 use Rattle.mc_reader.specs.Meanings.{Meaning, wrong_length, wrong_instruction, wrong_parameters, wrong_value}

@@ -1,13 +1,13 @@
 -- The deck that a session is, as a text: that of its own deck, and a line for each frame that represents one.
 use Rattle.std.specs.Prelude.{◌≡◌, ℕ, ◌+◌, ◌≤◌, Bool, false, List, [], ◌∷◌, ◌++◌, length, map, drop, codes, decimal, Option, Some, None, Ok}
 use Rattle.std.specs.List.{AllByRecursion}
-use Rattle.model_device.specs.Bytes.{AreBytes}
-use Rattle.model_text.specs.Text.{lines}
-use Rattle.model_text.specs.Listing.{hex_text}
-use Rattle.model_play.specs.DeckGrammar.{DeckLine, deck_read}
-use Rattle.model_play.specs.DeckGrammar as line
-use Rattle.model_play.specs.Play.{FailedWrite, LineResult, Step, plays, start}
-use Rattle.model_play.specs.Transcript.{line_text, transcript}
+use Rattle.mc_base.specs.model_device.specs.Bytes.{AreBytes}
+use Rattle.mc_text.specs.model_text.specs.Text.{lines}
+use Rattle.mc_text.specs.model_text.specs.Listing.{hex_text}
+use Rattle.mc_deck.specs.model_play.specs.DeckGrammar.{DeckLine, deck_read}
+use Rattle.mc_deck.specs.model_play.specs.DeckGrammar as line
+use Rattle.mc_deck.specs.model_play.specs.Play.{FailedWrite, LineResult, Step, plays, start}
+use Rattle.mc_deck.specs.model_play.specs.Transcript.{line_text, transcript}
 use Rattle.mc_reader.specs.Meanings.{meaning, power_after}
 use Rattle.mc_reader.specs.Lines.{line_in, lines_of, number_after, session_lines}
 use Rattle.mc_reader.specs.Answers.{first_result, session_answers, steps_behind}

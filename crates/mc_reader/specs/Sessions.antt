@@ -2,12 +2,12 @@
 -- those of the frames.
 use Rattle.std.specs.Prelude.{◌≡◌, ◌⊎◌, ℕ, ◌+◌, ◌<◌, ◌≤◌, false, List, [], ◌∷◌, ◌++◌, length, Option, Some, Result, Ok, Err}
 use Rattle.std.specs.List.{AllByRecursion}
-use Rattle.model_device.specs.Bytes.{AreBytes}
-use Rattle.model_device.specs.Counts.{last_count, Rose}
-use Rattle.model_play.specs.DeckGrammar.{DeckLine}
-use Rattle.model_play.specs.Play.{FailedWrite, Step, plays, start}
-use Rattle.model_play.specs.Laws.{HoldsOf}
-use Rattle.model_play.specs.ReadyAgain.{AllFitJournal, ReadyAgain}
+use Rattle.mc_base.specs.model_device.specs.Bytes.{AreBytes}
+use Rattle.mc_base.specs.model_device.specs.Counts.{last_count, Rose}
+use Rattle.mc_deck.specs.model_play.specs.DeckGrammar.{DeckLine}
+use Rattle.mc_deck.specs.model_play.specs.Play.{FailedWrite, Step, plays, start}
+use Rattle.mc_deck.specs.model_play.specs.Laws.{HoldsOf}
+use Rattle.mc_deck.specs.model_play.specs.ReadyAgain.{AllFitJournal, ReadyAgain}
 use Rattle.mc_streams.specs.Streams.{Took, AtEnd, Grew}
 use Rattle.mc_streams.specs.declared.sink.Sink as sink
 use Rattle.mc_text.specs.Texts.{sunk, Sunk}

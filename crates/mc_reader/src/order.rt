@@ -1,7 +1,7 @@
 // Commands to the reader itself, by which a host arms a stop or sets the budget.
 ghost use Rattle.std.specs.Prelude.{◌≡◌, ℕ, length, IfOk, OnOk, Result, MatchResult};
-ghost use Rattle.model_device.specs.Bytes.{bytes2, num};
-ghost use Rattle.model_play.specs.DeckGrammar.{DeckLine};
+ghost use Rattle.mc_base.specs.model_device.specs.Bytes.{bytes2, num};
+ghost use Rattle.mc_deck.specs.model_play.specs.DeckGrammar.{DeckLine};
 ghost use Rattle.mc_deck.specs.Lines.{line_of, GoodLine};
 ghost use Rattle.mc_reader.specs.Meanings.{plain_order, cut_order, fail_order, budget_order, order};
 ghost use Rattle.mc_reader.specs.Requests.{order_line, status_of, Orders};

@@ -1,7 +1,7 @@
 // A session: a deck is played, and then the frames of a host are served.
 ghost use Rattle.std.specs.Prelude.{◌≡◌, ◌≢◌, ℕ, length, Err};
-ghost use Rattle.model_device.specs.Bytes.{AreBytes};
-ghost use Rattle.model_play.specs.Play.{State};
+ghost use Rattle.mc_base.specs.model_device.specs.Bytes.{AreBytes};
+ghost use Rattle.mc_deck.specs.model_play.specs.Play.{State};
 ghost use Rattle.mc_text.specs.Texts.{sunk};
 ghost use Rattle.mc_script.specs.Players.{device_of, IsUnfused};
 ghost use Rattle.mc_script.specs.Benches.{bench_of, IsPlayerAt, IsPlaying};

@@ -1,7 +1,7 @@
 -- Blocks of zeros.
 use Rattle.std.proofs.Common.{◌≡◌, ℕ, zero, suc, ◌≤◌, true, take, replicate, refl, arith}
 use Rattle.std.proofs.lemmas.List.{take-replicate}
-use Rattle.model_device.specs.Bytes.{zeros, num}
+use Rattle.model_machine.specs.model_device.specs.Bytes.{zeros, num}
 use Rattle.model_machine.specs.Blocks.{is_zero}
 
 zeros_count : (n : ℕ) → num (zeros n) ≡ 0

@@ -3,9 +3,9 @@ use Rattle.std.proofs.Common.{◌≡◌, ℕ, false, List, Option, Result, Ok, E
 use Rattle.std.specs.Prelude.{IsSome}
 use Rattle.model_machine.specs.declared.instruction.Ins.{Ins}
 use Rattle.model_machine.specs.declared.machine.Abend.{Abend}
-use Rattle.model_device.specs.Orders.{Answer}
-use Rattle.model_card.specs.Items.{BankItem}
-use Rattle.model_device.specs.Bytes.{lookup}
+use Rattle.model_machine.specs.model_device.specs.Orders.{Answer}
+use Rattle.mc_bank.specs.model_card.specs.Items.{BankItem}
+use Rattle.model_machine.specs.model_device.specs.Bytes.{lookup}
 use Rattle.model_machine.specs.Primitives.{Done, effect_and_next, frame_effect}
 use Rattle.model_machine.specs.Row.{RowEnd, Abends, Does, row}
 use Rattle.mc_bank.specs.Bank.{BankState, app_of, name_or}

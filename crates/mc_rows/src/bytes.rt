@@ -1,6 +1,6 @@
 // Zeros, words and blocks as bytes.
 ghost use Rattle.std.specs.Prelude.{◌≡◌, length, true};
-ghost use Rattle.model_device.specs.Bytes.{num, zeros};
+ghost use Rattle.model_machine.specs.model_device.specs.Bytes.{num, zeros};
 ghost use Rattle.model_machine.specs.Blocks.{is_zero};
 
 const ZEROS: [u8; 255] = [0; 255];

@@ -1,6 +1,6 @@
 // The addresses of the operands of a row.
 ghost use Rattle.std.specs.Prelude.{◌≡◌, ◌+◌, ◌*◌, ◌≤◌, ◌==◌, ◌&&◌, OnOk, length, false};
-ghost use Rattle.model_device.specs.Bytes.{num};
+ghost use Rattle.model_machine.specs.model_device.specs.Bytes.{num};
 ghost use Rattle.model_machine.specs.Frame.{address_at, in_two_bytes, is_outside, is_under, frame_after_pop};
 ghost use Rattle.model_machine.specs.Row.{indexed_address, on_stack, operand};
 ghost use Rattle.mc_segs.specs.HeldFrames.{frame_on_bank, CanRun};

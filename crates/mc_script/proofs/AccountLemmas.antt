@@ -2,15 +2,15 @@
 use Rattle.std.proofs.Common.{◌≡◌, ℕ, zero, suc, ◌+◌, ◌≤◌, List, [], ◌∷◌, length, Option, Some, None, refl, ◌∙◌, ap, subst, arith}
 use Rattle.std.specs.Prelude.{slice_set}
 use Rattle.std.specs.List.{AllByRecursion}
-use Rattle.model_device.specs.declared.cause.Cause.{Cause}
-use Rattle.model_device.specs.declared.device.Stop.{Stop}
-use Rattle.model_device.specs.Image.{count_of_recovery_writes}
-use Rattle.model_device.specs.Device.{done_entries, torn_entries}
+use Rattle.model_play.specs.model_device.specs.declared.cause.Cause.{Cause}
+use Rattle.model_play.specs.model_device.specs.declared.device.Stop.{Stop}
+use Rattle.model_play.specs.model_device.specs.Image.{count_of_recovery_writes}
+use Rattle.model_play.specs.model_device.specs.Device.{done_entries, torn_entries}
 use Rattle.model_play.specs.DeckGrammar.{DeckLine}
-use Rattle.model_device.specs.Card.{Card, means}
-use Rattle.model_device.specs.Layout.{fault}
-use Rattle.model_device.specs.Stopped.{image_after_stop}
-use Rattle.model_device.specs.PowerUp.{Base, OnCard, AtFault, base_of, pending_journal}
+use Rattle.model_play.specs.model_device.specs.Card.{Card, means}
+use Rattle.model_play.specs.model_device.specs.Layout.{fault}
+use Rattle.model_play.specs.model_device.specs.Stopped.{image_after_stop}
+use Rattle.model_play.specs.model_device.specs.PowerUp.{Base, OnCard, AtFault, base_of, pending_journal}
 use Rattle.model_play.specs.Play.{Warm, State, AfterPower, StandsForState, StandsForBase, StandsAtEach, state_after_stop}
 use Rattle.mc_store.specs.Power.{base_of_words, HoldsBase}
 

@@ -3,7 +3,7 @@ use Rattle.std.proofs.Common.{◌≡◌, ◌⊎◌, ℕ, false, List, [], ◌∷
 use Rattle.model_play.specs.DeckGrammar.{DeckLine}
 use Rattle.model_play.specs.DeckGrammar as line
 use Rattle.model_play.specs.Play.{Live, Running, Unpowered, Muted, Warm, State, BeforePower, AfterPower, FailedWrite, Step, step, plays, card_line, first_failure}
-use Rattle.model_device.specs.PowerUp.{Base, OnCard, AtFault}
+use Rattle.model_play.specs.model_device.specs.PowerUp.{Base, OnCard, AtFault}
 use Rattle.model_play.specs.ReadyAgain.{is_before_power}
 use Rattle.mc_script.specs.Counting.{line_powers, line_pokes, total}
 

@@ -2,16 +2,16 @@
 use Rattle.std.proofs.Common.{◌≡◌, ℕ, zero, suc, ◌-◌, Bool, true, false, cond, List, [], ◌∷◌, length, take, Option, Some, None, Result, Ok, Err, refl, sym, ap, subst}
 use Rattle.std.proofs.Math.Seq.{take-length}
 use Rattle.std.specs.Prelude.{nat_le}
-use Rattle.model_device.specs.declared.device.Stop.{Stop}
-use Rattle.model_device.specs.Card as model
-use Rattle.model_device.specs.Orders.{Answer}
-use Rattle.model_device.specs.Device.{DeviceState}
-use Rattle.model_device.specs.Image.{Two}
-use Rattle.model_device.specs.Stopped.{cost}
-use Rattle.model_machine.specs.Apdu.{ApduParts}
-use Rattle.model_machine.specs.Chain.{Acted, Chain, Follows, Continues, Ends, Turn, chain_session, run_after_turn, run_of_chain, start, turn_of_chain}
-use Rattle.model_card.specs.Commands.{application_command, by_route, command}
-use Rattle.model_card.specs.Manager.{Selected, SessionState, Route, WrongLength, WrongClass, ToSelect, ToManager, ToApplication, manage, room_on, route, select}
+use Rattle.model_play.specs.model_device.specs.declared.device.Stop.{Stop}
+use Rattle.model_play.specs.model_device.specs.Card as model
+use Rattle.model_play.specs.model_device.specs.Orders.{Answer}
+use Rattle.model_play.specs.model_device.specs.Device.{DeviceState}
+use Rattle.model_play.specs.model_device.specs.Image.{Two}
+use Rattle.model_play.specs.model_device.specs.Stopped.{cost}
+use Rattle.model_play.specs.model_machine.specs.Apdu.{ApduParts}
+use Rattle.model_play.specs.model_machine.specs.Chain.{Acted, Chain, Follows, Continues, Ends, Turn, chain_session, run_after_turn, run_of_chain, start, turn_of_chain}
+use Rattle.model_play.specs.model_card.specs.Commands.{application_command, by_route, command}
+use Rattle.model_play.specs.model_card.specs.Manager.{Selected, SessionState, Route, WrongLength, WrongClass, ToSelect, ToManager, ToApplication, manage, room_on, route, select}
 use Rattle.model_play.specs.TraceText.{before_stop, turns_to}
 use Rattle.mc_machine.specs.declared.outcome.Outcome.{Outcome}
 use Rattle.mc_card.specs.declared.card.Card.{Card}

@@ -3,12 +3,12 @@ use Rattle.std.proofs.Common.{◌≡◌, ℕ, zero, suc, ◌+◌, ◌-◌, ◌<�
 use Rattle.std.specs.Prelude.{slice_index_or, slice_set}
 use Rattle.std.specs.List.{AllByRecursion}
 use Rattle.std.proofs.lemmas.List.{get_or-set_same, length-take-le}
-use Rattle.model_device.specs.declared.device.Stop.{Stop}
-use Rattle.model_device.specs.declared.device.Stop.TheVariants.{Off, Worn}
-use Rattle.model_device.specs.Orders.{Answer}
-use Rattle.model_device.specs.Device.{Entry, Grows, DeviceState, BenchState, fuse_after_write, next_fill, due, NextWriteEnds, Counts, Burns, BenchWrote, Wrote, WriteDone, WriteCut, WriteFailure, Makes, GrowsBy, done_entries, torn_entries, next_count}
-use Rattle.model_device.specs.Stopped.{image_after_stop}
-use Rattle.model_device.proofs.DeviceLemmas.{DoneAll, makes_done}
+use Rattle.model_play.specs.model_device.specs.declared.device.Stop.{Stop}
+use Rattle.model_play.specs.model_device.specs.declared.device.Stop.TheVariants.{Off, Worn}
+use Rattle.model_play.specs.model_device.specs.Orders.{Answer}
+use Rattle.model_play.specs.model_device.specs.Device.{Entry, Grows, DeviceState, BenchState, fuse_after_write, next_fill, due, NextWriteEnds, Counts, Burns, BenchWrote, Wrote, WriteDone, WriteCut, WriteFailure, Makes, GrowsBy, done_entries, torn_entries, next_count}
+use Rattle.model_play.specs.model_device.specs.Stopped.{image_after_stop}
+use Rattle.model_play.specs.model_device.proofs.DeviceLemmas.{DoneAll, makes_done}
 use Rattle.mc_script.specs.Counting.{on_after_stop}
 use Rattle.mc_script.specs.Runs.{StoppedAtWrite}
 use Rattle.mc_script.proofs.EntryLemmas.{stopped_entry, torn_behind, entries_behind}

@@ -3,10 +3,10 @@ use Rattle.std.proofs.Common.{◌≡◌, ℕ, true, ◌&&◌, Some, refl, sym, �
 use Rattle.std.specs.Option.{ForSome}
 use Rattle.std.specs.Prelude.{is_none, ◌==◌, length}
 use Rattle.std.proofs.lemmas.Bool.{and_parts}
-use Rattle.model_device.specs.Device.{DeviceState}
-use Rattle.model_device.specs.Image.{Look, Refused, Closed, Pending, look, count_of_recovery_writes, debt}
-use Rattle.model_device.specs.Layout.{words_fault}
-use Rattle.model_device.specs.Card.{means}
+use Rattle.model_play.specs.model_device.specs.Device.{DeviceState}
+use Rattle.model_play.specs.model_device.specs.Image.{Look, Refused, Closed, Pending, look, count_of_recovery_writes, debt}
+use Rattle.model_play.specs.model_device.specs.Layout.{words_fault}
+use Rattle.model_play.specs.model_device.specs.Card.{means}
 use Rattle.mc_store.specs.Store.{is_closed, is_going, store_state, store_named, store_room, store_site_bytes}
 use Rattle.mc_store.specs.Power.{count_of}
 use Rattle.mc_card.specs.declared.card.Card.{Card}

@@ -1,16 +1,16 @@
 -- Commands on a card: answered, run with their turns recorded, and one after the other.
 use Rattle.std.proofs.Common.{◌≡◌, ℕ, suc, true, false, List, [], ◌++◌, Option, Some, None, Result, Ok, Err, refl, sym, ap, subst, ◌∙◌}
 use Rattle.std.specs.Prelude.{option_map, OnOk}
-use Rattle.model_device.specs.declared.device.Stop.{Stop}
-use Rattle.model_device.specs.Orders.{Answer, answer_of}
-use Rattle.model_device.specs.Device.{DeviceState, Wrote}
-use Rattle.model_machine.specs.Apdu.{ApduParts}
-use Rattle.model_device.specs.Card as model
-use Rattle.model_device.specs.Card.{means}
-use Rattle.model_machine.specs.Chain.{Chain, Turn, Ran as ModelRan, run_of_chain, run, start}
-use Rattle.model_card.specs.Manager.{Selected, SessionState, Managed, Declines, Accepts, Route, WrongLength, WrongClass, ToSelect, ToManager, ToApplication, route, select, manage, room_on}
-use Rattle.model_card.specs.Commands.{Command, command, manager_command, application_command, by_route, ran_command}
-use Rattle.model_card.specs.Items.{write_items}
+use Rattle.model_play.specs.model_device.specs.declared.device.Stop.{Stop}
+use Rattle.model_play.specs.model_device.specs.Orders.{Answer, answer_of}
+use Rattle.model_play.specs.model_device.specs.Device.{DeviceState, Wrote}
+use Rattle.model_play.specs.model_machine.specs.Apdu.{ApduParts}
+use Rattle.model_play.specs.model_device.specs.Card as model
+use Rattle.model_play.specs.model_device.specs.Card.{means}
+use Rattle.model_play.specs.model_machine.specs.Chain.{Chain, Turn, Ran as ModelRan, run_of_chain, run, start}
+use Rattle.model_play.specs.model_card.specs.Manager.{Selected, SessionState, Managed, Declines, Accepts, Route, WrongLength, WrongClass, ToSelect, ToManager, ToApplication, route, select, manage, room_on}
+use Rattle.model_play.specs.model_card.specs.Commands.{Command, command, manager_command, application_command, by_route, ran_command}
+use Rattle.model_play.specs.model_card.specs.Items.{write_items}
 use Rattle.model_play.specs.TraceText.{before_stop}
 use Rattle.mc_machine.specs.declared.outcome.Outcome.{Outcome}
 use Rattle.mc_card.specs.declared.card.Card.{Card}

@@ -1,21 +1,21 @@
 -- A line of commands to a card that runs: its writes were all made, or one of them stopped.
 use Rattle.std.proofs.Common.{◌≡◌, ℕ, ◌+◌, ◌<◌, ◌≤◌, true, List, length, Option, Some, None, Ok, Err, refl, sym, ◌∙◌, ap, subst, arith}
-use Rattle.model_device.specs.declared.device.Stop.{Stop}
-use Rattle.model_device.specs.declared.device.Stop.TheVariants.{Worn}
-use Rattle.model_device.specs.Orders.{Answer as Ended}
-use Rattle.model_device.specs.Device.{DeviceState, BenchState, Wrote, BenchWrote}
-use Rattle.model_device.specs.Image.{count_of_recovery_writes}
-use Rattle.model_device.specs.Stopped.{image_after_stop}
-use Rattle.model_device.specs.Card.{means}
-use Rattle.model_device.specs.Card as model
-use Rattle.model_device.specs.Layout.{fault}
-use Rattle.model_card.specs.Manager.{SessionState}
-use Rattle.model_card.specs.Items.{Item, StopAt, moves, card_done, at_stop}
-use Rattle.model_machine.specs.Chain.{Turn}
-use Rattle.model_card.specs.Commands as command
+use Rattle.model_play.specs.model_device.specs.declared.device.Stop.{Stop}
+use Rattle.model_play.specs.model_device.specs.declared.device.Stop.TheVariants.{Worn}
+use Rattle.model_play.specs.model_device.specs.Orders.{Answer as Ended}
+use Rattle.model_play.specs.model_device.specs.Device.{DeviceState, BenchState, Wrote, BenchWrote}
+use Rattle.model_play.specs.model_device.specs.Image.{count_of_recovery_writes}
+use Rattle.model_play.specs.model_device.specs.Stopped.{image_after_stop}
+use Rattle.model_play.specs.model_device.specs.Card.{means}
+use Rattle.model_play.specs.model_device.specs.Card as model
+use Rattle.model_play.specs.model_device.specs.Layout.{fault}
+use Rattle.model_play.specs.model_card.specs.Manager.{SessionState}
+use Rattle.model_play.specs.model_card.specs.Items.{Item, StopAt, moves, card_done, at_stop}
+use Rattle.model_play.specs.model_machine.specs.Chain.{Turn}
+use Rattle.model_play.specs.model_card.specs.Commands as command
 use Rattle.model_play.specs.Play as play
 use Rattle.model_play.specs.Play.{Live, Running, Warm, State, BeforePower, AfterPower, Answered, FailedWrite, Step, step, line_command, card_line, command_step, line_after, stopped_line, result_of_stop, hit_of, failure_entry, moves_of, StandsForState, state_after_stop}
-use Rattle.model_device.specs.PowerUp.{Base, OnCard}
+use Rattle.model_play.specs.model_device.specs.PowerUp.{Base, OnCard}
 use Rattle.mc_machine.specs.declared.outcome.Outcome.{Outcome}
 use Rattle.mc_card.specs.declared.card.Card.{Card}
 use Rattle.mc_card.specs.ItemWrites.{StopsAtEach, IsCardAfter}

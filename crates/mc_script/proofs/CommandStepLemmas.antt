@@ -1,6 +1,6 @@
 -- The lines that are commands to a card, as the play takes them.
 use Rattle.std.proofs.Common.{◌≡◌, ℕ, true, List, Option, None, refl, arith}
-use Rattle.model_card.specs.Items.{moves}
+use Rattle.model_play.specs.model_card.specs.Items.{moves}
 use Rattle.model_play.specs.Play as play
 use Rattle.model_play.specs.Play.{Unarmed, State, BeforePower, AfterPower, Warm, FailedWrite, step, card_line, before_power_line, is_card_line, moves_of}
 use Rattle.mc_script.specs.declared.commands.CardLine.{CardLine}

@@ -1,12 +1,12 @@
 -- Composition of plays, for code that plays decks line by line: the result of a play, one more line, and the whole play
 -- with its laws.
 use Rattle.std.proofs.Common.{◌≡◌, ℕ, List, [], ◌∷◌, ◌++◌, length, Option, refl, arith, sym, ap, subst, ◌∙◌, append_assoc, append-nil, length-append}
-use Rattle.model_device.specs.Device.{DeviceState, BenchState}
-use Rattle.model_machine.specs.Chain.{Turn}
+use Rattle.model_play.specs.model_device.specs.Device.{DeviceState, BenchState}
+use Rattle.model_play.specs.model_machine.specs.Chain.{Turn}
 use Rattle.model_play.specs.DeckGrammar.{DeckLine}
 use Rattle.model_play.specs.Laws.{HoldsOf}
 use Rattle.model_play.specs.Play.{State, FailedWrite, Step, step, plays, start, last_state, StandsForState}
-use Rattle.law_family.proofs.PlayLaw.{play_law}
+use Rattle.mc_deck.specs.law_family.proofs.PlayLaw.{play_law}
 use Rattle.mc_script.specs.declared.answer.Answer.{Answer}
 use Rattle.mc_script.specs.declared.player.Player.{Player}
 use Rattle.mc_script.specs.Players.{IsUnfused, IsPlayerAt}

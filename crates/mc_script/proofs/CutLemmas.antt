@@ -1,7 +1,7 @@
 -- What a line answers says whether a cut hit it.
 use Rattle.std.proofs.Common.{◌≡◌, ℕ, Bool, false, List, Option, Some, None, option_map, refl}
-use Rattle.model_device.specs.Card.{App}
-use Rattle.model_device.specs.Device.{DeviceState}
+use Rattle.model_play.specs.model_device.specs.Card.{App}
+use Rattle.model_play.specs.model_device.specs.Device.{DeviceState}
 use Rattle.model_play.specs.Play.{static_of}
 use Rattle.mc_card.specs.declared.card.Card.{Card}
 use Rattle.mc_script.specs.Cuts.{is_off, off_in}

@@ -2,8 +2,8 @@
 use Rattle.std.proofs.Common.{◌≡◌, ℕ, zero, suc, ◌+◌, ◌≤◌, true, false, arith, List, [], ◌∷◌, ◌++◌, length, drop, Option, Some, None, Result, Ok, Err, refl, sym, ap, subst, ◌∙◌}
 use Rattle.std.specs.Prelude.{option_map, slice_get, is_err}
 use Rattle.std.proofs.Math.ListN.{drop_of_length-le}
-use Rattle.model_device.specs.Device.{DeviceState, BenchState}
-use Rattle.model_machine.specs.Chain.{Turn}
+use Rattle.model_play.specs.model_device.specs.Device.{DeviceState, BenchState}
+use Rattle.model_play.specs.model_machine.specs.Chain.{Turn}
 use Rattle.model_play.specs.DeckGrammar.{DeckLine}
 use Rattle.model_play.specs.Play.{State, FailedWrite, Step, step}
 use Rattle.model_play.specs.Transcript.{line_text}

@@ -1,10 +1,10 @@
 -- The entries that a list of writes leaves on a tape, and the words that follow from them.
 use Rattle.std.proofs.Common.{◌≡◌, ℕ, zero, suc, ◌+◌, ◌<◌, List, [], ◌∷◌, ◌++◌, length, take, Some, None, refl, ◌∙◌, ap, arith}
 use Rattle.std.specs.Prelude.{slice_index_or, slice_set}
-use Rattle.model_device.specs.declared.device.Stop.{Stop}
-use Rattle.model_device.specs.Device.{Entry, done_entries, torn_entries}
-use Rattle.model_device.specs.Image.{image_with}
-use Rattle.model_device.specs.Stopped.{image_after_stop}
+use Rattle.model_play.specs.model_device.specs.declared.device.Stop.{Stop}
+use Rattle.model_play.specs.model_device.specs.Device.{Entry, done_entries, torn_entries}
+use Rattle.model_play.specs.model_device.specs.Image.{image_with}
+use Rattle.model_play.specs.model_device.specs.Stopped.{image_after_stop}
 use Rattle.model_play.specs.Play.{EndsAs, failures_in, failure_entry, laid_entries}
 
 -- ---- a list that stopped after n writes

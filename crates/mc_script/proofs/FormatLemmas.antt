@@ -1,7 +1,7 @@
 -- The lines that poke words before the first power line.
 use Rattle.std.proofs.Common.{◌≡◌, ℕ, List, [], Option, Some, None, refl, sym, ◌∙◌, ap, subst, arith}
 use Rattle.std.specs.Prelude.{slice_set, option_map, cond, nat_lt, length, false}
-use Rattle.model_device.specs.Device.{DeviceState, BenchState, GrowsBy, bench_after_pokes}
+use Rattle.model_play.specs.model_device.specs.Device.{DeviceState, BenchState, GrowsBy, bench_after_pokes}
 use Rattle.model_play.specs.DeckGrammar.{DeckLine}
 use Rattle.model_play.specs.DeckGrammar as line
 use Rattle.model_play.specs.Play as play

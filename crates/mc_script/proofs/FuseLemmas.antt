@@ -1,8 +1,8 @@
 -- How writes bring a fuse nearer, and the result of the next write under the fuses of a bench.
 use Rattle.std.proofs.Common.{◌≡◌, ℕ, zero, suc, ◌+◌, ◌<◌, ◌≤◌, Bool, true, false, List, Option, Some, None, Ok, Err, refl, ◌∙◌, ap, arith}
 use Rattle.std.specs.Prelude.{slice_set}
-use Rattle.model_device.specs.declared.device.Stop.TheVariants.{Off, Worn}
-use Rattle.model_device.specs.Device.{DeviceState, Fuse, nearer, fuse_after_write, fill_at, next_fill, due, NextWriteEnds}
+use Rattle.model_play.specs.model_device.specs.declared.device.Stop.TheVariants.{Off, Worn}
+use Rattle.model_play.specs.model_device.specs.Device.{DeviceState, Fuse, nearer, fuse_after_write, fill_at, next_fill, due, NextWriteEnds}
 
 -- a fuse after n writes
 abbrev pub after_writes : ℕ → Option Fuse → Option Fuse

@@ -2,12 +2,12 @@
 use Rattle.std.proofs.Common.{◌≡◌, ℕ, ◌<◌, ◌≤◌, ◌+◌, Bool, true, false, cond, ◌&&◌, List, Option, Some, None, refl, sym, ◌∙◌, ap, subst, arith}
 use Rattle.std.specs.Prelude.{nat_le}
 use Rattle.std.proofs.lemmas.Bool.{le-leb, lt-leb}
-use Rattle.model_device.specs.declared.device.Stop.{Stop}
-use Rattle.model_device.specs.declared.device.Stop.TheVariants.{Off, Worn}
-use Rattle.model_device.specs.Bytes.{zeros}
-use Rattle.model_device.specs.Device.{BenchState, Fuse, next_count}
+use Rattle.model_play.specs.model_device.specs.declared.device.Stop.{Stop}
+use Rattle.model_play.specs.model_device.specs.declared.device.Stop.TheVariants.{Off, Worn}
+use Rattle.model_play.specs.model_device.specs.Bytes.{zeros}
+use Rattle.model_play.specs.model_device.specs.Device.{BenchState, Fuse, next_count}
 use Rattle.model_play.specs.DeckGrammar.{DeckLine}
-use Rattle.model_card.specs.Items.{StopAt}
+use Rattle.model_play.specs.model_card.specs.Items.{StopAt}
 use Rattle.model_play.specs.Play as play
 use Rattle.model_play.specs.Play.{ArmedCut, ArmedFail, FailedWrite, hit_of, steady_at, is_card_line, failure_entry, IsBeforeCut}
 use Rattle.mc_script.specs.declared.armed.Armed.{Armed}

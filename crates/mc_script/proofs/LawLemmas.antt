@@ -1,13 +1,13 @@
 -- The laws of plays, of decks that were played.
 use Rattle.std.proofs.Common.{◌≡◌, ℕ, List, [], ◌∷◌, ◌++◌, Result, subst}
 use Rattle.std.specs.List.{AllByRecursion}
-use Rattle.model_device.specs.Device.{IsImage}
+use Rattle.model_play.specs.model_device.specs.Device.{IsImage}
 use Rattle.model_play.specs.DeckGrammar.{DeckLine}
 use Rattle.model_play.specs.Laws.{HoldsOf}
 use Rattle.model_play.specs.Play.{Step, start, plays}
 use Rattle.model_play.specs.ReadyAgain.{IsLine, AreLines}
-use Rattle.law_family.proofs.DeckBytes.{played_bytes}
-use Rattle.law_family.proofs.PlayLaw.{play_law}
+use Rattle.mc_deck.specs.law_family.proofs.DeckBytes.{played_bytes}
+use Rattle.mc_deck.specs.law_family.proofs.PlayLaw.{play_law}
 use Rattle.mc_streams.specs.declared.refusals.WriteFault.{WriteFault}
 use Rattle.mc_text.specs.Texts.{Sunk}
 use Rattle.mc_script.specs.Plays.{Bench, PlaysDeck, SumsDeck}

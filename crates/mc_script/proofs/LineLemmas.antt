@@ -1,14 +1,14 @@
 -- One line of a player as one line of a play.
 use Rattle.std.specs.Prelude.{option_map}
 use Rattle.std.proofs.Common.{◌≡◌, ℕ, List, Option, Some, None, refl, sym, subst, ◌∙◌, ap}
-use Rattle.model_device.specs.Device.{DeviceState, BenchState}
-use Rattle.model_device.specs.Card.{App}
+use Rattle.model_play.specs.model_device.specs.Device.{DeviceState, BenchState}
+use Rattle.model_play.specs.model_device.specs.Card.{App}
 use Rattle.model_play.specs.Play.{State, BeforePower, AfterPower, static_of, Static}
 use Rattle.mc_script.specs.declared.player.Player.{Player}
 use Rattle.mc_card.specs.Parts.{card_in, IsReadyCard}
 use Rattle.mc_script.specs.declared.player.Power.{Power}
 use Rattle.mc_script.specs.declared.player.Power.TheVariants as power
-use Rattle.model_device.specs.Bytes.{lookup}
+use Rattle.model_play.specs.model_device.specs.Bytes.{lookup}
 use Rattle.mc_card.specs.declared.card.Card.{Card}
 use Rattle.mc_script.specs.declared.answer.Answer.TheVariants as answer
 use Rattle.mc_script.specs.Players.{answer_value, dump_value, statics_by, statics_in, LiveIs, IsPlayerAt}

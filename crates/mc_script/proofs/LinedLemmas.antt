@@ -1,8 +1,8 @@
 -- A line by the step that its play takes, with its recorded turns.
 use Rattle.std.proofs.Common.{◌≡◌, ℕ, List, [], Option, Some, refl, sym, subst}
-use Rattle.model_device.specs.Device.{DeviceState, BenchState}
+use Rattle.model_play.specs.model_device.specs.Device.{DeviceState, BenchState}
 use Rattle.model_play.specs.DeckGrammar.{DeckLine}
-use Rattle.model_machine.specs.Chain.{Turn}
+use Rattle.model_play.specs.model_machine.specs.Chain.{Turn}
 use Rattle.model_play.specs.Play.{State, BeforePower, AfterPower, FailedWrite, Step, step, StandsForState}
 use Rattle.model_play.specs.TraceText.{shown_turns}
 use Rattle.mc_script.specs.declared.answer.Answer.{Answer}

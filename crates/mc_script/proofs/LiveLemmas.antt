@@ -1,10 +1,10 @@
 -- A player whose session state, or whose power without a card, is replaced.
 use Rattle.std.proofs.Common.{◌≡◌, refl, sym, ap, ◌∙◌, subst}
 use Rattle.std.specs.Prelude.{true, false}
-use Rattle.model_device.specs.Device.{DeviceState, BenchState}
-use Rattle.model_device.specs.Card.{means}
-use Rattle.model_device.specs.PowerUp.{OnCard}
-use Rattle.model_card.specs.Manager.{SessionState}
+use Rattle.model_play.specs.model_device.specs.Device.{DeviceState, BenchState}
+use Rattle.model_play.specs.model_device.specs.Card.{means}
+use Rattle.model_play.specs.model_device.specs.PowerUp.{OnCard}
+use Rattle.model_play.specs.model_card.specs.Manager.{SessionState}
 use Rattle.model_play.specs.Play as play
 use Rattle.model_play.specs.Play.{Warm, State, BeforePower, AfterPower, Running, Unpowered, Muted}
 use Rattle.model_play.specs.Family.{live_in, is_running}

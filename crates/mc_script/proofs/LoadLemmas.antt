@@ -4,7 +4,7 @@ use Rattle.std.proofs.lemmas.Bool.Decides.{nat_tests, leb_tells}
 use Rattle.std.proofs.lemmas.List.{take_all}
 use Rattle.std.proofs.Math.ListN.{drop_of_length-le}
 use Rattle.std.proofs.Math.Seq.{drop-length}
-use Rattle.model_device.specs.Bytes.{bytes2}
+use Rattle.model_play.specs.model_device.specs.Bytes.{bytes2}
 use Rattle.model_play.specs.Play.{piece_commands}
 
 -- no command is sent for an empty section

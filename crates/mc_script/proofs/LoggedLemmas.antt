@@ -1,8 +1,8 @@
 -- The laws of the log of a play.
 use Rattle.std.proofs.Common.{◌≡◌, ℕ, List, [], ◌++◌, Option, None, Result, Ok, Err, refl, subst}
-use Rattle.model_machine.specs.Chain.{Turn}
+use Rattle.model_play.specs.model_machine.specs.Chain.{Turn}
 use Rattle.std.specs.Result.{result_err}
-use Rattle.model_text.specs.TurnText.{turn_lines}
+use Rattle.model_play.specs.model_text.specs.TurnText.{turn_lines}
 use Rattle.mc_streams.specs.declared.refusals.WriteFault.{WriteFault}
 use Rattle.mc_streams.specs.declared.sink.Sink.{Ghosts}
 use Rattle.mc_text.specs.Texts.{Sunk, Puts}

@@ -1,6 +1,6 @@
 -- A play of one line and a play of the lines after it are one play.
 use Rattle.std.proofs.Common.{◌≡◌, ◌⊎◌, ℕ, zero, suc, ◌+◌, Bool, List, [], ◌∷◌, ◌++◌, Option, Result, Ok, Err, refl, arith, sym, ap, subst, ◌∙◌, append_assoc, inl, inr}
-use Rattle.model_device.specs.Device.{DeviceState, BenchState, next_count}
+use Rattle.model_play.specs.model_device.specs.Device.{DeviceState, BenchState, next_count}
 use Rattle.model_play.specs.DeckGrammar.{DeckLine}
 use Rattle.model_play.specs.Play.{Armed, State, FailedWrite, Step, plays, step, armed_stop_in, last_state, StandsForState, moves_of, steady_at, steady_failures, failures_of_tape}
 use Rattle.model_play.proofs.PlayLemmas.{step_is}

@@ -3,8 +3,8 @@ use Rattle.std.proofs.Common.{◌≡◌, ℕ, zero, suc, ◌+◌, ◌<◌, List,
 use Rattle.std.specs.Prelude.{slice_set, slice_index_or}
 use Rattle.std.specs.List.{AllByRecursion}
 use Rattle.std.proofs.lemmas.List.{length-set}
-use Rattle.model_device.specs.Device.{DeviceState, BenchState, bench_after_poke, bench_after_pokes}
-use Rattle.model_device.specs.Image.{image_with}
+use Rattle.model_play.specs.model_device.specs.Device.{DeviceState, BenchState, bench_after_poke, bench_after_pokes}
+use Rattle.model_play.specs.model_device.specs.Image.{image_with}
 use Rattle.mc_script.specs.Counting.{count_after_rises, when_poked}
 
 -- ---- what a bench keeps of pokes

@@ -2,23 +2,23 @@
 use Rattle.std.proofs.Common.{◌≡◌, ◌≢◌, ℕ, ◌+◌, ◌-◌, ◌<◌, ◌≤◌, Bool, true, false, cond, List, [], length, Option, Some, None, Ok, refl, sym, ◌∙◌, ap, subst, arith}
 use Rattle.std.specs.Prelude.{nat_le}
 use Rattle.std.proofs.lemmas.Bool.{leb-true, leb-false}
-use Rattle.model_device.specs.declared.cause.Cause.{Cause}
-use Rattle.model_device.specs.declared.device.Stop.{Stop}
-use Rattle.model_device.specs.declared.device.Stop.TheVariants.{Off, Worn}
-use Rattle.model_device.specs.Orders.{Answer as Ended}
-use Rattle.model_device.specs.Device.{DeviceState, BenchState, Wrote, BenchWrote, IsImage, Makes}
+use Rattle.model_play.specs.model_device.specs.declared.cause.Cause.{Cause}
+use Rattle.model_play.specs.model_device.specs.declared.device.Stop.{Stop}
+use Rattle.model_play.specs.model_device.specs.declared.device.Stop.TheVariants.{Off, Worn}
+use Rattle.model_play.specs.model_device.specs.Orders.{Answer as Ended}
+use Rattle.model_play.specs.model_device.specs.Device.{DeviceState, BenchState, Wrote, BenchWrote, IsImage, Makes}
 use Rattle.model_play.specs.DeckGrammar as line
-use Rattle.model_device.specs.Image.{Journal, One, Which, Both, Only, Neither, which, count_of_recovery_writes, look_at, debt}
-use Rattle.model_device.specs.Stopped.{image_after_stop, stands, owes, remains}
-use Rattle.model_device.specs.Card.{Card as CardValue, means}
-use Rattle.model_device.specs.Layout.{fault}
-use Rattle.model_card.specs.Items.{StopAt}
-use Rattle.model_card.specs.Manager.{empty_session_state}
+use Rattle.model_play.specs.model_device.specs.Image.{Journal, One, Which, Both, Only, Neither, which, count_of_recovery_writes, look_at, debt}
+use Rattle.model_play.specs.model_device.specs.Stopped.{image_after_stop, stands, owes, remains}
+use Rattle.model_play.specs.model_device.specs.Card.{Card as CardValue, means}
+use Rattle.model_play.specs.model_device.specs.Layout.{fault}
+use Rattle.model_play.specs.model_card.specs.Items.{StopAt}
+use Rattle.model_play.specs.model_card.specs.Manager.{empty_session_state}
 use Rattle.model_play.specs.Given.{budget_in}
 use Rattle.model_play.specs.TraceText.{shown_turns}
 use Rattle.model_play.specs.Play as play
 use Rattle.model_play.specs.Play.{Unarmed, Live, Running, Warm, State, BeforePower, AfterPower, Ready, FailedWrite, Step, step, play_at_power, power_moves, power_result, power_live, power_after, power_says, power_step, stopped_power, live_after, result_of_stop, hit_of, failure_entry, moves_of, armed_stop_in, StandsForState, state_after_stop}
-use Rattle.model_device.specs.PowerUp.{Base, OnCard, AtFault, pending_journal, base_of, base_after_migration, migration}
+use Rattle.model_play.specs.model_device.specs.PowerUp.{Base, OnCard, AtFault, pending_journal, base_of, base_after_migration, migration}
 use Rattle.mc_store.specs.Power.{base_of_words, power_writes, power_count, HoldsBase, IsPowered, IsUnusable, IsHalted}
 use Rattle.mc_store.proofs.PowerLemmas.{count_writes, power_halted}
 use Rattle.mc_card.specs.declared.card.Card.{Card}

@@ -1,8 +1,8 @@
 -- A power line as it is called: power, the armed stop, the power-up, and the fuses taken away.
 use Rattle.std.proofs.Common.{◌≡◌, ℕ, ◌<◌, true, List, length, Some, None, Result, Ok, Err, IfOk, sym, ◌∙◌, ap, subst}
-use Rattle.model_device.specs.Orders.{Answer as Ended}
-use Rattle.model_device.specs.Device.{DeviceState, BenchState, Wrote, BenchWrote, IsImage, Makes, next_count}
-use Rattle.model_card.specs.Manager.{empty_session_state}
+use Rattle.model_play.specs.model_device.specs.Orders.{Answer as Ended}
+use Rattle.model_play.specs.model_device.specs.Device.{DeviceState, BenchState, Wrote, BenchWrote, IsImage, Makes, next_count}
+use Rattle.model_play.specs.model_card.specs.Manager.{empty_session_state}
 use Rattle.model_play.specs.DeckGrammar as line
 use Rattle.mc_store.specs.Power.{power_writes, power_answer, failure_end, IsPowered, PowersUp}
 use Rattle.mc_store.specs.declared.power.Up.{Up}

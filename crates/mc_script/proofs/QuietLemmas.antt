@@ -1,13 +1,13 @@
 -- Lines that make no device write.
 use Rattle.std.proofs.Common.{◌≡◌, ℕ, ◌≤◌, Bool, false, List, [], Option, Some, None, refl, sym, ◌∙◌, ap, subst, arith, append-nil}
 use Rattle.std.specs.Prelude.{option_map, length}
-use Rattle.model_device.specs.Device.{DeviceState, BenchState, Entry, GrowsBy}
+use Rattle.model_play.specs.model_device.specs.Device.{DeviceState, BenchState, Entry, GrowsBy}
 use Rattle.model_play.specs.DeckGrammar.{DeckLine}
 use Rattle.model_play.specs.DeckGrammar as line
-use Rattle.model_card.specs.Items.{moves}
+use Rattle.model_play.specs.model_card.specs.Items.{moves}
 use Rattle.model_play.specs.Play as play
 use Rattle.model_play.specs.Play.{FailedWrite, Unarmed, ArmedCut, ArmedFail, Live, Running, Unpowered, Muted, LineResult, NoCard, Silenced, Warm, State, BeforePower, AfterPower, Step, step, quiet, card_line, dump_result, is_card_line, armed_stop_in, moves_of, steady_at, words_left}
-use Rattle.model_device.specs.PowerUp.{Base}
+use Rattle.model_play.specs.model_device.specs.PowerUp.{Base}
 use Rattle.model_play.specs.TraceText.{shown_turns}
 use Rattle.mc_card.specs.declared.card.Card.{Card}
 use Rattle.mc_card.specs.Parts.{session_state_in}

@@ -2,13 +2,13 @@
 use Rattle.std.proofs.Common.{◌≡◌, ℕ, zero, suc, ◌+◌, ◌-◌, ◌≤◌, true, List, [], ◌∷◌, ◌++◌, length, take, Option, Some, None, Result, Ok, Err, refl, arith, sym, ap, subst, ◌∙◌}
 use Rattle.std.specs.Prelude.{option_map, IfOk, OnOk}
 use Rattle.std.proofs.lemmas.List.{append-nil, map-append}
-use Rattle.model_device.specs.declared.device.Stop.{Stop}
-use Rattle.model_machine.specs.declared.machine.Abend.TheVariants.{A07}
-use Rattle.model_device.specs.Orders.{Answer, answer_of}
-use Rattle.model_device.specs.Device.{DeviceState, Wrote, Makes}
-use Rattle.model_device.specs.Card.{Card}
-use Rattle.model_card.specs.Items.{Item, Atomic, Fixed, moves, card_done, write_items}
-use Rattle.model_machine.specs.Chain.{Chain, Turn, Write, Acted, Ran, Follows, Continues, Ends, Abended, Outcome as ModelOutcome, turn_without_budget, turn_of_chain, turn_of, end_of, chain_session, ends_with, goes_on, run_after_turn, run_of_chain}
+use Rattle.model_play.specs.model_device.specs.declared.device.Stop.{Stop}
+use Rattle.model_play.specs.model_machine.specs.declared.machine.Abend.TheVariants.{A07}
+use Rattle.model_play.specs.model_device.specs.Orders.{Answer, answer_of}
+use Rattle.model_play.specs.model_device.specs.Device.{DeviceState, Wrote, Makes}
+use Rattle.model_play.specs.model_device.specs.Card.{Card}
+use Rattle.model_play.specs.model_card.specs.Items.{Item, Atomic, Fixed, moves, card_done, write_items}
+use Rattle.model_play.specs.model_machine.specs.Chain.{Chain, Turn, Write, Acted, Ran, Follows, Continues, Ends, Abended, Outcome as ModelOutcome, turn_without_budget, turn_of_chain, turn_of, end_of, chain_session, ends_with, goes_on, run_after_turn, run_of_chain}
 use Rattle.model_play.specs.TraceText.{before_stop}
 use Rattle.mc_machine.specs.declared.outcome.Outcome.{Outcome}
 use Rattle.mc_machine.specs.declared.outcome.Turn.{Turn as CodeTurn}

@@ -2,17 +2,17 @@
 use Rattle.std.proofs.Common.{◌≡◌, ℕ, zero, suc, ◌+◌, Bool, true, false, cond, ◌==◌, List, [], ◌∷◌, ◌++◌, length, take, drop, Option, Some, None, Result, Ok, Err, refl, arith, sym, ap, subst, ◌∙◌}
 use Rattle.std.specs.Prelude.{option_map}
 use Rattle.std.specs.List.{AllByRecursion}
-use Rattle.model_device.specs.declared.device.Stop.{Stop}
-use Rattle.model_device.specs.Orders.{Answer, answer_of}
-use Rattle.model_device.specs.Device.{DeviceState, Wrote, Makes}
-use Rattle.model_device.specs.Bytes.{bytes2}
-use Rattle.model_machine.specs.Apdu.{ApduParts, apdu_read, rest_read, Rest}
-use Rattle.model_card.specs.Units.{UnitParts}
-use Rattle.model_device.specs.Card as model
-use Rattle.model_card.specs.Items.{card_done}
-use Rattle.model_machine.specs.Chain.{Turn}
-use Rattle.model_card.specs.Manager.{SessionState, route, route_of_parts}
-use Rattle.model_card.specs.Commands.{Command, command, refusal, status}
+use Rattle.model_play.specs.model_device.specs.declared.device.Stop.{Stop}
+use Rattle.model_play.specs.model_device.specs.Orders.{Answer, answer_of}
+use Rattle.model_play.specs.model_device.specs.Device.{DeviceState, Wrote, Makes}
+use Rattle.model_play.specs.model_device.specs.Bytes.{bytes2}
+use Rattle.model_play.specs.model_machine.specs.Apdu.{ApduParts, apdu_read, rest_read, Rest}
+use Rattle.model_play.specs.model_card.specs.Units.{UnitParts}
+use Rattle.model_play.specs.model_device.specs.Card as model
+use Rattle.model_play.specs.model_card.specs.Items.{card_done}
+use Rattle.model_play.specs.model_machine.specs.Chain.{Turn}
+use Rattle.model_play.specs.model_card.specs.Manager.{SessionState, route, route_of_parts}
+use Rattle.model_play.specs.model_card.specs.Commands.{Command, command, refusal, status}
 use Rattle.model_play.specs.Play.{is_done, with_items, command_with_rest, send, piece_commands, section_commands, load_commands}
 use Rattle.model_play.specs.TraceText.{before_stop}
 use Rattle.mc_machine.specs.declared.outcome.Outcome.{Outcome}

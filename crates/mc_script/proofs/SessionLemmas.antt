@@ -1,8 +1,8 @@
 -- A player whose card changes and keeps its device goes on playing.
 use Rattle.std.proofs.Common.{◌≡◌, refl, sym, ◌∙◌, subst}
-use Rattle.model_device.specs.Device.{DeviceState, BenchState}
-use Rattle.model_device.specs.Card.{means}
-use Rattle.model_device.specs.PowerUp.{OnCard}
+use Rattle.model_play.specs.model_device.specs.Device.{DeviceState, BenchState}
+use Rattle.model_play.specs.model_device.specs.Card.{means}
+use Rattle.model_play.specs.model_device.specs.PowerUp.{OnCard}
 use Rattle.model_play.specs.Play.{Warm, State, BeforePower, AfterPower, Running}
 use Rattle.mc_store.specs.Power.{HoldsBase}
 use Rattle.mc_card.specs.declared.card.Card.{Card}

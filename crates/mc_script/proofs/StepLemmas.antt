@@ -3,21 +3,21 @@
 use Rattle.std.proofs.Common.{◌≡◌, ℕ, zero, suc, ◌+◌, ◌≤◌, Bool, true, false, cond, ◌==◌, ◌&&◌, List, [], ◌∷◌, ◌++◌, length, take, drop, Option, Some, None, Result, Ok, Err, refl, arith, sym, ap, subst, ◌∙◌}
 use Rattle.std.specs.Prelude.{option_map, is_err}
 use Rattle.std.specs.List.{AllByRecursion}
-use Rattle.model_device.specs.declared.device.Stop.{Stop}
-use Rattle.model_device.specs.Orders.{answer_of}
-use Rattle.model_device.specs.Bytes.{bytes2, lookup}
-use Rattle.model_device.specs.Card as model
-use Rattle.model_device.specs.Layout.{gaps}
-use Rattle.model_machine.specs.declared.instruction.Ins.{Ins}
-use Rattle.model_machine.specs.declared.instruction.DecodeFault.{DecodeFault}
-use Rattle.model_machine.specs.declared.instruction.DecodeFault.TheVariants.{Undefined, Past}
-use Rattle.model_machine.specs.Apdu.{ApduParts, apdu_read, rest_read, Rest}
-use Rattle.model_machine.specs.Code.{instruction_at}
-use Rattle.model_machine.specs.Row.{RowEnd, Abends, Does, row}
-use Rattle.model_machine.specs.Chain.{Chain, Acted, Ran, Follows, Continues, Ends, code_in, around, frame_at, row_turn, turn_of_fetch, turn_of_chain, chain_session, run_after_turn, run_of_chain, run}
-use Rattle.model_card.specs.Units.{UnitParts}
-use Rattle.model_card.specs.Manager.{Selected, SessionState, Managed, Declines, Accepts, Route, WrongLength, WrongClass, ToSelect, ToManager, ToApplication, route, route_of_parts, select, manage, room_on}
-use Rattle.model_card.specs.Commands.{command, manager_command, application_command, by_route}
+use Rattle.model_play.specs.model_device.specs.declared.device.Stop.{Stop}
+use Rattle.model_play.specs.model_device.specs.Orders.{answer_of}
+use Rattle.model_play.specs.model_device.specs.Bytes.{bytes2, lookup}
+use Rattle.model_play.specs.model_device.specs.Card as model
+use Rattle.model_play.specs.model_device.specs.Layout.{gaps}
+use Rattle.model_play.specs.model_machine.specs.declared.instruction.Ins.{Ins}
+use Rattle.model_play.specs.model_machine.specs.declared.instruction.DecodeFault.{DecodeFault}
+use Rattle.model_play.specs.model_machine.specs.declared.instruction.DecodeFault.TheVariants.{Undefined, Past}
+use Rattle.model_play.specs.model_machine.specs.Apdu.{ApduParts, apdu_read, rest_read, Rest}
+use Rattle.model_play.specs.model_machine.specs.Code.{instruction_at}
+use Rattle.model_play.specs.model_machine.specs.Row.{RowEnd, Abends, Does, row}
+use Rattle.model_play.specs.model_machine.specs.Chain.{Chain, Acted, Ran, Follows, Continues, Ends, code_in, around, frame_at, row_turn, turn_of_fetch, turn_of_chain, chain_session, run_after_turn, run_of_chain, run}
+use Rattle.model_play.specs.model_card.specs.Units.{UnitParts}
+use Rattle.model_play.specs.model_card.specs.Manager.{Selected, SessionState, Managed, Declines, Accepts, Route, WrongLength, WrongClass, ToSelect, ToManager, ToApplication, route, route_of_parts, select, manage, room_on}
+use Rattle.model_play.specs.model_card.specs.Commands.{command, manager_command, application_command, by_route}
 use Rattle.model_play.specs.Play.{send, piece_commands, section_commands, load_commands}
 use Rattle.mc_manager.specs.CommandDue.{is_open, most_ticks}
 use Rattle.mc_card.specs.Ends.{is_passed, RunSteps, PassedSteps, RouteSteps, BeginSteps}

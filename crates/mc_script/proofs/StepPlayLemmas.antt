@@ -2,12 +2,12 @@
 use Rattle.std.proofs.Common.{◌≡◌, ℕ, ◌+◌, Bool, true, false, List, [], ◌∷◌, ◌++◌, Option, Some, None, refl, arith, sym, ap, subst, ◌∙◌}
 use Rattle.std.specs.Prelude.{option_map}
 use Rattle.std.specs.List.{AllByRecursion}
-use Rattle.model_device.specs.Device.{DeviceState}
-use Rattle.model_device.specs.Card.{App}
-use Rattle.model_device.specs.PowerUp.{Base, OnCard, AtFault}
-use Rattle.model_device.specs.Bytes.{lookup}
-use Rattle.model_card.specs.Items.{StopAt, moves}
-use Rattle.model_card.specs.Commands.{Command}
+use Rattle.model_play.specs.model_device.specs.Device.{DeviceState}
+use Rattle.model_play.specs.model_device.specs.Card.{App}
+use Rattle.model_play.specs.model_device.specs.PowerUp.{Base, OnCard, AtFault}
+use Rattle.model_play.specs.model_device.specs.Bytes.{lookup}
+use Rattle.model_play.specs.model_card.specs.Items.{StopAt, moves}
+use Rattle.model_play.specs.model_card.specs.Commands.{Command}
 use Rattle.model_play.specs.DeckGrammar.{DeckLine}
 use Rattle.model_play.specs.DeckGrammar as line
 use Rattle.model_play.specs.Play.{LineResult, OffAt, FailureStop, Live, Running, Unpowered, Muted, Warm, State, BeforePower, AfterPower, FailedWrite, Step, step, line_command, card_line, line_says, power_says, power_result, power_moves, play_at_power, hit_of, dump_result, static_of}

@@ -1,14 +1,14 @@
 -- The steps of a run turn by turn, of the commands of a load, and of a line on a card that runs.
 use Rattle.std.proofs.Common.{◌≡◌, ◌⊎◌, ℕ, zero, suc, ◌+◌, ◌≤◌, Bool, true, false, cond, List, [], ◌∷◌, Option, Some, refl, arith, sym, ap, subst, ◌∙◌, inl, inr}
 use Rattle.std.specs.Prelude.{option_map}
-use Rattle.model_device.specs.declared.device.Stop.{Stop}
-use Rattle.model_device.specs.declared.device.Stop.TheVariants.{Off, Worn}
-use Rattle.model_device.specs.Device.{DeviceState, BenchState}
-use Rattle.model_device.specs.Card as model
-use Rattle.model_device.specs.Card.{means}
-use Rattle.model_device.specs.PowerUp.{Base, OnCard, AtFault}
-use Rattle.model_machine.specs.Chain.{Chain, Turn, Acted, Ran, Follows, Continues, Ends, turn_of_chain, turn_of, end_of, chain_session, run_after_turn, run_of_chain}
-use Rattle.model_card.specs.Manager.{SessionState}
+use Rattle.model_play.specs.model_device.specs.declared.device.Stop.{Stop}
+use Rattle.model_play.specs.model_device.specs.declared.device.Stop.TheVariants.{Off, Worn}
+use Rattle.model_play.specs.model_device.specs.Device.{DeviceState, BenchState}
+use Rattle.model_play.specs.model_device.specs.Card as model
+use Rattle.model_play.specs.model_device.specs.Card.{means}
+use Rattle.model_play.specs.model_device.specs.PowerUp.{Base, OnCard, AtFault}
+use Rattle.model_play.specs.model_machine.specs.Chain.{Chain, Turn, Acted, Ran, Follows, Continues, Ends, turn_of_chain, turn_of, end_of, chain_session, run_after_turn, run_of_chain}
+use Rattle.model_play.specs.model_card.specs.Manager.{SessionState}
 use Rattle.model_play.specs.DeckGrammar.{DeckLine}
 use Rattle.model_play.specs.DeckGrammar as line
 use Rattle.model_play.specs.Play.{Live, Running, Unpowered, Muted, State, BeforePower, AfterPower, line_command}

@@ -1,9 +1,9 @@
 -- The places at which lists of writes stop.
 use Rattle.std.proofs.Common.{◌≡◌, ℕ, suc, ◌+◌, ◌-◌, ◌<◌, List, [], ◌∷◌, ◌++◌, length, take, Ok, Err, refl, arith, subst, inl, inr}
 use Rattle.std.specs.Prelude.{slice_index_or}
-use Rattle.model_device.specs.declared.device.Stop.{Stop}
-use Rattle.model_device.specs.Orders.{Answer}
-use Rattle.model_device.specs.Device.{Makes}
+use Rattle.model_play.specs.model_device.specs.declared.device.Stop.{Stop}
+use Rattle.model_play.specs.model_device.specs.Orders.{Answer}
+use Rattle.model_play.specs.model_device.specs.Device.{Makes}
 use Rattle.mc_script.specs.Runs.{StoppedAtWrite}
 
 module _ {D : Type 0} (wrote : D → ℕ → List ℕ → Answer → D → Type 0) where

@@ -1,13 +1,13 @@
 -- The entries of a line at the front of a tape, and what a recorded tape shows of a line and of the lines after it.
 use Rattle.std.proofs.Common.{◌≡◌, ℕ, zero, suc, ◌+◌, ◌≤◌, Bool, true, false, cond, nat_le, List, [], ◌∷◌, ◌++◌, length, Option, Some, None, refl, arith, sym, ap, subst, ◌∙◌, append_assoc}
 use Rattle.std.proofs.lemmas.Bool.Decides.{nat_tests}
-use Rattle.model_device.specs.declared.device.Stop.{Stop}
-use Rattle.model_device.specs.Device.{DeviceState, Entry, GrowsBy}
-use Rattle.model_card.specs.Items.{StopAt, moves}
+use Rattle.model_play.specs.model_device.specs.declared.device.Stop.{Stop}
+use Rattle.model_play.specs.model_device.specs.Device.{DeviceState, Entry, GrowsBy}
+use Rattle.model_play.specs.model_card.specs.Items.{StopAt, moves}
 use Rattle.model_play.specs.DeckGrammar.{DeckLine}
 use Rattle.model_play.specs.DeckGrammar as line
 use Rattle.model_play.specs.Play.{Armed, Unarmed, ArmedCut, ArmedFail, Live, Running, Unpowered, Muted, Warm, State, BeforePower, AfterPower, FailedWrite, Step, step, power_part, hit_of, moves_with, power_moves, play_at_power, line_command, card_line, moves_of, MayHit, failures_of_tape, Accounts, AccountsForLine, words_left, chunk, with_entry, ends_tape, failures_in, EndsAs, kind_of}
-use Rattle.model_device.specs.PowerUp.{Base, OnCard, AtFault}
+use Rattle.model_play.specs.model_device.specs.PowerUp.{Base, OnCard, AtFault}
 use Rattle.mc_script.specs.Plays.{StepTape, PlayTape, words_after}
 
 -- ---- the number of entries of a line

@@ -2,14 +2,14 @@
 use Rattle.std.proofs.Common.{◌≡◌, ◌≢◌, ℕ, zero, suc, ◌+◌, ◌≤◌, Option, Some, None, false, List, [], ◌∷◌, ◌++◌, length, take, drop, codes, refl, sym, ap, ◌∙◌, append_assoc, arith}
 use Rattle.mc_text.proofs.TextLemmas.{hex_text_split}
 use Rattle.model_play.specs.Generator.{is_reply, is_abend, is_cut, is_off, is_ready}
-use Rattle.model_device.specs.declared.cause.Cause.{Cause}
-use Rattle.model_device.specs.declared.cause.Cause.TheVariants.{BadJournal, NoRoot, BadBlock, BadRecord, BadChain}
-use Rattle.model_device.specs.Card.{App}
+use Rattle.model_play.specs.model_device.specs.declared.cause.Cause.{Cause}
+use Rattle.model_play.specs.model_device.specs.declared.cause.Cause.TheVariants.{BadJournal, NoRoot, BadBlock, BadRecord, BadChain}
+use Rattle.model_play.specs.model_device.specs.Card.{App}
 use Rattle.model_play.specs.Play.{static_of}
-use Rattle.model_device.specs.Words.{cause_text}
-use Rattle.model_text.specs.Listing.{hex_text}
+use Rattle.model_play.specs.model_device.specs.Words.{cause_text}
+use Rattle.model_play.specs.model_text.specs.Listing.{hex_text}
 use Rattle.model_play.specs.Transcript.{static_text}
-use Rattle.model_device.proofs.ListLemmas.{drop_none}
+use Rattle.model_play.specs.model_device.proofs.ListLemmas.{drop_none}
 
 -- the text of static bytes, if there are any
 pub static_some : (bs : List ℕ) → length bs ≢ 0 → codes "static " ++ hex_text bs ≡ static_text bs

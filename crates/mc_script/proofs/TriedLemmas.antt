@@ -1,18 +1,18 @@
 -- A line whose device writes were tried under an armed stop: they were all made, or one of them stopped.
 use Rattle.std.proofs.Common.{◌≡◌, ℕ, zero, suc, ◌+◌, ◌<◌, ◌≤◌, true, List, length, Option, Some, None, Ok, refl, sym, ◌∙◌, ap, subst, arith}
 use Rattle.std.specs.List.{AllByRecursion}
-use Rattle.model_device.specs.declared.device.Stop.{Stop}
-use Rattle.model_device.specs.declared.device.Stop.TheVariants.{Off, Worn}
-use Rattle.model_device.specs.Orders.{Answer as Ended}
-use Rattle.model_device.specs.Device.{DeviceState, BenchState, Entry, Wrote, BenchWrote, Makes, GrowsBy, done_entries, torn_entries, next_count}
+use Rattle.model_play.specs.model_device.specs.declared.device.Stop.{Stop}
+use Rattle.model_play.specs.model_device.specs.declared.device.Stop.TheVariants.{Off, Worn}
+use Rattle.model_play.specs.model_device.specs.Orders.{Answer as Ended}
+use Rattle.model_play.specs.model_device.specs.Device.{DeviceState, BenchState, Entry, Wrote, BenchWrote, Makes, GrowsBy, done_entries, torn_entries, next_count}
 use Rattle.model_play.specs.DeckGrammar.{DeckLine}
-use Rattle.model_device.specs.Image.{image_with}
-use Rattle.model_device.specs.Stopped.{image_after_stop}
-use Rattle.model_card.specs.Items.{Item, StopAt}
-use Rattle.model_machine.specs.Chain.{Turn}
+use Rattle.model_play.specs.model_device.specs.Image.{image_with}
+use Rattle.model_play.specs.model_device.specs.Stopped.{image_after_stop}
+use Rattle.model_play.specs.model_card.specs.Items.{Item, StopAt}
+use Rattle.model_play.specs.model_machine.specs.Chain.{Turn}
 use Rattle.model_play.specs.Play as play
 use Rattle.model_play.specs.Play.{Unarmed, LineResult, State, AfterPower, Warm, Step, is_card_line, armed_stop_in, moves_of, failure_entry, MayHit, EndsAs, failures_in, StandsAtEach}
-use Rattle.model_device.proofs.DeviceLemmas.{DoneAll, makes_done}
+use Rattle.model_play.specs.model_device.proofs.DeviceLemmas.{DoneAll, makes_done}
 use Rattle.mc_script.specs.declared.answer.Answer.{Answer}
 use Rattle.mc_script.specs.declared.armed.Armed.{Armed}
 use Rattle.mc_script.specs.declared.player.Player.{Player}

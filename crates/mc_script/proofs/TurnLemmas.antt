@@ -1,17 +1,17 @@
 -- The turns of a run and their atomic writes.
 use Rattle.std.proofs.Common.{◌≡◌, ℕ, zero, suc, ◌+◌, ◌-◌, ◌≤◌, List, [], ◌∷◌, ◌++◌, length, Option, Some, None, Result, Ok, Err, refl, arith, ap, ◌∙◌}
 use Rattle.std.proofs.lemmas.Bool.{le-leb, lt-leb}
-use Rattle.model_machine.specs.declared.instruction.Ins.{Ins}
-use Rattle.model_machine.specs.declared.instruction.DecodeFault.{DecodeFault}
-use Rattle.model_machine.specs.declared.instruction.DecodeFault.TheVariants.{Undefined, Past}
-use Rattle.model_device.specs.Bytes.{lookup}
-use Rattle.model_machine.specs.Code.{instruction_at}
-use Rattle.model_device.specs.Pieces.{touched_words}
-use Rattle.model_machine.specs.Row.{RowEnd, Abends, Does, row}
-use Rattle.model_device.specs.Image.{Two}
-use Rattle.model_device.specs.Stopped.{cost}
-use Rattle.model_card.specs.Items.{moves, write_items}
-use Rattle.model_machine.specs.Chain.{Chain, Turn, Acted, Continues, write_of, words_of_write, code_in, around, frame_at, row_turn, turn_of_fetch, turn_of_chain, turn_of, end_of}
+use Rattle.model_play.specs.model_machine.specs.declared.instruction.Ins.{Ins}
+use Rattle.model_play.specs.model_machine.specs.declared.instruction.DecodeFault.{DecodeFault}
+use Rattle.model_play.specs.model_machine.specs.declared.instruction.DecodeFault.TheVariants.{Undefined, Past}
+use Rattle.model_play.specs.model_device.specs.Bytes.{lookup}
+use Rattle.model_play.specs.model_machine.specs.Code.{instruction_at}
+use Rattle.model_play.specs.model_device.specs.Pieces.{touched_words}
+use Rattle.model_play.specs.model_machine.specs.Row.{RowEnd, Abends, Does, row}
+use Rattle.model_play.specs.model_device.specs.Image.{Two}
+use Rattle.model_play.specs.model_device.specs.Stopped.{cost}
+use Rattle.model_play.specs.model_card.specs.Items.{moves, write_items}
+use Rattle.model_play.specs.model_machine.specs.Chain.{Chain, Turn, Acted, Continues, write_of, words_of_write, code_in, around, frame_at, row_turn, turn_of_fetch, turn_of_chain, turn_of, end_of}
 use Rattle.model_play.specs.TraceText.{before_stop}
 
 -- the device writes of a turn

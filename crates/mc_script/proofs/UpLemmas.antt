@@ -1,8 +1,8 @@
 -- A card that runs has power, and its words are the card.
 use Rattle.std.proofs.Common.{◌≡◌, true}
-use Rattle.model_device.specs.Device.{DeviceState}
-use Rattle.model_device.specs.Image.{Two}
-use Rattle.model_device.specs.PowerUp.{OnCard}
+use Rattle.model_play.specs.model_device.specs.Device.{DeviceState}
+use Rattle.model_play.specs.model_device.specs.Image.{Two}
+use Rattle.model_play.specs.model_device.specs.PowerUp.{OnCard}
 use Rattle.mc_store.specs.GoingLaws.{going_is}
 use Rattle.mc_store.specs.Power.{HoldsBase, count_of}
 use Rattle.mc_card.specs.declared.card.Card.{Card}

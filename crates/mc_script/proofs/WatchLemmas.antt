@@ -1,11 +1,11 @@
 -- A command that is run turn by turn before a watcher: the rest of its run makes the whole command.
 use Rattle.std.proofs.Common.{◌≡◌, ℕ, ◌+◌, ◌-◌, ◌≤◌, true, List, ◌++◌, Some, None, Result, Ok, Err, arith, ap, subst, ◌∙◌}
-use Rattle.model_device.specs.declared.device.Stop.{Stop}
-use Rattle.model_device.specs.Orders.{Answer}
-use Rattle.model_device.specs.Device.{DeviceState, Wrote}
-use Rattle.model_machine.specs.Chain.{Chain, run_of_chain, start, turn_of}
-use Rattle.model_card.specs.Commands.{Command}
-use Rattle.model_card.specs.Manager.{route}
+use Rattle.model_play.specs.model_device.specs.declared.device.Stop.{Stop}
+use Rattle.model_play.specs.model_device.specs.Orders.{Answer}
+use Rattle.model_play.specs.model_device.specs.Device.{DeviceState, Wrote}
+use Rattle.model_play.specs.model_machine.specs.Chain.{Chain, run_of_chain, start, turn_of}
+use Rattle.model_play.specs.model_card.specs.Commands.{Command}
+use Rattle.model_play.specs.model_card.specs.Manager.{route}
 use Rattle.mc_machine.specs.declared.outcome.Outcome.{Outcome}
 use Rattle.mc_machine.specs.declared.outcome.Turn.{Turn as CodeTurn}
 use Rattle.mc_card.specs.declared.card.Card.{Card}

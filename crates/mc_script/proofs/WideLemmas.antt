@@ -3,21 +3,21 @@ use Rattle.std.specs.Prelude.{◌≡◌, ℕ, ◌-◌, ◌≤◌, Bool, true, fa
 use Rattle.std.specs.List.{AllByRecursion}
 use Rattle.std.proofs.Common.{refl, arith, subst, length-append}
 use Rattle.std.proofs.lemmas.List.{length-replicate}
-use Rattle.model_device.specs.Bytes.{bytes2, lookup, zeros}
-use Rattle.model_device.specs.Card.{App}
-use Rattle.model_device.proofs.ListLemmas.{splice_longer}
-use Rattle.model_machine.specs.declared.instruction.Ins.{Ins}
-use Rattle.model_machine.specs.declared.instruction.DecodeFault.{DecodeFault}
-use Rattle.model_machine.specs.declared.instruction.DecodeFault.TheVariants.{Undefined, Past}
-use Rattle.model_machine.specs.declared.machine.Abend.TheVariants.{A09}
-use Rattle.model_machine.specs.Apdu.{ApduParts}
-use Rattle.model_machine.specs.Code.{instruction_at}
-use Rattle.model_machine.specs.Frame.{Frame, la_of, new_public, with_sw}
-use Rattle.model_machine.specs.Primitives.{Delegates, Exits, Goes, Then}
-use Rattle.model_machine.specs.Row.{RowEnd, Abends, Does, row}
-use Rattle.model_machine.specs.Chain.{Chain, Follows, Continues, Ends, Outcome, Abended, reply_of, code_in, after_exit, around, called_app, chain_after_call, chain_after_effect, depth_of, follows, frame_at, is_active, last_exit, row_turn, start, turn_of_chain, turn_of_fetch}
-use Rattle.law_rows.specs.Keeping.{Keeps, OnDone}
-use Rattle.law_rows.proofs.Keeping.{row_keeps}
+use Rattle.model_play.specs.model_device.specs.Bytes.{bytes2, lookup, zeros}
+use Rattle.model_play.specs.model_device.specs.Card.{App}
+use Rattle.model_play.specs.model_device.proofs.ListLemmas.{splice_longer}
+use Rattle.model_play.specs.model_machine.specs.declared.instruction.Ins.{Ins}
+use Rattle.model_play.specs.model_machine.specs.declared.instruction.DecodeFault.{DecodeFault}
+use Rattle.model_play.specs.model_machine.specs.declared.instruction.DecodeFault.TheVariants.{Undefined, Past}
+use Rattle.model_play.specs.model_machine.specs.declared.machine.Abend.TheVariants.{A09}
+use Rattle.model_play.specs.model_machine.specs.Apdu.{ApduParts}
+use Rattle.model_play.specs.model_machine.specs.Code.{instruction_at}
+use Rattle.model_play.specs.model_machine.specs.Frame.{Frame, la_of, new_public, with_sw}
+use Rattle.model_play.specs.model_machine.specs.Primitives.{Delegates, Exits, Goes, Then}
+use Rattle.model_play.specs.model_machine.specs.Row.{RowEnd, Abends, Does, row}
+use Rattle.model_play.specs.model_machine.specs.Chain.{Chain, Follows, Continues, Ends, Outcome, Abended, reply_of, code_in, after_exit, around, called_app, chain_after_call, chain_after_effect, depth_of, follows, frame_at, is_active, last_exit, row_turn, start, turn_of_chain, turn_of_fetch}
+use Rattle.mc_deck.specs.law_rows.specs.Keeping.{Keeps, OnDone}
+use Rattle.mc_deck.specs.law_rows.proofs.Keeping.{row_keeps}
 use Rattle.mc_script.specs.Watching.{IsWide}
 
 -- ---- chains

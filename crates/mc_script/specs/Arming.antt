@@ -1,9 +1,9 @@
 -- An armed stop that is passed to a bench.
 use Rattle.std.specs.Prelude.{Bool, true, false, Option, Some}
-use Rattle.model_device.specs.declared.device.Stop.{Stop}
-use Rattle.model_device.specs.declared.device.Stop.TheVariants.{Off, Worn}
-use Rattle.model_device.specs.Bytes.{zeros}
-use Rattle.model_device.specs.Device.{BenchState, next_count}
+use Rattle.model_play.specs.model_device.specs.declared.device.Stop.{Stop}
+use Rattle.model_play.specs.model_device.specs.declared.device.Stop.TheVariants.{Off, Worn}
+use Rattle.model_play.specs.model_device.specs.Bytes.{zeros}
+use Rattle.model_play.specs.model_device.specs.Device.{BenchState, next_count}
 use Rattle.model_play.specs.DeckGrammar.{DeckLine}
 use Rattle.mc_store.specs.declared.power.Up.{Up}
 use Rattle.mc_store.specs.declared.power.Up.TheVariants as up

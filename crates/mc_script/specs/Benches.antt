@@ -1,9 +1,9 @@
 -- The relations of players and of their lines by the bench below as a whole, as contracts cite them. Each is that of
 -- the same name in `Players`, `Lines`, `StepCounts` or `Sums`, which lemmas cite by the functions of the bench.
 use Rattle.std.specs.Prelude.{ℕ, List, Option}
-use Rattle.model_device.specs.Device.{BenchState, DeviceState}
-use Rattle.model_device.specs.Orders as write
-use Rattle.model_machine.specs.Chain.{Turn}
+use Rattle.model_play.specs.model_device.specs.Device.{BenchState, DeviceState}
+use Rattle.model_play.specs.model_device.specs.Orders as write
+use Rattle.model_play.specs.model_machine.specs.Chain.{Turn}
 use Rattle.model_play.specs.DeckGrammar.{DeckLine}
 use Rattle.model_play.specs.Play.{State}
 use Rattle.mc_script.specs.declared.answer.Answer.{Answer}

@@ -1,9 +1,9 @@
 -- The number of calls that a play makes of its bench, whether it leaves power on, and how its counts of stops rise.
 use Rattle.std.specs.Prelude.{◌≡◌, ℕ, zero, suc, ◌+◌, ◌≤◌, Bool, true, false, cond, nat_lt, List, [], ◌∷◌, length, Option, Some, None}
-use Rattle.model_device.specs.declared.device.Stop.{Stop}
-use Rattle.model_device.specs.declared.device.Stop.TheVariants as stop
-use Rattle.model_device.specs.Device.{DeviceState, BenchState, next_count}
-use Rattle.model_card.specs.Items.{StopAt}
+use Rattle.model_play.specs.model_device.specs.declared.device.Stop.{Stop}
+use Rattle.model_play.specs.model_device.specs.declared.device.Stop.TheVariants as stop
+use Rattle.model_play.specs.model_device.specs.Device.{DeviceState, BenchState, next_count}
+use Rattle.model_play.specs.model_card.specs.Items.{StopAt}
 use Rattle.model_play.specs.Play.{Armed, Unarmed, ArmedCut, ArmedFail, State, BeforePower, Step, armed_stop_in}
 use Rattle.model_play.specs.DeckGrammar.{DeckLine}
 use Rattle.model_play.specs.DeckGrammar as line

@@ -1,7 +1,7 @@
 -- The effect of one line of a deck on a player and its device, and the effect of a whole deck.
 use Rattle.std.specs.Prelude.{◌≡◌, ℕ, cond, nat_lt, List, [], length, slice_set, Option, option_map}
-use Rattle.model_device.specs.Device.{DeviceState, BenchState, bench_after_pokes}
-use Rattle.model_machine.specs.Chain.{Turn}
+use Rattle.model_play.specs.model_device.specs.Device.{DeviceState, BenchState, bench_after_pokes}
+use Rattle.model_play.specs.model_machine.specs.Chain.{Turn}
 use Rattle.model_play.specs.DeckGrammar.{DeckLine}
 use Rattle.model_play.specs.Play.{State, FailedWrite, Step, step, formatted_image}
 use Rattle.model_play.specs.TraceText.{shown_turns}

@@ -1,9 +1,9 @@
 -- The values of a player between two lines, and when it is at a state of a play.
 use Rattle.std.specs.Prelude.{◌≡◌, ℕ, ◌≤◌, List, length, Option, None, option_map}
-use Rattle.model_device.specs.Device.{DeviceState, BenchState}
+use Rattle.model_play.specs.model_device.specs.Device.{DeviceState, BenchState}
 use Rattle.model_play.specs.Play as play
 use Rattle.model_play.specs.Play.{LineResult, Unarmed, ArmedCut, ArmedFail, Live, Running, Unpowered, Muted, State, BeforePower, AfterPower, Formatted, Ready, Unusable, OffAt, FailureStop, NoCard, Silenced, Answered, static_of}
-use Rattle.model_device.specs.PowerUp.{Base, OnCard}
+use Rattle.model_play.specs.model_device.specs.PowerUp.{Base, OnCard}
 use Rattle.model_play.specs.Given.{budget_in}
 use Rattle.mc_store.specs.Power.{HoldsBase}
 use Rattle.mc_machine.specs.Turns.{outcome_value}
@@ -16,7 +16,7 @@ use Rattle.mc_script.specs.declared.answer.Answer.TheVariants as answer
 use Rattle.mc_script.specs.declared.player.Power.{Power}
 use Rattle.mc_script.specs.declared.player.Power.TheVariants as power
 use Rattle.mc_script.specs.declared.player.Player.{Player}
-use Rattle.model_device.specs.Bytes.{lookup}
+use Rattle.model_play.specs.model_device.specs.Bytes.{lookup}
 
 -- ---- values
 

@@ -1,8 +1,8 @@
 -- A deck played on a device from the words that it holds: its text, the words and counts that it leaves, and the failed
 -- writes that account for all of it.
 use Rattle.std.specs.Prelude.{◌≡◌, ℕ, ◌<◌, true, false, List, [], ◌∷◌, ◌++◌, length, drop, Option, Result, Ok, Err}
-use Rattle.model_device.specs.Counts.{Rose}
-use Rattle.model_device.specs.Device.{DeviceState, BenchState, Entry, GrowsBy}
+use Rattle.model_play.specs.model_device.specs.Counts.{Rose}
+use Rattle.model_play.specs.model_device.specs.Device.{DeviceState, BenchState, Entry, GrowsBy}
 use Rattle.model_play.specs.DeckGrammar.{DeckLine}
 use Rattle.model_play.specs.Play.{State, FailedWrite, Step, armed_stop_in, step, plays, start, first_failure, last_state, Possible, StandsForState, steady_failures, chunk, failures_of_tape, Accounts, MayHit, moves_of, steady_at, failures_in, words_left, AccountsForLine}
 use Rattle.model_play.specs.Laws.{HoldsOf}

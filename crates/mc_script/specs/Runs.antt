@@ -1,12 +1,12 @@
 -- The result of a command on a card, the write at which it stopped, and its recorded turns.
 use Rattle.std.specs.Prelude.{ℕ, ◌-◌, ◌≤◌, List, [], length, take, slice_index_or, Result, Ok, Err}
-use Rattle.model_device.specs.declared.device.Stop.{Stop}
-use Rattle.model_device.specs.Orders.{Answer}
-use Rattle.model_device.specs.Device.{DeviceState, Makes}
-use Rattle.model_device.specs.Card as model
-use Rattle.model_machine.specs.Chain.{Turn}
-use Rattle.model_card.specs.Commands.{Command}
-use Rattle.model_card.specs.Manager.{SessionState}
+use Rattle.model_play.specs.model_device.specs.declared.device.Stop.{Stop}
+use Rattle.model_play.specs.model_device.specs.Orders.{Answer}
+use Rattle.model_play.specs.model_device.specs.Device.{DeviceState, Makes}
+use Rattle.model_play.specs.model_device.specs.Card as model
+use Rattle.model_play.specs.model_machine.specs.Chain.{Turn}
+use Rattle.model_play.specs.model_card.specs.Commands.{Command}
+use Rattle.model_play.specs.model_card.specs.Manager.{SessionState}
 use Rattle.model_play.specs.DeckGrammar.{DeckLine}
 use Rattle.model_play.specs.DeckGrammar as line
 use Rattle.model_play.specs.Play.{select_bytes, delete_bytes}

@@ -2,12 +2,12 @@
 -- of an OPEN.
 use Rattle.std.specs.Prelude.{◌≡◌, ℕ, ◌+◌, ◌≤◌, Bool, true, false, cond, ◌&&◌, ◌==◌, List, [], ◌∷◌, length, Option, Some, None, Result}
 use Rattle.std.specs.List.{AllByRecursion}
-use Rattle.model_device.specs.Card.{Card}
-use Rattle.model_device.specs.Device.{DeviceState, BenchState}
-use Rattle.model_device.specs.Layout.{gaps}
-use Rattle.model_device.specs.PowerUp.{Base, OnCard}
-use Rattle.model_machine.specs.declared.instruction.Ins.{Ins}
-use Rattle.model_machine.specs.Chain.{Turn}
+use Rattle.model_play.specs.model_device.specs.Card.{Card}
+use Rattle.model_play.specs.model_device.specs.Device.{DeviceState, BenchState}
+use Rattle.model_play.specs.model_device.specs.Layout.{gaps}
+use Rattle.model_play.specs.model_device.specs.PowerUp.{Base, OnCard}
+use Rattle.model_play.specs.model_machine.specs.declared.instruction.Ins.{Ins}
+use Rattle.model_play.specs.model_machine.specs.Chain.{Turn}
 use Rattle.model_play.specs.DeckGrammar.{DeckLine}
 use Rattle.model_play.specs.DeckGrammar as line
 use Rattle.model_play.specs.Play.{Live, Running, State, BeforePower, AfterPower, Step, line_command, plays, start}

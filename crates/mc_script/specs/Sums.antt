@@ -6,7 +6,7 @@ use Rattle.model_play.specs.DeckGrammar as line
 use Rattle.model_play.specs.Play.{State, FailedWrite, LineResult, Step, plays, last_state, step}
 use Rattle.model_play.specs.Transcript.{text_of_result}
 use Rattle.model_play.specs.Generator.{is_reply, is_abend, is_cut, is_off, is_ready, is_dump, results, count}
-use Rattle.model_device.specs.Device.{DeviceState, BenchState}
+use Rattle.model_play.specs.model_device.specs.Device.{DeviceState, BenchState}
 use Rattle.mc_streams.specs.declared.refusals.WriteFault.{WriteFault}
 use Rattle.mc_text.specs.Texts.{Sunk, Puts}
 use Rattle.mc_script.specs.declared.summary.Counts.{Counts}

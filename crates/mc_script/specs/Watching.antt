@@ -1,11 +1,11 @@
 -- What watchers record of the turns of a command: what each of them sees of a turn, from the chain before it.
 use Rattle.std.specs.Prelude.{◌≤◌, ℕ, zero, suc, List, [], ◌∷◌, length, take, Option, Some, None, Result, Ok, Err}
 use Rattle.std.specs.List.{AllByRecursion}
-use Rattle.model_device.specs.declared.device.Stop.{Stop}
-use Rattle.model_device.specs.Card.{Card}
-use Rattle.model_machine.specs.Apdu.{ApduParts}
-use Rattle.model_machine.specs.Chain.{Chain, Follows, Continues, Ends, Turn, start, turn_of, turn_of_chain}
-use Rattle.model_card.specs.Manager.{Selected, SessionState, Route, ToApplication, route}
+use Rattle.model_play.specs.model_device.specs.declared.device.Stop.{Stop}
+use Rattle.model_play.specs.model_device.specs.Card.{Card}
+use Rattle.model_play.specs.model_machine.specs.Apdu.{ApduParts}
+use Rattle.model_play.specs.model_machine.specs.Chain.{Chain, Follows, Continues, Ends, Turn, start, turn_of, turn_of_chain}
+use Rattle.model_play.specs.model_card.specs.Manager.{Selected, SessionState, Route, ToApplication, route}
 use Rattle.mc_machine.specs.declared.outcome.Turn.{Turn as CodeTurn}
 use Rattle.mc_script.specs.Runs.{SentCommand}
 

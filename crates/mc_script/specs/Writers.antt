@@ -1,11 +1,11 @@
 -- The text of a play, line by line, and the result of writing it.
 use Rattle.std.specs.Prelude.{◌≡◌, ℕ, List, [], ◌++◌, Option, Some, None, Result, Ok, Err, refl}
 use Rattle.std.proofs.Common.{◌∙◌, ap, subst}
-use Rattle.model_machine.specs.Chain.{Turn}
+use Rattle.model_play.specs.model_machine.specs.Chain.{Turn}
 use Rattle.model_play.specs.Play.{Step}
 use Rattle.model_play.specs.Transcript.{line_text}
 use Rattle.model_play.specs.TraceText.{shown_turns}
-use Rattle.model_text.specs.TurnText.{turn_lines}
+use Rattle.model_play.specs.model_text.specs.TurnText.{turn_lines}
 use Rattle.mc_streams.specs.declared.refusals.WriteFault.{WriteFault}
 use Rattle.mc_streams.specs.declared.sink.Sink.{Ghosts}
 use Rattle.mc_text.specs.Texts.{sunk}

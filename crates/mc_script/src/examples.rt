@@ -1,9 +1,9 @@
 // Worked examples of what a line leaves and counts.
 ghost use Rattle.std.specs.Prelude.{◌≡◌, true, false, [], ◌∷◌, Some, None};
-ghost use Rattle.model_device.specs.declared.device.Stop.TheVariants.{Off, Worn};
-ghost use Rattle.model_device.specs.Bytes.{zeros};
-ghost use Rattle.model_device.specs.Device.{blank_words};
-ghost use Rattle.model_machine.specs.declared.instruction.Ins.TheVariants.{Nop};
+ghost use Rattle.model_play.specs.model_device.specs.declared.device.Stop.TheVariants.{Off, Worn};
+ghost use Rattle.model_play.specs.model_device.specs.Bytes.{zeros};
+ghost use Rattle.model_play.specs.model_device.specs.Device.{blank_words};
+ghost use Rattle.model_play.specs.model_machine.specs.declared.instruction.Ins.TheVariants.{Nop};
 ghost use Rattle.model_play.specs.DeckGrammar as line;
 ghost use Rattle.model_play.specs.Play.{start, formatted_image};
 ghost use Rattle.mc_script.specs.Counting.{on_after};

@@ -1,9 +1,9 @@
 // The commands of a load, one after the other.
 ghost use Rattle.std.specs.List.{AllByRecursion};
 ghost use Rattle.std.specs.Prelude.{◌≡◌, ◌+◌, ◌++◌, ◌∷◌, [], ◌≤◌, length, is_err, true, false};
-ghost use Rattle.model_device.specs.Limits.{most_code};
-ghost use Rattle.model_device.specs.Bytes.{bytes2};
-ghost use Rattle.model_card.specs.Units.{FitsUnit};
+ghost use Rattle.model_play.specs.model_device.specs.Limits.{most_code};
+ghost use Rattle.model_play.specs.model_device.specs.Bytes.{bytes2};
+ghost use Rattle.model_play.specs.model_card.specs.Units.{FitsUnit};
 ghost use Rattle.model_play.specs.Play.{is_done, load_commands, section_commands, send};
 ghost use Rattle.mc_unit.specs.Parts.{parts_of};
 ghost use Rattle.mc_machine.specs.Turns.{outcome_value};
@@ -154,7 +154,7 @@ struct Section<'a> {
 impl<'a> Model for Section<'a> {
     ghost use Rattle.std.specs.List.{AllByRecursion};
     ghost use Rattle.std.specs.Prelude.{◌+◌, ◌≤◌, length, List, ℕ};
-    ghost use Rattle.model_device.specs.Limits.{most_code};
+    ghost use Rattle.model_play.specs.model_device.specs.Limits.{most_code};
 
     ghost Value = { List (List ℕ) };
 

@@ -1,7 +1,7 @@
 // Whole decks.
 ghost use Rattle.std.specs.Prelude.{◌≡◌, None};
 ghost use Rattle.std.specs.List.{AllByRecursion};
-ghost use Rattle.model_device.specs.Device.{IsImage};
+ghost use Rattle.model_play.specs.model_device.specs.Device.{IsImage};
 ghost use Rattle.model_play.specs.Play.{start};
 ghost use Rattle.model_play.specs.ReadyAgain.{IsLine};
 ghost use Rattle.mc_script.specs.Players.{IsUnfused};

@@ -1,8 +1,8 @@
 // Lines that make no device write.
 ghost use Rattle.std.specs.Prelude.{◌≡◌, ◌≤◌, ◌<◌, length, None, cond, nat_lt, slice_set};
 ghost use Rattle.std.specs.List.{AllByRecursion};
-ghost use Rattle.model_device.specs.Device.{bench_after_pokes};
-ghost use Rattle.model_device.specs.Image.{image_with};
+ghost use Rattle.model_play.specs.model_device.specs.Device.{bench_after_pokes};
+ghost use Rattle.model_play.specs.model_device.specs.Image.{image_with};
 ghost use Rattle.model_play.specs.DeckGrammar as line;
 ghost use Rattle.model_play.specs.Play.{formatted_image};
 ghost use Rattle.mc_card.specs.Parts.{device_in};

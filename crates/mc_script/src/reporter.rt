@@ -1,6 +1,6 @@
 // What runs the commands of a play and writes its text.
 ghost use Rattle.std.specs.Prelude.{◌≡◌, ℕ, List, Option, None};
-ghost use Rattle.model_machine.specs.Chain.{Turn as ModelTurn};
+ghost use Rattle.model_play.specs.model_machine.specs.Chain.{Turn as ModelTurn};
 ghost use Rattle.model_play.specs.DeckGrammar.{DeckLine};
 ghost use Rattle.model_play.specs.Play.{FailedWrite, State, Step, step};
 ghost use Rattle.mc_text.specs.Logs.{Log};

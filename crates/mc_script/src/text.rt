@@ -1,11 +1,11 @@
 // The texts of results.
 ghost use Rattle.std.specs.Prelude.{◌≡◌, ◌+◌, ◌*◌, ◌<◌, ◌≤◌, ◌++◌, [], ◌∷◌, length, take, drop, option_map, Some, IsSome, codes, decimal};
 ghost use Rattle.arrayvec.specs.ArrayVec.{array_vec_len};
-ghost use Rattle.model_device.specs.Bytes.{bytes2, lookup};
+ghost use Rattle.model_play.specs.model_device.specs.Bytes.{bytes2, lookup};
 ghost use Rattle.model_play.specs.Play.{static_of};
-ghost use Rattle.model_machine.specs.Words.{abend_code};
-ghost use Rattle.model_device.specs.Words.{cause_text};
-ghost use Rattle.model_text.specs.Listing.{hex_text};
+ghost use Rattle.model_play.specs.model_machine.specs.Words.{abend_code};
+ghost use Rattle.model_play.specs.model_device.specs.Words.{cause_text};
+ghost use Rattle.model_play.specs.model_text.specs.Listing.{hex_text};
 ghost use Rattle.model_play.specs.Transcript.{line_text, outcome_text, text_of_result};
 ghost use Rattle.mc_machine.specs.Turns.{outcome_value};
 ghost use Rattle.mc_bank.specs.Bank.{app_of};
@@ -25,7 +25,7 @@ use mc_machine::Outcome;
 use mc_nvm::{Bench, Nvm};
 use mc_streams::{Sink, WriteFault};
 use mc_text::{add, add_decimal, add_hex, put};
-use model_machine::Abend;
+use model_play::model_machine::Abend;
 
 /// The number of static bytes that are read at a time.
 const PIECE: usize = 256;

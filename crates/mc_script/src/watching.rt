@@ -1,6 +1,6 @@
 // Commands that are run turn by turn before a watcher.
 ghost use Rattle.std.specs.Prelude.{◌≡◌, ◌+◌, ◌≤◌, ◌++◌, List, [], ℕ, is_err};
-ghost use Rattle.model_machine.specs.Chain.{Chain, turn_of};
+ghost use Rattle.model_play.specs.model_machine.specs.Chain.{Chain, turn_of};
 ghost use Rattle.mc_card.specs.Parts.{card_in, device_in, due, IsReadyCard, IsRunning, RunsChain};
 ghost use Rattle.mc_card.specs.Ends.{outcome_or_stop, ChainTurned};
 ghost use Rattle.mc_script.specs.Runs.{RanAndReported, sent_to};

@@ -1,7 +1,7 @@
 // The text of a play, written line by line.
 ghost use Rattle.std.specs.Prelude.{◌≡◌, ◌≤◌, ◌++◌, ◌∷◌, [], ℕ, List, Option, None, IfSome, option_map};
-ghost use Rattle.model_machine.specs.Chain.{Turn as ModelTurn};
-ghost use Rattle.model_machine.specs.Code.{Shaped};
+ghost use Rattle.model_play.specs.model_machine.specs.Chain.{Turn as ModelTurn};
+ghost use Rattle.model_play.specs.model_machine.specs.Code.{Shaped};
 ghost use Rattle.model_play.specs.Transcript.{line_text};
 ghost use Rattle.mc_machine.specs.Turns.{turn_value};
 ghost use Rattle.mc_text.specs.Texts.{sunk, Puts};

@@ -1,7 +1,7 @@
 -- Places in the code's type as places in the definition's type.
 use Rattle.std.specs.Prelude.{ℕ, ◌+◌, Bool, List, length, nat_le}
-use Rattle.model_machine.specs.Frame.{Frame, Place}
-use Rattle.model_machine.specs.Frame as model
+use Rattle.mc_apdu.specs.model_machine.specs.Frame.{Frame, Place}
+use Rattle.mc_apdu.specs.model_machine.specs.Frame as model
 use Rattle.mc_segs.specs.declared.access.Place.{Place as CodePlace}
 use Rattle.mc_segs.specs.declared.access.Place.TheVariants as place
 

@@ -1,6 +1,6 @@
 // Addresses, and accesses that lie whole in a segment.
 ghost use Rattle.std.specs.Prelude.{◌≡◌, ◌+◌, ◌*◌, ◌/◌, ◌^◌, ◌≤◌, ◌<◌, length, take, drop, false, OnOk, OnErr, option_map};
-ghost use Rattle.model_machine.specs.Frame as model;
+ghost use Rattle.mc_apdu.specs.model_machine.specs.Frame as model;
 ghost use Rattle.mc_segs.specs.HeldFrames.{frame_on_bank, CanRun};
 ghost use Rattle.mc_segs.specs.Ends.{IfDue, scene, Stores, address_or_abend};
 ghost use Rattle.mc_segs.specs.Overlaid.{IsOverlaid};
@@ -11,8 +11,8 @@ use crate::ends::Halt;
 use crate::frame::{DYNAMIC, Frame};
 use crate::protection::{commit_static, keep_static};
 use crate::public::Public;
+use mc_apdu::model_machine::Abend;
 use mc_bank::Bank;
-use model_machine::Abend;
 
 /// PB, the address of the first public byte.
 const PUBLIC: u16 = 0xC000;

@@ -1,5 +1,5 @@
 ghost use Rattle.std.specs.Prelude.{◌≡◌, ◌≢◌, ◌-◌, ◌+◌, ◌≤◌, ◌<◌, length, true, false, OnOk, OnErr};
-ghost use Rattle.model_machine.specs.Frame.{frame_with_flags, floor, session_of};
+ghost use Rattle.mc_apdu.specs.model_machine.specs.Frame.{frame_with_flags, floor, session_of};
 ghost use Rattle.mc_segs.specs.HeldFrames.{new_held};
 
 use crate::bytes::write;

@@ -16,7 +16,7 @@ pub use access::{Place, load, place_of, resolve, store};
 pub use ends::{Halt, Next};
 pub use frame::Frame;
 pub use looking::look;
-pub use model_machine::Abend;
+pub use mc_apdu::model_machine::Abend;
 pub use protection::protect;
 pub use public::Public;
 pub use session::Session;

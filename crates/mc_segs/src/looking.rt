@@ -1,6 +1,6 @@
 // What an observer reads of a frame between two instructions.
 ghost use Rattle.std.specs.Prelude.{◌≡◌, ◌+◌, ◌-◌, length, nat_le, take, drop, true, false, Some};
-ghost use Rattle.model_machine.specs.Frame as model;
+ghost use Rattle.mc_apdu.specs.model_machine.specs.Frame as model;
 ghost use Rattle.mc_segs.specs.HeldFrames.{frame_on_bank, CanRun};
 ghost use Rattle.mc_segs.specs.Places.{lies_in_segment, place_value};
 

@@ -1,6 +1,6 @@
 ghost use Rattle.std.specs.Prelude.{◌≡◌, ◌≤◌, length};
-ghost use Rattle.model_device.specs.Bytes.{zeros};
-ghost use Rattle.model_machine.specs.Frame.{new_public, with_la, with_sw};
+ghost use Rattle.mc_base.specs.model_device.specs.Bytes.{zeros};
+ghost use Rattle.mc_apdu.specs.model_machine.specs.Frame.{new_public, with_la, with_sw};
 ghost use Rattle.mc_apdu.specs.Command.{parts_of};
 
 use crate::bytes::{words, write};

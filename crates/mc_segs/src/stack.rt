@@ -1,11 +1,11 @@
 // The stack of a frame: bytes on its top, and the saved registers of calls.
 ghost use Rattle.std.specs.Prelude.{◌≡◌, ◌-◌, ◌+◌, ◌≤◌, false, length, not, OnOk, OnErr};
-ghost use Rattle.model_machine.specs.Frame as model;
+ghost use Rattle.mc_apdu.specs.model_machine.specs.Frame as model;
 ghost use Rattle.mc_segs.specs.Ends.{GivesOrAbends, IfDue};
 
 use crate::bytes::{move_bytes, read, word_at, words, write};
 use crate::frame::{DYNAMIC, Frame};
-use model_machine::Abend;
+use mc_apdu::model_machine::Abend;
 
 /// Pushes bytes on the stack.
 ///

@@ -2,14 +2,14 @@
 use Rattle.std.proofs.Common.{◌≡◌, ℕ, suc, ◌+◌, ◌*◌, ◌<◌, ◌≤◌, true, false, not, List, [], ◌∷◌, length, get_or, Option, Some, refl, sym, ◌∙◌, ap, subst, arith}
 use Rattle.std.specs.Prelude.{IsSome, is_some, unwrap_or}
 use Rattle.std.specs.List.{AllByRecursion}
-use Rattle.model_device.specs.Orders.{Answer}
-use Rattle.model_device.specs.Bytes.{up, be2, lookup, remove}
-use Rattle.model_device.specs.Device.{DeviceState, IsSized, Makes}
-use Rattle.model_device.specs.Image.{Two, is_open, look, Closed}
-use Rattle.model_device.specs.Stopped.{writes, IsAtomic}
-use Rattle.model_device.specs.Card.{App, means, card_of, record_at, app_at, section}
-use Rattle.model_device.specs.Layout.{spans, step_of, IsWellLaid}
-use Rattle.model_card.specs.Items.{Commit, Remove}
+use Rattle.mc_base.specs.model_device.specs.Orders.{Answer}
+use Rattle.mc_base.specs.model_device.specs.Bytes.{up, be2, lookup, remove}
+use Rattle.mc_base.specs.model_device.specs.Device.{DeviceState, IsSized, Makes}
+use Rattle.mc_base.specs.model_device.specs.Image.{Two, is_open, look, Closed}
+use Rattle.mc_base.specs.model_device.specs.Stopped.{writes, IsAtomic}
+use Rattle.mc_base.specs.model_device.specs.Card.{App, means, card_of, record_at, app_at, section}
+use Rattle.mc_base.specs.model_device.specs.Layout.{spans, step_of, IsWellLaid}
+use Rattle.mc_bank.specs.model_card.specs.Items.{Commit, Remove}
 use Rattle.mc_bank.specs.Bank.{CanCommit, no_app, app_of, name_or}
 use Rattle.mc_blocks.specs.Plans.{plan, without, has_span}
 use Rattle.mc_store.specs.Store.{apps_in, is_going, place_named, store_named, part_from, static_writes, card_without, count_after, StoreDid}
@@ -24,11 +24,11 @@ use Rattle.mc_store.specs.TurnLaws.{SiteBytes, site_bytes_of}
 use Rattle.mc_store.specs.StoreItems.{SlotIs, slot_is}
 use Rattle.mc_bank.specs.Slots.{slot_place, slot_sizes}
 use Rattle.mc_bank.specs.SlotLaws.{name_there, some_there}
-use Rattle.model_card.specs.declared.card.Part.TheVariants.{Data}
-use Rattle.model_card.specs.declared.card.Sizes.{Sizes}
+use Rattle.mc_bank.specs.model_card.specs.declared.card.Part.TheVariants.{Data}
+use Rattle.mc_bank.specs.model_card.specs.declared.card.Sizes.{Sizes}
 use Rattle.mc_store.proofs.ReadLemmas.{of_slot}
 use Rattle.mc_store.proofs.RecordLemmas.{RecordIs, record_is}
-use Rattle.model_device.proofs.BoolLemmas.{some_is}
+use Rattle.mc_base.specs.model_device.proofs.BoolLemmas.{some_is}
 
 -- ---- a deletion
 

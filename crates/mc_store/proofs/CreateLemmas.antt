@@ -3,16 +3,16 @@ use Rattle.std.proofs.Common.{◌≡◌, ◌⊎◌, ℕ, zero, suc, ◌+◌, ◌
 use Rattle.std.specs.Prelude.{OnOk, slice_index_or}
 use Rattle.std.proofs.lemmas.List.{drop_more, length-replicate, get_or_append_left}
 use Rattle.std.proofs.Math.Seq.{drop-append-add}
-use Rattle.model_card.specs.declared.card.Sizes.{Sizes}
-use Rattle.model_card.specs.declared.card.Part.TheVariants.{Data}
-use Rattle.model_device.specs.Orders.{Answer}
-use Rattle.model_device.specs.Bytes.{zeros, bytes2, splice}
-use Rattle.model_device.specs.Device.{DeviceState, IsSized, Wrote, Makes}
-use Rattle.model_device.specs.Image.{Two, is_open, look, Closed}
-use Rattle.model_device.specs.Stopped.{writes}
-use Rattle.model_device.specs.Card.{means, word}
-use Rattle.model_device.specs.Layout.{gaps, spans, put_at, step_of, IsWellLaid}
-use Rattle.model_card.specs.Items.{Site, Blank, Note, Enter}
+use Rattle.mc_bank.specs.model_card.specs.declared.card.Sizes.{Sizes}
+use Rattle.mc_bank.specs.model_card.specs.declared.card.Part.TheVariants.{Data}
+use Rattle.mc_base.specs.model_device.specs.Orders.{Answer}
+use Rattle.mc_base.specs.model_device.specs.Bytes.{zeros, bytes2, splice}
+use Rattle.mc_base.specs.model_device.specs.Device.{DeviceState, IsSized, Wrote, Makes}
+use Rattle.mc_base.specs.model_device.specs.Image.{Two, is_open, look, Closed}
+use Rattle.mc_base.specs.model_device.specs.Stopped.{writes}
+use Rattle.mc_base.specs.model_device.specs.Card.{means, word}
+use Rattle.mc_base.specs.model_device.specs.Layout.{gaps, spans, put_at, step_of, IsWellLaid}
+use Rattle.mc_bank.specs.model_card.specs.Items.{Site, Blank, Note, Enter}
 use Rattle.mc_base.specs.Name.{IsName}
 use Rattle.mc_blocks.specs.Plans.{plan, has_room}
 use Rattle.mc_store.specs.Store.{is_going, words_of_sizes, part_from, record_bytes, record_word, card_with, count_after, IsGoodIn, IsInWord, IsReadySite, StoreDid}

@@ -3,10 +3,10 @@ use Rattle.std.proofs.Common.{◌≡◌, ℕ, zero, suc, ◌+◌, ◌-◌, ◌�
 use Rattle.std.specs.Prelude.{nat_lt, nat_le, ◌==◌, slice_index, bytes_eq}
 use Rattle.std.specs.List.{concat, AllByRecursion}
 use Rattle.std.proofs.lemmas.List.{drop-drop, get_or-drop, get_or_default, same_lists}
-use Rattle.model_device.specs.Bytes.{be2, has_name, insert, or_else, up}
-use Rattle.model_device.specs.Card.{App, Block, word, header, block_and, blocks_from, blocks, heap_start, cells, section, record_at, name_in, name_at, app_of, app_at, apps_of, card_of}
-use Rattle.model_device.specs.Layout.{is_record, no_root, bad_header, next_block, is_hole, bad_block, bad_record, bad_link, bad_chain, first_hole, by_cause, words_fault, root}
-use Rattle.model_device.specs.declared.cause.Cause.TheVariants.{NoRoot, BadBlock, BadRecord, BadChain}
+use Rattle.mc_base.specs.model_device.specs.Bytes.{be2, has_name, insert, or_else, up}
+use Rattle.mc_base.specs.model_device.specs.Card.{App, Block, word, header, block_and, blocks_from, blocks, heap_start, cells, section, record_at, name_in, name_at, app_of, app_at, apps_of, card_of}
+use Rattle.mc_base.specs.model_device.specs.Layout.{is_record, no_root, bad_header, next_block, is_hole, bad_block, bad_record, bad_link, bad_chain, first_hole, by_cause, words_fault, root}
+use Rattle.mc_base.specs.model_device.specs.declared.cause.Cause.TheVariants.{NoRoot, BadBlock, BadRecord, BadChain}
 use Rattle.mc_blocks.proofs.Steps.{HeaderIs, header_is}
 
 -- the test of a root

@@ -1,16 +1,16 @@
 -- The steps of a power-up, one after another: the replay, the check, the migration.
 use Rattle.std.proofs.Common.{◌≡◌, ℕ, ◌+◌, ◌≤◌, true, List, [], ◌∷◌, ◌++◌, length, Option, None, Ok, Err, refl, sym, ◌∙◌, ap, subst, cond, append-nil}
 use Rattle.std.specs.Prelude.{Result, IfOk, ◌==◌, slice_set}
-use Rattle.model_device.specs.declared.cause.Cause.{Cause}
-use Rattle.model_device.specs.Orders.{Answer}
-use Rattle.model_device.specs.Device.{DeviceState, Wrote, Makes}
-use Rattle.model_device.specs.Image.{Journal, One, Look, Refused, Closed, Pending, look, look_j, count_of_recovery_writes, debt, image_after_replay}
-use Rattle.model_device.specs.Stopped.{writes, owed_writes, Recovered, LookAllows, RecoverEnds}
-use Rattle.model_device.specs.Card.{Card, means, word, words_after}
-use Rattle.model_device.specs.Layout.{words_fault, fault, fault_of}
-use Rattle.model_device.specs.PowerUp.{Base, base_of, migration}
-use Rattle.model_device.proofs.OrdersLemmas.{in_order_append, in_order_stopped}
-use Rattle.model_device.proofs.DeviceLemmas.{DoneAll, makes_done}
+use Rattle.mc_base.specs.model_device.specs.declared.cause.Cause.{Cause}
+use Rattle.mc_base.specs.model_device.specs.Orders.{Answer}
+use Rattle.mc_base.specs.model_device.specs.Device.{DeviceState, Wrote, Makes}
+use Rattle.mc_base.specs.model_device.specs.Image.{Journal, One, Look, Refused, Closed, Pending, look, look_j, count_of_recovery_writes, debt, image_after_replay}
+use Rattle.mc_base.specs.model_device.specs.Stopped.{writes, owed_writes, Recovered, LookAllows, RecoverEnds}
+use Rattle.mc_base.specs.model_device.specs.Card.{Card, means, word, words_after}
+use Rattle.mc_base.specs.model_device.specs.Layout.{words_fault, fault, fault_of}
+use Rattle.mc_base.specs.model_device.specs.PowerUp.{Base, base_of, migration}
+use Rattle.mc_base.specs.model_device.proofs.OrdersLemmas.{in_order_append, in_order_stopped}
+use Rattle.mc_base.specs.model_device.proofs.DeviceLemmas.{DoneAll, makes_done}
 use Rattle.mc_store.specs.declared.power.Up.{Up}
 use Rattle.mc_store.specs.declared.power.Up.TheVariants as up
 use Rattle.mc_store.specs.Store.{settled_words}
@@ -18,7 +18,7 @@ use Rattle.mc_store.specs.Power.{base_of_words, new_root, migration_writes, powe
 use Rattle.mc_store.specs.GoingLaws.{closed_settled}
 use Rattle.mc_store.proofs.JournalLemmas.{IsPending, is_pending, recovered_closed}
 use Rattle.mc_store.proofs.PowerLemmas.{OwedSettles, settles}
-use Rattle.model_device.proofs.LayoutLemmas.{closed_fault, closed_means}
+use Rattle.mc_base.specs.model_device.proofs.LayoutLemmas.{closed_fault, closed_means}
 
 -- ---- a replay that was done
 

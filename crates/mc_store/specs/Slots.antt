@@ -1,12 +1,12 @@
 -- The used blocks of a card by their names, and the fields of their records.
 use Rattle.std.specs.Prelude.{◌≡◌, ℕ, ◌+◌, ◌≤◌, true, cond, ◌&&◌, List, [], ◌∷◌, length, slice_index, bytes_eq, Option, Some, None}
 use Rattle.std.specs.List.{concat}
-use Rattle.model_card.specs.declared.card.Part.{Part}
-use Rattle.model_card.specs.declared.card.Part.TheVariants.{Code, Data, Dir, Fci}
-use Rattle.model_card.specs.declared.card.Sizes.{Sizes}
-use Rattle.model_device.specs.Bytes.{be2}
-use Rattle.model_device.specs.Card.{App, Block, record_at, name_at}
-use Rattle.model_device.specs.Layout.{is_record}
+use Rattle.mc_bank.specs.model_card.specs.declared.card.Part.{Part}
+use Rattle.mc_bank.specs.model_card.specs.declared.card.Part.TheVariants.{Code, Data, Dir, Fci}
+use Rattle.mc_bank.specs.model_card.specs.declared.card.Sizes.{Sizes}
+use Rattle.mc_base.specs.model_device.specs.Bytes.{be2}
+use Rattle.mc_base.specs.model_device.specs.Card.{App, Block, record_at, name_at}
+use Rattle.mc_base.specs.model_device.specs.Layout.{is_record}
 
 -- the place of the first used block with a name
 unfoldable pub first_named : List (List ℕ) → List Block → List ℕ → Option ℕ

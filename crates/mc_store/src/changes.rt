@@ -1,10 +1,10 @@
 // Changes of the applications of a store: a commit of static words and a deletion, one atomic write each.
 ghost use Rattle.std.specs.Prelude.{◌≡◌, ◌+◌, ◌≤◌, true, false, length, IsSome};
 ghost use Rattle.std.specs.List.{AllByRecursion};
-ghost use Rattle.model_device.specs.Device.{Makes};
-ghost use Rattle.model_device.specs.Image.{Two, is_open};
-ghost use Rattle.model_device.specs.Stopped.{IsAtomic, writes};
-ghost use Rattle.model_card.specs.Items.{Commit, Remove};
+ghost use Rattle.mc_base.specs.model_device.specs.Device.{Makes};
+ghost use Rattle.mc_base.specs.model_device.specs.Image.{Two, is_open};
+ghost use Rattle.mc_base.specs.model_device.specs.Stopped.{IsAtomic, writes};
+ghost use Rattle.mc_bank.specs.model_card.specs.Items.{Commit, Remove};
 ghost use Rattle.mc_bank.specs.Bank.{CanCommit, app_of, name_or};
 ghost use Rattle.mc_store.specs.Store.{is_going, apps_in, store_named};
 ghost use Rattle.mc_store.specs.CommitLaws.{placed_words};

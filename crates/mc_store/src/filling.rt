@@ -1,10 +1,10 @@
 // What a load writes into a hole: bytes of its sections, each word of them in one write.
 ghost use Rattle.std.specs.Prelude.{◌≡◌, ◌+◌, ◌*◌, ◌/◌, ◌%◌, ◌<◌, ◌≤◌, ◌⊎◌, true, length, map, OnOk};
-ghost use Rattle.model_device.specs.Bytes.{splice};
-ghost use Rattle.model_device.specs.Orders.{InOrder};
-ghost use Rattle.model_device.specs.Card.{word};
-ghost use Rattle.model_card.specs.Items.{Piece};
-ghost use Rattle.model_card.specs.Manager.{word_parts};
+ghost use Rattle.mc_base.specs.model_device.specs.Bytes.{splice};
+ghost use Rattle.mc_base.specs.model_device.specs.Orders.{InOrder};
+ghost use Rattle.mc_base.specs.model_device.specs.Card.{word};
+ghost use Rattle.mc_bank.specs.model_card.specs.Items.{Piece};
+ghost use Rattle.mc_bank.specs.model_card.specs.Manager.{word_parts};
 ghost use Rattle.mc_bank.specs.Bank.{part_len};
 ghost use Rattle.mc_store.specs.Store.{is_going, part_from, IsGoodIn, IsInWord};
 ghost use Rattle.mc_store.specs.StoreItems.{store_did};

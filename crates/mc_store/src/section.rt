@@ -1,6 +1,6 @@
 // Bytes of the sections of a block, read word by word.
 ghost use Rattle.std.specs.Prelude.{◌≡◌, ◌+◌, ◌*◌, ◌<◌, ◌≤◌, length, take, drop, true};
-ghost use Rattle.model_device.specs.Card.{word};
+ghost use Rattle.mc_base.specs.model_device.specs.Card.{word};
 ghost use Rattle.mc_store.specs.Slots.{flat};
 
 use mc_base::Word;

@@ -1,5 +1,5 @@
 ghost use Rattle.std.specs.Prelude.{◌≡◌, true, length};
-ghost use Rattle.model_device.specs.Device.{Makes, IsImage};
+ghost use Rattle.mc_base.specs.model_device.specs.Device.{Makes, IsImage};
 ghost use Rattle.std.specs.Borrow.{Lends, sem};
 ghost use Rattle.mc_store.specs.Power.{power_writes, power_answer, power_up_end, restart_end, device_of, device_after, over, PowersUp};
 ghost use Rattle.mc_store.specs.contracts.store.Store.{the_row};

@@ -1,6 +1,6 @@
 -- The laws of logs.
 use Rattle.std.proofs.Common.{◌≡◌, ℕ, List, [], ◌∷◌, ◌++◌, Option, Some, None, refl, sym, ap, subst, ◌∙◌, append_assoc}
-use Rattle.model_machine.specs.Chain.{Turn}
+use Rattle.model_text.specs.model_machine.specs.Chain.{Turn}
 use Rattle.model_text.specs.TurnText.{turn_line, turn_lines}
 use Rattle.mc_streams.specs.declared.refusals.WriteFault.{WriteFault}
 use Rattle.mc_text.specs.Texts.{Sunk, Writes, Fails}

@@ -1,6 +1,6 @@
 -- A log of turns, one line each, which writes no more after its sink failed.
 use Rattle.std.specs.Prelude.{◌≡◌, List, Option, Some, None}
-use Rattle.model_machine.specs.Chain.{Turn}
+use Rattle.model_text.specs.model_machine.specs.Chain.{Turn}
 use Rattle.model_text.specs.TurnText.{turn_lines}
 use Rattle.mc_streams.specs.declared.refusals.WriteFault.{WriteFault}
 use Rattle.mc_text.specs.Texts.{Sunk, Writes, Fails}

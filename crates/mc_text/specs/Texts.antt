@@ -1,6 +1,6 @@
 -- A text written to a sink: whole, or a proper prefix of it if the sink failed.
 use Rattle.std.specs.Prelude.{◌≡◌, ℕ, List, Option, Result, Ok, Err}
-use Rattle.model_device.specs.Counts.{Rose}
+use Rattle.model_text.specs.model_device.specs.Counts.{Rose}
 use Rattle.mc_streams.specs.Streams.{Grew, GrewByPart}
 use Rattle.mc_streams.specs.declared.refusals.WriteFault.{WriteFault}
 use Rattle.mc_streams.specs.declared.sink.Sink.{Ghosts}

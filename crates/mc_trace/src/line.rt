@@ -1,8 +1,8 @@
 // The line of one turn: an executed instruction, or a fetch that found none.
 ghost use Rattle.std.specs.Prelude.{◌≡◌, ◌+◌, ◌≤◌, ◌++◌, ◌∷◌, [], ℕ, length, codes, Option, IfSome};
 ghost use Rattle.arrayvec.specs.ArrayVec.{array_vec_len};
-ghost use Rattle.model_device.specs.Bytes.{bytes2};
-ghost use Rattle.model_machine.specs.Code.{Shaped};
+ghost use Rattle.model_text.specs.model_device.specs.Bytes.{bytes2};
+ghost use Rattle.model_text.specs.model_machine.specs.Code.{Shaped};
 ghost use Rattle.model_text.specs.Listing.{hex_text};
 ghost use Rattle.model_text.specs.TurnText.{bit_text, ins_text, turn_line};
 ghost use Rattle.mc_machine.specs.Turns.{turn_value};

@@ -1,6 +1,6 @@
 // Lines of traces, tested against lines that were written by another program.
 ghost use Rattle.std.specs.Prelude.{◌≤◌};
-ghost use Rattle.model_machine.specs.Code.{Shaped};
+ghost use Rattle.model_text.specs.model_machine.specs.Code.{Shaped};
 
 use crate::line::line_of;
 use mc_arith::Flags;

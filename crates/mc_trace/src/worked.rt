@@ -1,8 +1,8 @@
 // Worked examples of lines, written by hand.
 ghost use Rattle.std.specs.Prelude.{◌≡◌, codes, false, true, negsuc, Some, None};
-ghost use Rattle.model_machine.specs.declared.instruction.Ins.TheVariants.{Exit, Cmpb, Jump};
-ghost use Rattle.model_machine.specs.declared.machine.Abend.TheVariants.{A01};
-ghost use Rattle.model_machine.specs.Chain.{Abended};
+ghost use Rattle.model_text.specs.model_machine.specs.declared.instruction.Ins.TheVariants.{Exit, Cmpb, Jump};
+ghost use Rattle.model_text.specs.model_machine.specs.declared.machine.Abend.TheVariants.{A01};
+ghost use Rattle.model_text.specs.model_machine.specs.Chain.{Abended};
 ghost use Rattle.model_text.specs.TurnText.{turn_line};
 
 /// The lines of four turns, one of which is a fetch that found no instruction.

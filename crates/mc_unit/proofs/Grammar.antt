@@ -3,7 +3,7 @@ use Rattle.std.proofs.Common.{◌≡◌, ℕ, zero, suc, ◌+◌, ◌*◌, ◌/�
 use Rattle.std.specs.Prelude.{nat_lt, nat_eq}
 use Rattle.std.proofs.lemmas.Bool.{eqb-true, ltb-false, le-ltb, ne_eqb}
 use Rattle.std.proofs.lemmas.List.{take_at, drop_at, take-append-drop, length-append, length-take, get_or-drop, append-nil}
-use Rattle.model_device.specs.Bytes.{bytes2, zeros}
+use Rattle.model_card.specs.model_device.specs.Bytes.{bytes2, zeros}
 use Rattle.model_card.specs.declared.unit.UnitRefusal.{UnitRefusal}
 use Rattle.model_card.specs.declared.unit.UnitRefusal.TheVariants as refusals
 use Rattle.model_card.specs.declared.unit.AidFault.{AidFault}

@@ -1,5 +1,5 @@
 ghost use Rattle.std.specs.Prelude.{◌≡◌, ◌↔◌, ◌<◌, ◌≤◌, ℕ, true, List, [], ◌∷◌, ◌++◌, length, take, Ok, Err, slice_index};
-ghost use Rattle.model_device.specs.Bytes.{zeros};
+ghost use Rattle.model_card.specs.model_device.specs.Bytes.{zeros};
 ghost use Rattle.model_card.specs.Units.{made_dir, made_fci, name_of, unit_bytes, unit_read, IsUnit, UnitParts};
 ghost use Rattle.mc_unit.specs.Rows.{counter_code, counter_name, counter_unit, short_below};
 

@@ -1,6 +1,6 @@
 ghost use Rattle.std.specs.Prelude.{◌≡◌, ◌≤◌, ◌<◌, ◌++◌, ℕ, List, length, Ok, IsOk, IfOk, OnOk};
-ghost use Rattle.model_device.specs.Limits.{most_code};
-ghost use Rattle.model_device.specs.Bytes.{zeros};
+ghost use Rattle.model_card.specs.model_device.specs.Limits.{most_code};
+ghost use Rattle.model_card.specs.model_device.specs.Bytes.{zeros};
 ghost use Rattle.model_card.specs.Units.{field, name_of, unit_bytes, unit_read, FitsUnit};
 
 use mc_base::NoMemory;

@@ -2,9 +2,9 @@
 use Rattle.std.proofs.Common.{◌≡◌, ◌≢◌, ℕ, ◌+◌, ◌≤◌, List, [], ◌∷◌, ◌++◌, length, drop, Some, Result, Ok, Err, refl, ap, sym, ◌∙◌, subst, append_assoc}
 use Rattle.std.specs.Prelude.{slice_get, OnOk}
 use Rattle.std.proofs.lemmas.List.{append-nil}
-use Rattle.model_play.specs.DeckGrammar.{DeckLine}
-use Rattle.model_play.specs.DeckGrammar as grammar
-use Rattle.model_card.specs.Units.{UnitParts}
+use Rattle.mc_deck.specs.model_play.specs.DeckGrammar.{DeckLine}
+use Rattle.mc_deck.specs.model_play.specs.DeckGrammar as grammar
+use Rattle.mc_deck.specs.model_card.specs.Units.{UnitParts}
 use Rattle.mc_check.specs.declared.verdict.Verdict.{Verdict as CodeVerdict}
 use Rattle.mc_check.specs.Verdicts.{IsVerdictOf, KeepsTo}
 use Rattle.mc_deck.specs.declared.line.Line.{Line}

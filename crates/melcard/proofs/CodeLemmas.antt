@@ -3,15 +3,15 @@ use Rattle.std.proofs.Common.{◌≡◌, ℕ, suc, ◌+◌, ◌-◌, ◌<◌, �
 use Rattle.std.specs.Prelude.{filter, not, nat_le, ok_or, option_map}
 use Rattle.std.proofs.lemmas.Bool.{le-leb, lt-leb}
 use Rattle.std.proofs.lemmas.List.{append-nil}
-use Rattle.model_text.specs.Text
-use Rattle.model_text.specs.Text.{CodeFault, is_blank, hex_value, hex_values, before_values, bytes_of_digits, hex_bytes, lines, with_numbers, ok_as, only_if, code_digits, code_text_read, ◌>>=◌}
+use Rattle.mc_text.specs.model_text.specs.Text
+use Rattle.mc_text.specs.model_text.specs.Text.{CodeFault, is_blank, hex_value, hex_values, before_values, bytes_of_digits, hex_bytes, lines, with_numbers, ok_as, only_if, code_digits, code_text_read, ◌>>=◌}
 use Rattle.mc_text.specs.Reading.{next_line}
 use Rattle.mc_text.proofs.ReadingLemmas.{lines_at, lines_from}
 use Rattle.mc_asm.proofs.PassLemmas.{numbered_some, numbered_none}
 use Rattle.melcard.specs.declared.code.CodeRefusal.{CodeRefusal}
 use Rattle.melcard.specs.declared.code.CodeRefusal.TheVariants.{BadHex, TooLarge, NoMemory}
 use Rattle.melcard.specs.Judging.{line_digits, text_digits, RefusesCode}
-use Rattle.model_device.specs.Limits.{most_code}
+use Rattle.mc_base.specs.model_device.specs.Limits.{most_code}
 
 -- ---- digits after others
 

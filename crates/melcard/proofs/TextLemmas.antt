@@ -2,7 +2,7 @@
 use Rattle.std.proofs.Common.{◌≡◌, ℕ, ◌<◌, List, [], ◌∷◌, refl, ◌/◌, ◌%◌, slice_index, arith}
 use Rattle.std.specs.List.{AllByRecursion}
 use Rattle.hex.specs.Hex.{encode_upper, encode_with, upper_digits}
-use Rattle.model_text.specs.Listing.{hex_digit, hex_text}
+use Rattle.mc_text.specs.model_text.specs.Listing.{hex_digit, hex_text}
 
 -- a digit of the crate is that of the model
 digit_same : (d : ℕ) → d < 16 → slice_index upper_digits d ≡ hex_digit d

@@ -2,10 +2,10 @@
 use Rattle.std.specs.Prelude.{ℕ, List}
 use Rattle.std.specs.Fmt.{digits}
 use Rattle.hex.specs.Hex.{decode_pairs, encode_with}
-use Rattle.model_text.specs.Assembly.{assembly_of}
-use Rattle.model_play.specs.DeckGrammar.{deck_lines, deck_read, section_unit, statement_of, within}
-use Rattle.model_text.specs.Listing.{listing_of_code}
-use Rattle.model_text.specs.Text.{code_text_read}
+use Rattle.mc_text.specs.model_text.specs.Assembly.{assembly_of}
+use Rattle.mc_deck.specs.model_play.specs.DeckGrammar.{deck_lines, deck_read, section_unit, statement_of, within}
+use Rattle.mc_text.specs.model_text.specs.Listing.{listing_of_code}
+use Rattle.mc_text.specs.model_text.specs.Text.{code_text_read}
 use Rattle.melcard.specs.declared.job.Reporting.TheVariants.{Transcript}
 use Rattle.mc_check.specs.declared.verdict.Verdict.{Verdict as CodeVerdict}
 use Rattle.melcard.specs.Verdicts.{JobVerdict, of_assembly, of_code, of_deck, verdict_line}

@@ -2,7 +2,7 @@
 use Rattle.std.specs.Prelude.{ℕ, ◌≤◌, List, [], ◌∷◌, length, nat_le, bytes_eq, codes, cond, string_bytes, Option, Some, None}
 use Rattle.std.specs.declared.alloc.Global.{Global}
 use Rattle.std.specs.declared.string.String.{String}
-use Rattle.model_text.specs.Text.{decimal_number}
+use Rattle.mc_text.specs.model_text.specs.Text.{decimal_number}
 use Rattle.melcard.specs.declared.job.Job.{Job}
 use Rattle.melcard.specs.declared.job.Job.TheVariants as job
 use Rattle.melcard.specs.declared.job.Reporting.TheVariants.{Transcript, Trace}

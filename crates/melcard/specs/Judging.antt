@@ -1,11 +1,11 @@
 -- The results of the code for listed code and for rejected input, in terms of the model.
 use Rattle.std.specs.Prelude.{◌≡◌, ℕ, not, List, [], ◌∷◌, ◌++◌, filter, ok_or, option_map, Result, Ok, Err, ⊤}
-use Rattle.model_text.specs.Text
-use Rattle.model_text.specs.Text.{CodeFault, ◌>>=◌, hex_values, is_blank, ok_as}
+use Rattle.mc_text.specs.model_text.specs.Text
+use Rattle.mc_text.specs.model_text.specs.Text.{CodeFault, ◌>>=◌, hex_values, is_blank, ok_as}
 use Rattle.mc_filter.specs.Inputs.{Rejects}
 use Rattle.melcard.specs.declared.code.CodeRefusal.{CodeRefusal}
 use Rattle.mc_filter.specs.declared.rejection.Rejection.{Rejection}
-use Rattle.model_play.specs.DeckGrammar.{DeckLine}
+use Rattle.mc_deck.specs.model_play.specs.DeckGrammar.{DeckLine}
 use Rattle.melcard.specs.Verdicts.{JobVerdict, Refusal, AreVerdicts}
 use Rattle.melcard.specs.declared.code.CodeRefusal.TheVariants.{BadHex, TooLarge, NoMemory}
 

@@ -1,9 +1,9 @@
 -- The relation of the top call to its environment at each of its statuses.
 use Rattle.std.specs.Prelude.{◌≡◌, ℕ, List, Option, Some, None, Result, ⊤}
-use Rattle.model_play.specs.DeckGrammar.{DeckLine}
-use Rattle.model_play.specs.Generator.{deck_of_number, summary}
-use Rattle.model_play.specs.Play as play
-use Rattle.model_play.specs.Play.{Step}
+use Rattle.mc_deck.specs.model_play.specs.DeckGrammar.{DeckLine}
+use Rattle.mc_deck.specs.model_play.specs.Generator.{deck_of_number, summary}
+use Rattle.mc_deck.specs.model_play.specs.Play as play
+use Rattle.mc_deck.specs.model_play.specs.Play.{Step}
 use Rattle.mc_streams.specs.declared.refusals.WriteFault.{WriteFault as Fault}
 use Rattle.mc_streams.specs.declared.sink.Sink as sink
 use Rattle.mc_streams.specs.declared.source.Source as source

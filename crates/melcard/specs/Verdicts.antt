@@ -1,16 +1,16 @@
 -- The verdict on the input of a job: the complete text due, the one line that refuses it, or a deck that is played.
 use Rattle.std.specs.Prelude.{◌≡◌, ℕ, List, [], ◌∷◌, ◌++◌, codes, decimal, Result, Ok, Err}
-use Rattle.model_text.specs.Assembly.{assembly_of}
-use Rattle.model_play.specs.DeckGrammar.{DeckLine, deck_read}
-use Rattle.model_play.specs.DeckGrammar as line
-use Rattle.model_text.specs.Listing.{listing_of_code, hex_text}
-use Rattle.model_text.specs.Text.{CodeFault, BadHex, TooLarge, code_text_read}
-use Rattle.model_machine.specs.Words.{decode_word}
-use Rattle.model_text.specs.AsmWords.{asm_word}
-use Rattle.model_text.specs.CheckWords.{check_word}
-use Rattle.model_text.specs.declared.assembler.AsmCause.{AsmCause}
-use Rattle.model_play.specs.declared.deck.DeckCause.{DeckCause}
-use Rattle.model_machine.specs.declared.instruction.DecodeFault.{DecodeFault}
+use Rattle.mc_text.specs.model_text.specs.Assembly.{assembly_of}
+use Rattle.mc_deck.specs.model_play.specs.DeckGrammar.{DeckLine, deck_read}
+use Rattle.mc_deck.specs.model_play.specs.DeckGrammar as line
+use Rattle.mc_text.specs.model_text.specs.Listing.{listing_of_code, hex_text}
+use Rattle.mc_text.specs.model_text.specs.Text.{CodeFault, BadHex, TooLarge, code_text_read}
+use Rattle.mc_text.specs.model_machine.specs.Words.{decode_word}
+use Rattle.mc_text.specs.model_text.specs.AsmWords.{asm_word}
+use Rattle.mc_text.specs.model_text.specs.CheckWords.{check_word}
+use Rattle.mc_text.specs.model_text.specs.declared.assembler.AsmCause.{AsmCause}
+use Rattle.mc_deck.specs.model_play.specs.declared.deck.DeckCause.{DeckCause}
+use Rattle.mc_text.specs.model_machine.specs.declared.instruction.DecodeFault.{DecodeFault}
 use Rattle.mc_check.specs.declared.verdict.Verdict.{Verdict as CodeVerdict}
 use Rattle.mc_check.specs.declared.verdict.Verdict.TheVariants.{Accept, Refuse}
 use Rattle.mc_check.specs.Verdicts.{IsVerdictOf, KeepsTo}

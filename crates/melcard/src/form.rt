@@ -1,10 +1,10 @@
 // The texts that are made from an input.
 ghost use Rattle.std.specs.Prelude.{◌≡◌, ◌≤◌, length, Ok, IfErr, IfOk, MatchResult};
-ghost use Rattle.model_device.specs.Limits.{most_code};
-ghost use Rattle.model_text.specs.Assembly.{assembly_of};
-ghost use Rattle.model_play.specs.DeckGrammar.{deck_read};
-ghost use Rattle.model_text.specs.Listing.{listing_of_code};
-ghost use Rattle.model_text.specs.Text.{code_text_read};
+ghost use Rattle.mc_base.specs.model_device.specs.Limits.{most_code};
+ghost use Rattle.mc_text.specs.model_text.specs.Assembly.{assembly_of};
+ghost use Rattle.mc_deck.specs.model_play.specs.DeckGrammar.{deck_read};
+ghost use Rattle.mc_text.specs.model_text.specs.Listing.{listing_of_code};
+ghost use Rattle.mc_text.specs.model_text.specs.Text.{code_text_read};
 ghost use Rattle.mc_filter.specs.Inputs.{input_limit};
 ghost use Rattle.melcard.specs.Verdicts.{of_assembly, of_code, of_listing, IsCheckOf, IsTextOf, Whole};
 ghost use Rattle.melcard.specs.Judging.{RejectsAs};

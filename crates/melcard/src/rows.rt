@@ -1,6 +1,6 @@
 // Worked inputs and their verdicts.
 ghost use Rattle.std.specs.Prelude.{◌≡◌, [], codes, None, Some};
-ghost use Rattle.model_text.specs.declared.checker.CheckCause.TheVariants.{Deep};
+ghost use Rattle.mc_text.specs.model_text.specs.declared.checker.CheckCause.TheVariants.{Deep};
 ghost use Rattle.mc_check.specs.declared.verdict.Verdict.TheVariants.{Accept, Refuse};
 ghost use Rattle.melcard.specs.declared.job.Form.TheVariants as form;
 ghost use Rattle.melcard.specs.declared.job.Job.TheVariants as job;

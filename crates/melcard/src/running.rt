@@ -1,6 +1,6 @@
 // The top call: a job over a source, a sink and a device.
 ghost use Rattle.std.specs.Prelude.{◌≡◌, ◌≤◌, Some, IfErr, IfOk, IfSome};
-ghost use Rattle.model_play.specs.Generator.{deck_of_number};
+ghost use Rattle.mc_deck.specs.model_play.specs.Generator.{deck_of_number};
 ghost use Rattle.mc_script.specs.Players.{IsUnfused};
 ghost use Rattle.mc_text.specs.Texts.{sunk};
 ghost use Rattle.mc_filter.specs.declared.status.Status.{Status};

@@ -1,6 +1,6 @@
 // Lines of output.
 ghost use Rattle.std.specs.Prelude.{◌≡◌, ◌++◌, codes, IfOk};
-ghost use Rattle.model_text.specs.Listing.{hex_text};
+ghost use Rattle.mc_text.specs.model_text.specs.Listing.{hex_text};
 
 use mc_base::NoMemory;
 use std::alloc::Global;

@@ -1,9 +1,9 @@
 -- Verdicts of the lines of a deck, line by line.
 use Rattle.std.proofs.Common.{◌≡◌, ◌≢◌, ℕ, ◌+◌, ◌≤◌, Bool, true, List, [], ◌∷◌, ◌++◌, length, drop, Some, Result, Ok, Err, refl, ap, sym, ◌∙◌, subst, append_assoc, append-nil}
 use Rattle.std.specs.Prelude.{slice_get, OnOk}
-use Rattle.model_play.specs.DeckGrammar.{DeckLine}
-use Rattle.model_play.specs.DeckGrammar as grammar
-use Rattle.model_card.specs.Units.{UnitParts}
+use Rattle.mc_deck.specs.model_play.specs.DeckGrammar.{DeckLine}
+use Rattle.mc_deck.specs.model_play.specs.DeckGrammar as grammar
+use Rattle.mc_deck.specs.model_card.specs.Units.{UnitParts}
 use Rattle.mc_check.specs.declared.verdict.Verdict.{Verdict}
 use Rattle.mc_check.specs.Verdicts.{IsVerdictOf, KeepsTo}
 use Rattle.mc_deck.specs.declared.line.Line.{Line}

@@ -1,8 +1,8 @@
 -- The meaning of the status with which a job that plays ended.
 use Rattle.std.proofs.Common.{◌≡◌, ℕ, Bool, true, false, List, Result, Ok, Err, IfErr, IfOk, refl, ap, sym, subst, ◌∙◌, inl, inr}
-use Rattle.model_device.specs.Counts.{Rose}
-use Rattle.model_play.specs.declared.deck.DeckCause.{DeckCause}
-use Rattle.model_play.specs.DeckGrammar.{DeckLine}
+use Rattle.mc_base.specs.model_device.specs.Counts.{Rose}
+use Rattle.mc_deck.specs.model_play.specs.declared.deck.DeckCause.{DeckCause}
+use Rattle.mc_deck.specs.model_play.specs.DeckGrammar.{DeckLine}
 use Rattle.mc_streams.specs.declared.refusals.WriteFault.{WriteFault as Fault}
 use Rattle.mc_script.specs.Plays.{Bench, PlaysDeck}
 use Rattle.mc_text.specs.Texts.{Sunk}

@@ -1,8 +1,8 @@
 -- The text of a draft, and the line that refuses it.
 use Rattle.std.proofs.Common.{◌≡◌, ◌≤◌, ◌<◌, ℕ, Bool, true, false, nat_lt, List, length, Result, Ok, Err, IfErr, OnOk, refl, ap, sym, subst, ◌∙◌, arith}
-use Rattle.model_text.specs.Text.{◌>>=◌, ok_as}
-use Rattle.model_play.specs.DeckGrammar.{DeckLine, deck_read}
-use Rattle.model_play.specs.declared.deck.DeckCause.{DeckCause}
+use Rattle.mc_text.specs.model_text.specs.Text.{◌>>=◌, ok_as}
+use Rattle.mc_deck.specs.model_play.specs.DeckGrammar.{DeckLine, deck_read}
+use Rattle.mc_deck.specs.model_play.specs.declared.deck.DeckCause.{DeckCause}
 use Rattle.mc_filter.specs.Inputs.{input_limit, refused_deck, Rejects}
 use Rattle.mc_filter.specs.Lines.{too_long}
 use Rattle.mc_filter.specs.declared.rejection.Rejection.{Rejection}

@@ -2,7 +2,7 @@
 use Rattle.std.specs.Prelude.{ℕ, Bool, not, ◌&&◌, nat_le, ◌==◌, List, [], ◌∷◌, ◌++◌, length, bytes_eq, codes, cond, string_bytes, is_none, Option, Some, None}
 use Rattle.std.specs.declared.alloc.Global.{Global}
 use Rattle.std.specs.declared.string.String.{String}
-use Rattle.model_text.specs.Text.{first_cut, is_empty}
+use Rattle.mc_text.specs.model_text.specs.Text.{first_cut, is_empty}
 use Rattle.meldesk.specs.declared.job.Job.{Job}
 use Rattle.meldesk.specs.declared.job.Job.TheVariants as job
 use Rattle.meldesk.specs.declared.job.Play.{Play}

@@ -1,6 +1,6 @@
 -- The parts of a job that makes a text, and why it is not done.
 use Rattle.std.specs.Prelude.{◌≡◌, ℕ, Bool, true, false, List, Result, Ok, Err}
-use Rattle.model_play.specs.declared.deck.DeckCause.{DeckCause}
+use Rattle.mc_deck.specs.model_play.specs.declared.deck.DeckCause.{DeckCause}
 use Rattle.mc_filter.specs.declared.status.Status.{Status}
 use Rattle.mc_filter.specs.Inputs.{FailsReading, ReadsLimited, Rejects}
 use Rattle.mc_filter.specs.Lines.{deck_line, too_long}

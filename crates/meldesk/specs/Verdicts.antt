@@ -1,6 +1,6 @@
 -- The verdict on a draft of which a text is made: the complete text due, or the one line that refuses it.
 use Rattle.std.specs.Prelude.{◌≡◌, ℕ, Bool, true, false, nat_lt, List, length, Result, Ok, Err}
-use Rattle.model_play.specs.declared.deck.DeckCause.{DeckCause}
+use Rattle.mc_deck.specs.model_play.specs.declared.deck.DeckCause.{DeckCause}
 use Rattle.mc_filter.specs.Inputs.{input_limit}
 use Rattle.mc_filter.specs.Lines.{deck_line, too_long}
 use Rattle.desk_draft.specs.Drafts.{deck_of}

@@ -2,12 +2,12 @@
 use Rattle.std.proofs.Common.{◌≡◌, ◌∙◌, sym, subst, refl, ℕ, Bool, true, false, List, Option, Some, Result, Ok, inr}
 use Rattle.mc_streams.specs.declared.refusals.WriteFault.{WriteFault as Fault}
 use Rattle.mc_text.specs.Texts.{Puts}
-use Rattle.model_play.specs.DeckGrammar.{DeckLine, deck_read}
-use Rattle.model_play.specs.declared.deck.DeckCause.{DeckCause}
-use Rattle.model_rules.specs.Law.{AreKept, AreKeptBy}
-use Rattle.model_rules.specs.Reading.{RuleCause, app_rules_read}
-use Rattle.model_rules.specs.Rules.{AppRules, Target}
-use Rattle.law_prove_closed.specs.Decks.{TargetIsKept}
+use Rattle.mc_deck.specs.model_play.specs.DeckGrammar.{DeckLine, deck_read}
+use Rattle.mc_deck.specs.model_play.specs.declared.deck.DeckCause.{DeckCause}
+use Rattle.prove_events.specs.model_rules.specs.Law.{AreKept, AreKeptBy}
+use Rattle.prove_events.specs.model_rules.specs.Reading.{RuleCause, app_rules_read}
+use Rattle.prove_events.specs.model_rules.specs.Rules.{AppRules, Target}
+use Rattle.prove_tables.specs.law_prove_closed.specs.Decks.{TargetIsKept}
 use Rattle.prove_events.specs.declared.rules.Rules.{Rules}
 use Rattle.prove_events.specs.Rules.{AreRules}
 use Rattle.prove_rules.specs.Sums.{AreSums}

@@ -2,8 +2,8 @@
 use Rattle.std.specs.Prelude.{ℕ, List, [], ◌∷◌, ◌++◌, bytes_eq, codes, cond, length, nat_le, string_bytes, Option, Some, None}
 use Rattle.std.specs.declared.alloc.Global.{Global}
 use Rattle.std.specs.declared.string.String.{String}
-use Rattle.model_text.specs.Text.{decimal_number}
-use Rattle.law_explore.specs.Search.{most_states}
+use Rattle.mc_text.specs.model_text.specs.Text.{decimal_number}
+use Rattle.lab_rules.specs.law_explore.specs.Search.{most_states}
 use Rattle.mellab.specs.declared.job.Job.{Job}
 use Rattle.mellab.specs.declared.job.Job.TheVariants as job
 use Rattle.mellab.specs.declared.job.About.{About}

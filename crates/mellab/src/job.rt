@@ -1,6 +1,6 @@
 // What the words of the command line select: a job, or what the program says of itself.
 ghost use Rattle.std.specs.Prelude.{◌≡◌, ◌≤◌, length, IfSome};
-ghost use Rattle.model_text.specs.Text.{decimal_number};
+ghost use Rattle.mc_text.specs.model_text.specs.Text.{decimal_number};
 ghost use Rattle.mellab.specs.Jobs.{exploration_named, exploration_of, most_named, number_of, request_named, request_of};
 
 use mc_text::decimal_number;

@@ -1,8 +1,8 @@
 // The proof of the rules of a deck.
 ghost use Rattle.std.specs.Prelude.{◌≡◌, IfErr, IfOk, Ok};
-ghost use Rattle.model_play.specs.DeckGrammar.{deck_read};
-ghost use Rattle.model_rules.specs.Rules.{AppRules, Target};
-ghost use Rattle.model_rules.specs.Reading.{app_rules_read};
+ghost use Rattle.mc_deck.specs.model_play.specs.DeckGrammar.{deck_read};
+ghost use Rattle.prove_events.specs.model_rules.specs.Rules.{AppRules, Target};
+ghost use Rattle.prove_events.specs.model_rules.specs.Reading.{app_rules_read};
 ghost use Rattle.prove_events.specs.Rules.{AreRules};
 ghost use Rattle.prove_rules.specs.Sums.{AreSums};
 ghost use Rattle.mc_text.specs.Texts.{sunk};

@@ -1,6 +1,6 @@
 // The top call: a job over a source and a sink.
 ghost use Rattle.std.specs.Prelude.{◌≡◌, ◌≤◌, ◌^◌, ◌<◌, length, None, Ok, Some, IfErr, IfOk, IfSome};
-ghost use Rattle.model_play.specs.DeckGrammar.{deck_read};
+ghost use Rattle.mc_deck.specs.model_play.specs.DeckGrammar.{deck_read};
 ghost use Rattle.mc_text.specs.Texts.{sunk};
 ghost use Rattle.mc_lab.specs.Expectations.{expected_deck_read};
 ghost use Rattle.mc_lab.specs.ExpectedDecks.{expected_deck_value, IsRising};

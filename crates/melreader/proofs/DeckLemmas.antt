@@ -1,7 +1,7 @@
 -- The deck in a source, and that of a blank card.
 use Rattle.std.proofs.Common.{◌≡◌, ℕ, List, Some, None, codes, Result, Ok, Err, IfOk, IfErr, refl, ap, sym, subst, ◌∙◌, inl, inr, arith}
-use Rattle.model_play.specs.DeckGrammar.{DeckLine, deck_lines, deck_read}
-use Rattle.model_play.specs.declared.deck.DeckCause.{DeckCause}
+use Rattle.mc_deck.specs.model_play.specs.DeckGrammar.{DeckLine, deck_lines, deck_read}
+use Rattle.mc_deck.specs.model_play.specs.declared.deck.DeckCause.{DeckCause}
 use Rattle.mc_filter.specs.Inputs.{refused_deck, ReadWhole, Rejects, RejectsRead, Stream, TookLimited}
 use Rattle.mc_filter.specs.declared.rejection.Rejection.{Rejection}
 use Rattle.mc_filter.specs.declared.rejection.Rejection.TheVariants as rejection

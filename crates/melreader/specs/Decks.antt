@@ -3,8 +3,8 @@
 use Rattle.std.specs.Prelude.{◌≡◌, ◌⊎◌, ℕ, List, [], ◌∷◌, Option, Some, None, Result, Ok, Err, ⊤}
 use Rattle.std.proofs.Common.{inl, inr}
 use Rattle.std.specs.Borrow.{MutBor}
-use Rattle.model_play.specs.DeckGrammar.{DeckLine, Format, deck_read}
-use Rattle.model_play.specs.declared.deck.DeckCause.{DeckCause}
+use Rattle.mc_deck.specs.model_play.specs.DeckGrammar.{DeckLine, Format, deck_read}
+use Rattle.mc_deck.specs.model_play.specs.declared.deck.DeckCause.{DeckCause}
 use Rattle.mc_streams.specs.declared.source.Source as source
 use Rattle.mc_filter.specs.Inputs.{stream, FailsReading, ReadsLimited, Stream}
 use Rattle.mc_filter.specs.Lines.{deck_line}

@@ -3,9 +3,9 @@ use Rattle.std.proofs.Common.{◌≡◌, ◌≢◌, ℕ, ◌+◌, ◌-◌, ◌<�
 use Rattle.std.specs.Prelude.{nat_le, ◌==◌}
 use Rattle.std.proofs.lemmas.Bool.{lt-leb, eq-eqb, leb-false}
 use Rattle.std.proofs.lemmas.Bool.Decides.{eqb_tells}
-use Rattle.model_device.specs.Image.{Two}
-use Rattle.model_device.specs.Stopped.{cost}
-use Rattle.model_device.specs.Card.{App, Card}
+use Rattle.model_machine.specs.model_device.specs.Image.{Two}
+use Rattle.model_machine.specs.model_device.specs.Stopped.{cost}
+use Rattle.model_machine.specs.model_device.specs.Card.{App, Card}
 use Rattle.model_card.specs.Items.{Item, Plain, Atomic, Stopped, with_item, in_flight, moves, apps_after_change, apps_after_items, card_done, at_stop}
 
 pub moves_append : (is js : List Item) → moves (is ++ js) ≡ moves is + moves js

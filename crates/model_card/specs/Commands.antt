@@ -1,8 +1,8 @@
 -- One command of the terminal on a running card: its items, its outcome, and the session state after it.
 use Rattle.std.specs.Prelude.{ℕ, List, [], ◌∷◌, length, map, Option, Some, None}
 use Rattle.model_machine.specs.Apdu.{ApduParts}
-use Rattle.model_device.specs.Card.{Card}
-use Rattle.model_device.specs.Layout.{step_of}
+use Rattle.model_machine.specs.model_device.specs.Card.{Card}
+use Rattle.model_machine.specs.model_device.specs.Layout.{step_of}
 use Rattle.model_machine.specs.Chain.{Outcome, Reply, Turn, Ran, run}
 use Rattle.model_card.specs.Items.{Change, Item, Plain, Atomic, apps_after_change, BankItem, Piece, Blank, Note, Commit, Enter, Remove, write_items}
 use Rattle.model_card.specs.Manager.{Selected, SessionState, Route, WrongLength, WrongClass, ToSelect, ToManager, ToApplication, route, Managed, Declines, Accepts, select, manage, room_on}

@@ -2,11 +2,11 @@
 use Rattle.std.specs.Prelude.{◌≡◌, ℕ, ◌+◌, ◌-◌, ◌*◌, Bool, true, false, cond, ◌&&◌, nat_le, ◌==◌, List, [], ◌∷◌, ◌++◌, length, map, option_map, Option, Some, None}
 use Rattle.model_card.specs.declared.card.Part.{Part}
 use Rattle.model_card.specs.declared.card.Sizes.{Sizes}
-use Rattle.model_device.specs.declared.device.Stop.{Stop}
-use Rattle.model_device.specs.Bytes.{lookup, insert, remove}
-use Rattle.model_device.specs.Image.{Journal, Two}
-use Rattle.model_device.specs.Stopped.{cost, stands, owes}
-use Rattle.model_device.specs.Card.{App, Card}
+use Rattle.model_machine.specs.model_device.specs.declared.device.Stop.{Stop}
+use Rattle.model_machine.specs.model_device.specs.Bytes.{lookup, insert, remove}
+use Rattle.model_machine.specs.model_device.specs.Image.{Journal, Two}
+use Rattle.model_machine.specs.model_device.specs.Stopped.{cost, stands, owes}
+use Rattle.model_machine.specs.model_device.specs.Card.{App, Card}
 use Rattle.model_machine.specs.Chain.{Write, map_changed}
 
 -- how an atomic write changes the card

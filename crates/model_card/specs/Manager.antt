@@ -6,12 +6,12 @@ use Rattle.model_card.specs.declared.card.Part.{Part}
 use Rattle.model_card.specs.declared.card.Part.TheVariants as part
 use Rattle.model_card.specs.declared.card.Sizes.{Sizes}
 use Rattle.model_card.specs.declared.unit.AidFault.{AidFault}
-use Rattle.model_device.specs.Limits.{most_code, most_static, most_session, most_record}
-use Rattle.model_device.specs.Bytes.{be2, zeros, lookup}
+use Rattle.model_machine.specs.model_device.specs.Limits.{most_code, most_static, most_session, most_record}
+use Rattle.model_machine.specs.model_device.specs.Bytes.{be2, zeros, lookup}
 use Rattle.model_machine.specs.Apdu.{ApduParts, apdu_read}
 use Rattle.model_card.specs.Units.{name_of}
-use Rattle.model_device.specs.Card.{App, Card, words_of_lengths}
-use Rattle.model_device.specs.Layout.{gaps, first_fitting}
+use Rattle.model_machine.specs.model_device.specs.Card.{App, Card, words_of_lengths}
+use Rattle.model_machine.specs.model_device.specs.Layout.{gaps, first_fitting}
 use Rattle.model_card.specs.Items.{Change, Created, Deleted, Site, BankItem, Piece, Blank, Note, Enter, Remove}
 
 -- ---- state

@@ -1,8 +1,8 @@
 -- Load units: the grammar as a reader and as a relation, and the name in a DIR record.
 -- The objects of a DIR record are tag, length and value (ISO/IEC 7816-4:2005, 5.2.2, BER-TLV data objects).
 use Rattle.std.specs.Prelude.{◌≡◌, ℕ, zero, suc, ◌+◌, ◌%◌, ◌<◌, ◌≤◌, cond, ◌&&◌, nat_lt, nat_le, ◌==◌, if◌then◌else◌, List, [], ◌∷◌, ◌++◌, length, take, drop, position, bytes_eq, Option, Some, None, option_map, option_and_then, Result, Ok, Err}
-use Rattle.model_device.specs.Limits.{most_code, most_static}
-use Rattle.model_device.specs.Bytes.{be2, bytes2, zeros}
+use Rattle.model_machine.specs.model_device.specs.Limits.{most_code, most_static}
+use Rattle.model_machine.specs.model_device.specs.Bytes.{be2, bytes2, zeros}
 use Rattle.model_card.specs.declared.unit.UnitRefusal.{UnitRefusal}
 use Rattle.model_card.specs.declared.unit.UnitRefusal.TheVariants.{Short, NoCode, TooLarge, Signed, Enciphered, Tail}
 use Rattle.model_card.specs.declared.unit.UnitRefusal.TheVariants as refusals

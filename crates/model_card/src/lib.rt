@@ -6,4 +6,5 @@ mod card;
 mod unit;
 
 pub use card::{OpenRefusal, Part, Sizes};
+pub use model_machine;
 pub use unit::{AidFault, UnitRefusal};

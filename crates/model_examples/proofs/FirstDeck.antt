@@ -2,8 +2,8 @@
 use Rattle.std.specs.Prelude.{◌≡◌, ℕ, List, [], ◌∷◌, ◌++◌, take, drop, refl, Some, None, codes}
 use Rattle.std.specs.Fmt.{digits}
 use Rattle.std.proofs.Common.{◌∙◌}
-use Rattle.model_device.specs.Device.{blank_words, device_words}
-use Rattle.model_device.specs.Image.{Two}
+use Rattle.model_machine.specs.model_device.specs.Device.{blank_words, device_words}
+use Rattle.model_machine.specs.model_device.specs.Image.{Two}
 use Rattle.model_play.specs.Play.{State, start}
 use Rattle.model_play.specs.DeckGrammar.{DeckLine}
 use Rattle.model_play.specs.Generator.{deck_of_number, summary}

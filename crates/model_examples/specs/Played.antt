@@ -3,15 +3,15 @@ use Rattle.std.specs.Prelude.{ℕ, List, [], ◌++◌, codes, Result, Ok, Err, �
 use Rattle.std.specs.Fmt.{digits}
 use Rattle.sha1.specs.Sha1.{sha1, digest_bytes, hash_after, compress, rounds, schedule, first_words}
 use Rattle.model_play.specs.declared.deck.DeckCause.{DeckCause}
-use Rattle.model_device.specs.Device.{blank_words, device_words}
+use Rattle.model_machine.specs.model_device.specs.Device.{blank_words, device_words}
 use Rattle.model_card.specs.Units.{name_of, unit_bytes, made_dir, made_fci}
 use Rattle.model_machine.specs.Apdu.{apdu_read}
-use Rattle.model_device.specs.Pieces.{touched_words}
+use Rattle.model_machine.specs.model_device.specs.Pieces.{touched_words}
 use Rattle.model_machine.specs.Des.{des_encipher, des_decipher, tdes_encipher, tdes_decipher, des_signature, tdes_signature}
 use Rattle.model_machine.specs.Aes.{aes_encipher, aes_decipher, aes_signature}
-use Rattle.model_device.specs.Image.{targets_1, targets_2, pairs}
-use Rattle.model_device.specs.Card.{Card, blocks_from, apps_of}
-use Rattle.model_device.specs.Layout.{layout, step_of, bad_block, bad_record, gaps, first_fitting}
+use Rattle.model_machine.specs.model_device.specs.Image.{targets_1, targets_2, pairs}
+use Rattle.model_machine.specs.model_device.specs.Card.{Card, blocks_from, apps_of}
+use Rattle.model_machine.specs.model_device.specs.Layout.{layout, step_of, bad_block, bad_record, gaps, first_fitting}
 use Rattle.model_machine.specs.Frame.{bytes_at, write_effect, too_many}
 use Rattle.model_machine.specs.Primitives.{later_causes, prim_effect}
 use Rattle.model_machine.specs.Row.{causes, effect, row}
@@ -19,7 +19,7 @@ use Rattle.model_machine.specs.Chain.{turn_of_chain, run_of_chain}
 use Rattle.model_card.specs.Manager.{manage}
 use Rattle.model_play.specs.Play.{State, Step, start, send, play_at_power, step, plays, moves_of, steady_failures, BeforePower, AfterPower, last_state}
 use Rattle.model_card.specs.Commands.{command}
-use Rattle.model_device.specs.PowerUp.{Base, OnCard, AtFault}
+use Rattle.model_machine.specs.model_device.specs.PowerUp.{Base, OnCard, AtFault}
 use Rattle.model_text.specs.Listing.{hex_text}
 use Rattle.model_play.specs.Transcript.{transcript}
 use Rattle.model_text.specs.TurnText.{turn_line}

@@ -1,13 +1,13 @@
 -- The play of a generated deck in parts: the counts that the lines of a part add to the summary, and the state between
 -- two parts.
 use Rattle.std.specs.Prelude.{ℕ, ◌+◌, List, [], ◌∷◌, ◌++◌, length, codes, decimal, Option, Some, None}
-use Rattle.model_device.specs.Device.{blank_words, device_words}
-use Rattle.model_device.specs.Image.{Journal}
+use Rattle.model_machine.specs.model_device.specs.Device.{blank_words, device_words}
+use Rattle.model_machine.specs.model_device.specs.Image.{Journal}
 use Rattle.model_card.specs.Units.{UnitParts}
-use Rattle.model_device.specs.Card.{App}
+use Rattle.model_machine.specs.model_device.specs.Card.{App}
 use Rattle.model_card.specs.Manager.{empty_session_state}
 use Rattle.model_play.specs.Play.{State, AfterPower, Running, Unarmed, Step, plays, start, last_state}
-use Rattle.model_device.specs.PowerUp.{OnCard}
+use Rattle.model_machine.specs.model_device.specs.PowerUp.{OnCard}
 use Rattle.model_play.specs.DeckGrammar.{DeckLine}
 use Rattle.model_play.specs.Generator.{counter, purse, relay, counter_aid, purse_aid, relay_aid, deck_of_number, results, count, is_reply, is_abend, is_cut, is_off, is_ready, dump_lines}
 use Rattle.model_examples.specs.Played.{steps_on}

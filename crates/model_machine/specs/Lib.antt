@@ -9,3 +9,5 @@ pub mod Primitives
 pub mod Row
 pub mod Chain
 pub mod Words
+-- the libraries below that those above cite through this one
+pub use Rattle.model_device as model_device

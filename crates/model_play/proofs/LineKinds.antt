@@ -1,9 +1,9 @@
 -- The kinds of a step of a play: a law over steps has one case for each, and a new kind of line is one of them.
 use Rattle.std.proofs.Common.{◌≡◌, ◌⊎◌, inl, inr, ℕ, Bool, true, false, List, [], Option, Some, None, refl}
 use Rattle.std.specs.Prelude.{⊤, slice_set}
-use Rattle.model_device.specs.Card.{Card}
-use Rattle.model_device.specs.Image.{Journal}
-use Rattle.model_device.specs.PowerUp.{Base, OnCard, AtFault}
+use Rattle.model_card.specs.model_device.specs.Card.{Card}
+use Rattle.model_card.specs.model_device.specs.Image.{Journal}
+use Rattle.model_card.specs.model_device.specs.PowerUp.{Base, OnCard, AtFault}
 use Rattle.model_card.specs.Items.{moves}
 use Rattle.model_card.specs.Manager.{SessionState}
 use Rattle.model_play.specs.DeckGrammar.{DeckCommand, DeckLine}

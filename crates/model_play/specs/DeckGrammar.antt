@@ -6,7 +6,7 @@ use Rattle.model_play.specs.declared.deck.DeckCause.TheVariants.{TooManyLines, B
 use Rattle.model_play.specs.declared.deck.DeckCause.TheVariants as causes
 use Rattle.model_card.specs.declared.unit.UnitRefusal.{UnitRefusal}
 use Rattle.model_card.specs.declared.unit.UnitRefusal.TheVariants.{NoCode, TooLarge}
-use Rattle.model_device.specs.Bytes.{lookup, zeros}
+use Rattle.model_card.specs.model_device.specs.Bytes.{lookup, zeros}
 use Rattle.model_text.specs.Text.{◌>>=◌, ok_as, err_as, only_if, begins, lines, with_numbers, fields, is_within, is_name, decimal_number, hex_bytes}
 use Rattle.model_card.specs.Units.{UnitParts, unit_read, made_dir, made_fci}
 use Rattle.model_text.specs.Assembly.{assembled_lines}

@@ -1,6 +1,6 @@
 -- Families of applications that call no other, and which commands of a play are a family's.
 use Rattle.std.specs.Prelude.{◌≡◌, ℕ, Bool, true, false, List, [], ◌∷◌, Option, Some, None, ⊤}
-use Rattle.model_device.specs.Bytes.{has_name}
+use Rattle.model_card.specs.model_device.specs.Bytes.{has_name}
 use Rattle.model_card.specs.Manager.{Selected, SessionState, Route, WrongLength, WrongClass, ToSelect, ToManager, ToApplication, route}
 use Rattle.model_play.specs.Play.{Live, Running, Unpowered, Muted, State, BeforePower, AfterPower, Step, select_bytes}
 use Rattle.model_play.specs.DeckGrammar.{DeckLine}

@@ -1,9 +1,9 @@
 -- The deck that a number generates, and the summary of its play.
 use Rattle.std.specs.Prelude.{ℕ, zero, suc, ◌+◌, ◌*◌, ◌/◌, ◌%◌, ◌^◌, Bool, true, false, cond, nat_lt, ◌==◌, List, [], ◌∷◌, ◌++◌, length, filter, filter_map, flat_map, codes, decimal}
-use Rattle.model_device.specs.Bytes.{bytes, zeros}
+use Rattle.model_card.specs.model_device.specs.Bytes.{bytes, zeros}
 use Rattle.model_card.specs.Units.{UnitParts}
 use Rattle.model_text.specs.Text.{with_numbers}
-use Rattle.model_machine.specs.Chain.{Reply, Abended}
+use Rattle.model_card.specs.model_machine.specs.Chain.{Reply, Abended}
 use Rattle.model_play.specs.Play.{Step, LineResult, Ready, OffAt, FailureStop, NoCard, Answered}
 use Rattle.model_play.specs.Transcript.{text_of_result}
 use Rattle.model_play.specs.DeckGrammar.{DeckLine, Format, Power, Named, Sent, Load, Select, Delete, Dump, Apdu, Cut, made_unit}

@@ -1,15 +1,15 @@
 -- What a card that holds one family alone is given of a play: its applications at the start, and an event for each line
 -- that concerns it.
 use Rattle.std.specs.Prelude.{ℕ, Bool, true, false, cond, not, ◌&&◌, ◌||◌, ◌==◌, List, [], ◌∷◌, ◌++◌, is_some, unwrap_or, Option, Some, None}
-use Rattle.model_device.specs.declared.device.Stop.{Stop}
-use Rattle.model_device.specs.declared.device.Stop.TheVariants as stop
-use Rattle.model_device.specs.Bytes.{has_name}
-use Rattle.model_device.specs.Card.{App, app_at_place}
-use Rattle.model_machine.specs.Chain.{Outcome, Reply, Abended}
+use Rattle.model_card.specs.model_device.specs.declared.device.Stop.{Stop}
+use Rattle.model_card.specs.model_device.specs.declared.device.Stop.TheVariants as stop
+use Rattle.model_card.specs.model_device.specs.Bytes.{has_name}
+use Rattle.model_card.specs.model_device.specs.Card.{App, app_at_place}
+use Rattle.model_card.specs.model_machine.specs.Chain.{Outcome, Reply, Abended}
 use Rattle.model_card.specs.Items.{Change, Fixed, Created, Deleted, Item, Plain, Atomic, StopAt}
 use Rattle.model_card.specs.Manager.{Route, WrongLength, WrongClass, ToSelect, ToManager, ToApplication, route}
 use Rattle.model_play.specs.Play.{Armed, Unarmed, ArmedCut, ArmedFail, Live, Running, Unpowered, Muted, State, BeforePower, AfterPower, LineResult, Answered, Step, armed_stop_in}
-use Rattle.model_device.specs.PowerUp.{Base, OnCard, AtFault}
+use Rattle.model_card.specs.model_device.specs.PowerUp.{Base, OnCard, AtFault}
 use Rattle.model_play.specs.Family.{command_of, live_in, is_running, is_own}
 use Rattle.model_play.specs.DeckGrammar.{DeckLine}
 use Rattle.model_play.specs.DeckGrammar as line

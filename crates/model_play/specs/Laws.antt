@@ -5,21 +5,21 @@ use Rattle.model_card.specs.declared.unit.AidFault.{AidFault}
 use Rattle.model_card.specs.declared.card.Part.{Part}
 use Rattle.model_card.specs.declared.card.Part.TheVariants as part
 use Rattle.model_card.specs.declared.card.Sizes.{Sizes}
-use Rattle.model_device.specs.Bytes.{zeros, lookup}
-use Rattle.model_machine.specs.Apdu.{ApduParts}
+use Rattle.model_card.specs.model_device.specs.Bytes.{zeros, lookup}
+use Rattle.model_card.specs.model_machine.specs.Apdu.{ApduParts}
 use Rattle.model_card.specs.Units.{name_of}
-use Rattle.model_device.specs.Card.{App, Card, app_at_place}
+use Rattle.model_card.specs.model_device.specs.Card.{App, Card, app_at_place}
 use Rattle.model_card.specs.Items.{Change, Fixed, Created, Deleted, Item, Plain, Atomic, apps_after_items, StopAt, Stopped, at_stop}
 use Rattle.model_card.specs.Manager.{SessionState, Route, WrongLength, WrongClass, ToSelect, ToManager, ToApplication, route, Got, got_of, with_got, sizes_in}
 use Rattle.model_play.specs.Play.{Live, Running, Unpowered, Muted, Warm, State, BeforePower, AfterPower, Step, is_done, load_commands, plays, start, Possible, FailedWrite, select_bytes, delete_bytes}
-use Rattle.model_device.specs.PowerUp.{Base, OnCard, AtFault}
+use Rattle.model_card.specs.model_device.specs.PowerUp.{Base, OnCard, AtFault}
 use Rattle.model_card.specs.Commands.{Command, command}
 use Rattle.model_card.specs.Items as items
 use Rattle.model_play.specs.Family.{Closed}
 use Rattle.model_play.specs.Given.{apps_on, apps_in, is_power}
 use Rattle.model_play.specs.View.{IsIsolated}
 use Rattle.model_play.specs.ReadyAgain.{AllFitJournal, AreLines, ReadyAgain}
-use Rattle.model_device.specs.Device.{IsImage}
+use Rattle.model_card.specs.model_device.specs.Device.{IsImage}
 use Rattle.model_play.specs.DeckGrammar.{DeckLine}
 use Rattle.model_play.specs.DeckGrammar as line
 

@@ -11,3 +11,8 @@ pub mod Laws
 pub mod Generator
 pub mod Patterns
 pub mod Words
+-- the libraries below that those above cite through this one
+pub use Rattle.model_card.specs.model_device as model_device
+pub use Rattle.model_card.specs.model_machine as model_machine
+pub use Rattle.model_text as model_text
+pub use Rattle.model_card as model_card

@@ -1,19 +1,19 @@
 -- A deck played on a device, line by line, with the lines' cuts and failed writes, and the words that a play leaves.
 use Rattle.std.specs.Prelude.{◌≡◌, ◌≢◌, ◌⊎◌, ℕ, zero, suc, ◌+◌, ◌-◌, ◌*◌, ◌/◌, ◌%◌, ◌<◌, ◌≤◌, Bool, true, false, cond, ◌&&◌, nat_lt, nat_le, ◌==◌, List, [], ◌∷◌, ◌++◌, length, take, drop, map, slice_set, Option, Some, None, ⊤}
-use Rattle.model_device.specs.PowerUp.{Base, OnCard, AtFault, migration, base_after_migration, base_of, pending_journal}
+use Rattle.model_card.specs.model_device.specs.PowerUp.{Base, OnCard, AtFault, migration, base_after_migration, base_of, pending_journal}
 use Rattle.model_card.specs.Commands.{Command, refusal, command}
-use Rattle.model_device.specs.declared.cause.Cause.{Cause}
-use Rattle.model_device.specs.declared.device.Stop.{Stop}
-use Rattle.model_device.specs.declared.device.Stop.TheVariants as stop
-use Rattle.model_device.specs.Bytes.{bytes2, zeros, lookup}
-use Rattle.model_machine.specs.Apdu.{ApduParts}
+use Rattle.model_card.specs.model_device.specs.declared.cause.Cause.{Cause}
+use Rattle.model_card.specs.model_device.specs.declared.device.Stop.{Stop}
+use Rattle.model_card.specs.model_device.specs.declared.device.Stop.TheVariants as stop
+use Rattle.model_card.specs.model_device.specs.Bytes.{bytes2, zeros, lookup}
+use Rattle.model_card.specs.model_machine.specs.Apdu.{ApduParts}
 use Rattle.model_card.specs.Units.{UnitParts}
-use Rattle.model_device.specs.Device.{Entry}
-use Rattle.model_device.specs.Image.{Journal, One, Two, Which, Both, Only, Neither, which, count_of_recovery_writes, shut_word, image_with}
-use Rattle.model_device.specs.Stopped.{stands, owes, remains}
-use Rattle.model_device.specs.Card.{App, Card, means, heap_start}
-use Rattle.model_device.specs.Layout.{root, hole_header, step_of, fault}
-use Rattle.model_machine.specs.Chain.{Outcome, Reply, Write, Turn, Ran, run}
+use Rattle.model_card.specs.model_device.specs.Device.{Entry}
+use Rattle.model_card.specs.model_device.specs.Image.{Journal, One, Two, Which, Both, Only, Neither, which, count_of_recovery_writes, shut_word, image_with}
+use Rattle.model_card.specs.model_device.specs.Stopped.{stands, owes, remains}
+use Rattle.model_card.specs.model_device.specs.Card.{App, Card, means, heap_start}
+use Rattle.model_card.specs.model_device.specs.Layout.{root, hole_header, step_of, fault}
+use Rattle.model_card.specs.model_machine.specs.Chain.{Outcome, Reply, Write, Turn, Ran, run}
 use Rattle.model_card.specs.Items.{Change, Fixed, Item, Plain, Atomic, moves, apps_after_change, card_done, StopAt, Stopped, at_stop, BankItem, Piece, Blank, Note, Commit, Enter, Remove}
 use Rattle.model_card.specs.Manager.{Selected, SessionState, empty_session_state, Route, WrongLength, WrongClass, ToSelect, ToManager, ToApplication, route, Managed, Declines, Accepts, Accepted, select, manage, room_on}
 use Rattle.model_play.specs.DeckGrammar.{DeckLine}

@@ -1,7 +1,7 @@
 -- No chain of cuts makes a card unusable: once a card is sure to be there, every power line that no stop hits finds it.
 use Rattle.std.specs.Prelude.{◌≡◌, ℕ, ◌≤◌, Bool, true, false, ◌&&◌, ◌||◌, not, List, [], ◌∷◌, length, Option, Some, None, ⊤}
 use Rattle.std.specs.List.{AllByRecursion}
-use Rattle.model_device.specs.Bytes.{AreBytes}
+use Rattle.model_card.specs.model_device.specs.Bytes.{AreBytes}
 use Rattle.model_card.specs.Items.{Item, Plain, Atomic, StopAt}
 use Rattle.model_play.specs.Play.{State, BeforePower, AfterPower, LineResult, Formatted, Ready, Step}
 use Rattle.model_play.specs.DeckGrammar.{DeckLine}

@@ -1,9 +1,9 @@
 -- A card that holds one family alone: a map and a selection, without places, gaps, journals, others or limits of room.
 use Rattle.std.specs.Prelude.{ℕ, cond, nat_le, List, [], ◌∷◌, ◌++◌, Option, Some, None}
-use Rattle.model_device.specs.Bytes.{lookup, insert, remove}
-use Rattle.model_machine.specs.Apdu.{ApduParts}
-use Rattle.model_device.specs.Card.{App}
-use Rattle.model_machine.specs.Chain.{Outcome, Reply, Ran, run}
+use Rattle.model_card.specs.model_device.specs.Bytes.{lookup, insert, remove}
+use Rattle.model_card.specs.model_machine.specs.Apdu.{ApduParts}
+use Rattle.model_card.specs.model_device.specs.Card.{App}
+use Rattle.model_card.specs.model_machine.specs.Chain.{Outcome, Reply, Ran, run}
 use Rattle.model_card.specs.Items.{Item, moves, apps_after_items, StopAt, Stopped, at_stop, write_items}
 use Rattle.model_card.specs.Manager.{Selected, SessionState, Route, WrongLength, WrongClass, ToSelect, ToManager, ToApplication, route, Managed, Declines, Accepts, select}
 use Rattle.model_play.specs.Play.{LineResult, Answered, static_of, result_of_stop}

@@ -1,12 +1,12 @@
 -- The line of each executed instruction, and the transcript with those lines.
 use Rattle.std.specs.Prelude.{◌≡◌, ℕ, ◌+◌, ◌-◌, Bool, cond, not, nat_le, ◌==◌, List, [], ◌∷◌, ◌++◌, filter, Option, Some, None, codes}
 use Rattle.model_text.specs.TurnText.{turn_lines}
-use Rattle.model_machine.specs.declared.instruction.Ins.{Ins}
-use Rattle.model_device.specs.Bytes.{bytes2}
-use Rattle.model_device.specs.Image.{Two}
-use Rattle.model_device.specs.Stopped.{cost}
+use Rattle.model_card.specs.model_machine.specs.declared.instruction.Ins.{Ins}
+use Rattle.model_card.specs.model_device.specs.Bytes.{bytes2}
+use Rattle.model_card.specs.model_device.specs.Image.{Two}
+use Rattle.model_card.specs.model_device.specs.Stopped.{cost}
 use Rattle.model_text.specs.Listing.{text_of, hex_text}
-use Rattle.model_machine.specs.Chain.{Turn}
+use Rattle.model_card.specs.model_machine.specs.Chain.{Turn}
 use Rattle.model_card.specs.Items.{StopAt}
 use Rattle.model_play.specs.Play.{Step}
 use Rattle.model_text.specs.Text.{begins, pieces}

@@ -1,11 +1,11 @@
 -- The text that a play writes: for each line that has a result its number, a blank, the result and a line feed.
 use Rattle.std.specs.Prelude.{ℕ, ◌/◌, ◌%◌, List, [], ◌∷◌, ◌++◌, Option, Some, None, codes, decimal}
-use Rattle.model_machine.specs.Words.{abend_code}
+use Rattle.model_card.specs.model_machine.specs.Words.{abend_code}
 use Rattle.model_text.specs.Listing.{hex_text, hex_digit}
-use Rattle.model_device.specs.Words.{cause_text}
-use Rattle.model_device.specs.declared.cause.Cause.{Cause}
-use Rattle.model_device.specs.Bytes.{bytes2}
-use Rattle.model_machine.specs.Chain.{Outcome, Reply, Abended}
+use Rattle.model_card.specs.model_device.specs.Words.{cause_text}
+use Rattle.model_card.specs.model_device.specs.declared.cause.Cause.{Cause}
+use Rattle.model_card.specs.model_device.specs.Bytes.{bytes2}
+use Rattle.model_card.specs.model_machine.specs.Chain.{Outcome, Reply, Abended}
 use Rattle.model_play.specs.Play.{LineResult, Formatted, Ready, Unusable, OffAt, FailureStop, NoCard, Silenced, Answered, Static, Absent, Step}
 
 -- the text of an outcome

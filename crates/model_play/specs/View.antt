@@ -1,7 +1,7 @@
 -- What a family observes and holds, in a play and on a card of its own, and the law that both are equal.
 use Rattle.std.specs.Prelude.{◌≡◌, ℕ, Bool, true, false, ◌&&◌, List, [], ◌∷◌, ◌++◌, map, Option, Some, None}
-use Rattle.model_device.specs.Bytes.{has_name, lookup}
-use Rattle.model_device.specs.Card.{App}
+use Rattle.model_card.specs.model_device.specs.Bytes.{has_name, lookup}
+use Rattle.model_card.specs.model_device.specs.Card.{App}
 use Rattle.model_card.specs.Items.{Item, StopAt}
 use Rattle.model_play.specs.Play.{State, LineResult, Step, static_of, last_state}
 use Rattle.model_play.specs.Family.{live_in, is_running, is_own}

@@ -5,3 +5,6 @@
 mod deck;
 
 pub use deck::DeckCause;
+pub use model_card;
+pub use model_card::model_machine;
+pub use model_text;

@@ -2,7 +2,7 @@
 use Rattle.std.specs.Prelude.{◌≡◌, ◌⊎◌, ℕ, zero, suc, ◌+◌, ◌-◌, ◌<◌, ◌≤◌, Bool, true, false, cond, not, ◌&&◌, ◌||◌, nat_lt, nat_le, ◌==◌, min, max, List, [], ◌∷◌, refl, ⊤}
 use Rattle.std.proofs.Common.{arith, ap, sym, subst, ◌∙◌, inl, inr}
 use Rattle.std.proofs.lemmas.Bool.{eqb-true, leb-true, ltb-true, le-leb, lt-ltb, and_parts, and_from, or_left, or_right, or_parts, cases_Bool}
-use Rattle.model_device.specs.Bytes.{num}
+use Rattle.model_rules.specs.model_device.specs.Bytes.{num}
 use Rattle.model_prove.specs.Facts.{Memory}
 use Rattle.model_prove.specs.Compares.{Orders, Compare, NoCompare, Bounds, Ordered, join_orders, join_compare, meet, touched, bytes_from, has_order, IsSo}
 

@@ -1,12 +1,12 @@
 -- Where an outcome leads: the events that come on the way, and the moment or the place after them.
 use Rattle.std.specs.Prelude.{ℕ, ◌+◌, ◌-◌, Bool, true, false, cond, not, ◌&&◌, ◌||◌, nat_lt, nat_le, ◌==◌, List, [], ◌∷◌, ◌++◌, length, map, flat_map, codes, Option, Some, None, Result, Ok, Err}
-use Rattle.model_machine.specs.declared.instruction.Ins.{Ins}
-use Rattle.model_machine.specs.declared.machine.Abend.{Abend}
-use Rattle.model_machine.specs.Frame.{dynamic_base, public_base}
-use Rattle.model_machine.specs.Chain.{Abended}
-use Rattle.model_device.specs.Card.{App}
-use Rattle.model_play.specs.Transcript.{outcome_text}
-use Rattle.law_explore.specs.Matching.{fits}
+use Rattle.model_rules.specs.model_machine.specs.declared.instruction.Ins.{Ins}
+use Rattle.model_rules.specs.model_machine.specs.declared.machine.Abend.{Abend}
+use Rattle.model_rules.specs.model_machine.specs.Frame.{dynamic_base, public_base}
+use Rattle.model_rules.specs.model_machine.specs.Chain.{Abended}
+use Rattle.model_rules.specs.model_device.specs.Card.{App}
+use Rattle.model_rules.specs.model_play.specs.Transcript.{outcome_text}
+use Rattle.model_rules.specs.law_explore.specs.Matching.{fits}
 use Rattle.model_rules.specs.Rules.{Trigger, AtTurn, AtCommand, AtAnswer, AtSession, OnLine, AppRules}
 use Rattle.model_rules.specs.Keeping.{Amounts, Break, ByAbend, OnTurn, OnSession, after_occasion, after_lines, after_line, line_of}
 use Rattle.model_prove.specs.Sets.{Set, is_in, is_subset}

@@ -1,9 +1,9 @@
 -- Between commands: the classes of commands, and what may follow a moment at which power may go.
 use Rattle.std.specs.Prelude.{ℕ, ◌+◌, ◌-◌, Bool, true, false, cond, not, ◌&&◌, ◌||◌, nat_lt, nat_le, ◌==◌, List, [], ◌∷◌, ◌++◌, length, map, flat_map, filter, Option, Some, None}
-use Rattle.model_device.specs.Bytes.{bytes2, zeros}
-use Rattle.model_device.specs.Card.{App}
-use Rattle.model_text.specs.Listing.{hex_text}
-use Rattle.model_machine.specs.Frame.{dynamic_base, public_base}
+use Rattle.model_rules.specs.model_device.specs.Bytes.{bytes2, zeros}
+use Rattle.model_rules.specs.model_device.specs.Card.{App}
+use Rattle.model_rules.specs.model_text.specs.Listing.{hex_text}
+use Rattle.model_rules.specs.model_machine.specs.Frame.{dynamic_base, public_base}
 use Rattle.model_rules.specs.Rules.{Trigger, AtTurn, AtCommand, AtAnswer, AtSession, OnLine, Range, AppRules}
 use Rattle.model_rules.specs.Keeping.{Amounts}
 use Rattle.model_prove.specs.Sets.{Set, is_in, all_bytes, numbers_from, union, with_value, is_subset}

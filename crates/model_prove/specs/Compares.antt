@@ -1,6 +1,6 @@
 -- The last compare: what the flags of a comparison left known of a number of several bytes, beyond what each byte may be.
 use Rattle.std.specs.Prelude.{◌≡◌, ℕ, zero, suc, ◌+◌, ◌-◌, ◌^◌, Bool, true, false, cond, not, ◌&&◌, ◌||◌, nat_lt, nat_le, ◌==◌, min, max, List, [], ◌∷◌, length, ⊤}
-use Rattle.model_device.specs.Bytes.{num}
+use Rattle.model_rules.specs.model_device.specs.Bytes.{num}
 use Rattle.model_prove.specs.Facts.{Memory}
 
 -- which orders of two numbers are possible

@@ -3,16 +3,16 @@ use Rattle.std.specs.Prelude.{ℕ, Bool, false, List, ◌++◌, codes, Option, S
 use Rattle.model_rules.specs.Rules.{AppRules, Target}
 use Rattle.model_prove.specs.Arrivals.{Setting}
 use Rattle.std.specs.Fmt.{digits}
-use Rattle.model_card.specs.Units.{name_of}
-use Rattle.model_machine.specs.Apdu.{apdu_read}
-use Rattle.model_device.specs.Pieces.{touched_words}
-use Rattle.model_machine.specs.Frame.{bytes_at, write_effect, too_many}
-use Rattle.model_machine.specs.Primitives.{later_causes}
-use Rattle.model_machine.specs.Row.{causes}
-use Rattle.law_rows.specs.Shapes.{shape, prim_shape}
-use Rattle.model_text.specs.TurnText.{turn_line}
-use Rattle.model_play.specs.DeckGrammar.{deck_read}
-use Rattle.law_explore.specs.Matching.{fits}
+use Rattle.model_rules.specs.model_card.specs.Units.{name_of}
+use Rattle.model_rules.specs.model_machine.specs.Apdu.{apdu_read}
+use Rattle.model_rules.specs.model_device.specs.Pieces.{touched_words}
+use Rattle.model_rules.specs.model_machine.specs.Frame.{bytes_at, write_effect, too_many}
+use Rattle.model_rules.specs.model_machine.specs.Primitives.{later_causes}
+use Rattle.model_rules.specs.model_machine.specs.Row.{causes}
+use Rattle.model_rules.specs.law_rows.specs.Shapes.{shape, prim_shape}
+use Rattle.model_rules.specs.model_text.specs.TurnText.{turn_line}
+use Rattle.model_rules.specs.model_play.specs.DeckGrammar.{deck_read}
+use Rattle.model_rules.specs.law_explore.specs.Matching.{fits}
 use Rattle.model_rules.specs.Reading.{RuleCause, app_rules_read}
 use Rattle.model_prove.specs.Tables.{is_closed, tables_after, prove_text, text_of_read}
 

@@ -1,7 +1,7 @@
 -- The keys of the two tables, what is known at each, and the tables: moments between commands at which power may go, and
 -- places of the code. No key depends on how much is known.
 use Rattle.std.specs.Prelude.{ℕ, ◌+◌, ◌-◌, Bool, true, false, cond, not, ◌&&◌, ◌||◌, nat_lt, nat_le, ◌==◌, List, [], ◌∷◌, ◌++◌, length, filter, bytes_eq, Option, Some, None}
-use Rattle.model_machine.specs.Frame.{dynamic_base}
+use Rattle.model_rules.specs.model_machine.specs.Frame.{dynamic_base}
 use Rattle.model_rules.specs.Keeping.{Amounts}
 use Rattle.model_prove.specs.Facts.{Facts, within, join, follow}
 use Rattle.model_prove.specs.Compares.{Compare, NoCompare, Bounds, Ordered, Orders, join_compare, meet, touched}

@@ -1,13 +1,13 @@
 -- Rows whose deciding bytes have too many combinations: what is read has no fact, and a write takes away the facts of all
 -- bytes that one of the addresses with one of the lengths could reach, whole in a segment.
 use Rattle.std.specs.Prelude.{ℕ, zero, suc, ◌+◌, ◌-◌, ◌*◌, ◌/◌, ◌%◌, Bool, true, false, cond, not, ◌&&◌, ◌||◌, nat_lt, nat_le, ◌==◌, List, [], ◌∷◌, ◌++◌, length, map, flat_map, filter, replicate, slice_index, Option, Some, None}
-use Rattle.model_machine.specs.declared.instruction.Ins.{Ins}
-use Rattle.model_machine.specs.declared.instruction.Ins.TheVariants as ins
-use Rattle.model_machine.specs.declared.machine.Abend.{Abend}
-use Rattle.model_machine.specs.declared.machine.Abend.TheVariants.{A03, A06}
-use Rattle.model_machine.specs.Frame.{Frame, is_outside}
-use Rattle.model_machine.specs.Primitives.{Primitive, CheckCase, LoadCcr, StoreCcr, Lookup, MemoryCompare, MemoryCopy, DelegateTo, DelegatorAid, Digest, CompareFixed, CopyFixed, SetProtection, Encipher, Decipher, Sign, BitByte, ShiftLeft, ShiftRight, BitWord, primitive, block_len}
-use Rattle.model_machine.specs.Row.{operand, address_or_zero}
+use Rattle.model_rules.specs.model_machine.specs.declared.instruction.Ins.{Ins}
+use Rattle.model_rules.specs.model_machine.specs.declared.instruction.Ins.TheVariants as ins
+use Rattle.model_rules.specs.model_machine.specs.declared.machine.Abend.{Abend}
+use Rattle.model_rules.specs.model_machine.specs.declared.machine.Abend.TheVariants.{A03, A06}
+use Rattle.model_rules.specs.model_machine.specs.Frame.{Frame, is_outside}
+use Rattle.model_rules.specs.model_machine.specs.Primitives.{Primitive, CheckCase, LoadCcr, StoreCcr, Lookup, MemoryCompare, MemoryCopy, DelegateTo, DelegatorAid, Digest, CompareFixed, CopyFixed, SetProtection, Encipher, Decipher, Sign, BitByte, ShiftLeft, ShiftRight, BitWord, primitive, block_len}
+use Rattle.model_rules.specs.model_machine.specs.Row.{operand, address_or_zero}
 use Rattle.model_prove.specs.Sets.{Set, is_in, numbers_from, all_bytes}
 use Rattle.model_prove.specs.Facts.{Facts, values_at}
 use Rattle.model_prove.specs.Compares.{Compare, NoCompare, Bounds, Ordered}

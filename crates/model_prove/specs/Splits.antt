@@ -1,13 +1,13 @@
 -- The frame that stands for all of a place, and the bytes that decide an address, a length or an index of its
 -- instruction: each combination of their values is followed by itself, with the machine's own rows.
 use Rattle.std.specs.Prelude.{ℕ, zero, suc, ◌+◌, ◌-◌, ◌*◌, Bool, true, false, cond, not, ◌&&◌, ◌||◌, nat_lt, nat_le, ◌==◌, min, List, [], ◌∷◌, ◌++◌, length, map, flat_map, filter, slice_index, unwrap_or, Option, Some, None}
-use Rattle.model_machine.specs.declared.instruction.Ins.{Ins}
-use Rattle.model_machine.specs.declared.instruction.Ins.TheVariants as ins
-use Rattle.model_device.specs.Bytes.{bytes2, zeros, splice}
-use Rattle.model_device.specs.Card.{App}
-use Rattle.model_machine.specs.Frame.{Frame, dynamic_base, public_base, public_end, address_at}
-use Rattle.model_machine.specs.Primitives.{Primitive, CheckCase, LoadCcr, StoreCcr, Lookup, MemoryCompare, MemoryCopy, DelegateTo, DelegatorAid, Digest, CompareFixed, CopyFixed, SetProtection, Encipher, Decipher, Sign, BitByte, ShiftLeft, ShiftRight, BitWord, primitive, number_below_top}
-use Rattle.model_machine.specs.Row.{operand}
+use Rattle.model_rules.specs.model_machine.specs.declared.instruction.Ins.{Ins}
+use Rattle.model_rules.specs.model_machine.specs.declared.instruction.Ins.TheVariants as ins
+use Rattle.model_rules.specs.model_device.specs.Bytes.{bytes2, zeros, splice}
+use Rattle.model_rules.specs.model_device.specs.Card.{App}
+use Rattle.model_rules.specs.model_machine.specs.Frame.{Frame, dynamic_base, public_base, public_end, address_at}
+use Rattle.model_rules.specs.model_machine.specs.Primitives.{Primitive, CheckCase, LoadCcr, StoreCcr, Lookup, MemoryCompare, MemoryCopy, DelegateTo, DelegatorAid, Digest, CompareFixed, CopyFixed, SetProtection, Encipher, Decipher, Sign, BitByte, ShiftLeft, ShiftRight, BitWord, primitive, number_below_top}
+use Rattle.model_rules.specs.model_machine.specs.Row.{operand}
 use Rattle.model_prove.specs.Sets.{Set, numbers_from}
 use Rattle.model_prove.specs.Facts.{Facts, values_at}
 use Rattle.model_prove.specs.Keys.{PlaceKey, Start, Delegated, OfClass, Call}

@@ -1,19 +1,19 @@
 -- The outcomes of the instruction at a place: by its row's causes and shape for each combination of the bytes that decide
 -- it, with the facts of the bytes that it moves, and the digits rule for those that it works on.
 use Rattle.std.specs.Prelude.{ℕ, suc, ◌+◌, ◌-◌, Bool, true, false, cond, not, ◌&&◌, ◌||◌, nat_lt, nat_le, ◌==◌, List, [], ◌∷◌, ◌++◌, length, map, flat_map, filter, reverse, replicate, Option, Some, None, Result, Ok, Err}
-use Rattle.model_machine.specs.declared.instruction.Ins.{Ins}
-use Rattle.model_machine.specs.declared.instruction.DecodeFault.{DecodeFault}
-use Rattle.model_machine.specs.declared.instruction.DecodeFault.TheVariants.{Undefined, Past}
-use Rattle.model_machine.specs.declared.machine.Abend.{Abend}
-use Rattle.model_machine.specs.declared.machine.Abend.TheVariants.{A01, A02, A03, A04, A05, A06, A07, A08, A09, A0A}
-use Rattle.model_device.specs.Bytes.{num, bytes2, zeros}
-use Rattle.model_machine.specs.Code.{instruction_at}
-use Rattle.model_machine.specs.Frame.{Frame, dynamic_base, public_base, is_outside, no_return}
-use Rattle.model_machine.specs.Primitives.{Around, Then, Goes, Exits, Delegates, Primitive, DelegatorAid, primitive}
-use Rattle.model_machine.specs.Row.{causes, first_cause}
-use Rattle.model_machine.specs.Chain.{frame_at}
-use Rattle.model_machine.specs.declared.instruction.Ins.TheVariants as ins
-use Rattle.law_rows.specs.Shapes.{Act, Stays, Answers, Jumps, Calls, Returns, Pushes, Replaces, Writes, Protects, Shape, shape}
+use Rattle.model_rules.specs.model_machine.specs.declared.instruction.Ins.{Ins}
+use Rattle.model_rules.specs.model_machine.specs.declared.instruction.DecodeFault.{DecodeFault}
+use Rattle.model_rules.specs.model_machine.specs.declared.instruction.DecodeFault.TheVariants.{Undefined, Past}
+use Rattle.model_rules.specs.model_machine.specs.declared.machine.Abend.{Abend}
+use Rattle.model_rules.specs.model_machine.specs.declared.machine.Abend.TheVariants.{A01, A02, A03, A04, A05, A06, A07, A08, A09, A0A}
+use Rattle.model_rules.specs.model_device.specs.Bytes.{num, bytes2, zeros}
+use Rattle.model_rules.specs.model_machine.specs.Code.{instruction_at}
+use Rattle.model_rules.specs.model_machine.specs.Frame.{Frame, dynamic_base, public_base, is_outside, no_return}
+use Rattle.model_rules.specs.model_machine.specs.Primitives.{Around, Then, Goes, Exits, Delegates, Primitive, DelegatorAid, primitive}
+use Rattle.model_rules.specs.model_machine.specs.Row.{causes, first_cause}
+use Rattle.model_rules.specs.model_machine.specs.Chain.{frame_at}
+use Rattle.model_rules.specs.model_machine.specs.declared.instruction.Ins.TheVariants as ins
+use Rattle.model_rules.specs.law_rows.specs.Shapes.{Act, Stays, Answers, Jumps, Calls, Returns, Pushes, Replaces, Writes, Protects, Shape, shape}
 use Rattle.model_rules.specs.Keeping.{Amounts}
 use Rattle.model_prove.specs.Sets.{Set, is_in, all_bytes, common, is_empty, union, numbers_from}
 use Rattle.model_prove.specs.Facts.{Facts, values_at, values_from, know, know_all, know_bytes, within, without_bytes, narrow, narrow_all}

@@ -1,9 +1,9 @@
 -- The tables: when they are closed under every outcome, the least ones, what they break, and the text of a proof.
 use Rattle.std.specs.Prelude.{◌≡◌, ℕ, zero, suc, ◌+◌, ◌-◌, ◌/◌, ◌<◌, ◌≤◌, Bool, true, false, cond, not, ◌&&◌, ◌||◌, nat_lt, nat_le, ◌==◌, List, [], ◌∷◌, ◌++◌, length, map, flat_map, filter, codes, decimal, Option, Some, None, Result, Ok, Err}
-use Rattle.model_device.specs.Bytes.{AreBytes, bytes2}
-use Rattle.model_device.specs.Card.{App}
-use Rattle.model_text.specs.Listing.{hex_text}
-use Rattle.model_machine.specs.Frame.{dynamic_base, dynamic_end}
+use Rattle.model_rules.specs.model_device.specs.Bytes.{AreBytes, bytes2}
+use Rattle.model_rules.specs.model_device.specs.Card.{App}
+use Rattle.model_rules.specs.model_text.specs.Listing.{hex_text}
+use Rattle.model_rules.specs.model_machine.specs.Frame.{dynamic_base, dynamic_end}
 use Rattle.model_rules.specs.Rules.{OnLine, Range, Target, AppRules}
 use Rattle.model_rules.specs.Reading.{RuleCause, app_rules_read}
 use Rattle.model_rules.specs.Keeping.{Amounts, Break, ByLine, ByAbend}

@@ -1,10 +1,10 @@
 -- Which patterns a text that is known in part can match: patterns are followed character by character, each as the list
 -- of what is left of it on every way that is still open.
 use Rattle.std.specs.Prelude.{ℕ, zero, suc, ◌+◌, Bool, true, false, cond, not, ◌&&◌, ◌||◌, ◌==◌, List, [], ◌∷◌, ◌++◌, length, map, flat_map, filter, bytes_eq, codes, Option, Some, None}
-use Rattle.model_device.specs.Bytes.{has_name}
-use Rattle.model_text.specs.Listing.{hex_text}
-use Rattle.model_play.specs.Patterns.{is_star, is_any}
-use Rattle.law_explore.specs.Matching.{plain}
+use Rattle.model_rules.specs.model_device.specs.Bytes.{has_name}
+use Rattle.model_rules.specs.model_text.specs.Listing.{hex_text}
+use Rattle.model_rules.specs.model_play.specs.Patterns.{is_star, is_any}
+use Rattle.model_rules.specs.law_explore.specs.Matching.{plain}
 use Rattle.model_prove.specs.Sets.{Set}
 use Rattle.model_prove.specs.Keys.{same_lists}
 

@@ -1,13 +1,13 @@
 -- What a row does to the bytes that it works on, beside its shape: the bytes that it writes or pushes are those of the
 -- shape, copies, the result of a digitwise operation, have no fact, or have none behind a first byte, their number.
 use Rattle.std.specs.Prelude.{ℕ, ◌+◌, ◌-◌, ◌*◌, Bool, true, false, cond, not, ◌==◌, nat_lt, List, [], ◌∷◌, ◌++◌, length, take, drop, slice_index, replicate, Option, Some, None}
-use Rattle.model_machine.specs.declared.instruction.Ins.{Ins}
-use Rattle.model_machine.specs.declared.instruction.Ins.TheVariants as ins
-use Rattle.model_device.specs.Bytes.{bytes2, bytes, zeros}
-use Rattle.model_machine.specs.Blocks.{not_block}
-use Rattle.model_machine.specs.Frame.{Frame, address_at}
-use Rattle.model_machine.specs.Primitives.{Primitive, CheckCase, LoadCcr, StoreCcr, Lookup, MemoryCompare, MemoryCopy, DelegateTo, DelegatorAid, Digest, CompareFixed, CopyFixed, SetProtection, Encipher, Decipher, Sign, BitByte, ShiftLeft, ShiftRight, BitWord, primitive, number_below_top, count_at}
-use Rattle.model_machine.specs.Row.{place_of}
+use Rattle.model_rules.specs.model_machine.specs.declared.instruction.Ins.{Ins}
+use Rattle.model_rules.specs.model_machine.specs.declared.instruction.Ins.TheVariants as ins
+use Rattle.model_rules.specs.model_device.specs.Bytes.{bytes2, bytes, zeros}
+use Rattle.model_rules.specs.model_machine.specs.Blocks.{not_block}
+use Rattle.model_rules.specs.model_machine.specs.Frame.{Frame, address_at}
+use Rattle.model_rules.specs.model_machine.specs.Primitives.{Primitive, CheckCase, LoadCcr, StoreCcr, Lookup, MemoryCompare, MemoryCopy, DelegateTo, DelegatorAid, Digest, CompareFixed, CopyFixed, SetProtection, Encipher, Decipher, Sign, BitByte, ShiftLeft, ShiftRight, BitWord, primitive, number_below_top, count_at}
+use Rattle.model_rules.specs.model_machine.specs.Row.{place_of}
 use Rattle.model_prove.specs.Digits.{Operation, Plus, Minus, And, Or, Xor}
 
 -- the second operand of an operation: n bytes at an address, or these

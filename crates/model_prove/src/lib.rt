@@ -4,3 +4,5 @@
 mod laws;
 mod rows;
 mod set_rows;
+
+pub use model_rules::model_machine;

@@ -1,11 +1,11 @@
 -- A covering under which no rule is broken keeps the rules along every play.
 use Rattle.std.proofs.Common.{◌≡◌, ℕ, Bool, true, false, not, List, [], ◌∷◌, Option, Some, None, Result, Ok, Err, refl, sym, subst}
 use Rattle.std.specs.Prelude.{bytes_eq, is_ok}
-use Rattle.model_device.specs.Bytes.{lookup}
-use Rattle.model_device.specs.Card.{App}
-use Rattle.model_device.specs.PowerUp.{Base, OnCard, AtFault}
-use Rattle.model_card.specs.Manager.{Selected}
-use Rattle.model_play.specs.Play.{Live, Running, Unpowered, Muted, Warm, State, BeforePower, AfterPower, Step, plays, start}
+use Rattle.law_explore.specs.model_device.specs.Bytes.{lookup}
+use Rattle.law_explore.specs.model_device.specs.Card.{App}
+use Rattle.law_explore.specs.model_device.specs.PowerUp.{Base, OnCard, AtFault}
+use Rattle.law_explore.specs.model_card.specs.Manager.{Selected}
+use Rattle.law_explore.specs.model_play.specs.Play.{Live, Running, Unpowered, Muted, Warm, State, BeforePower, AfterPower, Step, plays, start}
 use Rattle.law_promise.specs.History.{after_step}
 use Rattle.law_promise.specs.Along.{stopped_step, OnApp, OnFixed}
 use Rattle.law_promise.specs.Domain.{IdleCovered, CoveredIf, SelectedCovered, LiveCovered, BaseCovered, StateCovered, LineCovered, AlongWrites}

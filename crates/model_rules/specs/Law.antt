@@ -2,11 +2,11 @@
 -- holds. It has the shape of the law of promises, over the history of the rules.
 use Rattle.std.specs.Prelude.{◌≡◌, ℕ, true, false, List, [], Option, Some, None, ⊤}
 use Rattle.std.specs.List.{AllByRecursion}
-use Rattle.model_device.specs.Device.{IsImage}
-use Rattle.model_machine.specs.Frame.{Frame}
-use Rattle.model_play.specs.DeckGrammar.{DeckLine}
-use Rattle.model_play.specs.Play.{FailedWrite, Step, plays, start}
-use Rattle.model_play.specs.ReadyAgain.{IsLine}
+use Rattle.law_explore.specs.model_device.specs.Device.{IsImage}
+use Rattle.law_explore.specs.model_machine.specs.Frame.{Frame}
+use Rattle.law_explore.specs.model_play.specs.DeckGrammar.{DeckLine}
+use Rattle.law_explore.specs.model_play.specs.Play.{FailedWrite, Step, plays, start}
+use Rattle.law_explore.specs.model_play.specs.ReadyAgain.{IsLine}
 use Rattle.law_promise.specs.Along.{OnFixed}
 use Rattle.law_promise.specs.Outline.{Entry}
 use Rattle.law_promise.specs.Domain.{Domain, IsSound, AlongWrites}

@@ -2,17 +2,17 @@
 -- refusals in their order, after the deck's own. One whose first field is longer is refused, so that no rule is taken for
 -- a comment.
 use Rattle.std.specs.Prelude.{ℕ, suc, ◌-◌, ℤ, pos, negsuc, Bool, true, false, cond, not, ◌&&◌, ◌||◌, nat_lt, nat_le, ◌==◌, List, [], ◌∷◌, ◌++◌, length, bytes_eq, codes, is_some, is_none, ok_or, Option, Some, None, Result, Ok, Err}
-use Rattle.model_device.specs.Bytes.{lookup, zeros}
-use Rattle.model_text.specs.Text.{◌>>=◌, ok_as, err_as, only_if, is_empty, pieces, lines, with_numbers, fields}
-use Rattle.model_text.specs.Assembly.{natural, signed_number}
-use Rattle.model_machine.specs.Primitives.{entry_of_number}
-use Rattle.model_card.specs.declared.card.Sizes.{Sizes}
-use Rattle.model_card.specs.Units.{UnitParts}
-use Rattle.model_card.specs.Manager.{fits_limits}
-use Rattle.model_play.specs.declared.deck.DeckCause.{DeckCause}
-use Rattle.model_play.specs.declared.deck.DeckCause.TheVariants.{BadLine, BadNumber, OutOfRange, NameTwice, UnknownName}
-use Rattle.model_play.specs.DeckGrammar.{DeckLine, name_field, number_field, deck_read}
-use Rattle.model_play.specs.DeckGrammar as line
+use Rattle.law_explore.specs.model_device.specs.Bytes.{lookup, zeros}
+use Rattle.law_explore.specs.model_text.specs.Text.{◌>>=◌, ok_as, err_as, only_if, is_empty, pieces, lines, with_numbers, fields}
+use Rattle.law_explore.specs.model_text.specs.Assembly.{natural, signed_number}
+use Rattle.law_explore.specs.model_machine.specs.Primitives.{entry_of_number}
+use Rattle.law_explore.specs.model_card.specs.declared.card.Sizes.{Sizes}
+use Rattle.law_explore.specs.model_card.specs.Units.{UnitParts}
+use Rattle.law_explore.specs.model_card.specs.Manager.{fits_limits}
+use Rattle.law_explore.specs.model_play.specs.declared.deck.DeckCause.{DeckCause}
+use Rattle.law_explore.specs.model_play.specs.declared.deck.DeckCause.TheVariants.{BadLine, BadNumber, OutOfRange, NameTwice, UnknownName}
+use Rattle.law_explore.specs.model_play.specs.DeckGrammar.{DeckLine, name_field, number_field, deck_read}
+use Rattle.law_explore.specs.model_play.specs.DeckGrammar as line
 use Rattle.law_explore.specs.Rules.{Parts, parts_of, full_parts, name_and_amount, begins_with, stays_inside, marked_lines}
 use Rattle.model_rules.specs.Rules.{Trigger, AtTurn, AtCommand, AtAnswer, AtSession, Action, Allows, Spends, Needs, Amount, Constant, PublicBytes, Target, AppRules, no_app_rules}
 

@@ -6,4 +6,5 @@ mod play_rows;
 mod refusal_rows;
 mod rule;
 
+pub use law_explore::model_machine;
 pub use rule::{RuleAnalysis, covers};

@@ -2,7 +2,7 @@
 
 // Worked rows: what is refused of rules, and in which order. The rules begin at line 9.
 ghost use Rattle.std.specs.Prelude.{◌≡◌, ◌++◌, [], ◌∷◌, codes};
-ghost use Rattle.model_play.specs.declared.deck.DeckCause.TheVariants.{
+ghost use Rattle.law_explore.specs.model_play.specs.declared.deck.DeckCause.TheVariants.{
   BadLine,
   BadName,
   BadNumber,

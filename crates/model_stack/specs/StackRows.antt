@@ -1,11 +1,11 @@
 -- What each instruction does to the shape of the stack: the bytes that it needs, pops and pushes, where it writes, and
 -- where it goes.
 use Rattle.std.specs.Prelude.{ℕ, suc, ◌+◌, ◌-◌, ◌*◌, Bool, true, false, cond, not, ◌&&◌, ◌||◌, nat_lt, nat_le, ◌==◌, ℤ, pos, negsuc, List, slice_index, Option, Some, None, is_none}
-use Rattle.model_machine.specs.declared.instruction.Ins.{Ins}
-use Rattle.model_machine.specs.declared.instruction.Ins.TheVariants as ins
-use Rattle.model_machine.specs.Frame.{moved_address}
-use Rattle.model_machine.specs.Primitives.{Primitive, CheckCase, LoadCcr, StoreCcr, Lookup, MemoryCompare, MemoryCopy, DelegateTo, DelegatorAid, Digest, CompareFixed, CopyFixed, SetProtection, Encipher, Decipher, Sign, BitByte, ShiftLeft, ShiftRight, BitWord, primitive, has_bad_argument, in_range}
-use Rattle.model_machine.specs.Row.{on_stack}
+use Rattle.model_text.specs.model_machine.specs.declared.instruction.Ins.{Ins}
+use Rattle.model_text.specs.model_machine.specs.declared.instruction.Ins.TheVariants as ins
+use Rattle.model_text.specs.model_machine.specs.Frame.{moved_address}
+use Rattle.model_text.specs.model_machine.specs.Primitives.{Primitive, CheckCase, LoadCcr, StoreCcr, Lookup, MemoryCompare, MemoryCopy, DelegateTo, DelegatorAid, Digest, CompareFixed, CopyFixed, SetProtection, Encipher, Decipher, Sign, BitByte, ShiftLeft, ShiftRight, BitWord, primitive, has_bad_argument, in_range}
+use Rattle.model_text.specs.model_machine.specs.Row.{on_stack}
 
 -- ---- the table of instructions
 

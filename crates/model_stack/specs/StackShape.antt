@@ -2,10 +2,10 @@
 use Rattle.std.specs.Prelude.{◌≡◌, ◌≢◌, ◌⊎◌, ℕ, ◌+◌, ◌-◌, ◌<◌, ◌≤◌, Bool, true, false, cond, not, ◌&&◌, nat_lt, List, [], ◌∷◌, length, Some, None, is_some, Result, Ok, Err}
 use Rattle.model_text.specs.declared.checker.CheckCause.{CheckCause}
 use Rattle.model_text.specs.declared.checker.CheckCause.TheVariants.{Undefined, Past, Indirect, Returns, Under, Target, Recursive, Heights, Wild, Deep}
-use Rattle.model_machine.specs.declared.instruction.DecodeFault.{DecodeFault}
-use Rattle.model_machine.specs.declared.instruction.DecodeFault.TheVariants as fault
-use Rattle.model_machine.specs.declared.instruction.Ins.{Ins}
-use Rattle.model_machine.specs.Code.{instruction_at}
+use Rattle.model_text.specs.model_machine.specs.declared.instruction.DecodeFault.{DecodeFault}
+use Rattle.model_text.specs.model_machine.specs.declared.instruction.DecodeFault.TheVariants as fault
+use Rattle.model_text.specs.model_machine.specs.declared.instruction.Ins.{Ins}
+use Rattle.model_text.specs.model_machine.specs.Code.{instruction_at}
 use Rattle.model_stack.specs.StackRows.{need, height_after, writing, is_plain, is_indirect, is_call, is_conditional, counts, goes_on, jump_target, call_target, places_inside}
 
 -- ---- facts

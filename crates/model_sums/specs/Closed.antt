@@ -1,14 +1,14 @@
 -- When a table of sums is closed beside tables of facts: each place says no more of sums than what leads to it, and
 -- totals are not off where what power leaves changes.
 use Rattle.std.specs.Prelude.{ℕ, ◌+◌, ◌-◌, Bool, true, false, cond, not, ◌&&◌, ◌||◌, nat_le, ◌==◌, List, [], ◌∷◌, ◌++◌, length, map, flat_map, bytes_eq, Option, Some, None, Result, Ok, Err}
-use Rattle.model_machine.specs.declared.instruction.Ins.{Ins}
-use Rattle.model_machine.specs.declared.instruction.DecodeFault.{DecodeFault}
-use Rattle.model_machine.specs.Code.{instruction_at}
-use Rattle.model_machine.specs.Primitives.{Around, Then, Exits}
-use Rattle.model_machine.specs.Chain.{frame_at}
-use Rattle.law_rows.specs.Shapes.{Shape, shape}
-use Rattle.model_rules.specs.Rules.{SumLine, Total, AppRules}
-use Rattle.model_rules.specs.Keeping.{Amounts, Break, OnTurn, after_occasion, line_of, mode_of, first_sums, are_totals}
+use Rattle.model_prove.specs.model_machine.specs.declared.instruction.Ins.{Ins}
+use Rattle.model_prove.specs.model_machine.specs.declared.instruction.DecodeFault.{DecodeFault}
+use Rattle.model_prove.specs.model_machine.specs.Code.{instruction_at}
+use Rattle.model_prove.specs.model_machine.specs.Primitives.{Around, Then, Exits}
+use Rattle.model_prove.specs.model_machine.specs.Chain.{frame_at}
+use Rattle.model_prove.specs.law_rows.specs.Shapes.{Shape, shape}
+use Rattle.model_prove.specs.model_rules.specs.Rules.{SumLine, Total, AppRules}
+use Rattle.model_prove.specs.model_rules.specs.Keeping.{Amounts, Break, OnTurn, after_occasion, line_of, mode_of, first_sums, are_totals}
 use Rattle.model_prove.specs.Facts.{Facts}
 use Rattle.model_prove.specs.Keys.{PlaceKey, MomentKey, Known, Tables, same_amounts}
 use Rattle.model_prove.specs.Splits.{Scene, stand_in, with_values, deciders, later_deciders, Choice, combinations, few_combinations}

@@ -1,18 +1,18 @@
 -- Tables of sums of small applications, checked: what worked rows compute.
 use Rattle.std.specs.Prelude.{ℕ, zero, suc, Bool, true, false, cond, ◌==◌, List, [], ◌∷◌, map, flat_map, Option, Some, None, Result, Ok, Err}
 use Rattle.std.specs.Fmt.{digits}
-use Rattle.model_device.specs.Pieces.{touched_words}
-use Rattle.model_machine.specs.Apdu.{apdu_read}
-use Rattle.model_machine.specs.Frame.{dynamic_base, bytes_at, write_effect, too_many}
-use Rattle.model_machine.specs.Primitives.{later_causes}
-use Rattle.model_machine.specs.Row.{causes}
-use Rattle.model_card.specs.Units.{name_of}
-use Rattle.model_text.specs.TurnText.{turn_line}
-use Rattle.model_play.specs.DeckGrammar.{deck_read}
-use Rattle.law_rows.specs.Shapes.{shape, prim_shape}
-use Rattle.law_explore.specs.Matching.{fits}
-use Rattle.model_rules.specs.Rules.{Target, Total, AppRules}
-use Rattle.model_rules.specs.Reading.{RuleCause, app_rules_read}
+use Rattle.model_prove.specs.model_device.specs.Pieces.{touched_words}
+use Rattle.model_prove.specs.model_machine.specs.Apdu.{apdu_read}
+use Rattle.model_prove.specs.model_machine.specs.Frame.{dynamic_base, bytes_at, write_effect, too_many}
+use Rattle.model_prove.specs.model_machine.specs.Primitives.{later_causes}
+use Rattle.model_prove.specs.model_machine.specs.Row.{causes}
+use Rattle.model_prove.specs.model_card.specs.Units.{name_of}
+use Rattle.model_prove.specs.model_text.specs.TurnText.{turn_line}
+use Rattle.model_prove.specs.model_play.specs.DeckGrammar.{deck_read}
+use Rattle.model_prove.specs.law_rows.specs.Shapes.{shape, prim_shape}
+use Rattle.model_prove.specs.law_explore.specs.Matching.{fits}
+use Rattle.model_prove.specs.model_rules.specs.Rules.{Target, Total, AppRules}
+use Rattle.model_prove.specs.model_rules.specs.Reading.{RuleCause, app_rules_read}
 use Rattle.model_prove.specs.Facts.{Facts}
 use Rattle.model_prove.specs.Keys.{OfClass, PlaceKey, Known, Tables}
 use Rattle.model_prove.specs.Arrivals.{Setting, Arrival, AtPlace}

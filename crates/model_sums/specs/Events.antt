@@ -1,8 +1,8 @@
 -- How the event of an instruction moves what is known for sums, and where totals are asked.
 use Rattle.std.specs.Prelude.{ℕ, ◌+◌, ◌-◌, nat_le, Bool, true, false, cond, not, ◌&&◌, ◌||◌, ◌==◌, List, [], ◌∷◌, bytes_eq, Option, Some, None}
-use Rattle.model_machine.specs.Frame.{public_base, public_end}
-use Rattle.law_explore.specs.Matching.{fits}
-use Rattle.model_rules.specs.Rules.{Amount, Constant, PublicBytes, SumLine, Total}
+use Rattle.model_prove.specs.model_machine.specs.Frame.{public_base, public_end}
+use Rattle.model_prove.specs.law_explore.specs.Matching.{fits}
+use Rattle.model_prove.specs.model_rules.specs.Rules.{Amount, Constant, PublicBytes, SumLine, Total}
 use Rattle.model_prove.specs.Digits.{same}
 use Rattle.model_sums.specs.Forms.{Form, number}
 use Rattle.model_sums.specs.Origins.{Origins, origins_from, form_of}

@@ -1,12 +1,12 @@
 -- Where what is known for sums goes with a row, by its act and by what it works on.
 use Rattle.std.specs.Prelude.{ℕ, suc, ◌+◌, ◌-◌, ◌*◌, Bool, true, false, cond, not, ◌&&◌, ◌||◌, nat_lt, nat_le, ◌==◌, List, [], ◌∷◌, ◌++◌, length, map, flat_map, filter, Option, Some, None}
-use Rattle.model_machine.specs.declared.instruction.Ins.{Ins}
-use Rattle.model_machine.specs.declared.instruction.Ins.TheVariants as ins
-use Rattle.model_device.specs.Bytes.{num}
-use Rattle.model_machine.specs.Frame.{Frame, dynamic_base, dynamic_end, public_base, public_end}
-use Rattle.model_machine.specs.Primitives.{Then, Goes, Exits, Delegates}
-use Rattle.law_rows.specs.Shapes.{Act, Stays, Answers, Jumps, Calls, Returns, Pushes, Replaces, Writes, Protects, Shape}
-use Rattle.model_rules.specs.Rules.{Total}
+use Rattle.model_prove.specs.model_machine.specs.declared.instruction.Ins.{Ins}
+use Rattle.model_prove.specs.model_machine.specs.declared.instruction.Ins.TheVariants as ins
+use Rattle.model_prove.specs.model_device.specs.Bytes.{num}
+use Rattle.model_prove.specs.model_machine.specs.Frame.{Frame, dynamic_base, dynamic_end, public_base, public_end}
+use Rattle.model_prove.specs.model_machine.specs.Primitives.{Then, Goes, Exits, Delegates}
+use Rattle.model_prove.specs.law_rows.specs.Shapes.{Act, Stays, Answers, Jumps, Calls, Returns, Pushes, Replaces, Writes, Protects, Shape}
+use Rattle.model_prove.specs.model_rules.specs.Rules.{Total}
 use Rattle.model_prove.specs.Sets.{numbers_from}
 use Rattle.model_prove.specs.Digits.{Operation, Plus, Minus, And, Or, Xor}
 use Rattle.model_prove.specs.Keys.{PlaceKey}

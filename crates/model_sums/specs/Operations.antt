@@ -1,6 +1,6 @@
 -- By how much operations move their first operand.
 use Rattle.std.specs.Prelude.{ℕ, Option, Some, None}
-use Rattle.model_device.specs.Bytes.{num}
+use Rattle.model_prove.specs.model_device.specs.Bytes.{num}
 use Rattle.model_prove.specs.Digits.{Operation, Plus, Minus, And, Or, Xor}
 use Rattle.model_prove.specs.Work.{Operand, AtAddress, These}
 use Rattle.model_sums.specs.Forms.{Form, number}

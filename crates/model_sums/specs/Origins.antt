@@ -1,6 +1,6 @@
 -- Origins: where a byte comes from, by which a number in memory is a form.
 use Rattle.std.specs.Prelude.{ℕ, zero, suc, ◌+◌, ◌-◌, ◌*◌, ◌^◌, Bool, true, false, cond, not, ◌&&◌, ◌||◌, nat_lt, nat_le, ◌==◌, List, [], ◌∷◌, ◌++◌, length, map, filter, replicate, Option, Some, None}
-use Rattle.model_machine.specs.Frame.{dynamic_base, public_base}
+use Rattle.model_prove.specs.model_machine.specs.Frame.{dynamic_base, public_base}
 use Rattle.model_sums.specs.Forms.{Form, number, public_byte, plus, times}
 
 -- where a byte comes from: that is not known, it is a constant, or the public byte at a place as the frame began

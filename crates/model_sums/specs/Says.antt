@@ -2,9 +2,9 @@
 -- the application has them.
 use Rattle.std.specs.Prelude.{◌≡◌, ℕ, ◌+◌, ◌%◌, ◌^◌, Bool, true, false, cond, List, [], ◌∷◌, slice_index, Option, Some, None, ⊤}
 use Rattle.std.specs.List.{AllByRecursion}
-use Rattle.model_device.specs.Bytes.{num}
-use Rattle.model_rules.specs.Rules.{Total}
-use Rattle.model_rules.specs.Keeping.{Sum, Standing, added_by, taken_by, are_totals}
+use Rattle.model_prove.specs.model_device.specs.Bytes.{num}
+use Rattle.model_prove.specs.model_rules.specs.Rules.{Total}
+use Rattle.model_prove.specs.model_rules.specs.Keeping.{Sum, Standing, added_by, taken_by, are_totals}
 use Rattle.model_prove.specs.Facts.{Memory}
 use Rattle.model_prove.specs.Compares.{bytes_from}
 use Rattle.model_sums.specs.Forms.{Form, value}

@@ -1,7 +1,7 @@
 -- What is known for sums at a place: origins of bytes, loaded blocks, and by how much the block of each total is off.
 -- It stands beside the facts of the place and is in no key; moments have none, as each total holds between commands.
 use Rattle.std.specs.Prelude.{ℕ, Bool, true, false, cond, ◌&&◌, ◌||◌, ◌==◌, List, [], ◌∷◌, map, Option, Some, None}
-use Rattle.model_rules.specs.Rules.{Total}
+use Rattle.model_prove.specs.model_rules.specs.Rules.{Total}
 use Rattle.model_prove.specs.Keys.{PlaceKey, same_places}
 use Rattle.model_sums.specs.Forms.{Form, number, is_zero, same_forms}
 use Rattle.model_sums.specs.Origins.{Origins, origins_follow}

@@ -1,8 +1,8 @@
 -- What is known for sums after bytes were written, popped or loaded: origins go with bytes, a block that is written as
 -- a whole moves, and every other write ends what it touches.
 use Rattle.std.specs.Prelude.{ℕ, ◌+◌, Bool, true, false, cond, not, ◌&&◌, ◌||◌, nat_le, ◌==◌, List, [], ◌∷◌, length, flat_map, filter, Option, Some, None}
-use Rattle.model_machine.specs.Frame.{public_base}
-use Rattle.model_rules.specs.Rules.{Total}
+use Rattle.model_prove.specs.model_machine.specs.Frame.{public_base}
+use Rattle.model_prove.specs.model_rules.specs.Rules.{Total}
 use Rattle.model_prove.specs.Compares.{meet}
 use Rattle.model_sums.specs.Forms.{Form, number, plus, negative}
 use Rattle.model_sums.specs.Origins.{Origin, unknowns, with_origins, origins_below, without_public}

@@ -1,6 +1,6 @@
 // Worked rows: forms, origins, blocks that move, events.
 ghost use Rattle.std.specs.Prelude.{◌≡◌, [], ◌∷◌, true, false, Some, None};
-ghost use Rattle.model_rules.specs.Rules.{Constant, PublicBytes};
+ghost use Rattle.model_prove.specs.model_rules.specs.Rules.{Constant, PublicBytes};
 ghost use Rattle.model_prove.specs.Digits.{Minus};
 ghost use Rattle.model_prove.specs.Work.{AtAddress};
 ghost use Rattle.model_sums.specs.Forms.{number, public_byte, plus, minus, times, is_zero, same_forms};

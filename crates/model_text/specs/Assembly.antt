@@ -4,8 +4,8 @@ use Rattle.model_text.specs.declared.assembler.AsmCause.{AsmCause}
 use Rattle.model_text.specs.declared.assembler.AsmCause.TheVariants.{UnknownWord, BadOperands, BadNumber, OutOfRange, LabelTwice, TooLong, UnknownLabel, FarBranch}
 use Rattle.model_machine.specs.declared.instruction.Ins.{Ins}
 use Rattle.model_machine.specs.declared.instruction.Ins.TheVariants.{Nop, Setsw, Setla, Setswla, Exit, Exitsw, Exitla, Exitswla, Branch, Jump, Call, Pushz, Pushb, Pushw, Popn, Popb, Popw, Prim, Ret, Reti, Reto, Retio, Load, Store, Loadi, Storei, Loada, Index, Setb, Cmpb, Addb, Subb, Setw, Cmpw, Addw, Subw, Clearn, Testn, Incn, Decn, Notn, Cmpn, Addn, Subn, Andn, Orn, Xorn}
-use Rattle.model_device.specs.Limits.{most_code}
-use Rattle.model_device.specs.Bytes.{zeros, lookup}
+use Rattle.model_machine.specs.model_device.specs.Limits.{most_code}
+use Rattle.model_machine.specs.model_device.specs.Bytes.{zeros, lookup}
 use Rattle.model_text.specs.Text.{◌>>=◌, ok_as, err_as, only_if, pieces, first_cut, begins, lines, with_numbers, is_blank, is_empty, trim, is_within, is_digit, is_name, digits_onto, decimal_number, hex_values}
 use Rattle.model_machine.specs.Code.{spell}
 use Rattle.model_text.specs.Listing.{condition_names, register_names}

@@ -4,3 +4,6 @@ pub mod Assembly
 pub mod AsmWords
 pub mod CheckWords
 pub mod TurnText
+-- the libraries below that those above cite through this one
+pub use Rattle.model_machine.specs.model_device as model_device
+pub use Rattle.model_machine as model_machine

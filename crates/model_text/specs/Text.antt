@@ -1,6 +1,6 @@
 -- Texts: lines, fields, names and numbers, hexadecimal digits, and code that is written in them.
 use Rattle.std.specs.Prelude.{ℕ, suc, ◌+◌, ◌-◌, ◌*◌, Bool, true, false, cond, not, ◌&&◌, ◌||◌, nat_le, ◌==◌, List, [], ◌∷◌, ◌++◌, map, length, filter, Option, Some, None, option_map, option_and_then, ok_or, Result, Ok, Err}
-use Rattle.model_device.specs.Limits.{most_code}
+use Rattle.model_machine.specs.model_device.specs.Limits.{most_code}
 
 -- ---- results in turn
 

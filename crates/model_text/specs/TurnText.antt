@@ -1,7 +1,7 @@
 -- The line of an executed instruction in a trace.
 use Rattle.std.specs.Prelude.{ℕ, ◌+◌, Bool, cond, List, [], ◌∷◌, ◌++◌, Option, Some, None, codes}
 use Rattle.model_machine.specs.declared.instruction.Ins.{Ins}
-use Rattle.model_device.specs.Bytes.{bytes2}
+use Rattle.model_machine.specs.model_device.specs.Bytes.{bytes2}
 use Rattle.model_text.specs.Listing.{text_of, hex_text}
 use Rattle.model_machine.specs.Chain.{Turn}
 

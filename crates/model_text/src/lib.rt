@@ -7,3 +7,4 @@ mod checker;
 
 pub use assembler::AsmCause;
 pub use checker::CheckCause;
+pub use model_machine;

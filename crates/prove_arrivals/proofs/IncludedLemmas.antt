@@ -3,9 +3,9 @@ use Rattle.std.specs.Prelude.{◌≡◌, ℕ, ◌+◌, ◌<◌, ◌≤◌, Bool,
 use Rattle.std.proofs.Common.{ap, sym, subst, refl}
 use Rattle.std.proofs.lemmas.Bool.{and_parts, and_from}
 use Rattle.std.proofs.lemmas.List.{drop_more, drop_all}
-use Rattle.model_prove.specs.Keys.{Tables}
-use Rattle.model_prove.specs.Arrivals.{Arrival}
-use Rattle.model_prove.specs.Tables.{includes, includes_all}
+use Rattle.prove_facts.specs.model_prove.specs.Keys.{Tables}
+use Rattle.prove_facts.specs.model_prove.specs.Arrivals.{Arrival}
+use Rattle.prove_facts.specs.model_prove.specs.Tables.{includes, includes_all}
 
 -- one outcome
 pub one_included : (t : Tables) (a : Arrival) → includes t a ≡ true → includes_all t (a ∷ []) ≡ true

@@ -4,9 +4,9 @@ use Rattle.std.specs.Prelude.{◌&&◌, nat_eq}
 use Rattle.std.specs.Cmp.Lexicographic.{pointwise}
 use Rattle.std.proofs.lemmas.Bool.{and_parts, eqb-true, eq-eqb}
 use Rattle.std.proofs.lemmas.Slice.Eq.{slice_eq-Decides}
-use Rattle.model_prove.specs.Compares.{Compare}
-use Rattle.model_prove.specs.Facts.{Facts, within}
-use Rattle.model_prove.specs.Keys.{Known}
+use Rattle.prove_facts.specs.model_prove.specs.Compares.{Compare}
+use Rattle.prove_facts.specs.model_prove.specs.Facts.{Facts, within}
+use Rattle.prove_facts.specs.model_prove.specs.Keys.{Known}
 use Rattle.prove_facts.specs.declared.facts.Fact.{Fact}
 use Rattle.prove_facts.specs.Facts.{fact_of, facts_of}
 use Rattle.prove_facts.specs.Sets.{set_of, values_of}

@@ -1,19 +1,19 @@
 -- What outcomes are, from what the code found.
 use Rattle.std.specs.Prelude.{◌≡◌, ℕ, ◌+◌, ◌≤◌, Bool, true, false, not, cond, ◌&&◌, nat_lt, List, [], ◌∷◌, ◌++◌, length, flat_map, Option, Some, None, Result, Ok}
 use Rattle.std.proofs.Common.{ap, sym, subst, ◌∙◌, refl, arith}
-use Rattle.model_rules.specs.Keeping.{Amounts, Break, OnTurn, after_occasion, line_of}
-use Rattle.model_machine.specs.declared.instruction.Ins.{Ins}
-use Rattle.model_prove.specs.Keys.{Tables, Start, Delegated, OfClass, PlaceKey, Call}
-use Rattle.model_prove.specs.Arrivals.{Setting, Arrival, AtPlace, Lengths, arrive, depths, after_turn, exited, lengths_of, la_at, static_size}
-use Rattle.model_prove.specs.Tables.{includes, includes_all}
-use Rattle.model_prove.specs.Steps as steps
+use Rattle.prove_facts.specs.model_rules.specs.Keeping.{Amounts, Break, OnTurn, after_occasion, line_of}
+use Rattle.mc_arith.specs.model_machine.specs.declared.instruction.Ins.{Ins}
+use Rattle.prove_facts.specs.model_prove.specs.Keys.{Tables, Start, Delegated, OfClass, PlaceKey, Call}
+use Rattle.prove_facts.specs.model_prove.specs.Arrivals.{Setting, Arrival, AtPlace, Lengths, arrive, depths, after_turn, exited, lengths_of, la_at, static_size}
+use Rattle.prove_facts.specs.model_prove.specs.Tables.{includes, includes_all}
+use Rattle.prove_facts.specs.model_prove.specs.Steps as steps
 use Rattle.prove_spots.specs.Grounds.{Ground, spot_of}
-use Rattle.model_machine.specs.Frame.{Frame}
-use Rattle.model_machine.specs.Primitives.{Then, Goes, Exits, Delegates}
-use Rattle.law_rows.specs.Shapes.{Shape}
-use Rattle.model_prove.specs.Facts.{values_at}
-use Rattle.model_prove.specs.Reach.{Coarse}
-use Rattle.model_prove.specs.Work.{Work}
+use Rattle.mc_arith.specs.model_machine.specs.Frame.{Frame}
+use Rattle.mc_arith.specs.model_machine.specs.Primitives.{Then, Goes, Exits, Delegates}
+use Rattle.prove_facts.specs.law_rows.specs.Shapes.{Shape}
+use Rattle.prove_facts.specs.model_prove.specs.Facts.{values_at}
+use Rattle.prove_facts.specs.model_prove.specs.Reach.{Coarse}
+use Rattle.prove_facts.specs.model_prove.specs.Work.{Work}
 use Rattle.prove_keys.specs.declared.keys.Call as keys
 use Rattle.prove_keys.specs.Keys.{amounts_of, call_of, calls_of}
 use Rattle.prove_occasions.specs.Amounts.{AreAfter}

@@ -1,12 +1,12 @@
 -- What follows a row, in parts.
 use Rattle.std.specs.Prelude.{◌≡◌, ℕ, Bool, List, [], ◌∷◌, ◌++◌, flat_map, cond, Some}
-use Rattle.model_machine.specs.declared.instruction.Ins.{Ins}
-use Rattle.model_machine.specs.declared.machine.Abend.TheVariants.{A08}
-use Rattle.model_machine.specs.Primitives.{Then, Goes, Exits, Delegates}
-use Rattle.model_text.specs.Listing.{text_of}
-use Rattle.model_rules.specs.Keeping.{Amounts, OnTurn, after_occasion, line_of}
-use Rattle.model_prove.specs.Arrivals.{Setting, Arrival, arrive, stopped, abended, exited, fails, after_turn}
-use Rattle.model_prove.specs.Steps.{Spot, arrived, stops, delegate_abends, after_delegation, follows, settled_spot}
+use Rattle.mc_arith.specs.model_machine.specs.declared.instruction.Ins.{Ins}
+use Rattle.mc_arith.specs.model_machine.specs.declared.machine.Abend.TheVariants.{A08}
+use Rattle.mc_arith.specs.model_machine.specs.Primitives.{Then, Goes, Exits, Delegates}
+use Rattle.mc_isa.specs.model_text.specs.Listing.{text_of}
+use Rattle.prove_facts.specs.model_rules.specs.Keeping.{Amounts, OnTurn, after_occasion, line_of}
+use Rattle.prove_facts.specs.model_prove.specs.Arrivals.{Setting, Arrival, arrive, stopped, abended, exited, fails, after_turn}
+use Rattle.prove_facts.specs.model_prove.specs.Steps.{Spot, arrived, stops, delegate_abends, after_delegation, follows, settled_spot}
 use Rattle.prove_scenes.specs.ShapeValues.{next_value}
 use Rattle.prove_spots.specs.Grounds.{Ground}
 use Rattle.prove_arrivals.specs.declared.subject.Subject.{Subject}

@@ -1,8 +1,8 @@
 -- What follows an exit of a command, in parts.
 use Rattle.std.specs.Prelude.{ℕ, Bool, List, [], cond, get_or, None}
-use Rattle.model_machine.specs.declared.machine.Abend.TheVariants.{A09}
-use Rattle.model_prove.specs.Arrivals.{Setting, Arrival, arrive, after_answer, in_session, fails}
-use Rattle.model_prove.specs.Steps.{Spot}
+use Rattle.mc_arith.specs.model_machine.specs.declared.machine.Abend.TheVariants.{A09}
+use Rattle.prove_facts.specs.model_prove.specs.Arrivals.{Setting, Arrival, arrive, after_answer, in_session, fails}
+use Rattle.prove_facts.specs.model_prove.specs.Steps.{Spot}
 use Rattle.prove_keys.specs.Keys.{amounts_of}
 use Rattle.prove_spots.specs.Grounds.{Ground}
 use Rattle.prove_arrivals.specs.declared.subject.Subject.{Subject}

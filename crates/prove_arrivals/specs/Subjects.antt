@@ -1,9 +1,9 @@
 -- What a check of finished tables looks at, as the definition has it.
 use Rattle.std.specs.Prelude.{◌≡◌, ℕ, Bool, true, List, length, map}
-use Rattle.model_prove.specs.Keys.{Start, Known, Tables}
-use Rattle.model_prove.specs.Arrivals.{Setting, Arrival}
-use Rattle.model_prove.specs.Tables.{includes_all}
-use Rattle.model_prove.specs.Steps as steps
+use Rattle.prove_facts.specs.model_prove.specs.Keys.{Start, Known, Tables}
+use Rattle.prove_facts.specs.model_prove.specs.Arrivals.{Setting, Arrival}
+use Rattle.prove_facts.specs.model_prove.specs.Tables.{includes_all}
+use Rattle.prove_facts.specs.model_prove.specs.Steps as steps
 use Rattle.prove_events.specs.Rules.{AreLines}
 use Rattle.prove_events.specs.Rules as rules
 use Rattle.prove_keys.specs.declared.keys.Begun.{Begun}

@@ -1,14 +1,14 @@
 // Stops, abends and exits.
 ghost use Rattle.std.specs.Prelude.{◌≡◌, ℕ, true, List, [], get_or, IfOk};
-ghost use Rattle.model_prove.specs.Arrivals as arrivals;
-ghost use Rattle.model_prove.specs.Arrivals.{Setting};
+ghost use Rattle.prove_facts.specs.model_prove.specs.Arrivals as arrivals;
+ghost use Rattle.prove_facts.specs.model_prove.specs.Arrivals.{Setting};
 ghost use Rattle.prove_keys.specs.Keys.{amounts_of};
 ghost use Rattle.prove_arrivals.specs.Subjects.{Accepts, IsOver, classes_in, known_in, spot_in, start_in};
 
 use crate::landings::{idle, in_session};
 use crate::subject::Subject;
+use mc_arith::model_machine::Abend;
 use mc_base::NoMemory;
-use model_machine::Abend;
 use prove_facts::Facts;
 use prove_keys::Begun;
 use prove_occasions::{abend_results, after_answer, after_session};

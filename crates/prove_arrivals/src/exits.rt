@@ -1,10 +1,10 @@
 // What follows a row that exits.
 ghost use Rattle.std.specs.Prelude.{◌≡◌, ℕ, true, List, [], cond, IfOk};
-ghost use Rattle.model_machine.specs.declared.instruction.Ins.{Ins};
-ghost use Rattle.model_prove.specs.Arrivals as arrivals;
-ghost use Rattle.model_prove.specs.Arrivals.{Setting};
-ghost use Rattle.model_prove.specs.Facts.{values_at};
-ghost use Rattle.model_prove.specs.Steps as steps;
+ghost use Rattle.mc_arith.specs.model_machine.specs.declared.instruction.Ins.{Ins};
+ghost use Rattle.prove_facts.specs.model_prove.specs.Arrivals as arrivals;
+ghost use Rattle.prove_facts.specs.model_prove.specs.Arrivals.{Setting};
+ghost use Rattle.prove_facts.specs.model_prove.specs.Facts.{values_at};
+ghost use Rattle.prove_facts.specs.model_prove.specs.Steps as steps;
 ghost use Rattle.prove_patterns.specs.Lengths.{lengths_value};
 ghost use Rattle.prove_scenes.specs.ShapeValues.{next_value};
 ghost use Rattle.prove_arrivals.specs.Following.{IsText, spot_after, spot_before, turned_arrivals};
@@ -15,8 +15,8 @@ use crate::endings::fails;
 use crate::replies::LENGTH;
 use crate::subject::Subject;
 use crate::turns::{Row, turned};
+use mc_arith::model_machine::Abend;
 use mc_base::NoMemory;
-use model_machine::Abend;
 use prove_keys::Begun;
 use prove_patterns::{Lengths, lengths_of};
 use prove_scenes::Next;

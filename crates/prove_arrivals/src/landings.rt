@@ -1,10 +1,10 @@
 // The moments and the places to which outcomes lead.
 ghost use Rattle.std.specs.Prelude.{◌≡◌, ℕ, Bool, true, List, [], ◌∷◌, length, IfOk, IfSome};
-ghost use Rattle.model_prove.specs.Arrivals as arrivals;
-ghost use Rattle.model_prove.specs.Arrivals.{AtMoment, AtPlace, Setting};
-ghost use Rattle.model_prove.specs.Facts.{Facts, within};
-ghost use Rattle.model_prove.specs.Keys as known;
-ghost use Rattle.model_prove.specs.Tables.{includes};
+ghost use Rattle.prove_facts.specs.model_prove.specs.Arrivals as arrivals;
+ghost use Rattle.prove_facts.specs.model_prove.specs.Arrivals.{AtMoment, AtPlace, Setting};
+ghost use Rattle.prove_facts.specs.model_prove.specs.Facts.{Facts, within};
+ghost use Rattle.prove_facts.specs.model_prove.specs.Keys as known;
+ghost use Rattle.prove_facts.specs.model_prove.specs.Tables.{includes};
 ghost use Rattle.prove_facts.specs.Facts.{facts_of};
 ghost use Rattle.prove_keys.specs.Keys.{amounts_of, moment_of, place_of};
 ghost use Rattle.prove_arrivals.specs.Subjects.{Accepts, IsOver, IsSubject, classes_in, known_in, spot_in, tables_in};

@@ -1,7 +1,7 @@
 // The answers of commands.
 ghost use Rattle.std.specs.Prelude.{◌≡◌, ℕ, true, List, map, flat_map, IfOk};
-ghost use Rattle.model_prove.specs.Arrivals as arrivals;
-ghost use Rattle.model_prove.specs.Arrivals.{Setting};
+ghost use Rattle.prove_facts.specs.model_prove.specs.Arrivals as arrivals;
+ghost use Rattle.prove_facts.specs.model_prove.specs.Arrivals.{Setting};
 ghost use Rattle.prove_keys.specs.Keys.{amounts_of};
 ghost use Rattle.prove_arrivals.specs.Replying.{reply_arrivals};
 ghost use Rattle.prove_arrivals.specs.Subjects.{Accepts, IsOver, IsSubject, known_in, start_in};

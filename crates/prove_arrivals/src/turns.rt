@@ -1,11 +1,11 @@
 // What follows the event of a row.
 ghost use Rattle.std.specs.Prelude.{◌≡◌, ℕ, true, List, [], flat_map, IfOk, IfSome};
-ghost use Rattle.model_machine.specs.declared.instruction.Ins.{Ins};
-ghost use Rattle.model_machine.specs.Primitives as model;
-ghost use Rattle.model_prove.specs.Arrivals as arrivals;
-ghost use Rattle.model_prove.specs.Arrivals.{Setting};
-ghost use Rattle.model_prove.specs.Steps as steps;
-ghost use Rattle.model_rules.specs.Keeping.{OnTurn, after_occasion, line_of};
+ghost use Rattle.mc_arith.specs.model_machine.specs.declared.instruction.Ins.{Ins};
+ghost use Rattle.mc_arith.specs.model_machine.specs.Primitives as model;
+ghost use Rattle.prove_facts.specs.model_prove.specs.Arrivals as arrivals;
+ghost use Rattle.prove_facts.specs.model_prove.specs.Arrivals.{Setting};
+ghost use Rattle.prove_facts.specs.model_prove.specs.Steps as steps;
+ghost use Rattle.prove_facts.specs.model_rules.specs.Keeping.{OnTurn, after_occasion, line_of};
 ghost use Rattle.prove_keys.specs.Keys.{amounts_of};
 ghost use Rattle.prove_occasions.specs.Amounts.{AreAfter};
 ghost use Rattle.prove_occasions.specs.Turns.{line_of_turn};
@@ -17,8 +17,8 @@ use crate::endings::{abended, stopped};
 use crate::landings::at_place;
 use crate::replies::exited;
 use crate::subject::Subject;
+use mc_arith::model_machine::Abend;
 use mc_base::NoMemory;
-use model_machine::Abend;
 use prove_events::TurnEvent;
 use prove_keys::Begun;
 use prove_occasions::after_turn;

@@ -1,15 +1,15 @@
 -- What tables include, after an event.
 use Rattle.std.proofs.Common.{◌≡◌, ℕ, Bool, true, ◌&&◌, List, [], ◌∷◌, ◌++◌, length, get_or, None, Result, Ok, sym, subst, ap, ◌∙◌}
 use Rattle.std.proofs.lemmas.Bool.{and_parts, and_from}
-use Rattle.model_rules.specs.Keeping.{Amounts, Break}
-use Rattle.model_prove.specs.Compares.{NoCompare}
-use Rattle.model_prove.specs.Facts.{Facts}
-use Rattle.model_prove.specs.Keys as known
-use Rattle.model_prove.specs.Keys.{Start, OfClass}
-use Rattle.model_prove.specs.Arrivals.{Arrival, AtPlace, AtMoment, Setting, after_command, after_session, arrive}
-use Rattle.model_prove.specs.Between as between
-use Rattle.model_prove.specs.Between.{first_place}
-use Rattle.model_prove.specs.Tables.{includes, includes_all}
+use Rattle.prove_facts.specs.model_rules.specs.Keeping.{Amounts, Break}
+use Rattle.prove_facts.specs.model_prove.specs.Compares.{NoCompare}
+use Rattle.prove_facts.specs.model_prove.specs.Facts.{Facts}
+use Rattle.prove_facts.specs.model_prove.specs.Keys as known
+use Rattle.prove_facts.specs.model_prove.specs.Keys.{Start, OfClass}
+use Rattle.prove_facts.specs.model_prove.specs.Arrivals.{Arrival, AtPlace, AtMoment, Setting, after_command, after_session, arrive}
+use Rattle.prove_facts.specs.model_prove.specs.Between as between
+use Rattle.prove_facts.specs.model_prove.specs.Between.{first_place}
+use Rattle.prove_facts.specs.model_prove.specs.Tables.{includes, includes_all}
 use Rattle.prove_keys.specs.declared.keys.Begun.TheVariants as begun
 use Rattle.prove_keys.specs.Keys.{amounts_of}
 use Rattle.prove_keys.specs.Known.{settled_of}

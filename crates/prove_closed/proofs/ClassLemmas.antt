@@ -4,8 +4,8 @@ use Rattle.std.proofs.Math.Seq.{take-length}
 use Rattle.std.proofs.lemmas.Bool.{or_left, or_right, both_ways}
 use Rattle.std.specs.declared.alloc.Global.{Global}
 use Rattle.std.specs.declared.vec.Vec.{Vec}
-use Rattle.model_prove.specs.Digits.{same}
-use Rattle.model_prove.specs.Keys.{OfClass, same_lists}
+use Rattle.prove_facts.specs.model_prove.specs.Digits.{same}
+use Rattle.prove_facts.specs.model_prove.specs.Keys.{OfClass, same_lists}
 use Rattle.prove_keys.specs.Tables.{AreDistinct}
 use Rattle.prove_keys.proofs.SameLemmas.{starts_are, starts_self}
 use Rattle.prove_closed.specs.Classes.{lists_of, is_among}

@@ -2,14 +2,14 @@
 use Rattle.std.proofs.Common.{◌≡◌, ℕ, true, false, ◌&&◌, List, [], ◌∷◌, ◌++◌, ◌-◌, length, map, Option, Some, None, Result, Ok, Err, IfOk, IfSome, refl, sym, subst, ap, ◌∙◌}
 use Rattle.std.proofs.lemmas.Bool.{and_from}
 use Rattle.std.proofs.lemmas.List.{length-map}
-use Rattle.model_device.specs.Bytes.{zeros}
-use Rattle.model_rules.specs.Rules.{AppRules, Target}
-use Rattle.model_rules.specs.Keeping.{Amounts}
-use Rattle.model_prove.specs.Facts.{Facts, know_bytes}
-use Rattle.model_prove.specs.Keys as known
-use Rattle.model_prove.specs.Arrivals.{AtMoment, Setting}
-use Rattle.model_prove.specs.Between.{classes, created}
-use Rattle.model_prove.specs.Tables.{includes, is_closed, moments_closed, places_closed}
+use Rattle.mc_base.specs.model_device.specs.Bytes.{zeros}
+use Rattle.prove_facts.specs.model_rules.specs.Rules.{AppRules, Target}
+use Rattle.prove_facts.specs.model_rules.specs.Keeping.{Amounts}
+use Rattle.prove_facts.specs.model_prove.specs.Facts.{Facts, know_bytes}
+use Rattle.prove_facts.specs.model_prove.specs.Keys as known
+use Rattle.prove_facts.specs.model_prove.specs.Arrivals.{AtMoment, Setting}
+use Rattle.prove_facts.specs.model_prove.specs.Between.{classes, created}
+use Rattle.prove_facts.specs.model_prove.specs.Tables.{includes, is_closed, moments_closed, places_closed}
 use Rattle.prove_events.specs.declared.rules.Named.{Named}
 use Rattle.prove_events.specs.declared.rules.On.{On}
 use Rattle.prove_events.specs.declared.rules.Rules.{Rules}

@@ -2,9 +2,9 @@
 use Rattle.std.proofs.Common.{◌≡◌, ℕ, ◌+◌, ◌-◌, ◌<◌, ◌≤◌, Bool, true, false, ◌&&◌, List, [], ◌∷◌, refl, sym, ◌∙◌, inl, inr, arith}
 use Rattle.std.specs.Prelude.{nat_le, nat_lt}
 use Rattle.std.proofs.lemmas.Bool.{and_parts, and_from, leb-true, le-leb, lt-ltb, ltb-true, cases_lt, both_ways}
-use Rattle.model_prove.specs.Sets.{is_in, numbers_from}
-use Rattle.model_prove.specs.Between.{values_between}
-use Rattle.model_prove.proofs.SetLemmas.{is_between}
+use Rattle.prove_facts.specs.model_prove.specs.Sets.{is_in, numbers_from}
+use Rattle.prove_facts.specs.model_prove.specs.Between.{values_between}
+use Rattle.prove_facts.specs.model_prove.proofs.SetLemmas.{is_between}
 use Rattle.prove_facts.specs.Sets.{has_bit, values_of}
 use Rattle.prove_facts.proofs.SetLemmas.{rises_lower, rises_numbers, lower_not_in, past_not_in, values_are}
 

@@ -2,8 +2,8 @@
 use Rattle.std.specs.Prelude.{Bool, false, ◌||◌, List, [], ◌∷◌, map}
 use Rattle.std.specs.declared.alloc.Global.{Global}
 use Rattle.std.specs.declared.vec.Vec.{Vec}
-use Rattle.model_prove.specs.Digits.{same}
-use Rattle.model_prove.specs.Keys.{same_lists}
+use Rattle.prove_facts.specs.model_prove.specs.Digits.{same}
+use Rattle.prove_facts.specs.model_prove.specs.Keys.{same_lists}
 
 -- the lists of some classes
 abbrev pub lists_of : List (Vec Bool Global) → List (List Bool)

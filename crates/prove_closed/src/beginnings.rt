@@ -1,8 +1,8 @@
 // Beginnings of frames.
 ghost use Rattle.std.specs.Prelude.{◌≡◌, ◌+◌, true, ℕ, Bool, List, IfOk, IfSome};
-ghost use Rattle.model_prove.specs.Arrivals.{Setting};
-ghost use Rattle.model_prove.specs.Between as between;
-ghost use Rattle.model_prove.specs.Tables.{includes};
+ghost use Rattle.prove_facts.specs.model_prove.specs.Arrivals.{Setting};
+ghost use Rattle.prove_facts.specs.model_prove.specs.Between as between;
+ghost use Rattle.prove_facts.specs.model_prove.specs.Tables.{includes};
 ghost use Rattle.prove_keys.specs.Keys.{amounts_of, place_of, start_of};
 ghost use Rattle.prove_scenes.specs.Scenes.{IsSized};
 ghost use Rattle.prove_arrivals.specs.Subjects.{IsOver, start_in, tables_in};

@@ -1,10 +1,10 @@
 // Whether tables are closed.
 ghost use Rattle.std.specs.Prelude.{◌≡◌, ◌&&◌, true, ℕ, List, length, map, IfOk, IfSome};
 ghost use Rattle.std.specs.List.{AllByRecursion};
-ghost use Rattle.model_rules.specs.Rules.{AppRules, Target};
-ghost use Rattle.model_prove.specs.Arrivals.{Setting};
-ghost use Rattle.model_prove.specs.Between as between;
-ghost use Rattle.model_prove.specs.Tables as closed;
+ghost use Rattle.prove_facts.specs.model_rules.specs.Rules.{AppRules, Target};
+ghost use Rattle.prove_facts.specs.model_prove.specs.Arrivals.{Setting};
+ghost use Rattle.prove_facts.specs.model_prove.specs.Between as between;
+ghost use Rattle.prove_facts.specs.model_prove.specs.Tables as closed;
 ghost use Rattle.prove_events.specs.Rules.{AreRules, name_of, range_of};
 ghost use Rattle.prove_keys.specs.Keys.{moment_of};
 ghost use Rattle.prove_keys.specs.Tables.{moments_of, tables_of, IsWholeMoment};

@@ -1,9 +1,9 @@
 // What may follow a moment between commands.
 ghost use Rattle.std.specs.Prelude.{◌≡◌, true, false, ℕ, Bool, List, [], ◌∷◌, flat_map, get_or, IfOk, IfSome};
-ghost use Rattle.model_prove.specs.Arrivals.{AtMoment, Setting, after_command, after_session, arrive};
-ghost use Rattle.model_prove.specs.Between as between;
-ghost use Rattle.model_prove.specs.Facts as known;
-ghost use Rattle.model_prove.specs.Tables.{includes};
+ghost use Rattle.prove_facts.specs.model_prove.specs.Arrivals.{AtMoment, Setting, after_command, after_session, arrive};
+ghost use Rattle.prove_facts.specs.model_prove.specs.Between as between;
+ghost use Rattle.prove_facts.specs.model_prove.specs.Facts as known;
+ghost use Rattle.prove_facts.specs.model_prove.specs.Tables.{includes};
 ghost use Rattle.prove_keys.specs.Keys.{amounts_of, moment_of};
 ghost use Rattle.prove_occasions.specs.Amounts.{AreAfter};
 ghost use Rattle.prove_patterns.specs.Classes.{class_value, class_values};

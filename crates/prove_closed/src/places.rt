@@ -1,10 +1,10 @@
 // The places of the tables.
 ghost use Rattle.std.specs.Prelude.{◌≡◌, true, ℕ, List, length, IfOk};
 ghost use Rattle.std.specs.List.{AllByRecursion};
-ghost use Rattle.model_prove.specs.Arrivals.{Setting};
-ghost use Rattle.model_prove.specs.Keys as keys;
-ghost use Rattle.model_prove.specs.Steps as steps;
-ghost use Rattle.model_prove.specs.Tables.{places_closed};
+ghost use Rattle.prove_facts.specs.model_prove.specs.Arrivals.{Setting};
+ghost use Rattle.prove_facts.specs.model_prove.specs.Keys as keys;
+ghost use Rattle.prove_facts.specs.model_prove.specs.Steps as steps;
+ghost use Rattle.prove_facts.specs.model_prove.specs.Tables.{places_closed};
 ghost use Rattle.prove_keys.specs.Keys.{place_of};
 ghost use Rattle.prove_keys.specs.Known.{kept_of, known_of};
 ghost use Rattle.prove_keys.specs.Tables.{places_of, IsWholePlace};

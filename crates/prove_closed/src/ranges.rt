@@ -1,7 +1,7 @@
 // The ranges that static bytes keep between commands.
 ghost use Rattle.std.specs.Prelude.{◌≡◌, true, map};
-ghost use Rattle.model_prove.specs.Between as between;
-ghost use Rattle.model_prove.specs.Tables.{keeps_ranges};
+ghost use Rattle.prove_facts.specs.model_prove.specs.Between as between;
+ghost use Rattle.prove_facts.specs.model_prove.specs.Tables.{keeps_ranges};
 ghost use Rattle.prove_events.specs.Rules.{range_of};
 ghost use Rattle.prove_facts.specs.Sets.{set_of};
 

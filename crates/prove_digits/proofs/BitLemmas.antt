@@ -2,9 +2,9 @@
 use Rattle.std.specs.Prelude.{◌≡◌, ◌⊎◌, ℕ, ◌+◌, ◌<◌, Bool, true, false, cond, not, ◌&&◌, ◌==◌, [], ◌∷◌, Some, refl}
 use Rattle.std.proofs.Common.{arith, ap, sym, subst, ◌∙◌, inl, inr}
 use Rattle.std.proofs.lemmas.Bool.{and_parts, and_from, both_ways, cases_lt, eqb-true}
-use Rattle.model_prove.specs.Sets.{Set, is_in, union}
-use Rattle.model_prove.specs.Digits.{Operation, Plus, Minus, And, Or, Xor, digit, same, Digits}
-use Rattle.model_prove.proofs.SetLemmas.{is_first}
+use Rattle.prove_facts.specs.model_prove.specs.Sets.{Set, is_in, union}
+use Rattle.prove_facts.specs.model_prove.specs.Digits.{Operation, Plus, Minus, And, Or, Xor, digit, same, Digits}
+use Rattle.prove_facts.specs.model_prove.proofs.SetLemmas.{is_first}
 use Rattle.prove_facts.specs.Sets.{set_of}
 use Rattle.prove_facts.specs.declared.values.Values.{Values}
 use Rattle.prove_digits.specs.declared.bits.Parts.{Parts}

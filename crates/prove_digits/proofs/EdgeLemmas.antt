@@ -2,8 +2,8 @@
 use Rattle.std.specs.Prelude.{◌≡◌, ◌⊎◌, ℕ, Bool, true, false, cond, ◌&&◌, ◌||◌, ◌==◌, refl}
 use Rattle.std.proofs.Common.{ap, sym, subst, ◌∙◌, inl, inr}
 use Rattle.std.proofs.lemmas.Bool.{and_parts, both_ways, or_left, or_right}
-use Rattle.model_prove.specs.Sets.{is_in, union}
-use Rattle.model_prove.specs.Digits.{Operation, Flags, digit, same, Digits, digits_from, join_digit}
+use Rattle.prove_facts.specs.model_prove.specs.Sets.{is_in, union}
+use Rattle.prove_facts.specs.model_prove.specs.Digits.{Operation, Flags, digit, same, Digits, digits_from, join_digit}
 use Rattle.prove_facts.specs.Sets.{set_of}
 use Rattle.prove_facts.specs.declared.values.Values.{Values}
 use Rattle.prove_facts.proofs.SetLemmas.{rises_values, rises_union}

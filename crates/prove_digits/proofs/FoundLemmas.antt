@@ -2,8 +2,8 @@
 use Rattle.std.specs.Prelude.{◌≡◌, ℕ, Bool, true, false, cond, not, ◌&&◌, ◌||◌, refl}
 use Rattle.std.proofs.Common.{ap, ◌∙◌}
 use Rattle.std.proofs.lemmas.Bool.{or_left, or_right}
-use Rattle.model_prove.specs.Sets.{Set, is_in, is_empty}
-use Rattle.model_prove.specs.Digits.{Operation, Digits, join_digit, digits_from}
+use Rattle.prove_facts.specs.model_prove.specs.Sets.{Set, is_in, is_empty}
+use Rattle.prove_facts.specs.model_prove.specs.Digits.{Operation, Digits, join_digit, digits_from}
 use Rattle.prove_facts.proofs.SetLemmas.{rises_values}
 use Rattle.prove_digits.specs.declared.states.States.{States}
 use Rattle.prove_digits.specs.declared.steps.Step.{Step}

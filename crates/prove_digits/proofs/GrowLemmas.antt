@@ -2,9 +2,9 @@
 use Rattle.std.specs.Prelude.{◌≡◌, ◌⊎◌, ℕ, ◌+◌, ◌<◌, ◌≤◌, Bool, true, false, cond, ◌&&◌, List, [], ◌∷◌, get_or, ◌/◌, refl}
 use Rattle.std.proofs.Common.{arith, ap, sym, subst, ◌∙◌, inl, inr}
 use Rattle.std.proofs.lemmas.Bool.{and_parts, and_from, both_ways, cases_lt}
-use Rattle.model_prove.specs.Sets.{Set, is_in, is_empty, union}
-use Rattle.model_prove.specs.Digits.{Operation, Flags, digit, flags_after, same_flags, Digits, digits_from}
-use Rattle.model_prove.proofs.SetLemmas.{is_first}
+use Rattle.prove_facts.specs.model_prove.specs.Sets.{Set, is_in, is_empty, union}
+use Rattle.prove_facts.specs.model_prove.specs.Digits.{Operation, Flags, digit, flags_after, same_flags, Digits, digits_from}
+use Rattle.prove_facts.specs.model_prove.proofs.SetLemmas.{is_first}
 use Rattle.prove_facts.specs.Sets.{set_of}
 use Rattle.prove_facts.specs.declared.values.Values.{Values}
 use Rattle.prove_facts.specs.Sets.{values_of}

@@ -2,9 +2,9 @@
 use Rattle.std.specs.Prelude.{◌≡◌, ◌⊎◌, ℕ, ◌<◌, Bool, true, false, cond, ◌||◌, ◌==◌, [], ◌∷◌, refl}
 use Rattle.std.proofs.Common.{arith, ap, sym, subst, ◌∙◌, inl, inr}
 use Rattle.std.proofs.lemmas.Bool.{or_left, or_right, or_cases, eqb-true, eq-eqb, and_parts, and_from, both_ways, cases_lt}
-use Rattle.model_prove.specs.Sets.{Set, is_in, with_value, union}
-use Rattle.model_prove.specs.Digits.{Operation, Flags, digit, flags_after, same_flags, Digits, some, results_with, results_of, digits_from}
-use Rattle.model_prove.proofs.SetLemmas.{is_first}
+use Rattle.prove_facts.specs.model_prove.specs.Sets.{Set, is_in, with_value, union}
+use Rattle.prove_facts.specs.model_prove.specs.Digits.{Operation, Flags, digit, flags_after, same_flags, Digits, some, results_with, results_of, digits_from}
+use Rattle.prove_facts.specs.model_prove.proofs.SetLemmas.{is_first}
 use Rattle.prove_facts.specs.Sets.{set_of}
 use Rattle.prove_facts.specs.declared.values.Values.{Values}
 use Rattle.prove_facts.proofs.SetLemmas.{Rises, rises_filter, rises_with, in_filter, in_with, in_union, same_values, out_values}

@@ -2,8 +2,8 @@
 -- same.
 use Rattle.std.specs.Prelude.{◌≡◌, ℕ, zero, suc, Bool, true, false, cond, ◌||◌, List, [], ◌∷◌, map, ◌++◌, length, flat_map, Option, Some, None, ⊤, refl}
 use Rattle.std.proofs.Common.{ap, ◌∙◌}
-use Rattle.model_prove.specs.Sets.{Set, is_in, is_empty}
-use Rattle.model_prove.specs.Digits.{Operation, Flags, all_flags, Digits, Arc, Way, digits_from, arc_if, arcs, join_digit, join_digits, with_way, arc_before, ways_along, ways, way_from, same_flags}
+use Rattle.prove_facts.specs.model_prove.specs.Sets.{Set, is_in, is_empty}
+use Rattle.prove_facts.specs.model_prove.specs.Digits.{Operation, Flags, all_flags, Digits, Arc, Way, digits_from, arc_if, arcs, join_digit, join_digits, with_way, arc_before, ways_along, ways, way_from, same_flags}
 use Rattle.prove_facts.proofs.SetLemmas.{Rises, rises_union, in_union}
 use Rattle.prove_digits.proofs.MemberLemmas.{AreRising, rising_from, same_digits}
 

@@ -2,8 +2,8 @@
 use Rattle.std.specs.Prelude.{◌≡◌, ℕ, zero, suc, ◌+◌, ◌<◌, ◌≤◌, Bool, true, false, cond, ◌&&◌, ◌||◌, List, [], ◌∷◌, ◌++◌, length, reverse, map, drop, get_or, min, Option, Some, None, refl}
 use Rattle.std.proofs.Common.{arith, ap, sym, subst, ◌∙◌}
 use Rattle.std.proofs.lemmas.List.{reverse-append, append_assoc, length-append}
-use Rattle.model_prove.specs.Sets.{Set, is_in}
-use Rattle.model_prove.specs.Digits.{Operation, Flags, Digits, same_flags, arcs, digits_to, first_flags, digits_from, ways}
+use Rattle.prove_facts.specs.model_prove.specs.Sets.{Set, is_in}
+use Rattle.prove_facts.specs.model_prove.specs.Digits.{Operation, Flags, Digits, same_flags, arcs, digits_to, first_flags, digits_from, ways}
 use Rattle.prove_facts.specs.Sets.{set_of}
 use Rattle.prove_facts.specs.declared.values.Values.{Values}
 use Rattle.prove_facts.proofs.SetLemmas.{rises_values}

@@ -2,9 +2,9 @@
 use Rattle.std.specs.Prelude.{◌≡◌, ℕ, ◌+◌, ◌-◌, ◌%◌, ◌<◌, ◌≤◌, Bool, true, false, cond, not, ◌&&◌, ◌||◌, nat_lt, nat_le, ◌==◌, [], ◌∷◌, refl}
 use Rattle.std.proofs.Common.{arith, ap, sym, ◌∙◌, inl, inr}
 use Rattle.std.proofs.lemmas.Bool.{and_parts, and_left, cases_lt, cases_eq, eq-eqb, ne_eqb, lt-ltb, le-ltb, le-leb, lt-leb, eqb-true}
-use Rattle.model_prove.specs.Sets.{Set, is_in, is_empty, common}
-use Rattle.model_prove.specs.Digits.{Operation, Plus, Minus, carried, digit, same, Digits}
-use Rattle.model_prove.proofs.SetLemmas.{is_first}
+use Rattle.prove_facts.specs.model_prove.specs.Sets.{Set, is_in, is_empty, common}
+use Rattle.prove_facts.specs.model_prove.specs.Digits.{Operation, Plus, Minus, carried, digit, same, Digits}
+use Rattle.prove_facts.specs.model_prove.proofs.SetLemmas.{is_first}
 use Rattle.prove_facts.specs.Sets.{set_of, has_value}
 use Rattle.prove_facts.specs.declared.values.Values.{Values}
 use Rattle.prove_facts.proofs.SetLemmas.{in_filter, in_values, out_values}

@@ -1,9 +1,9 @@
 -- The ways of the definition from flags: whether one begins there, and what its digits have, by those of the next byte.
 use Rattle.std.specs.Prelude.{◌≡◌, ℕ, zero, suc, Bool, true, false, cond, not, ◌&&◌, ◌||◌, List, [], ◌∷◌, ◌++◌, map, flat_map, Option, Some, None, refl}
 use Rattle.std.proofs.Common.{ap, sym, ◌∙◌}
-use Rattle.model_prove.specs.Sets.{Set, is_in, is_empty}
-use Rattle.model_prove.specs.Digits.{Operation, Flags, all_flags, same, same_flags, Digits, Arc, Way, digits_from, arc_if, arcs, join_digits, with_way, arc_before, ways_along, ways, way_from}
-use Rattle.model_prove.proofs.DigitLemmas.{flags_are}
+use Rattle.prove_facts.specs.model_prove.specs.Sets.{Set, is_in, is_empty}
+use Rattle.prove_facts.specs.model_prove.specs.Digits.{Operation, Flags, all_flags, same, same_flags, Digits, Arc, Way, digits_from, arc_if, arcs, join_digits, with_way, arc_before, ways_along, ways, way_from}
+use Rattle.prove_facts.specs.model_prove.proofs.DigitLemmas.{flags_are}
 use Rattle.prove_digits.specs.States.{any_pair}
 use Rattle.prove_digits.proofs.ShapeLemmas.{Part, part_of, may_have, joined_at}
 

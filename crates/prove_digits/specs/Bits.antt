@@ -1,6 +1,6 @@
 -- Values of a byte by what an operation bit by bit makes of them.
 use Rattle.std.specs.Prelude.{◌≡◌, ℕ, ◌<◌, true, false, ◌==◌}
-use Rattle.model_prove.specs.Sets.{Set, is_in}
+use Rattle.prove_facts.specs.model_prove.specs.Sets.{Set, is_in}
 use Rattle.prove_facts.specs.Sets.{set_of}
 use Rattle.prove_digits.specs.declared.bits.Parts.{Parts}
 

@@ -1,7 +1,7 @@
 -- Walks through bytes: flags that some values lead to, and digits that lie on ways to final flags, as code finds them.
 use Rattle.std.specs.Prelude.{◌≡◌, Bool, true, false, cond, not, ◌&&◌, ◌||◌, List, [], ◌∷◌, reverse}
-use Rattle.model_prove.specs.Sets.{Set, is_empty}
-use Rattle.model_prove.specs.Digits.{Operation, Flags, Digits, join_digit, digits_from}
+use Rattle.prove_facts.specs.model_prove.specs.Sets.{Set, is_empty}
+use Rattle.prove_facts.specs.model_prove.specs.Digits.{Operation, Flags, Digits, join_digit, digits_from}
 use Rattle.prove_digits.specs.declared.states.States.{States}
 use Rattle.prove_digits.specs.declared.steps.Step.{Step}
 use Rattle.prove_digits.specs.declared.turns.Turn.{Turn}

@@ -1,8 +1,8 @@
 -- Digits of one byte: what trios of sets stand for, how they grow by one value of the second byte, and what a byte does
 -- under a carry.
 use Rattle.std.specs.Prelude.{◌≡◌, ◌⊎◌, ℕ, Bool, true, false, cond, [], ◌∷◌}
-use Rattle.model_prove.specs.Sets.{Set, is_in, is_empty, union}
-use Rattle.model_prove.specs.Digits.{Operation, Plus, Minus, flags_after, same_flags, Digits, join_digit, digits_from}
+use Rattle.prove_facts.specs.model_prove.specs.Sets.{Set, is_in, is_empty, union}
+use Rattle.prove_facts.specs.model_prove.specs.Digits.{Operation, Plus, Minus, flags_after, same_flags, Digits, join_digit, digits_from}
 use Rattle.prove_facts.specs.Sets.{set_of}
 use Rattle.prove_digits.specs.declared.trios.Trio.{Trio}
 use Rattle.prove_digits.specs.declared.turns.Split.{Split}

@@ -1,9 +1,9 @@
 -- The ways that code finds, and those of the definition.
 use Rattle.std.specs.Prelude.{List, [], ◌∷◌, map, reverse, flat_map, Option, Some, None}
-use Rattle.model_prove.specs.Sets.{Set}
-use Rattle.model_prove.specs.Digits.{Operation, Plus, Minus, Flags, all_flags, Digits, arcs, digits_to}
-use Rattle.model_prove.specs.Digits as model
-use Rattle.model_prove.specs.Steps.{pairs_of}
+use Rattle.prove_facts.specs.model_prove.specs.Sets.{Set}
+use Rattle.prove_facts.specs.model_prove.specs.Digits.{Operation, Plus, Minus, Flags, all_flags, Digits, arcs, digits_to}
+use Rattle.prove_facts.specs.model_prove.specs.Digits as model
+use Rattle.prove_facts.specs.model_prove.specs.Steps.{pairs_of}
 use Rattle.prove_facts.specs.Sets.{set_of}
 use Rattle.prove_facts.specs.declared.values.Values.{Values}
 use Rattle.prove_digits.specs.declared.digits.Digit.{Digit}

@@ -1,7 +1,7 @@
 // Sums and differences of two sets of digits.
 ghost use Rattle.std.specs.Prelude.{◌≡◌, ◌<◌, ◌+◌, ◌-◌, ◌%◌, ◌&&◌, ◌==◌, not, cond, Bool, true, false};
-ghost use Rattle.model_prove.specs.Digits.{digit, carried};
-ghost use Rattle.model_prove.specs.Sets.{is_in};
+ghost use Rattle.prove_facts.specs.model_prove.specs.Digits.{digit, carried};
+ghost use Rattle.prove_facts.specs.model_prove.specs.Sets.{is_in};
 ghost use Rattle.prove_facts.specs.Sets.{set_of, has_value};
 ghost use Rattle.prove_digits.specs.Trios.{trio_at, trio_value, IsGrown, IsTurn, sum_of, leads_on};
 

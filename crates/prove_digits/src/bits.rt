@@ -1,7 +1,7 @@
 // Bits of two sets of digits, value by value.
 ghost use Rattle.std.specs.Prelude.{◌≡◌, ◌<◌, ◌&&◌, ◌==◌, ◌∷◌, [], cond, not, Bool, true, ℕ, Some};
-ghost use Rattle.model_prove.specs.Digits.{Operation, digit, digits_from};
-ghost use Rattle.model_prove.specs.Sets.{is_in, union};
+ghost use Rattle.prove_facts.specs.model_prove.specs.Digits.{Operation, digit, digits_from};
+ghost use Rattle.prove_facts.specs.model_prove.specs.Sets.{is_in, union};
 ghost use Rattle.prove_facts.specs.Sets.{set_of};
 ghost use Rattle.prove_digits.specs.Trios.{trio_in, trio_value, IsGrown, IsTurn};
 ghost use Rattle.prove_digits.specs.Ways.{bitwise_of};

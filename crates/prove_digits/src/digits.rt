@@ -1,6 +1,6 @@
 // Ways through the bytes of two numbers, from the lowest byte up.
 ghost use Rattle.std.specs.Prelude.{◌≡◌, IfOk, OnOk, map, reverse, ◌++◌, ◌∷◌, [], Some, true, false};
-ghost use Rattle.model_prove.specs.Digits.{Operation};
+ghost use Rattle.prove_facts.specs.model_prove.specs.Digits.{Operation};
 ghost use Rattle.prove_digits.specs.States.{states_one, AreSteps, back_digits, way_back};
 ghost use Rattle.prove_digits.specs.Ways.{operation_of, way_value, ways_found, value_pairs};
 

@@ -1,6 +1,6 @@
 // One byte of a walk: which flags lead to which, forward and backward.
 ghost use Rattle.std.specs.Prelude.{◌≡◌, ◌||◌, ◌&&◌, Some, true};
-ghost use Rattle.model_prove.specs.Digits.{Operation};
+ghost use Rattle.prove_facts.specs.model_prove.specs.Digits.{Operation};
 ghost use Rattle.prove_facts.specs.Sets.{set_of};
 ghost use Rattle.prove_digits.specs.Trios.{IsTurn, trio_value, edge_of};
 ghost use Rattle.prove_digits.specs.States.{has_state, turn_under, leads_from, leads_to, states_after, goes_from, states_before, with_edge, with_edges, found_digits, IsStep};

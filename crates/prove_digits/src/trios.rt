@@ -1,6 +1,6 @@
 // Values of a byte of each operand and of the result that belong together.
 ghost use Rattle.std.specs.Prelude.{◌≡◌};
-ghost use Rattle.model_prove.specs.Digits.{join_digit};
+ghost use Rattle.prove_facts.specs.model_prove.specs.Digits.{join_digit};
 ghost use Rattle.prove_facts.specs.Sets.{set_of};
 ghost use Rattle.prove_digits.specs.Trios.{trio_value, grown};
 

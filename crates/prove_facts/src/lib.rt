@@ -10,6 +10,7 @@ mod values;
 
 pub use facts::{Fact, Facts};
 pub use growth::{prepend, push};
+pub use model_prove::model_machine;
 pub use packed::PackedFacts;
 pub use sums::{Block, Form, Known, More, Origin, Sums, Term, form_of, mask};
 pub use values::Values;

@@ -1,6 +1,6 @@
 // Where bytes come from.
 ghost use Rattle.std.specs.Prelude.{◌≡◌, ◌+◌, ◌^◌, ◌<◌, ◌||◌, true, nat_lt, nat_le, [], ◌++◌, length, filter, OnOk, IfOk};
-ghost use Rattle.model_machine.specs.Frame.{public_base};
+ghost use Rattle.model_sums.specs.model_machine.specs.Frame.{public_base};
 ghost use Rattle.model_sums.specs.Origins as origins;
 ghost use Rattle.prove_forms.specs.Origins.{origin_value, origin_values, listed_values, origins_value, listed_from};
 

@@ -6,9 +6,9 @@ use Rattle.std.proofs.lemmas.Bool.{and_parts, eqb-true, eq-eqb}
 use Rattle.std.proofs.lemmas.Slice.Eq.{bytes_eq-Decides}
 use Rattle.std.proofs.Math.Bool.{beq}
 use Rattle.std.specs.Cmp.{booleans_Decides}
-use Rattle.model_rules.specs.Keeping.{Amounts}
-use Rattle.model_prove.specs.Keys as known
-use Rattle.model_prove.specs.Keys.{same_moments, same_places}
+use Rattle.prove_facts.specs.model_rules.specs.Keeping.{Amounts}
+use Rattle.prove_facts.specs.model_prove.specs.Keys as known
+use Rattle.prove_facts.specs.model_prove.specs.Keys.{same_moments, same_places}
 use Rattle.prove_keys.specs.declared.keys.Call.{Call}
 use Rattle.prove_keys.specs.declared.keys.Registers.{Registers}
 use Rattle.prove_keys.specs.declared.keys.Begun.{Begun}

@@ -3,9 +3,9 @@ use Rattle.std.proofs.Common.{◌≡◌, ℕ, Bool, true, false, ◌&&◌, List,
 use Rattle.std.specs.Prelude.{◌==◌, bytes_eq}
 use Rattle.std.proofs.lemmas.Bool.{and_parts, eqb-true, eq-eqb}
 use Rattle.std.proofs.lemmas.Slice.Eq.{bytes_eq-Decides}
-use Rattle.model_rules.specs.Keeping.{Amounts}
-use Rattle.model_prove.specs.Digits.{same}
-use Rattle.model_prove.specs.Keys.{Start, Delegated, OfClass, Call, PlaceKey, MomentKey, same_lists, same_amounts, same_starts, same_calls, same_places, same_moments}
+use Rattle.prove_facts.specs.model_rules.specs.Keeping.{Amounts}
+use Rattle.prove_facts.specs.model_prove.specs.Digits.{same}
+use Rattle.prove_facts.specs.model_prove.specs.Keys.{Start, Delegated, OfClass, Call, PlaceKey, MomentKey, same_lists, same_amounts, same_starts, same_calls, same_places, same_moments}
 
 pub both : (s t : Bool) → s ≡ true → t ≡ true → (s && t) ≡ true
 both s t p q = ap (λ (x : Bool). x && t) p ∙ q

@@ -2,11 +2,11 @@
 use Rattle.std.proofs.Common.{◌≡◌, ℕ, zero, suc, ◌<◌, Bool, true, false, cond, List, [], ◌∷◌, length, get_or, Option, Some, None, Result, Ok, Err, IfSome, IfOk, refl, sym, ap, subst, ◌∙◌, arith}
 use Rattle.std.specs.List.{AllByRecursion, position}
 use Rattle.std.proofs.lemmas.List.Quantifiers.{position-Some}
-use Rattle.model_prove.specs.Facts.{Facts, within, follow}
-use Rattle.model_prove.specs.Compares.{Compare}
-use Rattle.model_prove.specs.Keys as known
-use Rattle.model_prove.specs.Keys.{same_moments, same_places, known_follows, compare_follows}
-use Rattle.model_prove.specs.Tables.{moment_at, place_at, has_facts, has_known}
+use Rattle.prove_facts.specs.model_prove.specs.Facts.{Facts, within, follow}
+use Rattle.prove_facts.specs.model_prove.specs.Compares.{Compare}
+use Rattle.prove_facts.specs.model_prove.specs.Keys as known
+use Rattle.prove_facts.specs.model_prove.specs.Keys.{same_moments, same_places, known_follows, compare_follows}
+use Rattle.prove_facts.specs.model_prove.specs.Tables.{moment_at, place_at, has_facts, has_known}
 use Rattle.prove_keys.specs.declared.keys.MomentKey.{MomentKey}
 use Rattle.prove_keys.specs.declared.keys.PlaceKey.{PlaceKey}
 use Rattle.prove_keys.specs.declared.known.PackedKnown.{PackedKnown}

@@ -2,10 +2,10 @@
 use Rattle.std.proofs.Common.{◌≡◌, ℕ, Bool, true, false, ◌&&◌, cond, List, [], ◌∷◌, Option, Some, None, refl, sym, ap, ◌∙◌}
 use Rattle.std.specs.Prelude.{◌==◌, nat_le, nat_lt, filter, unwrap_or}
 use Rattle.std.proofs.lemmas.Bool.{and_parts, eqb-true}
-use Rattle.model_prove.specs.Sets.{Set, all_bytes, is_subset}
-use Rattle.model_prove.specs.Facts.{Facts, fact_at, values_at, within, fact_follows, follow}
-use Rattle.model_prove.specs.Compares.{Compare}
-use Rattle.model_prove.specs.Keys.{known_follows, compare_follows}
+use Rattle.prove_facts.specs.model_prove.specs.Sets.{Set, all_bytes, is_subset}
+use Rattle.prove_facts.specs.model_prove.specs.Facts.{Facts, fact_at, values_at, within, fact_follows, follow}
+use Rattle.prove_facts.specs.model_prove.specs.Compares.{Compare}
+use Rattle.prove_facts.specs.model_prove.specs.Keys.{known_follows, compare_follows}
 use Rattle.prove_keys.specs.declared.known.PackedKnown.{PackedKnown}
 use Rattle.prove_keys.specs.Known.{known_of, settled_of, packed_bytes, packed_compare}
 use Rattle.prove_keys.proofs.SameLemmas.{both}

@@ -1,6 +1,6 @@
 -- The last compare, as the definition has it.
 use Rattle.std.specs.Prelude.{ℕ, Bool, cond}
-use Rattle.model_prove.specs.Compares as known
+use Rattle.prove_facts.specs.model_prove.specs.Compares as known
 use Rattle.prove_keys.specs.declared.compares.Bounds.{Bounds}
 use Rattle.prove_keys.specs.declared.compares.Order.{Order}
 use Rattle.prove_keys.specs.declared.compares.Last.{Last}

@@ -1,7 +1,7 @@
 -- The keys of the tables, as the definitions have them.
 use Rattle.std.specs.Prelude.{ℕ, Bool, List, [], ◌∷◌, ◌++◌, get_or}
-use Rattle.model_rules.specs.Keeping.{Amounts}
-use Rattle.model_prove.specs.Keys as known
+use Rattle.prove_facts.specs.model_rules.specs.Keeping.{Amounts}
+use Rattle.prove_facts.specs.model_prove.specs.Keys as known
 use Rattle.prove_keys.specs.declared.keys.Call.{Call}
 use Rattle.prove_keys.specs.declared.keys.Registers.{Registers}
 use Rattle.prove_keys.specs.declared.keys.Begun.{Begun}

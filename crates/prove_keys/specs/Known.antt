@@ -1,8 +1,8 @@
 -- What is known at a place, as the definition has it.
 use Rattle.std.specs.Prelude.{◌≡◌, ℕ, Bool, true, false}
-use Rattle.model_prove.specs.Facts.{Facts, within}
-use Rattle.model_prove.specs.Compares.{Compare}
-use Rattle.model_prove.specs.Keys as known
+use Rattle.prove_facts.specs.model_prove.specs.Facts.{Facts, within}
+use Rattle.prove_facts.specs.model_prove.specs.Compares.{Compare}
+use Rattle.prove_facts.specs.model_prove.specs.Keys as known
 use Rattle.prove_keys.specs.declared.known.Known.{Known}
 use Rattle.prove_keys.specs.declared.known.PackedKnown.{PackedKnown}
 use Rattle.prove_keys.specs.Compares.{compare_of}

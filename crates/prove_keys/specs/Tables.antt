@@ -1,8 +1,8 @@
 -- The tables, as the definition has them: each key once, in the order in which it was found.
 use Rattle.std.specs.Prelude.{◌≡◌, ℕ, ◌<◌, Bool, List, [], ◌∷◌, length, get_or, ⊤}
 use Rattle.std.specs.List.{AllByRecursion}
-use Rattle.model_prove.specs.Facts.{Facts}
-use Rattle.model_prove.specs.Keys as known
+use Rattle.prove_facts.specs.model_prove.specs.Facts.{Facts}
+use Rattle.prove_facts.specs.model_prove.specs.Keys as known
 use Rattle.prove_keys.specs.declared.keys.Begun.{Begun}
 use Rattle.prove_keys.specs.declared.keys.Begun.TheVariants.{Delegated, Class}
 use Rattle.prove_keys.specs.declared.keys.MomentKey.{MomentKey}

@@ -1,6 +1,6 @@
 // The last compare: what its flags left known of numbers of several bytes.
 ghost use Rattle.std.specs.Prelude.{◌≡◌, ℕ, ◌+◌, ◌-◌, ◌<◌, ◌≤◌, ◌&&◌, nat_lt};
-ghost use Rattle.model_prove.specs.Compares.{meet, touched, join_compare};
+ghost use Rattle.prove_facts.specs.model_prove.specs.Compares.{meet, touched, join_compare};
 ghost use Rattle.prove_keys.specs.Compares.{bounds_of, ordered_of, compare_of};
 
 /// That the number of n bytes at an address lies between two bounds.

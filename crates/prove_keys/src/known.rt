@@ -1,8 +1,8 @@
 // What is known at a place, as it is worked with and as the tables keep it.
 ghost use Rattle.std.specs.Prelude.{◌≡◌, ℕ, true, false, IfOk};
-ghost use Rattle.model_prove.specs.Facts.{within, join, follow};
-ghost use Rattle.model_prove.specs.Keys.{known_follows};
-ghost use Rattle.model_prove.specs.Compares.{join_compare};
+ghost use Rattle.prove_facts.specs.model_prove.specs.Facts.{within, join, follow};
+ghost use Rattle.prove_facts.specs.model_prove.specs.Keys.{known_follows};
+ghost use Rattle.prove_facts.specs.model_prove.specs.Compares.{join_compare};
 ghost use Rattle.prove_keys.specs.Compares.{compare_of, said};
 ghost use Rattle.prove_keys.specs.Known.{HoldsAlike, kept_of, known_of, settled_of};
 

@@ -1,7 +1,7 @@
 // What the last compare says after writes, and what it allows.
 ghost use Rattle.std.specs.Prelude.{◌≡◌, ℕ, ◌-◌, ◌≤◌, true, false, IfSome};
-ghost use Rattle.model_prove.specs.Compares.{Span, Orders, touched, compare_below, allows_span, allows_orders};
-ghost use Rattle.model_prove.specs.Keys.{compare_follows};
+ghost use Rattle.prove_facts.specs.model_prove.specs.Compares.{Span, Orders, touched, compare_below, allows_span, allows_orders};
+ghost use Rattle.prove_facts.specs.model_prove.specs.Keys.{compare_follows};
 ghost use Rattle.prove_keys.specs.Compares.{bounds_of, ordered_of, orders_of, compare_of, said, tested};
 
 use crate::compares::{Bounds, Last, LastSaid, Order, touches};

@@ -1,8 +1,8 @@
 // The two tables: the moments between commands, and the places of the code.
 ghost use Rattle.std.specs.Prelude.{◌≡◌, ℕ, ◌<◌, Bool, true, false, List, length, get_or, IfOk, IfSome};
 ghost use Rattle.std.specs.List.{AllByRecursion};
-ghost use Rattle.model_prove.specs.Tables.{includes, moment_at, place_at};
-ghost use Rattle.model_prove.specs.Arrivals.{AtMoment, AtPlace};
+ghost use Rattle.prove_facts.specs.model_prove.specs.Tables.{includes, moment_at, place_at};
+ghost use Rattle.prove_facts.specs.model_prove.specs.Arrivals.{AtMoment, AtPlace};
 ghost use Rattle.prove_keys.specs.Compares.{said};
 ghost use Rattle.prove_keys.specs.Keys.{moment_of, place_of};
 ghost use Rattle.prove_keys.specs.Known.{known_of, settled_of};

@@ -4,11 +4,11 @@ use Rattle.std.proofs.Math.ListN.{length-set}
 use Rattle.std.specs.Prelude.{nat_le, option_and_then, slice_get, slice_set, unwrap_or}
 use Rattle.std.proofs.lemmas.Option.{option_and_then_some, same_Some}
 use Rattle.model_text.specs.Text.{◌>>=◌}
-use Rattle.law_explore.specs.Matching.{fits}
-use Rattle.law_explore.specs.Tries.{amount_of, with_amount}
-use Rattle.model_rules.specs.Rules.{Trigger, AtTurn, AtCommand, AtAnswer, AtSession, Action, Allows, Spends, Needs, OnLine}
-use Rattle.model_rules.specs.Keeping.{Amounts, Break, OnTurn, OnSession, applies, if_enough, after_action, after_line, after_lines, after_occasion}
-use Rattle.model_prove.specs.Arrivals.{after_pick, after_picks}
+use Rattle.lab_match.specs.law_explore.specs.Matching.{fits}
+use Rattle.lab_match.specs.law_explore.specs.Tries.{amount_of, with_amount}
+use Rattle.prove_facts.specs.model_rules.specs.Rules.{Trigger, AtTurn, AtCommand, AtAnswer, AtSession, Action, Allows, Spends, Needs, OnLine}
+use Rattle.prove_facts.specs.model_rules.specs.Keeping.{Amounts, Break, OnTurn, OnSession, applies, if_enough, after_action, after_line, after_lines, after_occasion}
+use Rattle.prove_facts.specs.model_prove.specs.Arrivals.{after_pick, after_picks}
 use Rattle.prove_events.specs.declared.rules.Event.{Event}
 use Rattle.prove_events.specs.declared.rules.Effect.{Effect}
 use Rattle.prove_events.specs.declared.rules.Effect.TheVariants as effect

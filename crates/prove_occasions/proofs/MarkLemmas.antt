@@ -1,9 +1,9 @@
 -- Which lines apply to a command and to its answer, in the code and in the definition.
 use Rattle.std.proofs.Common.{◌≡◌, ℕ, List, [], ◌∷◌, ◌++◌, map, Bool, true, false, not, ◌&&◌, ◌||◌, Option, Some, None, refl, ap, ◌∙◌}
-use Rattle.law_explore.specs.Matching.{fits}
-use Rattle.model_rules.specs.Rules.{Trigger, AtTurn, AtCommand, AtAnswer, AtSession, Action, OnLine}
-use Rattle.model_prove.specs.Arrivals as arrivals
-use Rattle.model_prove.specs.Arrivals.{pick, command_picks, answer_picks, answered_picks, with_results, pattern_of_result, result_patterns}
+use Rattle.lab_match.specs.law_explore.specs.Matching.{fits}
+use Rattle.prove_facts.specs.model_rules.specs.Rules.{Trigger, AtTurn, AtCommand, AtAnswer, AtSession, Action, OnLine}
+use Rattle.prove_facts.specs.model_prove.specs.Arrivals as arrivals
+use Rattle.prove_facts.specs.model_prove.specs.Arrivals.{pick, command_picks, answer_picks, answered_picks, with_results, pattern_of_result, result_patterns}
 use Rattle.prove_events.specs.declared.rules.Event.{Event}
 use Rattle.prove_events.specs.declared.rules.On.{On}
 use Rattle.prove_events.specs.Rules.{AreLines, FirstLine, IsTrigger, deed_of}

@@ -1,8 +1,8 @@
 -- What events do to the amounts of the allowances, as the code computes it on its own lines.
 use Rattle.std.specs.Prelude.{◌≡◌, ℕ, ◌-◌, Bool, true, false, cond, ◌&&◌, nat_le, List, [], ◌∷◌, length, drop, slice_get, slice_set, slice_index_or, Option, Some, None, option_and_then, Result, Ok}
-use Rattle.law_explore.specs.Matching.{fits}
-use Rattle.model_rules.specs.Rules.{OnLine}
-use Rattle.model_rules.specs.Keeping.{Amounts, Break}
+use Rattle.lab_match.specs.law_explore.specs.Matching.{fits}
+use Rattle.prove_facts.specs.model_rules.specs.Rules.{OnLine}
+use Rattle.prove_facts.specs.model_rules.specs.Keeping.{Amounts, Break}
 use Rattle.prove_events.specs.declared.rules.Event.{Event}
 use Rattle.prove_events.specs.declared.rules.Event.TheVariants as event
 use Rattle.prove_events.specs.declared.rules.Effect.{Effect}

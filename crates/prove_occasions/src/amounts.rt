@@ -1,7 +1,7 @@
 // What lines do to the amounts of the allowances.
 ghost use Rattle.std.specs.Prelude.{◌≡◌, ◌&&◌, ℕ, List, true, length, drop, IfOk, IfSome, Some};
-ghost use Rattle.model_rules.specs.Rules.{OnLine};
-ghost use Rattle.model_rules.specs.Keeping.{after_occasion, OnSession};
+ghost use Rattle.prove_facts.specs.model_rules.specs.Rules.{OnLine};
+ghost use Rattle.prove_facts.specs.model_rules.specs.Keeping.{after_occasion, OnSession};
 ghost use Rattle.prove_keys.specs.Keys.{amounts_of};
 ghost use Rattle.prove_occasions.specs.Amounts.{after_marked, after_tested, amount_after, amounts_after, first_mark, is_about, is_due, is_of_allowance, marks_after, AreAfter, AreLinesOver};
 

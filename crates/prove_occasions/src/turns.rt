@@ -1,11 +1,11 @@
 // What an instruction that was done does to the allowances.
 ghost use Rattle.std.specs.Prelude.{◌≡◌, ◌+◌, ◌≤◌, ◌∷◌, [], ℕ, List, length, IfOk, IfSome};
 ghost use Rattle.arrayvec.specs.ArrayVec.{array_vec_len};
-ghost use Rattle.model_machine.specs.declared.instruction.Ins.{Ins};
+ghost use Rattle.model_text.specs.model_machine.specs.declared.instruction.Ins.{Ins};
 ghost use Rattle.model_text.specs.Listing.{text_of};
 ghost use Rattle.model_text.specs.TurnText.{bit_text};
-ghost use Rattle.model_rules.specs.Rules.{OnLine};
-ghost use Rattle.model_rules.specs.Keeping.{after_occasion, OnTurn};
+ghost use Rattle.prove_facts.specs.model_rules.specs.Rules.{OnLine};
+ghost use Rattle.prove_facts.specs.model_rules.specs.Keeping.{after_occasion, OnTurn};
 ghost use Rattle.prove_events.specs.declared.turns.TurnEvent.{TurnEvent};
 ghost use Rattle.prove_keys.specs.Keys.{amounts_of};
 ghost use Rattle.prove_occasions.specs.Amounts.{AreAfter, AreLinesOver};

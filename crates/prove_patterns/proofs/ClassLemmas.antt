@@ -1,10 +1,10 @@
 -- Classes of the same lines put together, and the search of the definition's rounds.
 use Rattle.std.proofs.Common.{◌≡◌, ◌∙◌, ℕ, zero, suc, ◌+◌, ◌<◌, ◌≤◌, Bool, true, false, cond, List, [], ◌∷◌, ◌++◌, length, get_or, set, take, map, ap, sym, refl, arith}
-use Rattle.model_prove.specs.Sets.{Set, union}
-use Rattle.model_prove.specs.Keys.{same_lists}
-use Rattle.model_prove.specs.Digits.{same}
-use Rattle.model_prove.specs.Texts.{after_any, any_count}
-use Rattle.model_prove.specs.Between.{Class, Header, union_all, with_class, with_classes, classes_of}
+use Rattle.prove_facts.specs.model_prove.specs.Sets.{Set, union}
+use Rattle.prove_facts.specs.model_prove.specs.Keys.{same_lists}
+use Rattle.prove_facts.specs.model_prove.specs.Digits.{same}
+use Rattle.prove_facts.specs.model_prove.specs.Texts.{after_any, any_count}
+use Rattle.prove_facts.specs.model_prove.specs.Between.{Class, Header, union_all, with_class, with_classes, classes_of}
 use Rattle.prove_patterns.specs.declared.command_headers.Header as made
 use Rattle.prove_patterns.specs.Headers.{headers_of}
 use Rattle.prove_patterns.specs.Classes.{class_place, class_joined, classes_onto}

@@ -2,11 +2,11 @@
 use Rattle.std.proofs.Common.{◌≡◌, ◌∙◌, ℕ, zero, suc, ◌+◌, ◌-◌, ◌*◌, ◌/◌, ◌%◌, ◌<◌, ◌≤◌, Bool, true, false, cond, List, [], ◌∷◌, ◌++◌, length, get_or, set, map, ap, sym, subst, refl, inl, inr, arith}
 use Rattle.std.specs.Prelude.{not, ◌&&◌, ◌||◌, ◌==◌, flat_map}
 use Rattle.std.proofs.lemmas.Bool.{or_from, eq-eqb, ne_eqb, cases_eq}
-use Rattle.model_text.specs.Listing.{hex_text}
-use Rattle.model_prove.specs.Sets.{Set, is_in, all_bytes, with_value}
-use Rattle.model_prove.specs.Texts.{Opens, opened, same_opens, after_character, after_text, all_after}
-use Rattle.model_prove.specs.Between.{Header, with_left, by_left, with_header_byte, all_but, headers}
-use Rattle.model_prove.proofs.SetLemmas.{is_byte}
+use Rattle.prove_facts.specs.model_text.specs.Listing.{hex_text}
+use Rattle.prove_facts.specs.model_prove.specs.Sets.{Set, is_in, all_bytes, with_value}
+use Rattle.prove_facts.specs.model_prove.specs.Texts.{Opens, opened, same_opens, after_character, after_text, all_after}
+use Rattle.prove_facts.specs.model_prove.specs.Between.{Header, with_left, by_left, with_header_byte, all_but, headers}
+use Rattle.prove_facts.specs.model_prove.proofs.SetLemmas.{is_byte}
 use Rattle.prove_facts.specs.Sets.{has_bit, values_of}
 use Rattle.prove_facts.proofs.SetLemmas.{values_are, in_with, in_filter, in_values, out_values, past_not_in, rises_with, rises_values, rises_filter, rises_numbers}
 use Rattle.prove_patterns.specs.Ways.{digit_sign, values_from}

@@ -2,8 +2,8 @@
 use Rattle.std.proofs.Common.{◌≡◌, ◌∙◌, ℕ, ◌<◌, Bool, true, false, cond, List, [], ◌∷◌, ap, sym, refl, arith}
 use Rattle.std.specs.Prelude.{not, ◌&&◌, ◌||◌, nat_lt, nat_le, filter}
 use Rattle.std.proofs.lemmas.Bool.Decides.{nat_tests}
-use Rattle.model_prove.specs.Sets.{Set, is_empty}
-use Rattle.model_prove.specs.Arrivals.{some_value}
+use Rattle.prove_facts.specs.model_prove.specs.Sets.{Set, is_empty}
+use Rattle.prove_facts.specs.model_prove.specs.Arrivals.{some_value}
 use Rattle.prove_facts.specs.Sets.{has_bit, values_of}
 use Rattle.prove_patterns.specs.Lengths.{lengths_value}
 use Rattle.prove_facts.proofs.SetLemmas.{values_are, in_filter, in_values, out_values, rises_values, rises_filter}

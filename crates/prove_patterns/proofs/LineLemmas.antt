@@ -1,12 +1,12 @@
 -- The patterns of lines are those of the definition's lines.
 use Rattle.std.proofs.Common.{◌≡◌, ◌∙◌, ℕ, List, [], ◌∷◌, Option, Some, None, ap, sym, refl}
 use Rattle.std.specs.Prelude.{◌&&◌, cond, map}
-use Rattle.model_rules.specs.Rules.{Trigger, AtTurn, AtCommand, AtAnswer, AtSession, Action, OnLine, AppRules}
-use Rattle.model_prove.specs.Texts.{Opens, opened, any_count}
-use Rattle.model_prove.specs.Between as between
-use Rattle.model_prove.specs.Between.{apdu_pattern, apdu_patterns}
-use Rattle.model_prove.specs.Arrivals as arrivals
-use Rattle.model_prove.specs.Arrivals.{pattern_of_result}
+use Rattle.prove_facts.specs.model_rules.specs.Rules.{Trigger, AtTurn, AtCommand, AtAnswer, AtSession, Action, OnLine, AppRules}
+use Rattle.prove_facts.specs.model_prove.specs.Texts.{Opens, opened, any_count}
+use Rattle.prove_facts.specs.model_prove.specs.Between as between
+use Rattle.prove_facts.specs.model_prove.specs.Between.{apdu_pattern, apdu_patterns}
+use Rattle.prove_facts.specs.model_prove.specs.Arrivals as arrivals
+use Rattle.prove_facts.specs.model_prove.specs.Arrivals.{pattern_of_result}
 use Rattle.prove_events.specs.declared.rules.Event.{Event}
 use Rattle.prove_events.specs.declared.rules.On.{On}
 use Rattle.prove_events.specs.Rules.{AreLines, FirstLine, IsTrigger, deed_of}

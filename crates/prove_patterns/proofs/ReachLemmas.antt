@@ -3,7 +3,7 @@ use Rattle.std.proofs.Common.{◌≡◌, ◌∙◌, ℕ, suc, ◌+◌, ◌-◌, 
 use Rattle.std.specs.Prelude.{◌==◌, IfSome}
 use Rattle.std.proofs.lemmas.List.{length-map}
 use Rattle.std.proofs.lemmas.Bool.{eq-eqb, ne_eqb}
-use Rattle.model_prove.specs.Texts.{Opens, is_among, with_opens, both_opens, after_digit, any_unless, after_any}
+use Rattle.prove_facts.specs.model_prove.specs.Texts.{Opens, is_among, with_opens, both_opens, after_digit, any_unless, after_any}
 use Rattle.prove_patterns.specs.Opens.{opens_of, many_of}
 
 both_last : (ps : List Opens) (o : Opens) (qs : List Opens) → both_opens (ps ++ o ∷ []) qs ≡ both_opens ps (with_opens o qs)

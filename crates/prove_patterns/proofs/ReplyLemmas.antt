@@ -1,11 +1,11 @@
 -- The replies of the definition, by the sets of their bytes.
 use Rattle.std.proofs.Common.{◌≡◌, ◌∙◌, ◌+◌, Bool, true, false, List, ap, sym, refl, map}
 use Rattle.std.specs.Prelude.{flat_map}
-use Rattle.model_prove.specs.Sets.{Set}
-use Rattle.model_prove.specs.Facts.{values_at}
-use Rattle.model_prove.specs.Keys.{Known}
-use Rattle.model_prove.specs.Texts.{Opens, opened, after_bytes, any_count, matches_of}
-use Rattle.model_prove.specs.Arrivals.{Setting, lengths_of, bodies, distinct, result_patterns, replies, la_at}
+use Rattle.prove_facts.specs.model_prove.specs.Sets.{Set}
+use Rattle.prove_facts.specs.model_prove.specs.Facts.{values_at}
+use Rattle.prove_facts.specs.model_prove.specs.Keys.{Known}
+use Rattle.prove_facts.specs.model_prove.specs.Texts.{Opens, opened, after_bytes, any_count, matches_of}
+use Rattle.prove_facts.specs.model_prove.specs.Arrivals.{Setting, lengths_of, bodies, distinct, result_patterns, replies, la_at}
 use Rattle.prove_patterns.specs.Replies.{bodies_in, HaveValues}
 
 -- the replies of these sets

@@ -2,13 +2,13 @@
 use Rattle.std.proofs.Common.{◌≡◌, ◌∙◌, ℕ, suc, ◌-◌, ◌/◌, ◌%◌, ◌<◌, ◌≤◌, Bool, true, false, cond, List, [], ◌∷◌, get_or, drop, ap, sym, subst, refl, inl, inr, arith, drop-cons}
 use Rattle.std.specs.Prelude.{not, ◌&&◌, ◌==◌, map, filter}
 use Rattle.std.proofs.lemmas.Bool.{and_parts, or_cases, eqb-true}
-use Rattle.model_text.specs.Text.{is_blank}
-use Rattle.model_text.specs.Listing.{hex_digit, hex_text}
-use Rattle.model_play.specs.Patterns.{without_blanks}
-use Rattle.law_explore.specs.Matching.{small, plain}
-use Rattle.model_prove.specs.Sets.{Set, is_in, numbers_from}
-use Rattle.model_prove.specs.Texts.{Opens, hex_digits, after_text, all_after, with_opens, after_bytes, after_each, after_character}
-use Rattle.model_prove.proofs.SetLemmas.{is_between}
+use Rattle.prove_facts.specs.model_text.specs.Text.{is_blank}
+use Rattle.prove_facts.specs.model_text.specs.Listing.{hex_digit, hex_text}
+use Rattle.prove_facts.specs.model_play.specs.Patterns.{without_blanks}
+use Rattle.prove_facts.specs.law_explore.specs.Matching.{small, plain}
+use Rattle.prove_facts.specs.model_prove.specs.Sets.{Set, is_in, numbers_from}
+use Rattle.prove_facts.specs.model_prove.specs.Texts.{Opens, hex_digits, after_text, all_after, with_opens, after_bytes, after_each, after_character}
+use Rattle.prove_facts.specs.model_prove.proofs.SetLemmas.{is_between}
 use Rattle.prove_facts.specs.Sets.{has_bit, values_of}
 use Rattle.prove_patterns.specs.Ways.{digit_sign, byte_digits, values_from}
 

@@ -1,11 +1,11 @@
 -- Classes of commands, as the definition has them.
 use Rattle.std.specs.Prelude.{ℕ, zero, suc, cond, Bool, List, [], ◌∷◌, map}
-use Rattle.model_prove.specs.Sets.{Set}
-use Rattle.model_prove.specs.Keys.{same_lists}
-use Rattle.model_prove.specs.Digits.{same}
-use Rattle.model_prove.specs.Texts.{after_any}
-use Rattle.model_prove.specs.Between as between
-use Rattle.model_prove.specs.Between.{union_all, with_classes}
+use Rattle.prove_facts.specs.model_prove.specs.Sets.{Set}
+use Rattle.prove_facts.specs.model_prove.specs.Keys.{same_lists}
+use Rattle.prove_facts.specs.model_prove.specs.Digits.{same}
+use Rattle.prove_facts.specs.model_prove.specs.Texts.{after_any}
+use Rattle.prove_facts.specs.model_prove.specs.Between as between
+use Rattle.prove_facts.specs.model_prove.specs.Between.{union_all, with_classes}
 use Rattle.prove_facts.specs.Sets.{set_of}
 use Rattle.prove_patterns.specs.declared.command_classes.Class.{Class}
 

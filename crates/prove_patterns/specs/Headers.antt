@@ -1,9 +1,9 @@
 -- Headers of commands, as the definition has them.
 use Rattle.std.specs.Prelude.{ℕ, zero, suc, cond, List, [], ◌∷◌, ◌++◌, map, flat_map}
-use Rattle.model_prove.specs.Sets.{Set, with_value, all_bytes}
-use Rattle.model_prove.specs.Texts as known
-use Rattle.model_prove.specs.Between as between
-use Rattle.model_prove.specs.Between.{with_header_byte, all_but}
+use Rattle.prove_facts.specs.model_prove.specs.Sets.{Set, with_value, all_bytes}
+use Rattle.prove_facts.specs.model_prove.specs.Texts as known
+use Rattle.prove_facts.specs.model_prove.specs.Between as between
+use Rattle.prove_facts.specs.model_prove.specs.Between.{with_header_byte, all_but}
 use Rattle.prove_facts.specs.Sets.{set_of}
 use Rattle.prove_patterns.specs.Opens.{opens_of}
 use Rattle.prove_patterns.specs.declared.command_headers.Header.{Header}

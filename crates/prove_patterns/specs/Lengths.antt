@@ -1,5 +1,5 @@
 -- Lengths of a reply, as the definition has them.
-use Rattle.model_prove.specs.Arrivals as known
+use Rattle.prove_facts.specs.model_prove.specs.Arrivals as known
 use Rattle.prove_patterns.specs.declared.lengths.Lengths.{Lengths}
 
 -- which lengths are possible

@@ -1,6 +1,6 @@
 -- The patterns of the lines of the code, as the definition has them.
 use Rattle.std.specs.Prelude.{ℕ, Bool, true, false, cond, ◌&&◌, List, [], ◌∷◌, Option, Some, None}
-use Rattle.model_prove.specs.Texts.{Open, is_none_left, openings_unless}
+use Rattle.prove_facts.specs.model_prove.specs.Texts.{Open, is_none_left, openings_unless}
 use Rattle.prove_events.specs.declared.rules.Event.{Event}
 use Rattle.prove_events.specs.declared.rules.Event.TheVariants.{Turn, Command, Answer, Session}
 use Rattle.prove_events.specs.declared.rules.On.{On}

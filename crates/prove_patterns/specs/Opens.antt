@@ -3,7 +3,7 @@ use Rattle.std.specs.Prelude.{ℕ, List, map}
 use Rattle.std.specs.declared.alloc.Global.{Global}
 use Rattle.std.specs.declared.vec.Vec.{Vec}
 use denote.Ref.{Bor}
-use Rattle.model_prove.specs.Texts as known
+use Rattle.prove_facts.specs.model_prove.specs.Texts as known
 use Rattle.prove_patterns.specs.Ways.{texts}
 
 -- what is left of one pattern

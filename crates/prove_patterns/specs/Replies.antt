@@ -2,12 +2,12 @@
 use Rattle.std.specs.Prelude.{◌≡◌, ℕ, Bool, true, false, cond, List, [], ◌∷◌, map, ◌≤◌, ◌+◌}
 use Rattle.std.specs.declared.alloc.Global.{Global}
 use Rattle.std.specs.declared.vec.Vec.{Vec}
-use Rattle.model_prove.specs.Texts as known
-use Rattle.model_rules.specs.Rules.{AppRules}
-use Rattle.model_prove.specs.Texts.{opened, after_any}
-use Rattle.model_prove.specs.Sets.{Set}
-use Rattle.model_prove.specs.Facts.{Facts, values_at}
-use Rattle.model_prove.specs.Arrivals.{has_combination, result_patterns, la_at}
+use Rattle.prove_facts.specs.model_prove.specs.Texts as known
+use Rattle.prove_facts.specs.model_rules.specs.Rules.{AppRules}
+use Rattle.prove_facts.specs.model_prove.specs.Texts.{opened, after_any}
+use Rattle.prove_facts.specs.model_prove.specs.Sets.{Set}
+use Rattle.prove_facts.specs.model_prove.specs.Facts.{Facts, values_at}
+use Rattle.prove_facts.specs.model_prove.specs.Arrivals.{has_combination, result_patterns, la_at}
 use Rattle.prove_patterns.specs.declared.replies.Replies.{Replies}
 use Rattle.prove_patterns.specs.Opens.{many_of}
 

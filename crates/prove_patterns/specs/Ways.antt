@@ -1,7 +1,7 @@
 -- What is left of a pattern, as the definition has it.
 use Rattle.std.specs.Prelude.{ℕ, ◌+◌, ◌-◌, ◌/◌, ◌%◌, cond, nat_lt, List, [], ◌∷◌, map, filter, Option, Some, None}
 use denote.Ref.{Bor}
-use Rattle.model_prove.specs.Sets.{numbers_from}
+use Rattle.prove_facts.specs.model_prove.specs.Sets.{numbers_from}
 use Rattle.prove_facts.specs.Sets.{has_bit}
 
 -- texts, whatever place their bytes are borrowed from

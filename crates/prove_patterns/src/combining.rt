@@ -1,9 +1,9 @@
 // Combinations of lines that match and that do not.
 ghost use Rattle.std.specs.Prelude.{◌≡◌, map, IfOk, OnOk};
-ghost use Rattle.model_prove.specs.Keys.{same_lists};
-ghost use Rattle.model_prove.specs.Digits.{same};
-ghost use Rattle.model_prove.specs.Texts.{matches_of};
-ghost use Rattle.model_prove.specs.Arrivals.{has_combination, distinct};
+ghost use Rattle.prove_facts.specs.model_prove.specs.Keys.{same_lists};
+ghost use Rattle.prove_facts.specs.model_prove.specs.Digits.{same};
+ghost use Rattle.prove_facts.specs.model_prove.specs.Texts.{matches_of};
+ghost use Rattle.prove_facts.specs.model_prove.specs.Arrivals.{has_combination, distinct};
 ghost use Rattle.prove_patterns.specs.Opens.{many_of};
 ghost use Rattle.prove_patterns.specs.Replies.{combinations_of, with_combination};
 

@@ -1,10 +1,10 @@
 // The classes of commands that the patterns of the lines tell apart.
 ghost use Rattle.std.specs.Prelude.{◌≡◌, ◌<◌, ◌≤◌, ℕ, List, map, length, get_or, slice_set, true, IfOk, IfSome, OnOk, [], ◌∷◌};
-ghost use Rattle.model_prove.specs.Sets.{union};
-ghost use Rattle.model_prove.specs.Digits.{same};
-ghost use Rattle.model_prove.specs.Texts.{after_any};
-ghost use Rattle.model_prove.specs.Between.{union_all, with_class, with_classes, classes};
-ghost use Rattle.model_rules.specs.Rules.{AppRules};
+ghost use Rattle.prove_facts.specs.model_prove.specs.Sets.{union};
+ghost use Rattle.prove_facts.specs.model_prove.specs.Digits.{same};
+ghost use Rattle.prove_facts.specs.model_prove.specs.Texts.{after_any};
+ghost use Rattle.prove_facts.specs.model_prove.specs.Between.{union_all, with_class, with_classes, classes};
+ghost use Rattle.prove_facts.specs.model_rules.specs.Rules.{AppRules};
 ghost use Rattle.prove_events.specs.Rules.{AreLines};
 ghost use Rattle.prove_facts.specs.Sets.{set_of};
 ghost use Rattle.prove_patterns.specs.Opens.{many_of};

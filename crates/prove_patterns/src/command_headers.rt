@@ -1,8 +1,8 @@
 // Headers of commands that the patterns do not tell apart.
 ghost use Rattle.std.specs.Prelude.{◌≡◌, ◌<◌, ◌+◌, ◌*◌, ◌++◌, map, length, set, IfOk, OnOk, [], ◌∷◌};
 ghost use Rattle.std.specs.List.{flat_map};
-ghost use Rattle.model_prove.specs.Between.{with_left, by_left, with_header_byte};
-ghost use Rattle.model_prove.specs.Texts as texts;
+ghost use Rattle.prove_facts.specs.model_prove.specs.Between.{with_left, by_left, with_header_byte};
+ghost use Rattle.prove_facts.specs.model_prove.specs.Texts as texts;
 ghost use Rattle.prove_facts.specs.Sets.{set_of};
 ghost use Rattle.prove_patterns.specs.Opens.{opens_of};
 ghost use Rattle.prove_patterns.specs.Ways.{digit_sign, values_from};

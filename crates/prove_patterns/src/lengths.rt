@@ -1,6 +1,6 @@
 // Which lengths of a reply are possible.
 ghost use Rattle.std.specs.Prelude.{◌≡◌, ◌<◌, ◌&&◌, ◌||◌, nat_le, ℕ, Bool};
-ghost use Rattle.model_prove.specs.Arrivals.{some_value, lengths_of};
+ghost use Rattle.prove_facts.specs.model_prove.specs.Arrivals.{some_value, lengths_of};
 ghost use Rattle.prove_facts.specs.Sets.{set_of};
 ghost use Rattle.prove_patterns.specs.Lengths.{lengths_value};
 

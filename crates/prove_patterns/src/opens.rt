@@ -1,8 +1,8 @@
 // What is left of each of several patterns.
 ghost use Rattle.std.specs.Prelude.{◌≡◌, map, bytes_eq, IfOk, [], ◌∷◌};
-ghost use Rattle.model_prove.specs.Keys.{same_lists};
-ghost use Rattle.model_prove.specs.Texts.{openings_unless, is_none_left, after_character, all_after, same_opens, matches_of};
-ghost use Rattle.model_text.specs.Listing.{hex_text};
+ghost use Rattle.prove_facts.specs.model_prove.specs.Keys.{same_lists};
+ghost use Rattle.prove_facts.specs.model_prove.specs.Texts.{openings_unless, is_none_left, after_character, all_after, same_opens, matches_of};
+ghost use Rattle.prove_facts.specs.model_text.specs.Listing.{hex_text};
 ghost use Rattle.prove_patterns.specs.Ways.{texts};
 ghost use Rattle.prove_patterns.specs.Opens.{open_of, opens_of};
 

@@ -1,7 +1,7 @@
 // What may be left of several patterns after bytes that are known in part.
 ghost use Rattle.std.specs.Prelude.{◌≡◌, ◌≤◌, ◌++◌, ℕ, IfOk, IfSome, OnOk};
 ghost use Rattle.std.specs.List.{flat_map};
-ghost use Rattle.model_prove.specs.Texts.{is_among, with_opens, both_opens, after_each, after_bytes, after_digit, after_any, hex_digits};
+ghost use Rattle.prove_facts.specs.model_prove.specs.Texts.{is_among, with_opens, both_opens, after_each, after_bytes, after_digit, after_any, hex_digits};
 ghost use Rattle.prove_facts.specs.Sets.{set_of};
 ghost use Rattle.prove_patterns.specs.Opens.{opens_of, many_of};
 

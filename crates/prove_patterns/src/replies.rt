@@ -1,11 +1,11 @@
 // Which `answer` lines the replies match that bytes known in part allow.
 ghost use Rattle.std.specs.Prelude.{◌≡◌, ◌≤◌, ℕ, map, List, IfOk, IfSome, [], ◌∷◌};
 ghost use Rattle.std.specs.List.{flat_map};
-ghost use Rattle.model_prove.specs.Texts.{after_bytes, matches_of};
-ghost use Rattle.model_prove.specs.Texts as known;
-ghost use Rattle.model_prove.specs.Arrivals.{Setting, distinct, replies};
-ghost use Rattle.model_prove.specs.Keys.{Known};
-ghost use Rattle.model_rules.specs.Rules.{AppRules};
+ghost use Rattle.prove_facts.specs.model_prove.specs.Texts.{after_bytes, matches_of};
+ghost use Rattle.prove_facts.specs.model_prove.specs.Texts as known;
+ghost use Rattle.prove_facts.specs.model_prove.specs.Arrivals.{Setting, distinct, replies};
+ghost use Rattle.prove_facts.specs.model_prove.specs.Keys.{Known};
+ghost use Rattle.prove_facts.specs.model_rules.specs.Rules.{AppRules};
 ghost use Rattle.prove_events.specs.Rules.{AreLines};
 ghost use Rattle.prove_facts.specs.Sets.{set_of};
 ghost use Rattle.prove_patterns.specs.Opens.{opens_of, many_of};

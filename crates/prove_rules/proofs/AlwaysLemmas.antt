@@ -1,15 +1,15 @@
 -- The lines of static bytes.
 use Rattle.std.proofs.Common.{◌≡◌, ◌<◌, ◌≤◌, ◌-◌, ℕ, suc, ◌+◌, List, [], ◌∷◌, ◌++◌, Bool, true, false, not, cond, length, map, Option, Some, None, Result, Ok, Err, append-nil, append_assoc, drop, drop-cons, get_or, add-one, arith, refl, sym, ap, subst, ◌∙◌}
 use Rattle.std.specs.Prelude.{◌&&◌, nat_le, nat_lt, bytes_eq, codes, is_none, is_some, ok_or}
-use Rattle.model_device.specs.Bytes.{lookup}
-use Rattle.model_text.specs.Text.{◌>>=◌, ok_as, only_if}
-use Rattle.model_text.specs.Assembly.{natural}
-use Rattle.model_play.specs.declared.deck.DeckCause.{DeckCause}
-use Rattle.model_play.specs.declared.deck.DeckCause.TheVariants.{BadLine, BadNumber, OutOfRange, UnknownName}
-use Rattle.model_play.specs.DeckGrammar.{name_field, number_field}
-use Rattle.law_explore.specs.Rules.{begins_with}
-use Rattle.model_rules.specs.Rules.{AppRules, Range, Target, Total}
-use Rattle.model_rules.specs.Reading.{Deck, NoApplication, RuleCause, always_line, are_names, are_sums, ends_of, of_deck, sign_of, static_field, static_size, terms_of, unless, with_app, with_range, with_total}
+use Rattle.mc_base.specs.model_device.specs.Bytes.{lookup}
+use Rattle.mc_text.specs.model_text.specs.Text.{◌>>=◌, ok_as, only_if}
+use Rattle.mc_text.specs.model_text.specs.Assembly.{natural}
+use Rattle.lab_match.specs.model_play.specs.declared.deck.DeckCause.{DeckCause}
+use Rattle.lab_match.specs.model_play.specs.declared.deck.DeckCause.TheVariants.{BadLine, BadNumber, OutOfRange, UnknownName}
+use Rattle.lab_match.specs.model_play.specs.DeckGrammar.{name_field, number_field}
+use Rattle.lab_match.specs.law_explore.specs.Rules.{begins_with}
+use Rattle.prove_facts.specs.model_rules.specs.Rules.{AppRules, Range, Target, Total}
+use Rattle.prove_facts.specs.model_rules.specs.Reading.{Deck, NoApplication, RuleCause, always_line, are_names, are_sums, ends_of, of_deck, sign_of, static_field, static_size, terms_of, unless, with_app, with_range, with_total}
 use Rattle.prove_events.specs.declared.rules.Always.{Always}
 use Rattle.prove_events.specs.declared.rules.Balance.{Balance}
 use Rattle.prove_events.specs.Rules.{allowance_of, name_of, range_of}

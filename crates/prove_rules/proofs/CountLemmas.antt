@@ -1,9 +1,9 @@
 -- The number of lines of a deck.
 use Rattle.std.proofs.Common.{◌≡◌, ◌+◌, ◌≤◌, ℕ, suc, List, [], ◌∷◌, ◌++◌, Bool, true, false, length, Some, Result, Ok, Err, arith, refl, sym, ap, ◌∙◌}
 use Rattle.std.specs.Prelude.{◌==◌}
-use Rattle.model_text.specs.Text.{◌>>=◌, lines, ok_as, with_numbers}
-use Rattle.model_play.specs.declared.deck.DeckCause.{DeckCause}
-use Rattle.model_play.specs.DeckGrammar.{deck_lines, deck_read, turn_at, turn_in, DeckLine, LineTurn, Mode}
+use Rattle.mc_text.specs.model_text.specs.Text.{◌>>=◌, lines, ok_as, with_numbers}
+use Rattle.lab_match.specs.model_play.specs.declared.deck.DeckCause.{DeckCause}
+use Rattle.lab_match.specs.model_play.specs.DeckGrammar.{deck_lines, deck_read, turn_at, turn_in, DeckLine, LineTurn, Mode}
 use Rattle.mc_text.specs.Reading.{next_line}
 use Rattle.mc_text.proofs.ReadingLemmas.{lines_at, lines_from}
 

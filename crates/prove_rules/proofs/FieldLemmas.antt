@@ -1,10 +1,10 @@
 -- Numbers, ranges and brackets in the fields of rules.
 use Rattle.std.proofs.Common.{◌≡◌, ◌<◌, ◌≤◌, ℕ, suc, not, Bor, List, [], ◌∷◌, Bool, true, false, length, Option, Some, None, Result, Ok, Err, arith, refl, sym, ap, ◌∙◌}
 use Rattle.std.specs.Prelude.{◌==◌, nat_le, bytes_eq, codes, cond, is_some, option_map}
-use Rattle.model_text.specs.Text.{◌>>=◌, first_cut, halves_with_character, ok_as, pieces, pieces_with_character}
+use Rattle.mc_text.specs.model_text.specs.Text.{◌>>=◌, first_cut, halves_with_character, ok_as, pieces, pieces_with_character}
 use Rattle.mc_text.specs.Reading.{capped_number}
-use Rattle.model_play.specs.declared.deck.DeckCause.TheVariants.{BadLine}
-use Rattle.model_rules.specs.Reading.{Deck, RuleCause, bracketed, ends_in, ends_of, has_no_bracket, register_and_text, register_field, static_field, unless}
+use Rattle.lab_match.specs.model_play.specs.declared.deck.DeckCause.TheVariants.{BadLine}
+use Rattle.prove_facts.specs.model_rules.specs.Reading.{Deck, RuleCause, bracketed, ends_in, ends_of, has_no_bracket, register_and_text, register_field, static_field, unless}
 use Rattle.prove_rules.specs.Fields.{two_of, IsNumber}
 
 -- ---- pieces by their first cut

@@ -1,16 +1,16 @@
 -- `on` lines by their parts.
 use Rattle.std.proofs.Common.{◌≡◌, ℕ, List, [], ◌∷◌, ◌++◌, Bool, true, false, not, cond, length, map, Option, Some, None, Ok, Err, Result, refl, sym, ap, subst, ◌∙◌}
 use Rattle.std.specs.Prelude.{◌==◌, bytes_eq, codes, is_none, is_some, ok_or}
-use Rattle.model_device.specs.Bytes.{lookup}
-use Rattle.model_text.specs.Text.{◌>>=◌, fields, is_empty, only_if}
-use Rattle.model_play.specs.declared.deck.DeckCause.{DeckCause}
-use Rattle.model_play.specs.declared.deck.DeckCause.TheVariants.{BadLine, UnknownName}
-use Rattle.model_play.specs.DeckGrammar.{name_field}
-use Rattle.law_explore.specs.Rules.{full_parts, name_and_amount, parts_at, parts_of, Parts}
-use Rattle.model_rules.specs.Rules as rules
-use Rattle.model_rules.specs.Rules.{AppRules, AtAnswer, AtCommand, AtSession, AtTurn, OnLine, SumLine, Target, Trigger}
-use Rattle.model_rules.specs.Reading as reading
-use Rattle.model_rules.specs.Reading.{AmountForm, AmountRead, Deck, EventWord, NoApplication, OnAllowance, OnSum, RuleCause, action_words, amount_of_read, amount_read, bare_parts, event_words, form_of_amount, gives_words, has_no_bracket, of_deck, on_line, rule_name, turn_words, unless, with_app, with_deed, with_event_line, with_move_at, with_on}
+use Rattle.mc_base.specs.model_device.specs.Bytes.{lookup}
+use Rattle.mc_text.specs.model_text.specs.Text.{◌>>=◌, fields, is_empty, only_if}
+use Rattle.lab_match.specs.model_play.specs.declared.deck.DeckCause.{DeckCause}
+use Rattle.lab_match.specs.model_play.specs.declared.deck.DeckCause.TheVariants.{BadLine, UnknownName}
+use Rattle.lab_match.specs.model_play.specs.DeckGrammar.{name_field}
+use Rattle.lab_match.specs.law_explore.specs.Rules.{full_parts, name_and_amount, parts_at, parts_of, Parts}
+use Rattle.prove_facts.specs.model_rules.specs.Rules as rules
+use Rattle.prove_facts.specs.model_rules.specs.Rules.{AppRules, AtAnswer, AtCommand, AtSession, AtTurn, OnLine, SumLine, Target, Trigger}
+use Rattle.prove_facts.specs.model_rules.specs.Reading as reading
+use Rattle.prove_facts.specs.model_rules.specs.Reading.{AmountForm, AmountRead, Deck, EventWord, NoApplication, OnAllowance, OnSum, RuleCause, action_words, amount_of_read, amount_read, bare_parts, event_words, form_of_amount, gives_words, has_no_bracket, of_deck, on_line, rule_name, turn_words, unless, with_app, with_deed, with_event_line, with_move_at, with_on}
 use Rattle.prove_events.specs.declared.rules.Effect.{Effect}
 use Rattle.prove_events.specs.declared.rules.Event.{Event}
 use Rattle.prove_events.specs.declared.rules.Event.TheVariants as event

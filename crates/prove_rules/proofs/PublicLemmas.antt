@@ -1,13 +1,13 @@
 -- Amounts of public bytes.
 use Rattle.std.proofs.Common.{◌≡◌, ◌+◌, ◌-◌, ◌<◌, ◌≤◌, ℕ, zero, suc, List, Bool, true, false, cond, drop, Option, Some, None, Result, Ok, Err, arith, refl, sym, ap, subst, ◌∙◌}
 use Rattle.std.specs.Prelude.{◌&&◌, ◌||◌, nat_le, nat_lt, ℤ, pos, bytes_eq, codes, option_map, ok_or}
-use Rattle.model_text.specs.Text.{◌>>=◌, begins, decimal_number, ok_as}
-use Rattle.model_text.specs.Assembly.{minus, natural, signed_number}
-use Rattle.model_play.specs.declared.deck.DeckCause.TheVariants.{BadLine, BadNumber, OutOfRange}
+use Rattle.mc_text.specs.model_text.specs.Text.{◌>>=◌, begins, decimal_number, ok_as}
+use Rattle.mc_text.specs.model_text.specs.Assembly.{minus, natural, signed_number}
+use Rattle.lab_match.specs.model_play.specs.declared.deck.DeckCause.TheVariants.{BadLine, BadNumber, OutOfRange}
 use Rattle.mc_text.specs.Reading.{capped_number}
-use Rattle.model_rules.specs.Rules as rules
-use Rattle.model_rules.specs.Reading as reading
-use Rattle.model_rules.specs.Reading.{Deck, OfBytes, RuleCause, amount_read, ends_of, form_at_register, form_of_amount, place_from, public_amount, register_field, unless}
+use Rattle.prove_facts.specs.model_rules.specs.Rules as rules
+use Rattle.prove_facts.specs.model_rules.specs.Reading as reading
+use Rattle.prove_facts.specs.model_rules.specs.Reading.{Deck, OfBytes, RuleCause, amount_read, ends_of, form_at_register, form_of_amount, place_from, public_amount, register_field, unless}
 use Rattle.prove_events.specs.declared.rules.Amount.TheVariants as amount
 use Rattle.prove_rules.specs.Fields.{amount_value, IsAmountRead, IsNumber, IsPlace}
 use Rattle.prove_rules.specs.declared.public.AmountRead.TheVariants as read

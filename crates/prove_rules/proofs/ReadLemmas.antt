@@ -1,13 +1,13 @@
 -- The lines of a text, read rule by rule.
 use Rattle.std.proofs.Common.{◌≡◌, ◌+◌, ℕ, List, [], ◌∷◌, Bool, true, false, not, cond, length, map, Some, None, Result, Ok, Err, arith, refl, sym, ap, subst, ◌∙◌}
 use Rattle.std.specs.Prelude.{◌&&◌, bytes_eq, codes, is_some, ok_or, IfErr, IfOk}
-use Rattle.model_device.specs.Bytes.{lookup}
-use Rattle.model_text.specs.Text.{◌>>=◌, err_as, fields, lines, only_if, with_numbers}
-use Rattle.model_play.specs.declared.deck.DeckCause.TheVariants.{BadLine}
-use Rattle.model_play.specs.DeckGrammar.{deck_read, DeckLine}
-use Rattle.law_explore.specs.Rules.{is_marked, line_if, marked_lines, stays_inside}
-use Rattle.model_rules.specs.Rules.{no_app_rules, AppRules, Target}
-use Rattle.model_rules.specs.Reading.{AppWord, Deck, LoadLine, NoApplication, MoveLine, OnWord, AlwaysLine, RuleCause, always_line, app_line, app_rule, app_rules_from, app_rules_read, app_words, on_line, with_some_app}
+use Rattle.mc_base.specs.model_device.specs.Bytes.{lookup}
+use Rattle.mc_text.specs.model_text.specs.Text.{◌>>=◌, err_as, fields, lines, only_if, with_numbers}
+use Rattle.lab_match.specs.model_play.specs.declared.deck.DeckCause.TheVariants.{BadLine}
+use Rattle.lab_match.specs.model_play.specs.DeckGrammar.{deck_read, DeckLine}
+use Rattle.lab_match.specs.law_explore.specs.Rules.{is_marked, line_if, marked_lines, stays_inside}
+use Rattle.prove_facts.specs.model_rules.specs.Rules.{no_app_rules, AppRules, Target}
+use Rattle.prove_facts.specs.model_rules.specs.Reading.{AppWord, Deck, LoadLine, NoApplication, MoveLine, OnWord, AlwaysLine, RuleCause, always_line, app_line, app_rule, app_rules_from, app_rules_read, app_words, on_line, with_some_app}
 use Rattle.mc_text.specs.Reading.{next_line}
 use Rattle.prove_events.specs.declared.rules.Rules.{Rules}
 use Rattle.prove_events.specs.declared.rules.Named.{Named}

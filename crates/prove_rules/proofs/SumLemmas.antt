@@ -1,7 +1,7 @@
 -- Lines about sums and the blocks that they bind, with one more.
 use Rattle.std.proofs.Common.{◌≡◌, ◌<◌, ◌+◌, ℕ, suc, List, [], ◌∷◌, ◌++◌, Bool, not, map, length, drop, drop-cons, get_or, add-one, append-nil, append_assoc, Option, Some, None, refl, sym, ap, subst, ◌∙◌}
 use Rattle.std.specs.Prelude.{slice_get}
-use Rattle.model_rules.specs.Rules.{Action, SumLine, Total}
+use Rattle.prove_facts.specs.model_rules.specs.Rules.{Action, SumLine, Total}
 use Rattle.prove_events.specs.declared.rules.Amount.{Amount}
 use Rattle.prove_events.specs.declared.rules.Balance.{Balance}
 use Rattle.prove_events.specs.declared.rules.Effect.{Effect}

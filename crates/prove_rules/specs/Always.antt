@@ -1,9 +1,9 @@
 -- `always` lines as the code reads them.
 use Rattle.std.specs.Prelude.{◌≡◌, ◌<◌, ◌≤◌, ◌-◌, ℕ, suc, Bool, not, List, [], ◌∷◌, map, Some, Ok, true, false, ⊤}
-use Rattle.model_play.specs.DeckGrammar.{number_field}
-use Rattle.model_play.specs.declared.deck.DeckCause.TheVariants.{UnknownName}
-use Rattle.model_text.specs.Assembly.{natural}
-use Rattle.model_rules.specs.Reading.{are_names, are_sums, ends_of, terms_of}
+use Rattle.lab_match.specs.model_play.specs.DeckGrammar.{number_field}
+use Rattle.lab_match.specs.model_play.specs.declared.deck.DeckCause.TheVariants.{UnknownName}
+use Rattle.mc_text.specs.model_text.specs.Assembly.{natural}
+use Rattle.prove_facts.specs.model_rules.specs.Reading.{are_names, are_sums, ends_of, terms_of}
 use Rattle.prove_events.specs.declared.rules.Always.{Always}
 use Rattle.prove_events.specs.declared.rules.Balance.{Balance}
 use Rattle.prove_events.specs.Rules.{allowance_of, name_of}

@@ -1,10 +1,10 @@
 -- Numbers and amounts in the fields of rules.
 use Rattle.std.specs.Prelude.{◌≡◌, ◌<◌, ◌≤◌, ◌-◌, ℕ, ℤ, Bool, List, [], ◌∷◌, option_map, Option, Some, None, Result, Ok, Err}
 use Rattle.mc_text.specs.Reading.{capped_number}
-use Rattle.model_text.specs.Assembly.{signed_number}
-use Rattle.model_rules.specs.Rules as rules
-use Rattle.model_rules.specs.Reading as reading
-use Rattle.model_rules.specs.Reading.{place_from}
+use Rattle.mc_text.specs.model_text.specs.Assembly.{signed_number}
+use Rattle.prove_facts.specs.model_rules.specs.Rules as rules
+use Rattle.prove_facts.specs.model_rules.specs.Reading as reading
+use Rattle.prove_facts.specs.model_rules.specs.Reading.{place_from}
 use Rattle.prove_events.specs.declared.rules.Amount.{Amount}
 use Rattle.prove_events.specs.declared.rules.Amount.TheVariants as amount
 use Rattle.prove_rules.specs.declared.public.AmountForm.{AmountForm}

@@ -1,13 +1,13 @@
 -- `on` lines as the code reads them.
 use Rattle.std.specs.Prelude.{◌≡◌, ℕ, Bool, true, false, List, [], ◌∷◌, ◌++◌, map, Option, Some, None, Result, Ok, ⊤}
-use Rattle.model_text.specs.Text.{◌>>=◌, fields, is_empty}
-use Rattle.model_play.specs.DeckGrammar.{name_field}
-use Rattle.law_explore.specs.Matching.{plain}
-use Rattle.law_explore.specs.Rules.{full_parts, name_and_amount, parts_of, Parts}
-use Rattle.model_rules.specs.Rules as rules
-use Rattle.model_rules.specs.Rules.{AppRules, OnLine, SumLine, Trigger, AtTurn, AtCommand, AtAnswer, AtSession}
-use Rattle.model_rules.specs.Reading as reading
-use Rattle.model_rules.specs.Reading.{AmountForm, AmountRead, RuleCause, action_words, amount_of_read, amount_read, form_of_amount, gives_words, has_no_bracket, of_deck, with_deed, with_event_line}
+use Rattle.mc_text.specs.model_text.specs.Text.{◌>>=◌, fields, is_empty}
+use Rattle.lab_match.specs.model_play.specs.DeckGrammar.{name_field}
+use Rattle.lab_match.specs.law_explore.specs.Matching.{plain}
+use Rattle.lab_match.specs.law_explore.specs.Rules.{full_parts, name_and_amount, parts_of, Parts}
+use Rattle.prove_facts.specs.model_rules.specs.Rules as rules
+use Rattle.prove_facts.specs.model_rules.specs.Rules.{AppRules, OnLine, SumLine, Trigger, AtTurn, AtCommand, AtAnswer, AtSession}
+use Rattle.prove_facts.specs.model_rules.specs.Reading as reading
+use Rattle.prove_facts.specs.model_rules.specs.Reading.{AmountForm, AmountRead, RuleCause, action_words, amount_of_read, amount_read, form_of_amount, gives_words, has_no_bracket, of_deck, with_deed, with_event_line}
 use Rattle.prove_events.specs.declared.rules.Amount.{Amount}
 use Rattle.prove_events.specs.declared.rules.Effect.{Effect}
 use Rattle.prove_events.specs.declared.rules.Event.{Event}

@@ -1,11 +1,11 @@
 -- The rules of the lines so far, as the code has them, and those of the definition that they are.
 use Rattle.std.specs.Prelude.{◌≡◌, ℕ, suc, cond, List, [], ◌∷◌, ◌++◌, map, bytes_eq, is_none, option_map, Option, Some, None, Result, Ok, Err, ⊤}
-use Rattle.model_device.specs.Bytes.{lookup}
-use Rattle.law_explore.specs.Rules.{name_and_amount}
-use Rattle.model_text.specs.Text.{◌>>=◌}
-use Rattle.model_play.specs.declared.deck.DeckCause.TheVariants.{NameTwice}
-use Rattle.model_rules.specs.Reading.{of_deck, unless}
-use Rattle.model_rules.specs.Rules.{AppRules, Target}
+use Rattle.mc_base.specs.model_device.specs.Bytes.{lookup}
+use Rattle.lab_match.specs.law_explore.specs.Rules.{name_and_amount}
+use Rattle.mc_text.specs.model_text.specs.Text.{◌>>=◌}
+use Rattle.lab_match.specs.model_play.specs.declared.deck.DeckCause.TheVariants.{NameTwice}
+use Rattle.prove_facts.specs.model_rules.specs.Reading.{of_deck, unless}
+use Rattle.prove_facts.specs.model_rules.specs.Rules.{AppRules, Target}
 use Rattle.prove_events.specs.declared.rules.Always.{Always}
 use Rattle.prove_events.specs.declared.rules.Balance.{Balance}
 use Rattle.prove_events.specs.declared.rules.Named.{Named}

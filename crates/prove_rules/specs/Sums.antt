@@ -1,7 +1,7 @@
 -- Sums, the lines about them and the blocks that they bind, as the definition has them.
 use Rattle.std.specs.Prelude.{◌≡◌, ℕ, Bool, true, false, not, List, [], ◌∷◌, map, slice_get, Option, Some, None, ⊤}
-use Rattle.law_explore.specs.Matching.{plain}
-use Rattle.model_rules.specs.Rules.{AppRules, SumLine, Total}
+use Rattle.lab_match.specs.law_explore.specs.Matching.{plain}
+use Rattle.prove_facts.specs.model_rules.specs.Rules.{AppRules, SumLine, Total}
 use Rattle.prove_events.specs.declared.rules.Amount.{Amount}
 use Rattle.prove_events.specs.declared.rules.Balance.{Balance}
 use Rattle.prove_events.specs.declared.rules.Effect.{Effect}

@@ -1,10 +1,10 @@
 // The parts of an `on` line: a pattern, and the word after it.
 ghost use Rattle.std.specs.Prelude.{◌≡◌, ◌++◌, None, Some, cond, true, option_map, IfErr, IfOk, OnOk};
-ghost use Rattle.model_device.specs.Bytes.{lookup};
-ghost use Rattle.model_text.specs.Text.{fields};
-ghost use Rattle.law_explore.specs.Matching.{plain};
-ghost use Rattle.law_explore.specs.Rules.{parts_of};
-ghost use Rattle.model_rules.specs.Reading.{action_words, event_words, gives_words, turn_words};
+ghost use Rattle.mc_base.specs.model_device.specs.Bytes.{lookup};
+ghost use Rattle.mc_text.specs.model_text.specs.Text.{fields};
+ghost use Rattle.lab_match.specs.law_explore.specs.Matching.{plain};
+ghost use Rattle.lab_match.specs.law_explore.specs.Rules.{parts_of};
+ghost use Rattle.prove_facts.specs.model_rules.specs.Reading.{action_words, event_words, gives_words, turn_words};
 ghost use Rattle.prove_rules.specs.Parts.{action_deeds, deeds_value, effect_words, event_value, HasNoParts, HasParts};
 
 use crate::fault::{Fault, bad_line};

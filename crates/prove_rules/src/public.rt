@@ -1,17 +1,17 @@
 // The amounts of sums.
 ghost use Rattle.std.specs.Prelude.{◌≡◌, ◌||◌, ℕ, Err, IfErr, IfOk, MatchOption, MatchResult, None, Ok, Option, bytes_eq, codes, drop, false, not, option_map, pos, true};
 ghost use Rattle.mc_text.specs.Reading.{capped_number};
-ghost use Rattle.model_text.specs.Assembly.{minus, signed_number};
-ghost use Rattle.model_text.specs.Text.{begins};
-ghost use Rattle.model_play.specs.declared.deck.DeckCause.TheVariants.{BadLine, BadNumber};
-ghost use Rattle.model_rules.specs.Reading as reading;
-ghost use Rattle.model_rules.specs.Reading.{amount_of_read, amount_read, form_of_amount, has_no_bracket, place_from, public_amount, Deck};
+ghost use Rattle.mc_text.specs.model_text.specs.Assembly.{minus, signed_number};
+ghost use Rattle.mc_text.specs.model_text.specs.Text.{begins};
+ghost use Rattle.lab_match.specs.model_play.specs.declared.deck.DeckCause.TheVariants.{BadLine, BadNumber};
+ghost use Rattle.prove_facts.specs.model_rules.specs.Reading as reading;
+ghost use Rattle.prove_facts.specs.model_rules.specs.Reading.{amount_of_read, amount_read, form_of_amount, has_no_bracket, place_from, public_amount, Deck};
 ghost use Rattle.prove_rules.specs.Fields.{amount_value, form_value, IsAmountRead, IsPlace, IsReadOf};
 
 use crate::field::{amount_field, assembly_number};
 use crate::range::{range_ends, register_field};
+use lab_match::model_play::DeckCause;
 use mc_text::{cut, decimal_number};
-use model_play::DeckCause;
 use prove_events::Amount;
 
 /// The address of the public segment.

@@ -1,11 +1,11 @@
 // The rules of a deck for one application, line by line.
 ghost use Rattle.std.specs.Prelude.{◌≡◌, ◌≤◌, ◌∷◌, codes, false, length, option_map, true, IfErr, IfOk, MatchOption, None, Ok, OnOk};
-ghost use Rattle.model_device.specs.Bytes.{lookup};
-ghost use Rattle.model_text.specs.Text.{fields, lines};
-ghost use Rattle.model_play.specs.DeckGrammar.{deck_read};
-ghost use Rattle.law_explore.specs.Rules.{is_marked};
-ghost use Rattle.model_rules.specs.Rules.{no_app_rules, AppRules, Target};
-ghost use Rattle.model_rules.specs.Reading.{app_rule, app_rules_read, app_words};
+ghost use Rattle.mc_base.specs.model_device.specs.Bytes.{lookup};
+ghost use Rattle.mc_text.specs.model_text.specs.Text.{fields, lines};
+ghost use Rattle.lab_match.specs.model_play.specs.DeckGrammar.{deck_read};
+ghost use Rattle.lab_match.specs.law_explore.specs.Rules.{is_marked};
+ghost use Rattle.prove_facts.specs.model_rules.specs.Rules.{no_app_rules, AppRules, Target};
+ghost use Rattle.prove_facts.specs.model_rules.specs.Reading.{app_rule, app_rules_read, app_words};
 ghost use Rattle.prove_events.specs.Rules.{AreRules};
 ghost use Rattle.prove_rules.specs.declared.fault.RuleCause.TheVariants.{NoApplication};
 ghost use Rattle.prove_rules.specs.declared.fault.RuleRefusal.TheVariants.{At};

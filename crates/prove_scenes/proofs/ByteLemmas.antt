@@ -3,7 +3,7 @@ use Rattle.std.proofs.Common.{◌≡◌, ◌≢◌, ℕ, zero, suc, ◌+◌, ◌
 use Rattle.std.specs.Prelude.{replicate}
 use Rattle.std.proofs.lemmas.List.{length-replicate}
 use Rattle.std.proofs.Math.Nat.{div-eq_of_lt, pow-suc}
-use Rattle.model_device.specs.Bytes.{bytes, zeros}
+use Rattle.model_machine.specs.model_device.specs.Bytes.{bytes, zeros}
 
 -- one more equal byte
 pub one_more : (n v : ℕ) → replicate n v ++ v ∷ [] ≡ replicate (n + 1) v

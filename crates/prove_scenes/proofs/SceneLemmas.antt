@@ -3,8 +3,8 @@ use Rattle.std.proofs.Common.{◌≡◌, ℕ, zero, suc, ◌+◌, ◌-◌, ◌�
 use Rattle.std.specs.Prelude.{Option, Some, None}
 use Rattle.std.specs.List.{refill}
 use Rattle.std.proofs.lemmas.List.{take_at}
-use Rattle.model_device.specs.Bytes.{zeros, splice, bytes2}
-use Rattle.model_device.specs.Card.{App}
+use Rattle.model_machine.specs.model_device.specs.Bytes.{zeros, splice, bytes2}
+use Rattle.model_machine.specs.model_device.specs.Card.{App}
 use Rattle.model_machine.specs.Frame.{dynamic_base, public_base, public_end}
 use Rattle.model_prove.specs.Keys.{PlaceKey, Call}
 use Rattle.model_prove.specs.Splits.{Scene, stand_in, stand_in_stack, with_byte, with_values}

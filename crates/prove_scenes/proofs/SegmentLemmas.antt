@@ -1,7 +1,7 @@
 -- The bytes of a segment, kept or not.
 use Rattle.std.proofs.Common.{◌≡◌, ℕ, ◌≤◌, List, [], ◌∷◌, length, take, refl, sym, ap, ◌∙◌, arith}
 use Rattle.std.proofs.lemmas.List.{take-replicate, length-replicate}
-use Rattle.model_device.specs.Bytes.{zeros}
+use Rattle.model_machine.specs.model_device.specs.Bytes.{zeros}
 use Rattle.prove_scenes.specs.Segments.{laid}
 
 -- n zeros are n bytes

@@ -2,8 +2,8 @@
 use Rattle.std.proofs.Common.{◌≡◌, ℕ, zero, suc, ◌+◌, ◌-◌, ◌*◌, ◌/◌, ◌≤◌, ◌<◌, Bool, cond, List, [], ◌∷◌, length, refl, sym, ◌∙◌, ap, arith, inl, inr, ◌≢◌}
 use Rattle.std.specs.Prelude.{nat_lt}
 use Rattle.std.proofs.lemmas.Bool.{eq-eqb, cases_lt}
-use Rattle.model_device.specs.Bytes.{down, zeros}
-use Rattle.model_device.specs.Pieces.{with_number, with_words, touched_words}
+use Rattle.model_machine.specs.model_device.specs.Bytes.{down, zeros}
+use Rattle.model_machine.specs.model_device.specs.Pieces.{with_number, with_words, touched_words}
 use Rattle.model_prove.specs.Sets.{numbers_from}
 
 -- a number that is not the first of some, and not below it, goes among the others

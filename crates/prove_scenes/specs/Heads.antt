@@ -2,7 +2,7 @@
 use Rattle.std.specs.Prelude.{Bool, List, ◌∷◌, option_map}
 use Rattle.model_machine.specs.declared.machine.Abend.{Abend}
 use Rattle.model_machine.specs.declared.machine.Abend.TheVariants.{A06, A0A}
-use Rattle.model_device.specs.Bytes.{zeros}
+use Rattle.model_machine.specs.model_device.specs.Bytes.{zeros}
 use Rattle.model_machine.specs.Primitives as model
 use Rattle.prove_scenes.specs.declared.around.Around.{Around}
 use Rattle.prove_scenes.specs.declared.prim_causes.Head.{Head}

@@ -3,7 +3,7 @@
 -- and of the flags that it then sets, nothing.
 use Rattle.std.specs.Prelude.{◌≡◌, ℕ, Bool, List, [], ◌∷◌, length, Option, None}
 use Rattle.model_machine.specs.declared.instruction.Ins.{Ins}
-use Rattle.model_device.specs.Bytes.{zeros}
+use Rattle.model_machine.specs.model_device.specs.Bytes.{zeros}
 use Rattle.model_machine.specs.Primitives.{Then, Goes, Exits, Delegates}
 use Rattle.law_rows.specs.Shapes.{Act, Stays, Answers, Jumps, Calls, Returns, Pushes, Replaces, Writes, Protects, Shape}
 use Rattle.model_machine.specs.declared.machine.Abend.{Abend}

@@ -1,7 +1,7 @@
 -- The frame that stands for all of a place, as the code has it.
 use Rattle.std.specs.Prelude.{◌≡◌, ℕ, ◌+◌, ◌-◌, ◌≤◌, List, [], ◌∷◌, ◌++◌, length, Option, Some, None}
-use Rattle.model_device.specs.Bytes.{bytes2, zeros, splice}
-use Rattle.model_device.specs.Card.{App}
+use Rattle.model_machine.specs.model_device.specs.Bytes.{bytes2, zeros, splice}
+use Rattle.model_machine.specs.model_device.specs.Card.{App}
 use Rattle.model_machine.specs.Frame.{Frame, dynamic_base, dynamic_end, public_base, public_end}
 use Rattle.model_prove.specs.Keys.{PlaceKey, Call}
 use Rattle.model_prove.specs.Splits.{Scene}

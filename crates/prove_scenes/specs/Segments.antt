@@ -1,6 +1,6 @@
 -- The bytes of a segment that are zeros until some are set.
 use Rattle.std.specs.Prelude.{◌≡◌, ◌≤◌, ℕ, List, [], ◌∷◌, length}
-use Rattle.model_device.specs.Bytes.{zeros}
+use Rattle.model_machine.specs.model_device.specs.Bytes.{zeros}
 use Rattle.prove_scenes.specs.declared.segment.Segment.TheInside.{Inside}
 
 -- n bytes: those that are kept, or zeros if none are

@@ -1,6 +1,6 @@
 // The bytes of a scene, at places of its segments and on its stack.
 ghost use Rattle.std.specs.Prelude.{◌≡◌, ◌≤◌, ◌+◌, length, take, drop, cond, option_map};
-ghost use Rattle.model_device.specs.Bytes.{num};
+ghost use Rattle.model_machine.specs.model_device.specs.Bytes.{num};
 ghost use Rattle.model_machine.specs.Frame as model;
 ghost use Rattle.model_machine.specs.Primitives as model_prims;
 ghost use Rattle.prove_scenes.specs.Scenes.{frame_to};

@@ -1,6 +1,6 @@
 // The shape of a primitive in a scene.
 ghost use Rattle.std.specs.Prelude.{◌≡◌, ◌≤◌, ◌<◌, ◌*◌, ◌-◌, ◌+◌, [], ◌∷◌, true, false, List, ℕ, None, length, IfSome};
-ghost use Rattle.model_device.specs.Bytes.{zeros};
+ghost use Rattle.model_machine.specs.model_device.specs.Bytes.{zeros};
 ghost use Rattle.law_rows.specs.Shapes as shapes;
 ghost use Rattle.model_machine.specs.Frame.{bytes_at, top};
 ghost use Rattle.model_machine.specs.Primitives as model;

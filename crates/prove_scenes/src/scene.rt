@@ -1,7 +1,7 @@
 // The frame that stands for all frames of a place.
 ghost use Rattle.std.specs.Prelude.{◌≡◌, ◌≤◌, ◌+◌, ◌-◌, ◌++◌, length, true, false, IfOk, IfSome, OnOk};
-ghost use Rattle.model_device.specs.Bytes.{bytes2, splice};
-ghost use Rattle.model_device.specs.Card.{App};
+ghost use Rattle.model_machine.specs.model_device.specs.Bytes.{bytes2, splice};
+ghost use Rattle.model_machine.specs.model_device.specs.Card.{App};
 ghost use Rattle.model_prove.specs.Keys.{PlaceKey};
 ghost use Rattle.model_prove.specs.Splits.{stand_in, with_byte, with_values};
 ghost use Rattle.prove_scenes.specs.Scenes.{IsSized, HasRegisters, EndsInStack, scene_of, stack_under};

@@ -1,6 +1,6 @@
 // The bytes of a segment that are zeros until some are set.
 ghost use Rattle.std.specs.Prelude.{◌≡◌, ◌≤◌, ◌<◌, ◌+◌, length, vec_len, OnOk, OnErr};
-ghost use Rattle.model_device.specs.Bytes.{splice, zeros};
+ghost use Rattle.model_machine.specs.model_device.specs.Bytes.{splice, zeros};
 ghost use Rattle.prove_scenes.specs.Segments.{laid};
 
 use mc_base::NoMemory;

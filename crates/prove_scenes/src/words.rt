@@ -1,7 +1,7 @@
 // The words in which static bytes lie.
 ghost use Rattle.std.specs.Prelude.{◌≡◌, [], ◌∷◌, length};
-ghost use Rattle.model_device.specs.Bytes.{zeros};
-ghost use Rattle.model_device.specs.Pieces.{touched_words};
+ghost use Rattle.model_machine.specs.model_device.specs.Bytes.{zeros};
+ghost use Rattle.model_machine.specs.model_device.specs.Pieces.{touched_words};
 
 /// Returns the number of words that `count` bytes from `at` on lie in.
 #[tactic(auto, using(crate::proofs::WordLemmas::words_are, crate::proofs::WordLemmas::no_words))]

@@ -1,7 +1,7 @@
 // What a row works on.
 ghost use Rattle.std.specs.Prelude.{◌≡◌, ◌-◌, ◌*◌, [], ◌∷◌, true, false, replicate, List, ℕ};
 ghost use Rattle.arrayvec.specs.ArrayVec.{array_vec_len};
-ghost use Rattle.model_device.specs.Bytes.{bytes, bytes2};
+ghost use Rattle.model_machine.specs.model_device.specs.Bytes.{bytes, bytes2};
 ghost use Rattle.model_machine.specs.Blocks.{not_block};
 ghost use Rattle.model_machine.specs.Primitives as model;
 ghost use Rattle.model_machine.specs.Row as row;

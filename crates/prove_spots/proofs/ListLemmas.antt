@@ -3,9 +3,9 @@ use Rattle.std.specs.Prelude.{◌≡◌, ℕ, suc, ◌+◌, ◌-◌, ◌<◌, �
 use Rattle.std.proofs.Common.{arith, ap, sym, subst, ◌∙◌, refl}
 use Rattle.std.proofs.lemmas.Bool.{ltb-true}
 use Rattle.std.proofs.lemmas.List.{length-map, take_all, drop_all}
-use Rattle.model_prove.specs.Sets.{Set, all_bytes}
-use Rattle.model_prove.specs.Facts.{Facts, values_at, values_from, within}
-use Rattle.model_prove.specs.Steps.{any_bytes}
+use Rattle.prove_facts.specs.model_prove.specs.Sets.{Set, all_bytes}
+use Rattle.prove_facts.specs.model_prove.specs.Facts.{Facts, values_at, values_from, within}
+use Rattle.prove_facts.specs.model_prove.specs.Steps.{any_bytes}
 use Rattle.prove_facts.specs.declared.values.Values.{Values}
 use Rattle.prove_facts.specs.Sets.{set_of}
 use Rattle.prove_facts.specs.declared.facts.Fact.{Fact}

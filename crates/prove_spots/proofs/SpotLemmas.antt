@@ -1,12 +1,12 @@
 -- What parts of an operation make of a spot, put together.
 use Rattle.std.specs.Prelude.{◌≡◌, ℕ, ◌+◌, Bool, true, List, ◌∷◌, ◌++◌, length, Result, Ok, Err, IfOk}
 use Rattle.std.proofs.Common.{ap, sym, ◌∙◌}
-use Rattle.model_device.specs.Bytes.{bytes2}
-use Rattle.model_rules.specs.Keeping.{Amounts}
-use Rattle.model_prove.specs.Sets.{Set}
-use Rattle.model_prove.specs.Arrivals.{Setting, static_size}
-use Rattle.model_prove.specs.Keys.{Start, Call}
-use Rattle.model_prove.specs.Steps as steps
+use Rattle.mc_base.specs.model_device.specs.Bytes.{bytes2}
+use Rattle.prove_facts.specs.model_rules.specs.Keeping.{Amounts}
+use Rattle.prove_facts.specs.model_prove.specs.Sets.{Set}
+use Rattle.prove_facts.specs.model_prove.specs.Arrivals.{Setting, static_size}
+use Rattle.prove_facts.specs.model_prove.specs.Keys.{Start, Call}
+use Rattle.prove_facts.specs.model_prove.specs.Steps as steps
 use Rattle.prove_spots.specs.Grounds.{Ground, spot_of, with_dt, with_call, with_calls, with_saved}
 
 -- what was done is what is asked for

@@ -1,10 +1,10 @@
 -- A place with what is known there, as the definition has it, but for how its frame began and its allowances.
 use Rattle.std.specs.Prelude.{◌≡◌, ℕ, Bool, List, ◌∷◌}
-use Rattle.model_rules.specs.Keeping.{Amounts}
-use Rattle.model_prove.specs.Facts.{Facts}
-use Rattle.model_prove.specs.Compares.{Compare}
-use Rattle.model_prove.specs.Keys.{Start, Call}
-use Rattle.model_prove.specs.Steps as steps
+use Rattle.prove_facts.specs.model_rules.specs.Keeping.{Amounts}
+use Rattle.prove_facts.specs.model_prove.specs.Facts.{Facts}
+use Rattle.prove_facts.specs.model_prove.specs.Compares.{Compare}
+use Rattle.prove_facts.specs.model_prove.specs.Keys.{Start, Call}
+use Rattle.prove_facts.specs.model_prove.specs.Steps as steps
 use Rattle.prove_keys.specs.Compares.{said}
 use Rattle.prove_keys.specs.Keys.{calls_of}
 use Rattle.prove_keys.specs.declared.keys.Registers.{Registers}

@@ -1,7 +1,7 @@
 -- Which open calls are lost where bytes are.
 use Rattle.std.specs.Prelude.{◌≤◌, ◌-◌, Bool, nat_lt, ⊤}
-use Rattle.model_prove.specs.Compares.{meet}
-use Rattle.model_prove.specs.Keys as known
+use Rattle.prove_facts.specs.model_prove.specs.Compares.{meet}
+use Rattle.prove_facts.specs.model_prove.specs.Keys as known
 use Rattle.prove_spots.specs.declared.calls.Loss.{Loss}
 use Rattle.prove_spots.specs.declared.calls.Loss.TheVariants.{Written, Lowered}
 

@@ -1,9 +1,9 @@
 // What acts make of a place.
 ghost use Rattle.std.specs.Prelude.{◌≡◌, true, ◌-◌, map, length, IfOk};
-ghost use Rattle.model_rules.specs.Keeping.{Amounts};
-ghost use Rattle.model_prove.specs.Arrivals.{Setting, static_size};
-ghost use Rattle.model_prove.specs.Keys.{Start};
-ghost use Rattle.model_prove.specs.Steps as steps;
+ghost use Rattle.prove_facts.specs.model_rules.specs.Keeping.{Amounts};
+ghost use Rattle.prove_facts.specs.model_prove.specs.Arrivals.{Setting, static_size};
+ghost use Rattle.prove_facts.specs.model_prove.specs.Keys.{Start};
+ghost use Rattle.prove_facts.specs.model_prove.specs.Steps as steps;
 ghost use Rattle.prove_facts.specs.Sets.{set_of};
 ghost use Rattle.prove_scenes.specs.ShapeValues.{act_value};
 ghost use Rattle.prove_spots.specs.Grounds.{spot_of};

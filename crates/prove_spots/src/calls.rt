@@ -1,6 +1,6 @@
 // Which of the open calls are lost where bytes are.
 ghost use Rattle.std.specs.Prelude.{◌≡◌, ◌≤◌, [], ◌∷◌, length, drop, OnOk, IfSome, IsNone};
-ghost use Rattle.model_prove.specs.Keys.{calls_before};
+ghost use Rattle.prove_facts.specs.model_prove.specs.Keys.{calls_before};
 ghost use Rattle.prove_keys.specs.Keys.{call_of, calls_of};
 ghost use Rattle.prove_spots.specs.Losses.{IsOrdered, is_lost};
 

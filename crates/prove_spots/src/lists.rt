@@ -1,7 +1,7 @@
 // Lists of values of bytes.
 ghost use Rattle.std.specs.Prelude.{◌≡◌, ◌+◌, ◌≤◌, ◌<◌, map, length, OnOk, IfOk, IfSome};
-ghost use Rattle.model_prove.specs.Facts as known;
-ghost use Rattle.model_prove.specs.Steps.{sets, any_bytes, counted_sets, shaped_bytes, returned_sets};
+ghost use Rattle.prove_facts.specs.model_prove.specs.Facts as known;
+ghost use Rattle.prove_facts.specs.model_prove.specs.Steps.{sets, any_bytes, counted_sets, shaped_bytes, returned_sets};
 ghost use Rattle.prove_facts.specs.Sets.{set_of};
 ghost use Rattle.prove_scenes.specs.ShapeValues.{act_value};
 

@@ -1,6 +1,6 @@
 // Facts of two lists, parted by an address.
 ghost use Rattle.std.specs.Prelude.{◌≡◌, ◌++◌, true, IfOk, IfSome};
-ghost use Rattle.model_prove.specs.Facts.{within};
+ghost use Rattle.prove_facts.specs.model_prove.specs.Facts.{within};
 
 use mc_base::NoMemory;
 use prove_facts::Facts;

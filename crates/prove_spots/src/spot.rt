@@ -1,11 +1,11 @@
 // A place with what is known there.
 ghost use Rattle.std.specs.Prelude.{◌≡◌, ℕ, Bool, List, [], ◌∷◌, IfOk, OnOk};
-ghost use Rattle.model_rules.specs.Keeping.{Amounts};
-ghost use Rattle.model_prove.specs.Digits.{Flags};
-ghost use Rattle.model_prove.specs.Facts.{know};
-ghost use Rattle.model_prove.specs.Keys.{Start};
-ghost use Rattle.model_prove.specs.Steps as steps;
-ghost use Rattle.model_prove.specs.Steps.{with_facts};
+ghost use Rattle.prove_facts.specs.model_rules.specs.Keeping.{Amounts};
+ghost use Rattle.prove_facts.specs.model_prove.specs.Digits.{Flags};
+ghost use Rattle.prove_facts.specs.model_prove.specs.Facts.{know};
+ghost use Rattle.prove_facts.specs.model_prove.specs.Keys.{Start};
+ghost use Rattle.prove_facts.specs.model_prove.specs.Steps as steps;
+ghost use Rattle.prove_facts.specs.model_prove.specs.Steps.{with_facts};
 ghost use Rattle.prove_keys.specs.Compares.{compare_of, said};
 ghost use Rattle.prove_keys.specs.Keys.{amounts_of, calls_of, place_of, start_of};
 ghost use Rattle.prove_spots.specs.Grounds.{Ground, HasRegisters, ground_of, spot_of, with_at, with_bytes, with_calls, with_compare, with_dt};

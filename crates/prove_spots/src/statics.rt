@@ -1,11 +1,11 @@
 // What of the static bytes is read, and what power would leave of them.
 ghost use Rattle.std.specs.Prelude.{◌≡◌, ◌++◌, true, cond, IfOk, OnOk};
-ghost use Rattle.model_rules.specs.Keeping.{Amounts};
-ghost use Rattle.model_prove.specs.Arrivals.{Setting, static_size};
-ghost use Rattle.model_prove.specs.Compares.{touched};
-ghost use Rattle.model_prove.specs.Facts.{within};
-ghost use Rattle.model_prove.specs.Keys.{Start};
-ghost use Rattle.model_prove.specs.Steps as steps;
+ghost use Rattle.prove_facts.specs.model_rules.specs.Keeping.{Amounts};
+ghost use Rattle.prove_facts.specs.model_prove.specs.Arrivals.{Setting, static_size};
+ghost use Rattle.prove_facts.specs.model_prove.specs.Compares.{touched};
+ghost use Rattle.prove_facts.specs.model_prove.specs.Facts.{within};
+ghost use Rattle.prove_facts.specs.model_prove.specs.Keys.{Start};
+ghost use Rattle.prove_facts.specs.model_prove.specs.Steps as steps;
 ghost use Rattle.prove_spots.specs.Grounds.{spot_of, with_kept, with_bytes, with_compare, with_protection};
 
 use crate::parts::with_part;

@@ -1,9 +1,9 @@
 // What writes and pops make of a place.
 ghost use Rattle.std.specs.Prelude.{◌≡◌, ◌+◌, ◌≤◌, true, map, IfOk, OnOk, IfSome};
-ghost use Rattle.model_device.specs.Bytes.{bytes2};
-ghost use Rattle.model_rules.specs.Keeping.{Amounts};
-ghost use Rattle.model_prove.specs.Keys.{Start};
-ghost use Rattle.model_prove.specs.Steps as steps;
+ghost use Rattle.mc_base.specs.model_device.specs.Bytes.{bytes2};
+ghost use Rattle.prove_facts.specs.model_rules.specs.Keeping.{Amounts};
+ghost use Rattle.prove_facts.specs.model_prove.specs.Keys.{Start};
+ghost use Rattle.prove_facts.specs.model_prove.specs.Steps as steps;
 ghost use Rattle.prove_facts.specs.Sets.{set_of};
 ghost use Rattle.prove_spots.specs.Grounds.{spot_of};
 

@@ -4,8 +4,8 @@ use Rattle.std.specs.Prelude.{ℕ, suc, ◌+◌, ◌-◌, ◌<◌, ◌≤◌, Bo
 use Rattle.std.proofs.lemmas.Grind.{flat_map-append}
 use Rattle.std.proofs.lemmas.List.{append_assoc, append-nil}
 use Rattle.std.proofs.lemmas.List.Elements.{filter-append}
-use Rattle.model_prove.specs.Sets.{Set, numbers_from}
-use Rattle.model_prove.specs.Splits.{Choice, before_choices}
+use Rattle.prove_facts.specs.model_prove.specs.Sets.{Set, numbers_from}
+use Rattle.prove_facts.specs.model_prove.specs.Splits.{Choice, before_choices}
 
 -- the values from one on are this one and those after it
 values_next : (v : ℕ) → v < 256 → numbers_from v (256 - v) ≡ v ∷ numbers_from (v + 1) (256 - (v + 1))

@@ -1,20 +1,20 @@
 -- Rows of too many combinations, by what of their shape matters.
 use Rattle.std.specs.Prelude.{◌≡◌, Bool, true, List, ◌++◌, Option}
 use Rattle.std.proofs.Common.{ap, sym, subst, ◌∙◌, refl}
-use Rattle.law_rows.specs.Shapes.{Act, Stays, Answers, Jumps, Calls, Returns, Pushes, Replaces, Writes, Protects, Shape, shape}
-use Rattle.model_machine.specs.declared.instruction.Ins.{Ins}
-use Rattle.model_machine.specs.declared.machine.Abend.{Abend}
-use Rattle.model_machine.specs.declared.machine.Abend.TheVariants.{A03, A06}
-use Rattle.model_machine.specs.Frame.{Frame}
-use Rattle.model_machine.specs.Primitives.{Around, Primitive}
-use Rattle.model_machine.specs.Row.{causes, first_cause}
-use Rattle.model_prove.specs.Arrivals.{Setting, Arrival}
-use Rattle.model_prove.specs.Facts.{Facts}
-use Rattle.model_prove.specs.Keys.{Tables}
-use Rattle.model_prove.specs.Reach.{Coarse, coarse, known_causes, may_have_bad_length, may_miss}
-use Rattle.model_prove.specs.Splits.{Scene}
-use Rattle.model_prove.specs.Steps.{Spot, coarse_arrivals, coarse_done, coarse_for, coarse_spots, primitive_of, reaches_static}
-use Rattle.model_prove.specs.Tables.{includes_all}
+use Rattle.prove_facts.specs.law_rows.specs.Shapes.{Act, Stays, Answers, Jumps, Calls, Returns, Pushes, Replaces, Writes, Protects, Shape, shape}
+use Rattle.mc_isa.specs.model_machine.specs.declared.instruction.Ins.{Ins}
+use Rattle.mc_isa.specs.model_machine.specs.declared.machine.Abend.{Abend}
+use Rattle.mc_isa.specs.model_machine.specs.declared.machine.Abend.TheVariants.{A03, A06}
+use Rattle.mc_isa.specs.model_machine.specs.Frame.{Frame}
+use Rattle.mc_isa.specs.model_machine.specs.Primitives.{Around, Primitive}
+use Rattle.mc_isa.specs.model_machine.specs.Row.{causes, first_cause}
+use Rattle.prove_facts.specs.model_prove.specs.Arrivals.{Setting, Arrival}
+use Rattle.prove_facts.specs.model_prove.specs.Facts.{Facts}
+use Rattle.prove_facts.specs.model_prove.specs.Keys.{Tables}
+use Rattle.prove_facts.specs.model_prove.specs.Reach.{Coarse, coarse, known_causes, may_have_bad_length, may_miss}
+use Rattle.prove_facts.specs.model_prove.specs.Splits.{Scene}
+use Rattle.prove_facts.specs.model_prove.specs.Steps.{Spot, coarse_arrivals, coarse_done, coarse_for, coarse_spots, primitive_of, reaches_static}
+use Rattle.prove_facts.specs.model_prove.specs.Tables.{includes_all}
 use Rattle.prove_scenes.specs.Coarse.{CoarseOutlineLaw, coarse_act, coarse_outlined, coarse_value}
 use Rattle.prove_scenes.specs.declared.coarse_rows.Coarse as code
 use Rattle.prove_steps.specs.Steps.{fails_when}

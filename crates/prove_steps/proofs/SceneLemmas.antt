@@ -1,7 +1,7 @@
 -- The newest of the open calls is the last that was opened.
 use Rattle.std.proofs.Common.{◌≡◌, refl, arith}
 use Rattle.std.specs.Prelude.{ℕ, zero, suc, ◌-◌, ◌≤◌, List, [], ◌∷◌, ◌++◌, length, slice_index_or, Some}
-use Rattle.model_prove.specs.Keys as known
+use Rattle.prove_facts.specs.model_prove.specs.Keys as known
 use Rattle.prove_keys.specs.declared.keys.Call.{Call}
 use Rattle.prove_keys.specs.Keys.{call_of, calls_of}
 use Rattle.prove_scenes.specs.Scenes.{newest}

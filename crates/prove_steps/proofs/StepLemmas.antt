@@ -2,18 +2,18 @@
 use Rattle.std.specs.Prelude.{◌≡◌, ℕ, ◌+◌, ◌-◌, ◌<◌, ◌≤◌, true, false, List, [], ◌∷◌, ◌++◌, length, drop, get_or, flat_map, map, Option, Some, None, IfSome, Bool}
 use Rattle.std.proofs.Common.{ap, sym, subst, ◌∙◌, arith}
 use Rattle.std.proofs.lemmas.List.{append-nil, drop_more, drop_all}
-use Rattle.law_rows.specs.Shapes.{Shape}
-use Rattle.model_machine.specs.declared.instruction.Ins.{Ins}
-use Rattle.model_machine.specs.declared.machine.Abend.{Abend}
-use Rattle.model_machine.specs.Primitives.{Around}
-use Rattle.model_prove.specs.Arrivals.{Setting, Arrival}
-use Rattle.model_prove.specs.Facts.{Facts, know}
-use Rattle.model_prove.specs.Keys.{Tables}
-use Rattle.model_prove.specs.Reach.{target_choices}
-use Rattle.model_prove.specs.Splits.{Scene, Choice, combinations, deciders, few_combinations, later_deciders}
-use Rattle.model_prove.specs.Steps.{Spot, by_choices, caused, chosen, coarse_around, coarse_arrivals, inside, spots, with_facts, with_choice, with_first_choice}
-use Rattle.model_prove.specs.Tables.{includes_all}
-use Rattle.model_prove.specs.Work.{Work}
+use Rattle.prove_facts.specs.law_rows.specs.Shapes.{Shape}
+use Rattle.mc_isa.specs.model_machine.specs.declared.instruction.Ins.{Ins}
+use Rattle.mc_isa.specs.model_machine.specs.declared.machine.Abend.{Abend}
+use Rattle.mc_isa.specs.model_machine.specs.Primitives.{Around}
+use Rattle.prove_facts.specs.model_prove.specs.Arrivals.{Setting, Arrival}
+use Rattle.prove_facts.specs.model_prove.specs.Facts.{Facts, know}
+use Rattle.prove_facts.specs.model_prove.specs.Keys.{Tables}
+use Rattle.prove_facts.specs.model_prove.specs.Reach.{target_choices}
+use Rattle.prove_facts.specs.model_prove.specs.Splits.{Scene, Choice, combinations, deciders, few_combinations, later_deciders}
+use Rattle.prove_facts.specs.model_prove.specs.Steps.{Spot, by_choices, caused, chosen, coarse_around, coarse_arrivals, inside, spots, with_facts, with_choice, with_first_choice}
+use Rattle.prove_facts.specs.model_prove.specs.Tables.{includes_all}
+use Rattle.prove_facts.specs.model_prove.specs.Work.{Work}
 use Rattle.prove_scenes.specs.Outlines.{OutlineLaw, outlined}
 use Rattle.prove_steps.specs.declared.choices.Choices.{Choices}
 use Rattle.prove_steps.specs.declared.choices.Choices.TheVariants.{Few, Many}

@@ -5,13 +5,13 @@ use Rattle.std.proofs.lemmas.Grind.{flat_map-append}
 use Rattle.std.proofs.lemmas.List.Elements.{filter-append}
 use Rattle.std.proofs.lemmas.Bool.{ltb-true, ltb-false, lt-leb}
 use Rattle.std.proofs.lemmas.List.{append_assoc, append-nil}
-use Rattle.model_prove.specs.Arrivals.{Arrival}
-use Rattle.model_prove.specs.Facts.{Facts, values_at}
-use Rattle.model_prove.specs.Keys.{Tables}
-use Rattle.model_prove.specs.Reach.{address_choice, greatest_value, target_choices}
-use Rattle.model_prove.specs.Sets.{numbers_from, all_bytes}
-use Rattle.model_prove.specs.Splits.{Choice}
-use Rattle.model_prove.specs.Tables.{includes_all}
+use Rattle.prove_facts.specs.model_prove.specs.Arrivals.{Arrival}
+use Rattle.prove_facts.specs.model_prove.specs.Facts.{Facts, values_at}
+use Rattle.prove_facts.specs.model_prove.specs.Keys.{Tables}
+use Rattle.prove_facts.specs.model_prove.specs.Reach.{address_choice, greatest_value, target_choices}
+use Rattle.prove_facts.specs.model_prove.specs.Sets.{numbers_from, all_bytes}
+use Rattle.prove_facts.specs.model_prove.specs.Splits.{Choice}
+use Rattle.prove_facts.specs.model_prove.specs.Tables.{includes_all}
 use Rattle.prove_facts.specs.declared.values.Values.{Values}
 use Rattle.prove_facts.specs.Sets.{has_value, set_of, values_of}
 use Rattle.prove_steps.specs.Steps.{is_target, last_targets}

@@ -1,7 +1,7 @@
 -- Choices of the values of bytes, as the definition has them.
 use Rattle.std.specs.Prelude.{◌≡◌, ℕ, List, ◌∷◌, map, Option, Some, None}
-use Rattle.model_prove.specs.Facts.{Facts}
-use Rattle.model_prove.specs.Splits as splits
+use Rattle.prove_facts.specs.model_prove.specs.Facts.{Facts}
+use Rattle.prove_facts.specs.model_prove.specs.Splits as splits
 use Rattle.prove_steps.specs.declared.choices.Choice.{Choice}
 use Rattle.prove_steps.specs.declared.choices.Choices.{Choices}
 use Rattle.prove_steps.specs.declared.choices.Choices.TheVariants.{Few, Many}

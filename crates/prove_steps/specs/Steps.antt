@@ -1,14 +1,14 @@
 -- What is held against the tables, in parts.
 use Rattle.std.specs.Prelude.{◌≡◌, ℕ, ◌+◌, ◌*◌, ◌/◌, ◌%◌, suc, Bool, cond, ◌&&◌, nat_le, List, [], ◌∷◌, Option, Some}
-use Rattle.model_machine.specs.declared.machine.Abend.{Abend}
-use Rattle.model_device.specs.Bytes.{zeros}
-use Rattle.model_prove.specs.Sets.{is_in}
-use Rattle.model_prove.specs.Facts.{Facts, values_at}
-use Rattle.model_prove.specs.Reach.{address_choice, greatest_value, takes_target}
-use Rattle.model_prove.specs.Arrivals.{Setting, Arrival, fails}
-use Rattle.model_machine.specs.Primitives.{Around}
-use Rattle.model_prove.specs.Splits.{Scene, Choice, deciders, few_combinations, with_values}
-use Rattle.model_prove.specs.Steps as steps
+use Rattle.mc_isa.specs.model_machine.specs.declared.machine.Abend.{Abend}
+use Rattle.mc_base.specs.model_device.specs.Bytes.{zeros}
+use Rattle.prove_facts.specs.model_prove.specs.Sets.{is_in}
+use Rattle.prove_facts.specs.model_prove.specs.Facts.{Facts, values_at}
+use Rattle.prove_facts.specs.model_prove.specs.Reach.{address_choice, greatest_value, takes_target}
+use Rattle.prove_facts.specs.model_prove.specs.Arrivals.{Setting, Arrival, fails}
+use Rattle.mc_isa.specs.model_machine.specs.Primitives.{Around}
+use Rattle.prove_facts.specs.model_prove.specs.Splits.{Scene, Choice, deciders, few_combinations, with_values}
+use Rattle.prove_facts.specs.model_prove.specs.Steps as steps
 use Rattle.prove_arrivals.specs.declared.subject.Subject.{Subject}
 use Rattle.prove_arrivals.specs.Subjects.{Accepts, IsOver, spot_in}
 use Rattle.prove_scenes.specs.Scenes.{IsSized}

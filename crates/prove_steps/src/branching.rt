@@ -1,10 +1,10 @@
 // The outcomes of an instruction by all choices of the bytes that decide it.
 ghost use Rattle.std.specs.Prelude.{◌≡◌, ◌<◌, ◌≤◌, ◌+◌, ◌-◌, ◌*◌, ℕ, suc, true, cond, List, [], ◌∷◌, ◌++◌, length, filter, flat_map, IfOk, None};
-ghost use Rattle.model_machine.specs.Code.{Shaped};
-ghost use Rattle.model_prove.specs.Facts.{values_at};
-ghost use Rattle.model_prove.specs.Reach.{greatest_value, target_choices};
-ghost use Rattle.model_prove.specs.Sets.{is_in, numbers_from};
-ghost use Rattle.model_prove.specs.Splits.{few_combinations};
+ghost use Rattle.mc_isa.specs.model_machine.specs.Code.{Shaped};
+ghost use Rattle.prove_facts.specs.model_prove.specs.Facts.{values_at};
+ghost use Rattle.prove_facts.specs.model_prove.specs.Reach.{greatest_value, target_choices};
+ghost use Rattle.prove_facts.specs.model_prove.specs.Sets.{is_in, numbers_from};
+ghost use Rattle.prove_facts.specs.model_prove.specs.Splits.{few_combinations};
 ghost use Rattle.prove_facts.specs.Sets.{has_value, set_of};
 ghost use Rattle.prove_steps.specs.Choices.{choice_of, choices_of, choices_value};
 ghost use Rattle.prove_steps.specs.Steps.{AcceptsAll, IsSceneOf, IsSceneWith, by_choice, by_choices, by_first_choice, by_target, fetched_arrivals, is_target, last_targets};

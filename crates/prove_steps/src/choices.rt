@@ -1,6 +1,6 @@
 // The combinations of the values of some bytes.
 ghost use Rattle.std.specs.Prelude.{◌≡◌, ◌≤◌, ◌<◌, ◌*◌, ℕ, min, filter, [], ◌∷◌, ◌++◌, IfOk, IfSome, OnOk, IsSome};
-ghost use Rattle.model_prove.specs.Splits.{before_choices, combinations, count_of_combinations};
+ghost use Rattle.prove_facts.specs.model_prove.specs.Splits.{before_choices, combinations, count_of_combinations};
 ghost use Rattle.prove_facts.specs.Sets.{has_value, set_of};
 ghost use Rattle.prove_steps.specs.Choices.{choice_of, choices_of, headed_by, ChoicesAre};
 

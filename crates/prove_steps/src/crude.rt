@@ -1,10 +1,10 @@
 // Rows whose deciding bytes have too many combinations.
 ghost use Rattle.std.specs.Prelude.{◌≡◌, ℕ, Bool, true, List, None, IfOk, IfSome};
-ghost use Rattle.model_machine.specs.Code.{Shaped};
-ghost use Rattle.law_rows.specs.Shapes.{shape};
+ghost use Rattle.mc_isa.specs.model_machine.specs.Code.{Shaped};
+ghost use Rattle.prove_facts.specs.law_rows.specs.Shapes.{shape};
 ghost use Rattle.prove_steps.specs.Steps.{fails_when};
-ghost use Rattle.model_prove.specs.Facts.{Facts};
-ghost use Rattle.model_prove.specs.Steps as steps;
+ghost use Rattle.prove_facts.specs.model_prove.specs.Facts.{Facts};
+ghost use Rattle.prove_facts.specs.model_prove.specs.Steps as steps;
 ghost use Rattle.prove_arrivals.specs.Subjects.{spot_in, start_in};
 ghost use Rattle.prove_keys.specs.Keys.{start_of};
 ghost use Rattle.prove_scenes.specs.Coarse.{coarse_value};
@@ -15,7 +15,7 @@ ghost use Rattle.prove_steps.specs.Steps.{AcceptsAll, after_fetch, before};
 
 use crate::stepping::Fetched;
 use mc_base::NoMemory;
-use model_machine::Abend;
+use mc_isa::model_machine::Abend;
 use prove_arrivals::{Subject, coarse, fails};
 use prove_keys::Begun;
 use prove_scenes::{

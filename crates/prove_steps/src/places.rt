@@ -1,7 +1,7 @@
 // A place of the code: what its instruction leads to.
 ghost use Rattle.std.specs.Prelude.{◌≡◌, ◌≤◌, true, length, IfOk, Ok, Err};
-ghost use Rattle.model_machine.specs.Code.{Shaped, instruction_at};
-ghost use Rattle.model_prove.specs.Steps as steps;
+ghost use Rattle.mc_isa.specs.model_machine.specs.Code.{Shaped, instruction_at};
+ghost use Rattle.prove_facts.specs.model_prove.specs.Steps as steps;
 ghost use Rattle.prove_arrivals.specs.Subjects.{known_in, spot_in};
 ghost use Rattle.prove_steps.specs.Steps.{AcceptsAll};
 
@@ -9,7 +9,7 @@ use crate::branching::instruction_included;
 use crate::stepping::Fetched;
 use mc_base::NoMemory;
 use mc_isa::decode;
-use model_machine::{Abend, DecodeFault, Ins};
+use mc_isa::model_machine::{Abend, DecodeFault, Ins};
 use prove_arrivals::{Subject, abended, fails};
 use prove_keys::Begun;
 use prove_spots::Spot;

@@ -1,9 +1,9 @@
 // The scene after the fetch at a place, with a choice of the bytes that decide.
 ghost use Rattle.std.specs.Prelude.{◌≡◌, IfOk, IfSome};
-ghost use Rattle.model_device.specs.Card.{App};
-ghost use Rattle.model_prove.specs.Keys.{Start};
-ghost use Rattle.model_prove.specs.Splits.{with_values};
-ghost use Rattle.model_rules.specs.Keeping.{Amounts};
+ghost use Rattle.mc_base.specs.model_device.specs.Card.{App};
+ghost use Rattle.prove_facts.specs.model_prove.specs.Keys.{Start};
+ghost use Rattle.prove_facts.specs.model_prove.specs.Splits.{with_values};
+ghost use Rattle.prove_facts.specs.model_rules.specs.Keeping.{Amounts};
 ghost use Rattle.prove_keys.specs.Keys.{calls_of};
 ghost use Rattle.prove_scenes.specs.Scenes as scenes;
 ghost use Rattle.prove_scenes.specs.Scenes.{HasRegisters, IsSized};

@@ -1,14 +1,14 @@
 // An instruction in the scene of a place, for one choice of the bytes that decide it.
 ghost use Rattle.std.specs.Prelude.{◌≡◌, ℕ, Bool, true, false, List, [], ◌∷◌, ◌++◌, map, flat_map, None, Some, IfOk, OnOk, option_map};
-ghost use Rattle.law_rows.specs.Shapes.{shape};
+ghost use Rattle.prove_facts.specs.law_rows.specs.Shapes.{shape};
 ghost use Rattle.mc_prims.specs.Table as table;
-ghost use Rattle.model_machine.specs.Code.{Shaped};
-ghost use Rattle.model_machine.specs.Primitives as model;
-ghost use Rattle.model_prove.specs.Keys.{Start};
-ghost use Rattle.model_prove.specs.Sets.{numbers_from};
-ghost use Rattle.model_prove.specs.Steps as steps;
-ghost use Rattle.model_prove.specs.Work.{work};
-ghost use Rattle.model_rules.specs.Keeping.{Amounts};
+ghost use Rattle.mc_isa.specs.model_machine.specs.Code.{Shaped};
+ghost use Rattle.mc_isa.specs.model_machine.specs.Primitives as model;
+ghost use Rattle.prove_facts.specs.model_prove.specs.Keys.{Start};
+ghost use Rattle.prove_facts.specs.model_prove.specs.Sets.{numbers_from};
+ghost use Rattle.prove_facts.specs.model_prove.specs.Steps as steps;
+ghost use Rattle.prove_facts.specs.model_prove.specs.Work.{work};
+ghost use Rattle.prove_facts.specs.model_rules.specs.Keeping.{Amounts};
 ghost use Rattle.prove_arrivals.specs.Subjects.{spot_in};
 ghost use Rattle.prove_keys.specs.Keys.{start_of};
 ghost use Rattle.prove_scenes.specs.Heads.{around_value};
@@ -17,8 +17,8 @@ ghost use Rattle.prove_steps.specs.Steps.{AcceptsAll, IsSceneWith, after_fetch, 
 
 use crate::scenes::scene_with;
 use mc_base::NoMemory;
+use mc_isa::model_machine::Ins;
 use mc_prims::Primitive;
-use model_machine::Ins;
 use prove_arrivals::{Subject, fails, row};
 use prove_facts::push;
 use prove_keys::Begun;

@@ -2,13 +2,13 @@
 use Rattle.std.proofs.Common.{◌≡◌, true, ◌&&◌, List, sym, subst}
 use Rattle.std.specs.Prelude.{◌+◌, nat_le}
 use Rattle.std.proofs.lemmas.Bool.{and_from, and_parts}
-use Rattle.model_rules.specs.Keeping.{Amounts, are_totals, first_sums}
-use Rattle.model_rules.specs.Rules.{AppRules}
-use Rattle.model_prove.specs.Arrivals.{Setting, static_size}
-use Rattle.model_prove.specs.Between.{Class, classes}
-use Rattle.model_prove.specs.Keys.{Tables}
-use Rattle.model_sums.specs.Closed.{all_pass, is_sum, places_closed, starts_closed, sums_closed}
-use Rattle.model_sums.specs.Sums.{SumsTable}
+use Rattle.prove_facts.specs.model_rules.specs.Keeping.{Amounts, are_totals, first_sums}
+use Rattle.prove_facts.specs.model_rules.specs.Rules.{AppRules}
+use Rattle.prove_facts.specs.model_prove.specs.Arrivals.{Setting, static_size}
+use Rattle.prove_facts.specs.model_prove.specs.Between.{Class, classes}
+use Rattle.prove_facts.specs.model_prove.specs.Keys.{Tables}
+use Rattle.prove_sums.specs.model_sums.specs.Closed.{all_pass, is_sum, places_closed, starts_closed, sums_closed}
+use Rattle.prove_sums.specs.model_sums.specs.Sums.{SumsTable}
 use Rattle.prove_events.specs.declared.rules.Rules.{Rules}
 use Rattle.prove_rules.specs.Sums.{AreSums}
 use Rattle.prove_sum_steps.proofs.TotalLemmas.{lines_move}

@@ -2,17 +2,17 @@
 use Rattle.std.specs.Prelude.{◌≡◌, ℕ, Bool, true, false, not, ◌||◌, List, [], ◌∷◌, length, bytes_eq, Option, Some, Result, Ok}
 use Rattle.std.proofs.Common.{ap, sym, subst, refl, ◌∙◌, arith}
 use Rattle.std.proofs.lemmas.Slice.Eq.{bytes_eq-Decides}
-use Rattle.model_machine.specs.Primitives.{Then, Goes, Exits, Delegates}
-use Rattle.model_rules.specs.Keeping.{Amounts, Break, OnTurn, after_occasion}
-use Rattle.model_rules.specs.Rules.{AppRules, OnLine, Total}
+use Rattle.model_text.specs.model_machine.specs.Primitives.{Then, Goes, Exits, Delegates}
+use Rattle.prove_facts.specs.model_rules.specs.Keeping.{Amounts, Break, OnTurn, after_occasion}
+use Rattle.prove_facts.specs.model_rules.specs.Rules.{AppRules, OnLine, Total}
 use Rattle.prove_occasions.specs.Amounts.{AreAfter}
-use Rattle.model_prove.specs.Keys.{same_amounts}
-use Rattle.model_sums.specs.Closed.{event_leads_to, has_sums}
-use Rattle.model_sums.specs.Events.{asks, counted, drops}
-use Rattle.model_sums.specs.Moves.{after_next}
-use Rattle.model_sums.specs.Origins.{Origins}
-use Rattle.model_sums.specs.Sums.{Sums, sums_follow}
-use Rattle.model_sums.specs.Writes.{delegated}
+use Rattle.prove_facts.specs.model_prove.specs.Keys.{same_amounts}
+use Rattle.prove_sums.specs.model_sums.specs.Closed.{event_leads_to, has_sums}
+use Rattle.prove_sums.specs.model_sums.specs.Events.{asks, counted, drops}
+use Rattle.prove_sums.specs.model_sums.specs.Moves.{after_next}
+use Rattle.prove_sums.specs.model_sums.specs.Origins.{Origins}
+use Rattle.prove_sums.specs.model_sums.specs.Sums.{Sums, sums_follow}
+use Rattle.prove_sums.specs.model_sums.specs.Writes.{delegated}
 use Rattle.prove_keys.specs.Keys.{amounts_of}
 use Rattle.prove_keys.proofs.SameLemmas.{amounts_are}
 use Rattle.prove_scenes.specs.declared.shapes.Next.{Next}

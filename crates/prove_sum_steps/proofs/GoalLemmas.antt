@@ -3,8 +3,8 @@ use Rattle.std.proofs.Common.{◌≡◌, ℕ, zero, suc, ◌+◌, ◌<◌, ◌�
 use Rattle.std.specs.List.{AllByRecursion, position}
 use Rattle.std.proofs.lemmas.List.{append_assoc, append-nil, drop_more, drop_all}
 use Rattle.std.proofs.lemmas.List.Quantifiers.{position-Some}
-use Rattle.model_prove.specs.Keys.{same_places}
-use Rattle.model_sums.specs.Sums.{sums_at}
+use Rattle.prove_facts.specs.model_prove.specs.Keys.{same_places}
+use Rattle.prove_sums.specs.model_sums.specs.Sums.{sums_at}
 use Rattle.prove_keys.specs.declared.keys.PlaceKey.{PlaceKey}
 use Rattle.prove_keys.specs.Keys.{place_of}
 use Rattle.prove_keys.specs.Tables.{IsWholePlace, AreDistinct}

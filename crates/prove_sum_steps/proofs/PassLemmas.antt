@@ -4,13 +4,13 @@ use Rattle.std.proofs.Common.{ap, sym, subst, refl, ◌∙◌, arith}
 use Rattle.std.proofs.lemmas.Bool.{and_parts, and_from, lt-leb}
 use Rattle.std.proofs.lemmas.List.{append-nil, drop_more, drop_all}
 use Rattle.std.proofs.lemmas.List.Elements.{filter-append}
-use Rattle.model_prove.specs.Facts.{Facts, values_at}
-use Rattle.model_prove.specs.Reach.{address_choice, greatest_value, target_choices}
-use Rattle.model_prove.specs.Sets.{numbers_from}
-use Rattle.model_prove.specs.Arrivals.{Setting}
-use Rattle.model_prove.specs.Splits.{Choice, combinations, few_combinations}
-use Rattle.model_sums.specs.Closed.{Turn, all_pass, choices_closed, first_choice_closed}
-use Rattle.model_sums.specs.Sums.{SumsTable}
+use Rattle.prove_facts.specs.model_prove.specs.Facts.{Facts, values_at}
+use Rattle.prove_facts.specs.model_prove.specs.Reach.{address_choice, greatest_value, target_choices}
+use Rattle.prove_facts.specs.model_prove.specs.Sets.{numbers_from}
+use Rattle.prove_facts.specs.model_prove.specs.Arrivals.{Setting}
+use Rattle.prove_facts.specs.model_prove.specs.Splits.{Choice, combinations, few_combinations}
+use Rattle.prove_sums.specs.model_sums.specs.Closed.{Turn, all_pass, choices_closed, first_choice_closed}
+use Rattle.prove_sums.specs.model_sums.specs.Sums.{SumsTable}
 use Rattle.prove_steps.specs.Steps.{is_target, last_targets}
 
 module _ {A : Type 0} (test : A → Bool) where

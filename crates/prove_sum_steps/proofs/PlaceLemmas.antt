@@ -1,16 +1,16 @@
 -- A place with what is known there, as the code has it and as the definition has it.
 use Rattle.std.proofs.Common.{◌≡◌, ℕ, Bool, true, List, length, Option, Some, sym, ap, subst, ◌∙◌}
 use Rattle.std.specs.Prelude.{Ok}
-use Rattle.model_machine.specs.Code.{instruction_at}
-use Rattle.model_prove.specs.Arrivals.{Setting}
-use Rattle.model_prove.specs.Between.{Class}
-use Rattle.model_prove.specs.Facts.{Facts}
-use Rattle.model_prove.specs.Keys as known
-use Rattle.model_prove.specs.Keys.{MomentKey}
-use Rattle.model_prove.specs.Steps.{Spot, place_arrivals}
-use Rattle.model_prove.specs.Tables.{includes_all, moments_closed}
-use Rattle.model_sums.specs.Closed.{all_pass, arrival_closed, fetched_closed, place_closed}
-use Rattle.model_sums.specs.Sums.{Sums, SumsTable}
+use Rattle.model_text.specs.model_machine.specs.Code.{instruction_at}
+use Rattle.prove_facts.specs.model_prove.specs.Arrivals.{Setting}
+use Rattle.prove_facts.specs.model_prove.specs.Between.{Class}
+use Rattle.prove_facts.specs.model_prove.specs.Facts.{Facts}
+use Rattle.prove_facts.specs.model_prove.specs.Keys as known
+use Rattle.prove_facts.specs.model_prove.specs.Keys.{MomentKey}
+use Rattle.prove_facts.specs.model_prove.specs.Steps.{Spot, place_arrivals}
+use Rattle.prove_facts.specs.model_prove.specs.Tables.{includes_all, moments_closed}
+use Rattle.prove_sums.specs.model_sums.specs.Closed.{all_pass, arrival_closed, fetched_closed, place_closed}
+use Rattle.prove_sums.specs.model_sums.specs.Sums.{Sums, SumsTable}
 use Rattle.prove_arrivals.specs.declared.subject.Subject.{Subject}
 use Rattle.prove_arrivals.specs.Subjects.{IsOver, IsSubject, classes_in, known_in, spot_in, tables_in}
 use Rattle.prove_keys.specs.declared.keys.PlaceKey.{PlaceKey}

@@ -1,15 +1,15 @@
 -- What leads to a place of tables leads to one of their keys: what holds at each of these, holds wherever it leads.
 use Rattle.std.proofs.Common.{◌≡◌, ℕ, Bool, true, false, ◌&&◌, cond, List, [], ◌∷◌, map, Option, Some, refl, subst}
 use Rattle.std.proofs.lemmas.Bool.{and_parts, and_from}
-use Rattle.model_machine.specs.Primitives.{Then}
-use Rattle.model_prove.specs.Arrivals.{Setting, Arrival, AtPlace, AtMoment, Breaks, Lost}
-use Rattle.model_prove.specs.Between.{Class, moment_arrivals}
-use Rattle.model_prove.specs.Facts.{Facts}
-use Rattle.model_prove.specs.Keys.{Known, MomentKey, PlaceKey, Tables, same_places}
-use Rattle.model_prove.specs.Tables.{has_known, includes, includes_all, keeps_ranges, moments_closed, place_at}
-use Rattle.model_sums.specs.Closed as closed
-use Rattle.model_sums.specs.Closed.{all_pass, arrival_closed, has_sums, start_closed, starts_closed}
-use Rattle.model_sums.specs.Sums.{Sums, SumsTable, first_known, sums_at}
+use Rattle.model_text.specs.model_machine.specs.Primitives.{Then}
+use Rattle.prove_facts.specs.model_prove.specs.Arrivals.{Setting, Arrival, AtPlace, AtMoment, Breaks, Lost}
+use Rattle.prove_facts.specs.model_prove.specs.Between.{Class, moment_arrivals}
+use Rattle.prove_facts.specs.model_prove.specs.Facts.{Facts}
+use Rattle.prove_facts.specs.model_prove.specs.Keys.{Known, MomentKey, PlaceKey, Tables, same_places}
+use Rattle.prove_facts.specs.model_prove.specs.Tables.{has_known, includes, includes_all, keeps_ranges, moments_closed, place_at}
+use Rattle.prove_sums.specs.model_sums.specs.Closed as closed
+use Rattle.prove_sums.specs.model_sums.specs.Closed.{all_pass, arrival_closed, has_sums, start_closed, starts_closed}
+use Rattle.prove_sums.specs.model_sums.specs.Sums.{Sums, SumsTable, first_known, sums_at}
 use Rattle.prove_arrivals.specs.declared.subject.Subject.{Subject}
 use Rattle.prove_arrivals.specs.Subjects.{classes_in}
 use Rattle.prove_keys.specs.declared.keys.PlaceKey as code

@@ -1,13 +1,13 @@
 -- What is checked of places and of beginnings of frames.
 use Rattle.std.specs.Prelude.{◌≡◌, ℕ, true, List, length, vec_len}
 use Rattle.std.specs.List.{AllByRecursion}
-use Rattle.model_machine.specs.Primitives.{Then}
-use Rattle.model_prove.specs.Arrivals.{Setting, AtPlace}
-use Rattle.model_prove.specs.Keys as known
-use Rattle.model_prove.specs.Steps.{Spot, place_arrivals}
-use Rattle.model_sums.specs.Sums.{Sums, SumsTable}
-use Rattle.model_sums.specs.Closed as closed
-use Rattle.model_sums.specs.Closed.{all_pass, arrival_closed}
+use Rattle.model_text.specs.model_machine.specs.Primitives.{Then}
+use Rattle.prove_facts.specs.model_prove.specs.Arrivals.{Setting, AtPlace}
+use Rattle.prove_facts.specs.model_prove.specs.Keys as known
+use Rattle.prove_facts.specs.model_prove.specs.Steps.{Spot, place_arrivals}
+use Rattle.prove_sums.specs.model_sums.specs.Sums.{Sums, SumsTable}
+use Rattle.prove_sums.specs.model_sums.specs.Closed as closed
+use Rattle.prove_sums.specs.model_sums.specs.Closed.{all_pass, arrival_closed}
 use Rattle.prove_arrivals.specs.declared.subject.Subject.{Subject}
 use Rattle.prove_arrivals.specs.Subjects.{IsSubject, classes_in}
 use Rattle.prove_keys.specs.declared.keys.PlaceKey.{PlaceKey}

@@ -1,8 +1,8 @@
 -- A table of sums beside the tables of facts, as the definition has it: what is known for sums at each place of theirs,
 -- by its number.
 use Rattle.std.specs.Prelude.{◌≡◌, ℕ, Bool, List, [], ◌∷◌, length, Some}
-use Rattle.model_prove.specs.Keys as known
-use Rattle.model_sums.specs.Sums.{SumsTable, sums_at}
+use Rattle.prove_facts.specs.model_prove.specs.Keys as known
+use Rattle.prove_sums.specs.model_sums.specs.Sums.{SumsTable, sums_at}
 use Rattle.prove_keys.specs.declared.keys.PlaceKey.{PlaceKey}
 use Rattle.prove_keys.specs.Keys.{place_of}
 use Rattle.prove_keys.specs.Tables.{IsWholePlace}

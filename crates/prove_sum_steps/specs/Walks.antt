@@ -1,20 +1,20 @@
 -- What is checked of the instruction at a place, in parts.
 use Rattle.std.specs.Prelude.{◌≡◌, ℕ, Bool, true, ◌&&◌, List, []}
 use Rattle.std.specs.List.{AllByRecursion}
-use Rattle.model_machine.specs.Primitives.{Then}
-use Rattle.law_rows.specs.Shapes.{Shape}
-use Rattle.model_rules.specs.Keeping.{mode_of}
-use Rattle.model_prove.specs.Arrivals.{Setting, Arrival, AtPlace}
-use Rattle.model_prove.specs.Keys.{PlaceKey, Known}
-use Rattle.model_prove.specs.Reach.{takes_target}
-use Rattle.model_prove.specs.Splits.{Scene, Choice, deciders, few_combinations, with_values}
-use Rattle.model_prove.specs.Steps as steps
-use Rattle.model_prove.specs.Steps.{place_arrivals, arounds, inside, primitive_of}
-use Rattle.model_sums.specs.Sums.{Sums, SumsTable, sums_at}
-use Rattle.model_sums.specs.Events.{counted, drops}
-use Rattle.model_sums.specs.Moves.{after_next}
-use Rattle.model_sums.specs.Closed as closed
-use Rattle.model_sums.specs.Closed.{all_pass, arrival_closed, choices_closed, has_sums, is_settled, row_closed, turn_closed}
+use Rattle.model_text.specs.model_machine.specs.Primitives.{Then}
+use Rattle.prove_facts.specs.law_rows.specs.Shapes.{Shape}
+use Rattle.prove_facts.specs.model_rules.specs.Keeping.{mode_of}
+use Rattle.prove_facts.specs.model_prove.specs.Arrivals.{Setting, Arrival, AtPlace}
+use Rattle.prove_facts.specs.model_prove.specs.Keys.{PlaceKey, Known}
+use Rattle.prove_facts.specs.model_prove.specs.Reach.{takes_target}
+use Rattle.prove_facts.specs.model_prove.specs.Splits.{Scene, Choice, deciders, few_combinations, with_values}
+use Rattle.prove_facts.specs.model_prove.specs.Steps as steps
+use Rattle.prove_facts.specs.model_prove.specs.Steps.{place_arrivals, arounds, inside, primitive_of}
+use Rattle.prove_sums.specs.model_sums.specs.Sums.{Sums, SumsTable, sums_at}
+use Rattle.prove_sums.specs.model_sums.specs.Events.{counted, drops}
+use Rattle.prove_sums.specs.model_sums.specs.Moves.{after_next}
+use Rattle.prove_sums.specs.model_sums.specs.Closed as closed
+use Rattle.prove_sums.specs.model_sums.specs.Closed.{all_pass, arrival_closed, choices_closed, has_sums, is_settled, row_closed, turn_closed}
 use Rattle.prove_arrivals.specs.Subjects.{IsOver, spot_in}
 use Rattle.prove_rules.specs.Sums.{AreSums}
 use Rattle.prove_scenes.specs.declared.shapes.Next.{Next}

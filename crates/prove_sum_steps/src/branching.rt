@@ -1,10 +1,10 @@
 // What an instruction leaves by all choices of the bytes that decide it.
 ghost use Rattle.std.specs.Prelude.{◌≡◌, ◌<◌, ◌≤◌, ◌-◌, true, [], ◌∷◌, ◌++◌, length, filter, IfOk, None};
-ghost use Rattle.model_machine.specs.Code.{Shaped};
-ghost use Rattle.model_prove.specs.Reach.{address_choice, takes_target, target_choices};
-ghost use Rattle.model_prove.specs.Sets.{numbers_from};
-ghost use Rattle.model_prove.specs.Splits.{few_combinations};
-ghost use Rattle.model_sums.specs.Closed.{all_pass, choice_closed, choices_closed, first_choice_closed};
+ghost use Rattle.model_text.specs.model_machine.specs.Code.{Shaped};
+ghost use Rattle.prove_facts.specs.model_prove.specs.Reach.{address_choice, takes_target, target_choices};
+ghost use Rattle.prove_facts.specs.model_prove.specs.Sets.{numbers_from};
+ghost use Rattle.prove_facts.specs.model_prove.specs.Splits.{few_combinations};
+ghost use Rattle.prove_sums.specs.model_sums.specs.Closed.{all_pass, choice_closed, choices_closed, first_choice_closed};
 ghost use Rattle.prove_steps.specs.Choices.{choice_of, choices_of, choices_value};
 ghost use Rattle.prove_steps.specs.Steps.{is_target, last_targets};
 ghost use Rattle.prove_sum_steps.specs.Walks.{IsSceneOf, IsSceneWith, Passes, instruction_closed, turn_of};

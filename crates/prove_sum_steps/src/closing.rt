@@ -1,9 +1,9 @@
 // Whether a table of sums is closed beside tables of facts.
 ghost use Rattle.std.specs.Prelude.{◌≡◌, true, map, IfOk};
-ghost use Rattle.model_prove.specs.Between as between;
-ghost use Rattle.model_rules.specs.Rules.{AppRules, Target};
-ghost use Rattle.model_sums.specs.Closed.{sums_closed};
-ghost use Rattle.model_sums.specs.Sums.{SumsTable};
+ghost use Rattle.prove_facts.specs.model_prove.specs.Between as between;
+ghost use Rattle.prove_facts.specs.model_rules.specs.Rules.{AppRules, Target};
+ghost use Rattle.prove_sums.specs.model_sums.specs.Closed.{sums_closed};
+ghost use Rattle.prove_sums.specs.model_sums.specs.Sums.{SumsTable};
 ghost use Rattle.prove_arrivals.specs.Subjects.{IsSubject, tables_in};
 ghost use Rattle.prove_closed.specs.Classes.{lists_of};
 ghost use Rattle.prove_events.specs.Rules.{AreRules, name_of};

@@ -1,8 +1,8 @@
 // The places to which an instruction may lead, with what a table of sums has there.
 ghost use Rattle.std.specs.Prelude.{◌≡◌, ◌<◌, ℕ, Bool, List, length, get_or, map, IfOk, IfSome, Some};
 ghost use Rattle.std.specs.List.{AllByRecursion};
-ghost use Rattle.model_prove.specs.Arrivals.{Setting};
-ghost use Rattle.model_sums.specs.Sums.{sums_at};
+ghost use Rattle.prove_facts.specs.model_prove.specs.Arrivals.{Setting};
+ghost use Rattle.prove_sums.specs.model_sums.specs.Sums.{sums_at};
 ghost use Rattle.prove_arrivals.specs.Subjects.{IsSubject};
 ghost use Rattle.prove_keys.specs.Keys.{place_of};
 ghost use Rattle.prove_keys.specs.Tables.{AreDistinct, AreWhole, IsWholePlace};

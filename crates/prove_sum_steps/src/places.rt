@@ -1,11 +1,11 @@
 // The places of the tables, each with what the table of sums has there.
 ghost use Rattle.std.specs.Prelude.{◌≡◌, ◌≤◌, ℕ, true, List, length, vec_len, IfOk, IfSome, Ok};
-ghost use Rattle.model_machine.specs.Code.{Shaped, instruction_at};
-ghost use Rattle.model_prove.specs.Arrivals.{Setting};
-ghost use Rattle.model_prove.specs.Steps.{place_arrivals};
-ghost use Rattle.model_prove.specs.Tables.{includes_all};
-ghost use Rattle.model_sums.specs.Closed.{fetched_closed, place_closed, places_closed};
-ghost use Rattle.model_sums.specs.Sums.{SumsTable, sums_at};
+ghost use Rattle.model_text.specs.model_machine.specs.Code.{Shaped, instruction_at};
+ghost use Rattle.prove_facts.specs.model_prove.specs.Arrivals.{Setting};
+ghost use Rattle.prove_facts.specs.model_prove.specs.Steps.{place_arrivals};
+ghost use Rattle.prove_facts.specs.model_prove.specs.Tables.{includes_all};
+ghost use Rattle.prove_sums.specs.model_sums.specs.Closed.{fetched_closed, place_closed, places_closed};
+ghost use Rattle.prove_sums.specs.model_sums.specs.Sums.{SumsTable, sums_at};
 ghost use Rattle.prove_arrivals.specs.Subjects.{IsSubject, classes_in, tables_in};
 ghost use Rattle.prove_keys.specs.Keys.{place_of};
 ghost use Rattle.prove_sum_steps.specs.Places.{AreGoals, IsStand, near_in, spot_with, table_in};
@@ -17,7 +17,7 @@ use crate::near::set_places;
 use crate::turns::Turn;
 use mc_base::NoMemory;
 use mc_isa::decode;
-use model_machine::Ins;
+use model_text::model_machine::Ins;
 use prove_arrivals::Subject;
 use prove_closed::{place_closed, spot_at};
 use prove_events::Rules;

@@ -1,11 +1,11 @@
 // The places at which frames begin.
 ghost use Rattle.std.specs.Prelude.{◌≡◌, ℕ, true, List, map, IfOk};
 ghost use Rattle.std.specs.List.{AllByRecursion};
-ghost use Rattle.model_prove.specs.Arrivals.{Setting};
-ghost use Rattle.model_prove.specs.Tables.{moments_closed};
-ghost use Rattle.model_rules.specs.Rules.{Total};
-ghost use Rattle.model_sums.specs.Closed.{all_pass, has_sums, starts_closed};
-ghost use Rattle.model_sums.specs.Sums.{SumsTable, first_known, sums_at};
+ghost use Rattle.prove_facts.specs.model_prove.specs.Arrivals.{Setting};
+ghost use Rattle.prove_facts.specs.model_prove.specs.Tables.{moments_closed};
+ghost use Rattle.prove_facts.specs.model_rules.specs.Rules.{Total};
+ghost use Rattle.prove_sums.specs.model_sums.specs.Closed.{all_pass, has_sums, starts_closed};
+ghost use Rattle.prove_sums.specs.model_sums.specs.Sums.{SumsTable, first_known, sums_at};
 ghost use Rattle.prove_arrivals.specs.Subjects.{tables_in};
 ghost use Rattle.prove_arrivals.specs.declared.subject.Subject.{Subject};
 ghost use Rattle.prove_events.specs.Rules.{range_of};

@@ -1,11 +1,11 @@
 // An instruction in the scene of its place, for one choice of the bytes that decide it.
 ghost use Rattle.std.specs.Prelude.{◌≡◌, ℕ, true, List, map, IfOk};
-ghost use Rattle.law_rows.specs.Shapes as shapes;
-ghost use Rattle.model_machine.specs.Code.{Shaped};
-ghost use Rattle.model_prove.specs.Reach as reach;
-ghost use Rattle.model_prove.specs.Steps.{coarse_around, coarse_for};
-ghost use Rattle.model_sums.specs.Closed.{all_pass, choice_closed, coarse_closed, row_closed, turn_closed};
-ghost use Rattle.model_sums.specs.Moves.{moved_coarsely};
+ghost use Rattle.prove_facts.specs.law_rows.specs.Shapes as shapes;
+ghost use Rattle.model_text.specs.model_machine.specs.Code.{Shaped};
+ghost use Rattle.prove_facts.specs.model_prove.specs.Reach as reach;
+ghost use Rattle.prove_facts.specs.model_prove.specs.Steps.{coarse_around, coarse_for};
+ghost use Rattle.prove_sums.specs.model_sums.specs.Closed.{all_pass, choice_closed, coarse_closed, row_closed, turn_closed};
+ghost use Rattle.prove_sums.specs.model_sums.specs.Moves.{moved_coarsely};
 ghost use Rattle.prove_scenes.specs.Coarse.{coarse_outlined, coarse_value};
 ghost use Rattle.prove_scenes.specs.Heads.{around_value};
 ghost use Rattle.prove_scenes.specs.Scenes.{frame_to};

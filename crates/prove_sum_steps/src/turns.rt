@@ -1,7 +1,7 @@
 // The instruction at a place of which a table of sums is checked, and the line of its event.
 ghost use Rattle.std.specs.Prelude.{◌≡◌, ◌≤◌, ◌∷◌, [], length};
 ghost use Rattle.arrayvec.specs.ArrayVec.{array_vec_len};
-ghost use Rattle.model_machine.specs.declared.instruction.Ins.{Ins};
+ghost use Rattle.model_text.specs.model_machine.specs.declared.instruction.Ins.{Ins};
 ghost use Rattle.model_text.specs.Listing.{text_of};
 ghost use Rattle.model_text.specs.TurnText.{bit_text};
 ghost use Rattle.prove_events.specs.declared.turns.TurnEvent.{TurnEvent};
@@ -11,7 +11,7 @@ use crate::goals::Goal;
 use arrayvec::ArrayVec;
 use mc_base::bytes_of;
 use mc_text::{add, add_hex, cut};
-use model_machine::Ins;
+use model_text::model_machine::Ins;
 use prove_arrivals::Subject;
 use prove_events::{Rules, TurnEvent};
 use prove_keys::PlaceKey;

@@ -1,9 +1,9 @@
 -- What follows from what is known for sums.
 use Rattle.std.proofs.Common.{◌≡◌, ◌∙◌, ℕ, ◌+◌, ◌<◌, ◌≤◌, List, [], ◌∷◌, length, drop, get_or, Bool, true, false, Option, refl, ap, subst}
 use Rattle.std.specs.Prelude.{◌&&◌, ◌||◌, ◌==◌}
-use Rattle.model_rules.specs.Rules.{Total}
-use Rattle.model_sums.specs.Forms as forms
-use Rattle.model_sums.specs.Sums as sums
+use Rattle.prove_facts.specs.model_rules.specs.Rules.{Total}
+use Rattle.prove_forms.specs.model_sums.specs.Forms as forms
+use Rattle.prove_forms.specs.model_sums.specs.Sums as sums
 use Rattle.prove_events.specs.declared.rules.Balance.{Balance}
 use Rattle.prove_forms.specs.declared.forms.Form.{Form}
 use Rattle.prove_forms.specs.Forms.{OptionalIs, OptionalsAre}

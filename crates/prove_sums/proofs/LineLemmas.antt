@@ -2,10 +2,10 @@
 use Rattle.std.proofs.Common.{◌≡◌, ◌∙◌, ℕ, ◌+◌, ◌<◌, ◌≤◌, List, [], ◌∷◌, length, drop, get_or, Bool, true, false, cond, Option, Some, None, refl, sym, ap, subst}
 use Rattle.std.proofs.lemmas.List.{drop_more, drop_all}
 use Rattle.std.proofs.lemmas.Option.{same_Some}
-use Rattle.law_explore.specs.Matching.{fits}
-use Rattle.model_rules.specs.Rules.{SumLine, Total}
-use Rattle.model_sums.specs.Events.{form_of_amount, off_after_line, offs_after_event, offs_after_line}
-use Rattle.model_sums.specs.Origins.{Origins}
+use Rattle.lab_match.specs.law_explore.specs.Matching.{fits}
+use Rattle.prove_facts.specs.model_rules.specs.Rules.{SumLine, Total}
+use Rattle.prove_forms.specs.model_sums.specs.Events.{form_of_amount, off_after_line, offs_after_event, offs_after_line}
+use Rattle.prove_forms.specs.model_sums.specs.Origins.{Origins}
 use Rattle.prove_events.specs.declared.rules.Amount.{Amount}
 use Rattle.prove_events.specs.declared.rules.On.{On}
 use Rattle.prove_events.specs.declared.rules.SignedSum.{SignedSum}

@@ -2,8 +2,8 @@
 use Rattle.std.proofs.Common.{◌≡◌, ◌∙◌, ℕ, ◌+◌, ◌<◌, ◌≤◌, List, [], ◌∷◌, ◌++◌, length, drop, get_or, Bool, true, false, cond, refl, sym, ap, subst, append_assoc}
 use Rattle.std.specs.Prelude.{filter, flat_map}
 use Rattle.std.proofs.lemmas.List.{append-nil, drop_more, drop_all}
-use Rattle.model_sums.specs.Sums as sums
-use Rattle.model_sums.specs.Writes.{more_of}
+use Rattle.prove_forms.specs.model_sums.specs.Sums as sums
+use Rattle.prove_forms.specs.model_sums.specs.Writes.{more_of}
 use Rattle.prove_sums.specs.declared.values.More.{More}
 use Rattle.prove_sums.specs.Values.{MoreIs, MoresAre}
 

@@ -2,8 +2,8 @@
 use Rattle.std.proofs.Common.{◌≡◌, ◌∙◌, ℕ, zero, suc, ◌+◌, ◌-◌, ◌<◌, Bool, true, false, cond, List, [], ◌∷◌, ◌++◌, length, filter, refl, sym, ap, append_assoc, arith}
 use Rattle.std.specs.Prelude.{map}
 use Rattle.std.proofs.lemmas.List.{append-nil, length-map, map-append}
-use Rattle.model_prove.specs.Sets.{numbers_from}
-use Rattle.model_sums.specs.Origins as origins
+use Rattle.prove_facts.specs.model_prove.specs.Sets.{numbers_from}
+use Rattle.prove_forms.specs.model_sums.specs.Origins as origins
 use Rattle.prove_forms.specs.declared.origins.Listed.{Listed}
 use Rattle.prove_forms.specs.declared.origins.Origin.{Origin}
 use Rattle.prove_forms.specs.Origins.{listed_value, listed_values, origin_value, origin_values}

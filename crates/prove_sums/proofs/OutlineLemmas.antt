@@ -1,16 +1,16 @@
 -- What is known for sums after a row, from what of its shape matters.
 use Rattle.std.proofs.Common.{◌≡◌, ℕ, suc, ◌-◌, List, [], ◌∷◌, length, None, refl, ap}
 use Rattle.std.proofs.lemmas.List.{length-replicate}
-use Rattle.law_rows.specs.Shapes.{Act, Stays, Answers, Jumps, Calls, Returns, Pushes, Replaces, Writes, Protects, Shape}
-use Rattle.model_rules.specs.Rules.{Total}
-use Rattle.model_prove.specs.Keys.{PlaceKey}
-use Rattle.model_prove.specs.Reach.{Coarse}
-use Rattle.model_prove.specs.Steps.{coarse_for}
-use Rattle.model_prove.specs.Work.{Work, AsShaped, Copies, Works, Searches, AnyZ, Counted, NoFact}
-use Rattle.model_sums.specs.Origins.{unknowns, origins_from}
-use Rattle.model_sums.specs.Sums.{Sums}
-use Rattle.model_sums.specs.Moves.{acted, copied, moved_coarsely, own_origins, size_of}
-use Rattle.model_sums.specs.Writes.{wrote, popped, is_total_block, loaded, more_of}
+use Rattle.prove_facts.specs.law_rows.specs.Shapes.{Act, Stays, Answers, Jumps, Calls, Returns, Pushes, Replaces, Writes, Protects, Shape}
+use Rattle.prove_facts.specs.model_rules.specs.Rules.{Total}
+use Rattle.prove_facts.specs.model_prove.specs.Keys.{PlaceKey}
+use Rattle.prove_facts.specs.model_prove.specs.Reach.{Coarse}
+use Rattle.prove_facts.specs.model_prove.specs.Steps.{coarse_for}
+use Rattle.prove_facts.specs.model_prove.specs.Work.{Work, AsShaped, Copies, Works, Searches, AnyZ, Counted, NoFact}
+use Rattle.prove_forms.specs.model_sums.specs.Origins.{unknowns, origins_from}
+use Rattle.prove_forms.specs.model_sums.specs.Sums.{Sums}
+use Rattle.prove_forms.specs.model_sums.specs.Moves.{acted, copied, moved_coarsely, own_origins, size_of}
+use Rattle.prove_forms.specs.model_sums.specs.Writes.{wrote, popped, is_total_block, loaded, more_of}
 use Rattle.prove_scenes.specs.Coarse.{coarse_act}
 use Rattle.prove_scenes.specs.Outlines.{outlined, outlined_act, outlined_bytes}
 use Rattle.prove_sums.specs.Outlines.{MoveLaw, CoarseMoveLaw}

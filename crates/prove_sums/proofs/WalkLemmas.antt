@@ -2,14 +2,14 @@
 use Rattle.std.proofs.Common.{◌≡◌, ◌∙◌, ℕ, ◌+◌, ◌<◌, ◌≤◌, List, [], ◌∷◌, ◌++◌, length, drop, get_or, Bool, true, false, cond, Option, Some, None, refl, sym, ap, subst, append_assoc}
 use Rattle.std.proofs.lemmas.List.{append-nil, drop_more, drop_all}
 use Rattle.std.specs.Prelude.{◌||◌}
-use Rattle.model_machine.specs.Frame.{Frame}
-use Rattle.model_rules.specs.Rules.{SumLine, Total}
-use Rattle.model_prove.specs.Reach.{Reach, some_reached}
-use Rattle.model_sums.specs.Events.{off_after_line, offs_after_line}
-use Rattle.model_sums.specs.Forms as forms
-use Rattle.model_sums.specs.Moves.{offs_not_reached}
-use Rattle.model_sums.specs.Sums.{evens}
-use Rattle.model_sums.specs.Writes.{is_block, is_total_block, off_after, offs_after}
+use Rattle.mc_arith.specs.model_machine.specs.Frame.{Frame}
+use Rattle.prove_facts.specs.model_rules.specs.Rules.{SumLine, Total}
+use Rattle.prove_facts.specs.model_prove.specs.Reach.{Reach, some_reached}
+use Rattle.prove_forms.specs.model_sums.specs.Events.{off_after_line, offs_after_line}
+use Rattle.prove_forms.specs.model_sums.specs.Forms as forms
+use Rattle.prove_forms.specs.model_sums.specs.Moves.{offs_not_reached}
+use Rattle.prove_forms.specs.model_sums.specs.Sums.{evens}
+use Rattle.prove_forms.specs.model_sums.specs.Writes.{is_block, is_total_block, off_after, offs_after}
 use Rattle.prove_events.specs.declared.rules.Balance.{Balance}
 use Rattle.prove_forms.specs.declared.forms.Form.{Form}
 use Rattle.prove_forms.specs.Forms.{OptionalIs, OptionalsAre}

@@ -1,8 +1,8 @@
 -- Which loaded blocks are kept.
 use Rattle.std.specs.Prelude.{◌+◌, Bool, cond, not, ◌&&◌, ◌||◌, nat_le, List, [], ◌∷◌}
-use Rattle.model_machine.specs.Frame.{public_base}
-use Rattle.model_prove.specs.Reach.{some_reached}
-use Rattle.model_sums.specs.Sums.{More}
+use Rattle.mc_arith.specs.model_machine.specs.Frame.{public_base}
+use Rattle.prove_facts.specs.model_prove.specs.Reach.{some_reached}
+use Rattle.prove_forms.specs.model_sums.specs.Sums.{More}
 use Rattle.prove_scenes.specs.Scenes.{frame_to}
 use Rattle.prove_works.specs.Reaches.{reach_value}
 use Rattle.prove_sums.specs.declared.kept.Kept.{Kept}

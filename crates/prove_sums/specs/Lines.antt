@@ -1,11 +1,11 @@
 -- What a line about a sum does to a total, by the numbers of sums that the code has.
 use Rattle.std.specs.Prelude.{◌≡◌, ℕ, Bool, not, cond, List, bytes_eq, slice_get, Option, Some, None}
-use Rattle.law_explore.specs.Matching.{fits}
-use Rattle.model_prove.specs.Digits.{same}
-use Rattle.model_rules.specs.Rules.{SumLine, Total}
-use Rattle.model_sums.specs.Events.{form_of_amount, off_after_term, offs_after_line}
-use Rattle.model_sums.specs.Forms as forms
-use Rattle.model_sums.specs.Origins.{Origins}
+use Rattle.lab_match.specs.law_explore.specs.Matching.{fits}
+use Rattle.prove_facts.specs.model_prove.specs.Digits.{same}
+use Rattle.prove_facts.specs.model_rules.specs.Rules.{SumLine, Total}
+use Rattle.prove_forms.specs.model_sums.specs.Events.{form_of_amount, off_after_term, offs_after_line}
+use Rattle.prove_forms.specs.model_sums.specs.Forms as forms
+use Rattle.prove_forms.specs.model_sums.specs.Origins.{Origins}
 use Rattle.prove_events.specs.declared.rules.Amount.{Amount}
 use Rattle.prove_events.specs.declared.rules.On.{On}
 use Rattle.prove_events.specs.declared.rules.SignedSum.{SignedSum}

@@ -1,8 +1,8 @@
 -- What is known for sums, as the definition has it.
 use Rattle.std.specs.Prelude.{◌≡◌, List, [], ◌∷◌, map, Option, Some, None, ⊤}
-use Rattle.model_prove.specs.Keys.{PlaceKey}
-use Rattle.model_sums.specs.Forms as forms
-use Rattle.model_sums.specs.Sums as sums
+use Rattle.prove_facts.specs.model_prove.specs.Keys.{PlaceKey}
+use Rattle.prove_forms.specs.model_sums.specs.Forms as forms
+use Rattle.prove_forms.specs.model_sums.specs.Sums as sums
 use Rattle.prove_forms.specs.declared.forms.Form.{Form}
 use Rattle.prove_forms.specs.Forms.{form_value, FormIs, OptionalsAre}
 use Rattle.prove_forms.specs.Origins.{origins_value}

@@ -1,13 +1,13 @@
 // What is known for sums after a row of too many combinations.
 ghost use Rattle.std.specs.Prelude.{◌≡◌, ◌++◌, ◌∷◌, [], ◌-◌, ℕ, List, Option, None, cond, filter, map, IfOk, IfSome, OnOk};
-ghost use Rattle.model_prove.specs.Reach.{is_reached};
-ghost use Rattle.model_prove.specs.Sets.{numbers_from};
-ghost use Rattle.model_rules.specs.Rules.{Total};
-ghost use Rattle.model_sums.specs.Forms as forms;
-ghost use Rattle.model_sums.specs.Moves as moves;
-ghost use Rattle.model_sums.specs.Origins as model;
-ghost use Rattle.model_sums.specs.Sums as sums;
-ghost use Rattle.model_sums.specs.Writes as writes;
+ghost use Rattle.prove_facts.specs.model_prove.specs.Reach.{is_reached};
+ghost use Rattle.prove_facts.specs.model_prove.specs.Sets.{numbers_from};
+ghost use Rattle.prove_facts.specs.model_rules.specs.Rules.{Total};
+ghost use Rattle.prove_forms.specs.model_sums.specs.Forms as forms;
+ghost use Rattle.prove_forms.specs.model_sums.specs.Moves as moves;
+ghost use Rattle.prove_forms.specs.model_sums.specs.Origins as model;
+ghost use Rattle.prove_forms.specs.model_sums.specs.Sums as sums;
+ghost use Rattle.prove_forms.specs.model_sums.specs.Writes as writes;
 ghost use Rattle.prove_forms.specs.Forms.{OptionalIs, OptionalsAre};
 ghost use Rattle.prove_forms.specs.Origins.{listed_values, origins_value};
 ghost use Rattle.prove_rules.specs.Sums.{AreTotals, IsTotal};

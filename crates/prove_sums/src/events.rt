@@ -1,9 +1,9 @@
 // How the event of an instruction counts.
 ghost use Rattle.std.specs.Prelude.{◌≡◌, ◌&&◌, ℕ, Bool, List, Option, Some, slice_get, map, bytes_eq, IfOk};
-ghost use Rattle.model_rules.specs.Rules.{AppRules, SumLine, Total};
-ghost use Rattle.model_sums.specs.Events as events;
-ghost use Rattle.model_sums.specs.Forms as forms;
-ghost use Rattle.model_sums.specs.Sums as sums;
+ghost use Rattle.prove_facts.specs.model_rules.specs.Rules.{AppRules, SumLine, Total};
+ghost use Rattle.prove_forms.specs.model_sums.specs.Events as events;
+ghost use Rattle.prove_forms.specs.model_sums.specs.Forms as forms;
+ghost use Rattle.prove_forms.specs.model_sums.specs.Sums as sums;
 ghost use Rattle.prove_events.specs.declared.rules.Amount.TheVariants as amount;
 ghost use Rattle.prove_events.specs.Rules.{name_of};
 ghost use Rattle.prove_forms.specs.Forms.{OptionalIs, OptionalsAre};

@@ -1,6 +1,6 @@
 // Loaded blocks of which some are kept.
 ghost use Rattle.std.specs.Prelude.{◌≡◌, ◌+◌, nat_le, List, filter, IfOk};
-ghost use Rattle.model_sums.specs.Sums as sums;
+ghost use Rattle.prove_forms.specs.model_sums.specs.Sums as sums;
 ghost use Rattle.prove_sums.specs.Kept.{if_kept, is_kept};
 ghost use Rattle.prove_sums.specs.Values.{MoreIs, MoresAre, if_any};
 

@@ -1,10 +1,10 @@
 // What instructions do to the protection, and when totals are asked.
 ghost use Rattle.std.specs.Prelude.{◌≡◌, option_map};
-ghost use Rattle.model_rules.specs.Keeping as keeping;
-ghost use Rattle.model_sums.specs.Events as events;
+ghost use Rattle.prove_facts.specs.model_rules.specs.Keeping as keeping;
+ghost use Rattle.prove_forms.specs.model_sums.specs.Events as events;
 
+use mc_arith::model_machine::Ins;
 use mc_prims::Primitive;
-use model_machine::Ins;
 
 // Whether a mode of protection keeps what waits.
 pub fn is_commit(mode: u8) -> bool

@@ -1,11 +1,11 @@
 // What is known for sums after a row.
 ghost use Rattle.std.specs.Prelude.{◌≡◌, ℕ, List, IfOk, IfSome};
-ghost use Rattle.model_prove.specs.Keys.{PlaceKey};
-ghost use Rattle.model_rules.specs.Rules.{Total};
-ghost use Rattle.model_prove.specs.Work as work;
-ghost use Rattle.model_sums.specs.Moves as moves;
-ghost use Rattle.model_sums.specs.Sums as sums;
-ghost use Rattle.model_sums.specs.Writes as writes;
+ghost use Rattle.prove_facts.specs.model_prove.specs.Keys.{PlaceKey};
+ghost use Rattle.prove_facts.specs.model_rules.specs.Rules.{Total};
+ghost use Rattle.prove_facts.specs.model_prove.specs.Work as work;
+ghost use Rattle.prove_forms.specs.model_sums.specs.Moves as moves;
+ghost use Rattle.prove_forms.specs.model_sums.specs.Sums as sums;
+ghost use Rattle.prove_forms.specs.model_sums.specs.Writes as writes;
 ghost use Rattle.prove_rules.specs.Sums.{AreTotals};
 ghost use Rattle.prove_scenes.specs.ShapeValues.{shape_value};
 ghost use Rattle.prove_scenes.specs.Works.{work_value};
@@ -14,8 +14,8 @@ ghost use Rattle.prove_sums.specs.Values.{IsBefore, SumsAre};
 use crate::acts::{acted_popped, acted_unknown, own_origins};
 use crate::values::{Before, Sums};
 use crate::works::{copied, worked};
+use mc_arith::model_machine::Ins;
 use mc_base::NoMemory;
-use model_machine::Ins;
 use prove_events::Balance;
 use prove_scenes::{Shape, Work};
 use std::alloc::Global;

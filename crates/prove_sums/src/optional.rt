@@ -1,7 +1,7 @@
 // Forms, if they are known.
 ghost use Rattle.std.specs.Prelude.{◌≡◌, ℕ, Option, IfOk};
-ghost use Rattle.model_sums.specs.Forms as forms;
-ghost use Rattle.model_sums.specs.Writes as writes;
+ghost use Rattle.prove_forms.specs.model_sums.specs.Forms as forms;
+ghost use Rattle.prove_forms.specs.model_sums.specs.Writes as writes;
 ghost use Rattle.prove_forms.specs.Forms.{OptionalIs};
 
 use mc_base::NoMemory;

@@ -1,9 +1,9 @@
 // What is known for sums after bytes were popped or loaded, and after what waits was dropped.
 ghost use Rattle.std.specs.Prelude.{◌≡◌, ◌==◌, ◌&&◌, ◌∷◌, ℕ, List, Option, IfOk, OnOk};
-ghost use Rattle.model_rules.specs.Rules.{Total};
-ghost use Rattle.model_sums.specs.Forms as forms;
-ghost use Rattle.model_sums.specs.Sums as sums;
-ghost use Rattle.model_sums.specs.Writes as writes;
+ghost use Rattle.prove_facts.specs.model_rules.specs.Rules.{Total};
+ghost use Rattle.prove_forms.specs.model_sums.specs.Forms as forms;
+ghost use Rattle.prove_forms.specs.model_sums.specs.Sums as sums;
+ghost use Rattle.prove_forms.specs.model_sums.specs.Writes as writes;
 ghost use Rattle.prove_forms.specs.Forms.{OptionalIs};
 ghost use Rattle.prove_rules.specs.Sums.{AreTotals};
 ghost use Rattle.prove_sums.specs.Values.{MoresAre, SumsAre};

@@ -1,7 +1,7 @@
 // No clause says that a comparison returns `true`.
 use crate::{Before, Sums, moved};
+use mc_arith::model_machine::Ins;
 use mc_base::NoMemory;
-use model_machine::Ins;
 use prove_events::Balance;
 use prove_forms::{Form, Origin};
 use prove_scenes::{Act, Next, Shape, Work};

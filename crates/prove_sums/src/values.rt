@@ -1,8 +1,8 @@
 // What is known for sums at a place.
 ghost use Rattle.std.specs.Prelude.{◌≡◌, ℕ, List, [], ◌∷◌, ◌++◌, Option, IfOk, MatchOption, OnOk};
-ghost use Rattle.model_rules.specs.Rules.{Total};
-ghost use Rattle.model_sums.specs.Forms as forms;
-ghost use Rattle.model_sums.specs.Sums as sums;
+ghost use Rattle.prove_facts.specs.model_rules.specs.Rules.{Total};
+ghost use Rattle.prove_forms.specs.model_sums.specs.Forms as forms;
+ghost use Rattle.prove_forms.specs.model_sums.specs.Sums as sums;
 ghost use Rattle.prove_forms.specs.Forms.{OptionalIs, OptionalsAre};
 ghost use Rattle.prove_rules.specs.Sums.{AreTotals};
 ghost use Rattle.prove_sums.specs.Values.{MoreIs, MoresAre, SumsAre, if_any, sums_value};

@@ -1,14 +1,14 @@
 // What is known for sums after bytes were copied, and after an operation.
 ghost use Rattle.std.specs.Prelude.{◌≡◌, ℕ, true, false, List, Option, None, IfOk, IfSome};
-ghost use Rattle.law_rows.specs.Shapes as shapes;
-ghost use Rattle.model_prove.specs.Keys.{PlaceKey};
-ghost use Rattle.model_rules.specs.Rules.{Total};
-ghost use Rattle.model_sums.specs.Forms as forms;
-ghost use Rattle.model_sums.specs.Moves as moves;
-ghost use Rattle.model_sums.specs.Operations as operations;
-ghost use Rattle.model_sums.specs.Origins as model;
-ghost use Rattle.model_sums.specs.Sums as sums;
-ghost use Rattle.model_sums.specs.Writes as writes;
+ghost use Rattle.prove_facts.specs.law_rows.specs.Shapes as shapes;
+ghost use Rattle.prove_facts.specs.model_prove.specs.Keys.{PlaceKey};
+ghost use Rattle.prove_facts.specs.model_rules.specs.Rules.{Total};
+ghost use Rattle.prove_forms.specs.model_sums.specs.Forms as forms;
+ghost use Rattle.prove_forms.specs.model_sums.specs.Moves as moves;
+ghost use Rattle.prove_forms.specs.model_sums.specs.Operations as operations;
+ghost use Rattle.prove_forms.specs.model_sums.specs.Origins as model;
+ghost use Rattle.prove_forms.specs.model_sums.specs.Sums as sums;
+ghost use Rattle.prove_forms.specs.model_sums.specs.Writes as writes;
 ghost use Rattle.prove_forms.specs.Forms.{OptionalIs};
 ghost use Rattle.prove_forms.specs.Origins.{origins_value};
 ghost use Rattle.prove_rules.specs.Sums.{AreTotals};

@@ -1,11 +1,11 @@
 // What is known for sums after bytes were written.
 ghost use Rattle.std.specs.Prelude.{◌≡◌, ◌≤◌, ℕ, List, Option, length, vec_len, flat_map, IfOk};
-ghost use Rattle.model_prove.specs.Compares as compares;
-ghost use Rattle.model_rules.specs.Rules.{Total};
-ghost use Rattle.model_sums.specs.Forms as forms;
-ghost use Rattle.model_sums.specs.Origins as model;
-ghost use Rattle.model_sums.specs.Sums as sums;
-ghost use Rattle.model_sums.specs.Writes as writes;
+ghost use Rattle.prove_facts.specs.model_prove.specs.Compares as compares;
+ghost use Rattle.prove_facts.specs.model_rules.specs.Rules.{Total};
+ghost use Rattle.prove_forms.specs.model_sums.specs.Forms as forms;
+ghost use Rattle.prove_forms.specs.model_sums.specs.Origins as model;
+ghost use Rattle.prove_forms.specs.model_sums.specs.Sums as sums;
+ghost use Rattle.prove_forms.specs.model_sums.specs.Writes as writes;
 ghost use Rattle.prove_forms.specs.Forms.{OptionalIs, OptionalsAre};
 ghost use Rattle.prove_forms.specs.Origins.{origin_values};
 ghost use Rattle.prove_rules.specs.Sums.{AreTotals, IsTotal};

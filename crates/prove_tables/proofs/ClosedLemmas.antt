@@ -3,10 +3,10 @@ use Rattle.std.proofs.Common.{◌≡◌, ◌∙◌, sym, subst, refl, arith}
 use Rattle.std.specs.Prelude.{Bool, true, false, List, [], ◌∷◌, length, vec_len, Result, Ok, Err, IfOk}
 use Rattle.mc_base.specs.declared.refusals.NoMemory.{NoMemory}
 use Rattle.law_sum_plays.specs.Laws.{ClosedSumsLaw}
-use Rattle.model_prove.specs.Keys.{Tables}
-use Rattle.model_prove.specs.Tables.{ClosedLaw, is_closed}
-use Rattle.model_rules.specs.Law.{AreKept}
-use Rattle.model_rules.specs.Rules.{AppRules, Target, Total}
+use Rattle.law_sum_plays.specs.model_prove.specs.Keys.{Tables}
+use Rattle.law_sum_plays.specs.model_prove.specs.Tables.{ClosedLaw, is_closed}
+use Rattle.law_sum_plays.specs.model_rules.specs.Law.{AreKept}
+use Rattle.law_sum_plays.specs.model_rules.specs.Rules.{AppRules, Target, Total}
 use Rattle.prove_events.specs.declared.rules.Rules.{Rules}
 use Rattle.prove_events.specs.Rules.{AreRules}
 use Rattle.prove_rules.specs.Sums.{AreSums}

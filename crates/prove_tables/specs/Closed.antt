@@ -2,11 +2,11 @@
 use Rattle.std.specs.Prelude.{◌≡◌, true, Bool, List, [], map}
 use Rattle.std.specs.declared.alloc.Global.{Global}
 use Rattle.std.specs.declared.vec.Vec.{Vec}
-use Rattle.model_rules.specs.Rules.{AppRules, Target}
-use Rattle.model_prove.specs.Keys.{Tables}
-use Rattle.model_prove.specs.Tables.{is_closed}
-use Rattle.model_sums.specs.Sums.{SumsTable}
-use Rattle.model_sums.specs.Closed.{sums_closed}
+use Rattle.law_sum_plays.specs.model_rules.specs.Rules.{AppRules, Target}
+use Rattle.law_sum_plays.specs.model_prove.specs.Keys.{Tables}
+use Rattle.law_sum_plays.specs.model_prove.specs.Tables.{is_closed}
+use Rattle.law_sum_plays.specs.model_sums.specs.Sums.{SumsTable}
+use Rattle.law_sum_plays.specs.model_sums.specs.Closed.{sums_closed}
 use Rattle.prove_closed.specs.Classes.{lists_of}
 use Rattle.prove_events.specs.Rules.{name_of}
 use Rattle.prove_events.specs.declared.rules.Rules.{Rules}

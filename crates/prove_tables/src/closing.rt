@@ -1,8 +1,8 @@
 // The check of finished tables against the definition of outcomes.
 ghost use Rattle.std.specs.Prelude.{◌≡◌, true, ℕ, List, map, IfOk};
-ghost use Rattle.model_rules.specs.Rules.{AppRules, Target};
-ghost use Rattle.model_prove.specs.Keys as keys;
-ghost use Rattle.model_prove.specs.Tables as closed;
+ghost use Rattle.law_sum_plays.specs.model_rules.specs.Rules.{AppRules, Target};
+ghost use Rattle.law_sum_plays.specs.model_prove.specs.Keys as keys;
+ghost use Rattle.law_sum_plays.specs.model_prove.specs.Tables as closed;
 ghost use Rattle.prove_closed.specs.Classes.{lists_of};
 ghost use Rattle.prove_events.specs.Rules.{AreRules, name_of};
 ghost use Rattle.prove_keys.specs.Tables.{tables_of};

@@ -1,9 +1,9 @@
 // The proof of an application's rules.
 ghost use Rattle.std.specs.Prelude.{◌≡◌, true, false, IfOk};
 ghost use Rattle.law_sum_plays.specs.Laws.{ClosedSumsLaw};
-ghost use Rattle.model_prove.specs.Tables.{ClosedLaw};
-ghost use Rattle.model_rules.specs.Law.{AreKept};
-ghost use Rattle.model_rules.specs.Rules.{AppRules, Target};
+ghost use Rattle.law_sum_plays.specs.model_prove.specs.Tables.{ClosedLaw};
+ghost use Rattle.law_sum_plays.specs.model_rules.specs.Law.{AreKept};
+ghost use Rattle.law_sum_plays.specs.model_rules.specs.Rules.{AppRules, Target};
 ghost use Rattle.prove_events.specs.Rules.{AreRules};
 ghost use Rattle.prove_rules.specs.Sums.{AreSums};
 ghost use Rattle.prove_tables.specs.Closed.{AreProved};
@@ -16,8 +16,8 @@ use crate::searching::{Stopped, search};
 use crate::subject::{Subject, blocks_of};
 use crate::tables::{Found, MOST_KEYS};
 use crate::text::{add_verdict, break_ranges, text_of_tables};
-use law_prove_closed::closed_tables_keep_rules;
 use law_sum_plays::closed_sums_keep_rules;
+use law_sum_plays::law_prove_closed::closed_tables_keep_rules;
 use mc_base::NoMemory;
 use prove_events::{Balance, Load, Rules};
 use prove_facts::{Facts, Values, mask, push};

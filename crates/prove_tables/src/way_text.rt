@@ -2,9 +2,9 @@
 use crate::subject::{Subject, code_of};
 use crate::text::{add, add_number, add_values, add_word};
 use crate::ways::Key;
+use law_sum_plays::model_machine::Ins;
 use mc_base::NoMemory;
 use mc_isa::decode;
-use model_machine::Ins;
 use prove_events::{Class, CodeLine};
 use prove_facts::{Facts, Values};
 use prove_keys::{Begun, Tables};

@@ -3,11 +3,11 @@ use Rattle.std.specs.Prelude.{◌≡◌, ℕ, ◌+◌, ◌-◌, ◌<◌, ◌≤�
 use Rattle.std.proofs.Common.{arith, ap, sym, ◌∙◌, append_assoc}
 use Rattle.std.proofs.lemmas.Bool.{eqb-true}
 use Rattle.std.proofs.lemmas.List.{append-nil, take_more, drop_more, drop_all, take_all, map-append, length-map}
-use Rattle.model_machine.specs.Frame.{Frame}
-use Rattle.model_prove.specs.Sets.{Set}
-use Rattle.model_prove.specs.Facts.{Facts, without_byte}
-use Rattle.model_prove.specs.Keys as known
-use Rattle.model_prove.specs.Reach as reach
+use Rattle.mc_arith.specs.model_machine.specs.Frame.{Frame}
+use Rattle.prove_facts.specs.model_prove.specs.Sets.{Set}
+use Rattle.prove_facts.specs.model_prove.specs.Facts.{Facts, without_byte}
+use Rattle.prove_facts.specs.model_prove.specs.Keys as known
+use Rattle.prove_facts.specs.model_prove.specs.Reach as reach
 use Rattle.prove_facts.specs.declared.facts.Fact.{Fact}
 use Rattle.prove_facts.specs.Facts.{fact_of, facts_of}
 use Rattle.prove_facts.proofs.FactLemmas.{drop_fact}

@@ -2,9 +2,9 @@
 use Rattle.std.specs.Prelude.{◌≡◌, ℕ, zero, suc, ◌+◌, ◌-◌, ◌/◌, ◌%◌, ◌<◌, ◌≤◌, Bool, true, false, not, ◌&&◌, ◌||◌, nat_lt, nat_le, List, [], ◌∷◌, refl}
 use Rattle.std.proofs.Common.{arith, ap, sym, ◌∙◌, inl, inr}
 use Rattle.std.proofs.lemmas.Bool.{lt-ltb, le-ltb, ltb-true, cases_lt}
-use Rattle.model_machine.specs.Frame.{Frame, is_outside}
-use Rattle.model_prove.specs.Sets.{Set, is_in, is_empty, common}
-use Rattle.model_prove.specs.Reach as reach
+use Rattle.mc_arith.specs.model_machine.specs.Frame.{Frame, is_outside}
+use Rattle.prove_facts.specs.model_prove.specs.Sets.{Set, is_in, is_empty, common}
+use Rattle.prove_facts.specs.model_prove.specs.Reach as reach
 use Rattle.prove_facts.specs.declared.values.Values.{Values}
 use Rattle.prove_facts.specs.Sets.{has_value, set_of}
 use Rattle.prove_facts.proofs.SetLemmas.{out_values}

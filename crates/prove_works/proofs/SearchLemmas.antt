@@ -3,8 +3,8 @@ use Rattle.std.specs.Prelude.{◌≡◌, ℕ, suc, ◌+◌, ◌<◌, ◌≤◌, 
 use Rattle.std.proofs.Common.{arith, ap, sym, ◌∙◌}
 use Rattle.std.proofs.lemmas.Bool.{ne_eqb, or_from}
 use Rattle.std.proofs.lemmas.List.{length-map, drop_all, drop_more}
-use Rattle.model_prove.specs.Sets.{Set, is_in, union}
-use Rattle.model_prove.specs.Steps as steps
+use Rattle.prove_facts.specs.model_prove.specs.Sets.{Set, is_in, union}
+use Rattle.prove_facts.specs.model_prove.specs.Steps as steps
 use Rattle.prove_facts.specs.declared.values.Values.{Values}
 use Rattle.prove_facts.specs.Sets.{has_value, set_of}
 use Rattle.prove_facts.proofs.SetLemmas.{Rises, rises_lower, values_are}

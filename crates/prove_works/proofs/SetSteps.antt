@@ -3,8 +3,8 @@ use Rattle.std.specs.Prelude.{◌≡◌, ℕ, zero, suc, ◌+◌, ◌-◌, ◌<�
 use Rattle.std.proofs.Common.{arith, ap, sym, ◌∙◌, append_assoc, inl, inr}
 use Rattle.std.proofs.lemmas.Bool.{cases_lt, both_ways}
 use Rattle.std.proofs.lemmas.List.{drop-map, drop_more, append-nil}
-use Rattle.model_prove.specs.Sets.{Set, is_in, numbers_from, is_empty}
-use Rattle.model_prove.specs.Digits.{some}
+use Rattle.prove_facts.specs.model_prove.specs.Sets.{Set, is_in, numbers_from, is_empty}
+use Rattle.prove_facts.specs.model_prove.specs.Digits.{some}
 use Rattle.prove_facts.specs.declared.values.Values.{Values}
 use Rattle.prove_facts.specs.Sets.{has_bit, has_value, set_of, values_of}
 use Rattle.prove_facts.proofs.SetLemmas.{in_values, out_values, values_are, rises_numbers, rises_lower, past_not_in, none_is}

@@ -2,14 +2,14 @@
 use Rattle.std.specs.Prelude.{◌≡◌, ℕ, ◌+◌, ◌<◌, ◌≤◌, List, [], ◌∷◌, ◌++◌, length, drop, get_or, map, refl}
 use Rattle.std.proofs.Common.{ap, sym, ◌∙◌, append_assoc}
 use Rattle.std.proofs.lemmas.List.{append-nil, drop_more, drop_all, map-append}
-use Rattle.model_machine.specs.Frame.{Frame}
-use Rattle.model_rules.specs.Keeping.{Amounts}
-use Rattle.model_prove.specs.Sets.{Set}
-use Rattle.model_prove.specs.Facts.{Facts}
-use Rattle.model_prove.specs.Compares.{Compare}
-use Rattle.model_prove.specs.Keys.{Start, Call}
-use Rattle.model_prove.specs.Reach as reach
-use Rattle.model_prove.specs.Steps as steps
+use Rattle.mc_arith.specs.model_machine.specs.Frame.{Frame}
+use Rattle.prove_facts.specs.model_rules.specs.Keeping.{Amounts}
+use Rattle.prove_facts.specs.model_prove.specs.Sets.{Set}
+use Rattle.prove_facts.specs.model_prove.specs.Facts.{Facts}
+use Rattle.prove_facts.specs.model_prove.specs.Compares.{Compare}
+use Rattle.prove_facts.specs.model_prove.specs.Keys.{Start, Call}
+use Rattle.prove_facts.specs.model_prove.specs.Reach as reach
+use Rattle.prove_facts.specs.model_prove.specs.Steps as steps
 use Rattle.prove_keys.specs.declared.keys.Call as code
 use Rattle.prove_keys.specs.Keys.{calls_of}
 use Rattle.prove_spots.specs.Grounds.{Ground, spot_of, with_bytes, with_calls, with_compare}

@@ -3,11 +3,11 @@ use Rattle.std.specs.Prelude.{◌≡◌, ℕ, ◌+◌, ◌<◌, ◌≤◌, Bool,
 use Rattle.std.proofs.Common.{arith, ap, sym, ◌∙◌, append_assoc}
 use Rattle.std.proofs.lemmas.List.{append-nil, drop_more, drop_all, map-append}
 use Rattle.std.proofs.lemmas.Grind.{flat_map-append}
-use Rattle.model_prove.specs.Sets.{Set}
-use Rattle.model_prove.specs.Facts.{Facts, values_from}
-use Rattle.model_prove.specs.Digits.{Flags, Digits, arcs, digits_to, Arc}
-use Rattle.model_prove.specs.Work.{Digitwise}
-use Rattle.model_prove.specs.Steps as steps
+use Rattle.prove_facts.specs.model_prove.specs.Sets.{Set}
+use Rattle.prove_facts.specs.model_prove.specs.Facts.{Facts, values_from}
+use Rattle.prove_facts.specs.model_prove.specs.Digits.{Flags, Digits, arcs, digits_to, Arc}
+use Rattle.prove_facts.specs.model_prove.specs.Work.{Digitwise}
+use Rattle.prove_facts.specs.model_prove.specs.Steps as steps
 use Rattle.prove_digits.specs.declared.digits.Way.{Way}
 use Rattle.prove_digits.specs.Ways.{digits_of, way_value, way_if, ways_found}
 use Rattle.prove_facts.specs.declared.values.Values.{Values}

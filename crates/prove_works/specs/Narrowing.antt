@@ -1,9 +1,9 @@
 -- Facts of which values are left, or not.
 use Rattle.std.specs.Prelude.{Bool, true, false, cond, List, Option, Some, None}
-use Rattle.model_prove.specs.Sets.{Set}
-use Rattle.model_prove.specs.Facts.{Facts, narrow_all}
-use Rattle.model_prove.specs.Steps.{operand_narrowed}
-use Rattle.model_prove.specs.Work.{Digitwise}
+use Rattle.prove_facts.specs.model_prove.specs.Sets.{Set}
+use Rattle.prove_facts.specs.model_prove.specs.Facts.{Facts, narrow_all}
+use Rattle.prove_facts.specs.model_prove.specs.Steps.{operand_narrowed}
+use Rattle.prove_facts.specs.model_prove.specs.Work.{Digitwise}
 
 -- the facts, if values are left
 abbrev pub left_if : Bool → Facts → Option Facts

@@ -1,6 +1,6 @@
 -- The flags of digits.
 use Rattle.std.specs.Prelude.{Bool}
-use Rattle.model_prove.specs.Digits.{Flags}
+use Rattle.prove_facts.specs.model_prove.specs.Digits.{Flags}
 
 -- a pair of flags, the carry first
 abbrev pub flags_of : Bool → Bool → Flags

@@ -1,11 +1,11 @@
 -- What an access can reach, as the definition has it.
 use Rattle.std.specs.Prelude.{ℕ, zero, suc, ◌-◌, ◌/◌, ◌%◌, Bool, false, not, ◌&&◌, ◌||◌, nat_lt, nat_le, ◌==◌, List, map, filter, drop}
-use Rattle.model_machine.specs.Frame.{Frame, is_outside}
-use Rattle.model_prove.specs.Sets.{is_in}
-use Rattle.model_prove.specs.Digits.{some}
-use Rattle.model_prove.specs.Facts.{Facts}
-use Rattle.model_prove.specs.Keys as known
-use Rattle.model_prove.specs.Reach as reach
+use Rattle.mc_arith.specs.model_machine.specs.Frame.{Frame, is_outside}
+use Rattle.prove_facts.specs.model_prove.specs.Sets.{is_in}
+use Rattle.prove_facts.specs.model_prove.specs.Digits.{some}
+use Rattle.prove_facts.specs.model_prove.specs.Facts.{Facts}
+use Rattle.prove_facts.specs.model_prove.specs.Keys as known
+use Rattle.prove_facts.specs.model_prove.specs.Reach as reach
 use Rattle.prove_facts.specs.Sets.{set_of}
 use Rattle.prove_keys.specs.declared.keys.Call.{Call}
 use Rattle.prove_keys.specs.Keys.{calls_of}

@@ -1,11 +1,11 @@
 -- What a way of an operation leads to.
 use Rattle.std.specs.Prelude.{◌≡◌, ℕ, cond, not, ◌&&◌, List, [], ◌∷◌, map, length, Option, Some, None}
-use Rattle.model_prove.specs.Sets.{Set}
-use Rattle.model_prove.specs.Facts.{Facts}
-use Rattle.model_prove.specs.Compares.{Compare}
-use Rattle.model_prove.specs.Digits.{Flags, Digits}
-use Rattle.model_prove.specs.Work.{Digitwise}
-use Rattle.model_prove.specs.Steps as steps
+use Rattle.prove_facts.specs.model_prove.specs.Sets.{Set}
+use Rattle.prove_facts.specs.model_prove.specs.Facts.{Facts}
+use Rattle.prove_facts.specs.model_prove.specs.Compares.{Compare}
+use Rattle.prove_facts.specs.model_prove.specs.Digits.{Flags, Digits}
+use Rattle.prove_facts.specs.model_prove.specs.Work.{Digitwise}
+use Rattle.prove_facts.specs.model_prove.specs.Steps as steps
 use Rattle.prove_digits.specs.declared.digits.Way.{Way}
 use Rattle.prove_works.specs.Narrowing.{sets_narrowed}
 

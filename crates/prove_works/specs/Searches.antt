@@ -1,6 +1,6 @@
 -- Searches of a table for a byte.
 use Rattle.std.specs.Prelude.{List, map}
-use Rattle.model_prove.specs.Sets.{Set}
+use Rattle.prove_facts.specs.model_prove.specs.Sets.{Set}
 use Rattle.prove_facts.specs.declared.values.Values.{Values}
 use Rattle.prove_facts.specs.Sets.{set_of}
 

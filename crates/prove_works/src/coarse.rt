@@ -1,10 +1,10 @@
 // The places that follow a row whose deciding bytes have too many combinations.
 ghost use Rattle.std.specs.Prelude.{◌≡◌, ◌-◌, [], ◌∷◌, false, true, map, drop, IfSome, IfOk};
-ghost use Rattle.model_rules.specs.Keeping.{Amounts};
-ghost use Rattle.model_prove.specs.Arrivals.{Setting, static_size};
-ghost use Rattle.model_prove.specs.Keys.{Start};
-ghost use Rattle.model_prove.specs.Reach as known;
-ghost use Rattle.model_prove.specs.Steps as steps;
+ghost use Rattle.prove_facts.specs.model_rules.specs.Keeping.{Amounts};
+ghost use Rattle.prove_facts.specs.model_prove.specs.Arrivals.{Setting, static_size};
+ghost use Rattle.prove_facts.specs.model_prove.specs.Keys.{Start};
+ghost use Rattle.prove_facts.specs.model_prove.specs.Reach as known;
+ghost use Rattle.prove_facts.specs.model_prove.specs.Steps as steps;
 ghost use Rattle.prove_keys.specs.Keys.{calls_of};
 ghost use Rattle.prove_scenes.specs.Coarse.{coarse_value};
 ghost use Rattle.prove_scenes.specs.Scenes.{frame_to};

@@ -1,8 +1,8 @@
 // What is left of facts, the last compare and the open calls after a write within a reach.
 ghost use Rattle.std.specs.Prelude.{◌≡◌, ◌-◌, ◌||◌, ◌++◌, [], ◌∷◌, cond, IfOk, OnOk};
-ghost use Rattle.model_prove.specs.Facts.{without_byte};
-ghost use Rattle.model_prove.specs.Reach as known;
-ghost use Rattle.model_prove.specs.Sets.{all_bytes};
+ghost use Rattle.prove_facts.specs.model_prove.specs.Facts.{without_byte};
+ghost use Rattle.prove_facts.specs.model_prove.specs.Reach as known;
+ghost use Rattle.prove_facts.specs.model_prove.specs.Sets.{all_bytes};
 ghost use Rattle.prove_facts.specs.Sets.{set_of};
 ghost use Rattle.prove_keys.specs.Compares.{said, compare_of};
 ghost use Rattle.prove_keys.specs.Keys.{calls_of, call_of};

@@ -1,6 +1,6 @@
 // Sets of values, and their values in a list.
 ghost use Rattle.std.specs.Prelude.{◌≡◌, ℕ, ◌<◌, false, cond, [], ◌∷◌, ◌++◌, IfOk, OnOk};
-ghost use Rattle.model_prove.specs.Sets.{is_in};
+ghost use Rattle.prove_facts.specs.model_prove.specs.Sets.{is_in};
 ghost use Rattle.prove_facts.specs.Sets.{set_of, has_value};
 
 use mc_base::NoMemory;

@@ -1,7 +1,7 @@
 // Facts if besides bytes have values of some sets.
 ghost use Rattle.std.specs.Prelude.{◌≡◌, ◌+◌, ◌≤◌, length, cond, Some, IfOk, IfSome};
-ghost use Rattle.model_prove.specs.Facts as known;
-ghost use Rattle.model_prove.specs.Steps as steps;
+ghost use Rattle.prove_facts.specs.model_prove.specs.Facts as known;
+ghost use Rattle.prove_facts.specs.model_prove.specs.Steps as steps;
 ghost use Rattle.prove_facts.specs.Sets.{set_of};
 ghost use Rattle.prove_scenes.specs.Works.{digitwise_value, operand_value};
 ghost use Rattle.prove_works.specs.Narrowing.{left_if, sets_narrowed};

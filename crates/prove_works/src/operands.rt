@@ -1,8 +1,8 @@
 // The second operand of an operation, and what the last compare has to do with it.
 ghost use Rattle.std.specs.Prelude.{◌≡◌, ◌||◌, not, cond, Some, IfSome, IfOk};
-ghost use Rattle.model_device.specs.Bytes.{num};
-ghost use Rattle.model_prove.specs.Compares as compares;
-ghost use Rattle.model_prove.specs.Steps as steps;
+ghost use Rattle.mc_base.specs.model_device.specs.Bytes.{num};
+ghost use Rattle.prove_facts.specs.model_prove.specs.Compares as compares;
+ghost use Rattle.prove_facts.specs.model_prove.specs.Steps as steps;
 ghost use Rattle.prove_keys.specs.Compares.{said};
 ghost use Rattle.prove_scenes.specs.Works.{operation_value, digitwise_value, operand_value};
 ghost use Rattle.prove_works.specs.Numbers.{flags_of};

@@ -1,8 +1,8 @@
 // What an access can reach at one of the addresses that two bytes may be.
 ghost use Rattle.std.specs.Prelude.{◌≡◌, ℕ, ◌+◌, ◌-◌, ◌/◌, ◌%◌, ◌<◌, nat_lt, nat_le, not, ◌&&◌, filter, [], IfSome};
-ghost use Rattle.model_machine.specs.Frame.{is_outside};
-ghost use Rattle.model_prove.specs.Sets.{is_in, is_empty, common};
-ghost use Rattle.model_prove.specs.Reach.{reach_at, is_reached, some_reached};
+ghost use Rattle.mc_arith.specs.model_machine.specs.Frame.{is_outside};
+ghost use Rattle.prove_facts.specs.model_prove.specs.Sets.{is_in, is_empty, common};
+ghost use Rattle.prove_facts.specs.model_prove.specs.Reach.{reach_at, is_reached, some_reached};
 ghost use Rattle.prove_facts.specs.Sets.{set_of, has_value};
 ghost use Rattle.prove_scenes.specs.Coarse.{lengths_value};
 ghost use Rattle.prove_scenes.specs.Scenes.{frame_to};

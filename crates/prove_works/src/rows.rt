@@ -1,10 +1,10 @@
 // The places that follow a row, by what it works on.
 ghost use Rattle.std.specs.Prelude.{◌≡◌, ◌++◌, [], ◌∷◌, false, true, map, IfSome, IfOk, OnOk};
-ghost use Rattle.model_rules.specs.Keeping.{Amounts};
-ghost use Rattle.model_prove.specs.Arrivals.{Setting, static_size};
-ghost use Rattle.model_prove.specs.Keys.{Start};
-ghost use Rattle.model_prove.specs.Steps as steps;
-ghost use Rattle.model_prove.specs.Work as work;
+ghost use Rattle.prove_facts.specs.model_rules.specs.Keeping.{Amounts};
+ghost use Rattle.prove_facts.specs.model_prove.specs.Arrivals.{Setting, static_size};
+ghost use Rattle.prove_facts.specs.model_prove.specs.Keys.{Start};
+ghost use Rattle.prove_facts.specs.model_prove.specs.Steps as steps;
+ghost use Rattle.prove_facts.specs.model_prove.specs.Work as work;
 ghost use Rattle.prove_facts.specs.Sets.{set_of};
 ghost use Rattle.prove_scenes.specs.ShapeValues.{act_value, shape_value};
 ghost use Rattle.prove_scenes.specs.Works.{work_value};

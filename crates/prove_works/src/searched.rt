@@ -1,9 +1,9 @@
 // The places after a search of a table.
 ghost use Rattle.std.specs.Prelude.{◌≡◌, ◌++◌, [], ◌∷◌, ◌≤◌, true, false, Bool, cond, map, length, IfSome, IfOk, OnOk};
-ghost use Rattle.model_rules.specs.Keeping.{Amounts};
-ghost use Rattle.model_prove.specs.Facts as known;
-ghost use Rattle.model_prove.specs.Keys.{Start};
-ghost use Rattle.model_prove.specs.Steps as steps;
+ghost use Rattle.prove_facts.specs.model_rules.specs.Keeping.{Amounts};
+ghost use Rattle.prove_facts.specs.model_prove.specs.Facts as known;
+ghost use Rattle.prove_facts.specs.model_prove.specs.Keys.{Start};
+ghost use Rattle.prove_facts.specs.model_prove.specs.Steps as steps;
 ghost use Rattle.prove_facts.specs.Sets.{set_of};
 ghost use Rattle.prove_spots.specs.Grounds.{spot_of};
 ghost use Rattle.prove_works.specs.Searches.{sets_of};

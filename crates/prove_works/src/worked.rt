@@ -1,9 +1,9 @@
 // The places after an operation digit by digit, by its final flags.
 ghost use Rattle.std.specs.Prelude.{◌≡◌, ◌&&◌, ◌++◌, [], ◌∷◌, true, not, map, flat_map, Some, IfSome, IfOk, OnOk};
-ghost use Rattle.model_rules.specs.Keeping.{Amounts};
-ghost use Rattle.model_prove.specs.Facts as known;
-ghost use Rattle.model_prove.specs.Keys.{Start};
-ghost use Rattle.model_prove.specs.Steps as steps;
+ghost use Rattle.prove_facts.specs.model_rules.specs.Keeping.{Amounts};
+ghost use Rattle.prove_facts.specs.model_prove.specs.Facts as known;
+ghost use Rattle.prove_facts.specs.model_prove.specs.Keys.{Start};
+ghost use Rattle.prove_facts.specs.model_prove.specs.Steps as steps;
 ghost use Rattle.prove_digits.specs.Ways.{operation_of, way_value, ways_found};
 ghost use Rattle.prove_keys.specs.Compares.{said};
 ghost use Rattle.prove_scenes.specs.Works.{operation_value, digitwise_value};

@@ -1,7 +1,7 @@
 #![tactic(auto, unfolding(crate::specs::Computed::deck))]
 
 ghost use Rattle.std.specs.Prelude.{◌≡◌, ◌++◌, [], codes, Ok, Err};
-ghost use Rattle.model_play.specs.declared.deck.DeckCause.TheVariants.{BadNumber, UnknownName};
+ghost use Rattle.mc_deck.specs.model_play.specs.declared.deck.DeckCause.TheVariants.{BadNumber, UnknownName};
 ghost use Rattle.desk_draft.specs.Computed.{deck};
 
 /// What ends a line stays, and the last line may lack it.

@@ -2,9 +2,9 @@
 
 // What is listed, checked, traced and counted where a whole draft does not show it.
 ghost use Rattle.std.specs.Prelude.{◌≡◌, ◌∷◌, ◌++◌, [], codes, Ok, Err};
-ghost use Rattle.model_text.specs.declared.assembler.AsmCause.TheVariants.{UnknownWord};
-ghost use Rattle.model_text.specs.declared.checker.CheckCause.TheVariants.{Past, Under};
-ghost use Rattle.model_play.specs.declared.deck.DeckCause.TheVariants.{Asm, BadName, NoEnd};
+ghost use Rattle.mc_text.specs.model_text.specs.declared.assembler.AsmCause.TheVariants.{UnknownWord};
+ghost use Rattle.mc_text.specs.model_text.specs.declared.checker.CheckCause.TheVariants.{Past, Under};
+ghost use Rattle.mc_deck.specs.model_play.specs.declared.deck.DeckCause.TheVariants.{Asm, BadName, NoEnd};
 ghost use Rattle.desk_draft.specs.Computed.{check, cover, listing, trace};
 
 /// Lines without code are not listed, raw bytes are, and each section has its sizes.

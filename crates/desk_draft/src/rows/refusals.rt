@@ -1,7 +1,7 @@
 #![tactic(auto, unfolding(crate::specs::Computed::deck))]
 
 ghost use Rattle.std.specs.Prelude.{◌≡◌, ◌++◌, codes, replicate, Ok, Err};
-ghost use Rattle.model_play.specs.declared.deck.DeckCause.TheVariants.{BadLine, BadName, BadHex, BadNumber, OutOfRange, NameTwice, UnknownName};
+ghost use Rattle.mc_deck.specs.model_play.specs.declared.deck.DeckCause.TheVariants.{BadLine, BadName, BadHex, BadNumber, OutOfRange, NameTwice, UnknownName};
 ghost use Rattle.desk_draft.specs.Computed.{deck};
 
 /// A declaration with too few or too many fields.

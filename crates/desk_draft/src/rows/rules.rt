@@ -1,7 +1,7 @@
 #![tactic(auto, unfolding(crate::specs::Computed::deck))]
 
 ghost use Rattle.std.specs.Prelude.{◌≡◌, ◌++◌, codes, Ok, Err};
-ghost use Rattle.model_play.specs.declared.deck.DeckCause.TheVariants.{BadHex, BadLine, OutOfRange, UnknownName};
+ghost use Rattle.mc_deck.specs.model_play.specs.declared.deck.DeckCause.TheVariants.{BadHex, BadLine, OutOfRange, UnknownName};
 ghost use Rattle.desk_draft.specs.Computed.{deck};
 
 /// Names in the braces of a rule become operands without a size, the names of the section of which the rules speak.

@@ -1,6 +1,6 @@
 // What ends lines.
 use crate::tests::{makes, refuses};
-use model_play::DeckCause;
+use mc_deck::model_play::DeckCause;
 
 #[test]
 fn line_ends(rt: HostRuntime) {

@@ -1,6 +1,6 @@
 // Listings.
 use crate::tests::{lists, refuses_desk};
-use model_play::DeckCause;
+use mc_deck::model_play::DeckCause;
 
 #[test]
 fn sections(rt: HostRuntime) {

@@ -1,6 +1,6 @@
 // Drafts that are refused.
 use crate::tests::{makes, refuses};
-use model_play::DeckCause;
+use mc_deck::model_play::DeckCause;
 
 #[test]
 fn bad_lines(rt: HostRuntime) {

@@ -1,4 +1,4 @@
-use Rattle.model_play.specs.Play.{start}
+use Rattle.law_family.specs.model_play.specs.Play.{start}
 use Rattle.law_closed.proofs.Places.{test_law}
 use Rattle.law_closed.proofs.Runs.{runs_law}
 use Rattle.law_closed.proofs.Callers.{plays_law}

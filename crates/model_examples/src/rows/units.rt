@@ -1,7 +1,7 @@
 #![tactic(auto, unfolding(model_card::specs::Units::unit_read, model_card::specs::Units::name_of))]
 
 ghost use Rattle.std.specs.Prelude.{◌≡◌, ◌++◌, [], codes, map, replicate, Ok, Err};
-ghost use Rattle.model_device.specs.Bytes.{zeros};
+ghost use Rattle.model_machine.specs.model_device.specs.Bytes.{zeros};
 ghost use Rattle.model_card.specs.Units.{made_dir, made_fci, name_of, unit_bytes, unit_read};
 ghost use Rattle.model_card.specs.declared.unit.AidFault.TheVariants.{AidLength, NoAid};
 ghost use Rattle.model_card.specs.declared.unit.UnitRefusal.TheVariants.{Short};

@@ -1,5 +1,5 @@
 use Rattle.std.proofs.Common.{drop}
-use Rattle.model_play.specs.Play.{start}
+use Rattle.mc_deck.specs.model_play.specs.Play.{start}
 use Rattle.mc_script.specs.Players.{device_of}
 use Rattle.desk_cover.proofs.PlayLemmas.{Counting}
 use Rattle.desk_cover.proofs.covering.count_lines.Given as goal

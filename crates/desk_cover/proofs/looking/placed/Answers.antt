@@ -1,5 +1,5 @@
 use Rattle.std.proofs.Common.{◌≡◌, min, ap, ◌∙◌, rules}
-use Rattle.model_machine.specs.Frame.{resolve}
+use Rattle.mc_arith.specs.model_machine.specs.Frame.{resolve}
 use Rattle.desk_cover.proofs.LookLemmas.{register_seven}
 use Rattle.desk_cover.proofs.looking.placed.Goals as goal
 

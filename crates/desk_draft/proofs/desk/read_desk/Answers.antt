@@ -1,7 +1,7 @@
 use Rattle.std.proofs.Common.{◌≡◌, ◌∙◌, ℕ, List, Ok, ap, rules, subst, sym}
 use Rattle.std.specs.Prelude.{map}
 use Rattle.std.proofs.lemmas.Result.{err_from_is_err_and}
-use Rattle.model_play.specs.DeckGrammar.{deck_read}
+use Rattle.mc_deck.specs.model_play.specs.DeckGrammar.{deck_read}
 use Rattle.mc_deck.specs.Refused.{DeckRefuses}
 use Rattle.desk_draft.specs.declared.draft.Section.{Section}
 use Rattle.desk_draft.specs.Listings.{Source, source_of}

@@ -1,6 +1,6 @@
 use Rattle.std.proofs.Common.{Option, refl, subst}
 use Rattle.std.proofs.lemmas.Result.{err_from_is_err_and}
-use Rattle.model_text.specs.Text.{fields}
+use Rattle.mc_text.specs.model_text.specs.Text.{fields}
 use Rattle.desk_draft.specs.Drafts.{new_section}
 use Rattle.desk_draft.specs.declared.draft.OpenSection.{OpenSection}
 use Rattle.desk_draft.specs.Views.{OpensSection}

@@ -1,5 +1,5 @@
 use Rattle.std.proofs.Common.{◌≡◌, ◌≤◌, ℕ, List, [], length, Ok, Result, ap, subst, sym, rules, ◌∙◌}
-use Rattle.model_play.specs.declared.deck.DeckCause.{DeckCause}
+use Rattle.mc_deck.specs.model_play.specs.declared.deck.DeckCause.{DeckCause}
 use Rattle.mc_deck.specs.declared.refusal.DeckRefusal.{DeckRefusal}
 use Rattle.mc_deck.specs.Refused.{DeckRefuses}
 use Rattle.desk_draft.specs.declared.draft.Section.{Section}

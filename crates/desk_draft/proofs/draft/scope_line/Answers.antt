@@ -1,6 +1,6 @@
 use Rattle.std.proofs.Common.{◌≡◌, true, rules}
-use Rattle.model_text.specs.Text.{fields}
-use Rattle.model_play.specs.DeckGrammar.{is_data}
+use Rattle.mc_text.specs.model_text.specs.Text.{fields}
+use Rattle.mc_deck.specs.model_play.specs.DeckGrammar.{is_data}
 use Rattle.desk_draft.specs.Views.{scope_of}
 use Rattle.desk_draft.proofs.DraftLemmas.{scope_by_data}
 use Rattle.desk_draft.proofs.draft.scope_line.Goals as goal

@@ -1,5 +1,5 @@
 use Rattle.std.proofs.Common.{◌≡◌, drop}
-use Rattle.model_text.specs.Text.{every}
+use Rattle.mc_text.specs.model_text.specs.Text.{every}
 use Rattle.desk_draft.specs.Views.{is_hex}
 use Rattle.desk_draft.proofs.hexadecimal.has_digits.Given as goal
 

@@ -1,6 +1,6 @@
 use Rattle.std.proofs.Common.{Option, List, ℕ, Bor, subst, ◌≡◌}
 use Rattle.std.specs.Prelude.{option_map, ◌==◌}
-use Rattle.model_text.specs.Text.{first_cut}
+use Rattle.mc_text.specs.model_text.specs.Text.{first_cut}
 use Rattle.desk_draft.proofs.WordLemmas.{one_piece}
 use Rattle.desk_draft.proofs.instruction.is_one.Goals as goal
 

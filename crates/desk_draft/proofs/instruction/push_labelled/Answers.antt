@@ -1,6 +1,6 @@
 use Rattle.std.proofs.Common.{◌≡◌, ℕ, List, Option, Bor, subst}
 use Rattle.std.specs.Prelude.{◌==◌, option_map}
-use Rattle.model_text.specs.Text.{first_cut}
+use Rattle.mc_text.specs.model_text.specs.Text.{first_cut}
 use Rattle.desk_draft.proofs.PushLemmas.{unlabelled, labelled}
 use Rattle.desk_draft.proofs.instruction.push_labelled.Goals as goal
 

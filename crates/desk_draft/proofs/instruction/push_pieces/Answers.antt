@@ -1,7 +1,7 @@
 use Rattle.std.proofs.Common.{◌≡◌, ◌++◌, ℕ, List, Option, Bor, subst}
 use Rattle.std.specs.Prelude.{◌==◌, option_map}
 use Rattle.std.proofs.lemmas.Result.{err_from_is_err_and}
-use Rattle.model_text.specs.Text.{ok_as, pieces}
+use Rattle.mc_text.specs.model_text.specs.Text.{ok_as, pieces}
 use Rattle.desk_draft.specs.Operands.{pieces_text}
 use Rattle.desk_draft.proofs.PushLemmas.{left_text, first_faulty, first_pushed, later_faulty, later_pushed}
 use Rattle.desk_draft.proofs.instruction.push_pieces.Goals as goal

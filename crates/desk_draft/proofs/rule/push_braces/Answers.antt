@@ -1,7 +1,7 @@
 use Rattle.std.proofs.Common.{◌≡◌, ◌++◌, ℕ, List, Option, Bor, subst}
 use Rattle.std.specs.Prelude.{option_map}
 use Rattle.std.proofs.lemmas.Result.{err_from_is_err_and}
-use Rattle.model_text.specs.Text.{ok_as}
+use Rattle.mc_text.specs.model_text.specs.Text.{ok_as}
 use Rattle.desk_draft.specs.Rules.{braces_text}
 use Rattle.desk_draft.proofs.RuleLemmas.{first_added, left_braces, piece_added, piece_refused}
 use Rattle.desk_draft.proofs.rule.push_braces.Goals as goal

@@ -1,6 +1,6 @@
 use Rattle.std.proofs.Common.{◌≡◌, ◌++◌, ℕ, List}
 use Rattle.std.specs.Prelude.{option_map}
-use Rattle.model_text.specs.Text.{ok_as}
+use Rattle.mc_text.specs.model_text.specs.Text.{ok_as}
 use Rattle.mc_asm.proofs.LineLemmas.{left_of}
 use Rattle.desk_draft.specs.Declarations.{NameMeaning}
 use Rattle.desk_draft.specs.Rules.{braces_text}

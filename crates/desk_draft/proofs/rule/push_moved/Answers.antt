@@ -1,6 +1,6 @@
 use Rattle.std.proofs.Common.{◌≡◌, ◌∙◌, ap, false, sym, true, rules}
 use Rattle.mc_asm.specs.Items.{texts}
-use Rattle.model_text.specs.Text.{fields}
+use Rattle.mc_text.specs.model_text.specs.Text.{fields}
 use Rattle.desk_draft.specs.Rules.{is_unknown}
 use Rattle.desk_draft.proofs.RuleLemmas.{moved_known, moved_unknown, unknown_five}
 use Rattle.desk_draft.proofs.rule.push_moved.Goals as goal

@@ -1,7 +1,7 @@
 use Rattle.std.proofs.Common.{◌≡◌, ℕ, List, Option, Bor, subst}
 use Rattle.std.specs.Prelude.{◌==◌, option_map}
 use Rattle.std.proofs.lemmas.Result.{err_from_is_err_and}
-use Rattle.model_text.specs.Text.{first_cut}
+use Rattle.mc_text.specs.model_text.specs.Text.{first_cut}
 use Rattle.desk_draft.proofs.RuleLemmas.{opened_faulty, opened_pushed, unclosed}
 use Rattle.desk_draft.proofs.rule.push_opened.Goals as goal
 

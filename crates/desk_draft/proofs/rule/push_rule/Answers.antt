@@ -1,6 +1,6 @@
 use Rattle.std.proofs.Common.{◌≡◌, ◌++◌, ◌∙◌, ℕ, List, ap, false, rules, subst, true}
 use Rattle.std.specs.Prelude.{codes}
-use Rattle.model_text.specs.Text.{ok_as}
+use Rattle.mc_text.specs.model_text.specs.Text.{ok_as}
 use Rattle.desk_draft.specs.Parts.{after_word, before_rest}
 use Rattle.desk_draft.specs.Rules.{has_second, moved_text}
 use Rattle.desk_draft.specs.Views.{Pushes}

@@ -1,7 +1,7 @@
 use Rattle.std.proofs.Common.{◌∙◌, ℕ, List, Option, ap, refl, subst, sym}
 use Rattle.std.specs.Prelude.{map}
 use Rattle.std.specs.Global.{Vec}
-use Rattle.model_text.specs.Assembly.{assembled_lines}
+use Rattle.mc_text.specs.model_text.specs.Assembly.{assembled_lines}
 use Rattle.desk_draft.specs.declared.draft.SourceLine.{SourceLine}
 use Rattle.desk_draft.specs.declared.source.Source.{Source}
 use Rattle.desk_draft.specs.Sources.{Assembles, spans_from}

@@ -1,5 +1,5 @@
 use Rattle.std.proofs.Common.{arith}
-use Rattle.model_text.specs.Text.{hex_bytes}
+use Rattle.mc_text.specs.model_text.specs.Text.{hex_bytes}
 use Rattle.desk_draft.proofs.StatementLemmas.{counted_none, counted_zero, counted_high, counted_good}
 use Rattle.desk_draft.proofs.statement.counted.Goals as goal
 

@@ -1,4 +1,4 @@
-use Rattle.model_text.specs.Text.{hex_bytes}
+use Rattle.mc_text.specs.model_text.specs.Text.{hex_bytes}
 use Rattle.desk_draft.proofs.StatementLemmas.{plain_some, plain_none}
 use Rattle.desk_draft.proofs.statement.plain.Goals as goal
 

@@ -1,7 +1,7 @@
 use Rattle.std.proofs.Common.{◌≡◌, ◌++◌, ℕ, List, Option, Bor, subst}
 use Rattle.std.specs.Prelude.{option_map}
 use Rattle.std.proofs.lemmas.Result.{err_from_is_err_and}
-use Rattle.model_text.specs.Text.{ok_as, fields}
+use Rattle.mc_text.specs.model_text.specs.Text.{ok_as, fields}
 use Rattle.mc_deck.proofs.FieldLemmas.{fields_left}
 use Rattle.desk_draft.specs.Statements.{command_text}
 use Rattle.desk_draft.proofs.StatementLemmas.{part_faulty, part_pushed}

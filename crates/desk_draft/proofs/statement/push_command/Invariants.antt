@@ -1,6 +1,6 @@
 use Rattle.std.proofs.Common.{◌≡◌, ◌++◌}
 use Rattle.std.specs.Prelude.{option_map}
-use Rattle.model_text.specs.Text.{ok_as, fields}
+use Rattle.mc_text.specs.model_text.specs.Text.{ok_as, fields}
 use Rattle.mc_deck.proofs.FieldLemmas.{fields_left, left_of}
 use Rattle.desk_draft.specs.Statements.{command_text}
 use Rattle.desk_draft.proofs.statement.push_command.Given as goal

@@ -1,5 +1,5 @@
 use Rattle.std.proofs.Common.{◌≡◌, ◌++◌, drop}
-use Rattle.model_text.specs.Listing.{hex_text}
+use Rattle.mc_text.specs.model_text.specs.Listing.{hex_text}
 use Rattle.desk_draft.proofs.text.push_bytes.Given as goal
 
 -- the text so far with the digits of the bytes that are left is the old text with all digits

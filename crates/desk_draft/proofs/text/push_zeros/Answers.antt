@@ -1,6 +1,6 @@
 use Rattle.std.proofs.Common.{◌≡◌, ◌+◌, ◌-◌, ◌++◌, ℕ, List, subst, sym}
-use Rattle.model_device.specs.Bytes.{zeros}
-use Rattle.model_text.specs.Listing.{hex_text}
+use Rattle.mc_text.specs.model_device.specs.Bytes.{zeros}
+use Rattle.mc_text.specs.model_text.specs.Listing.{hex_text}
 use Rattle.desk_draft.proofs.TextLemmas.{zero_more}
 use Rattle.desk_draft.proofs.text.push_zeros.Goals as goal
 

@@ -1,6 +1,6 @@
 use Rattle.std.proofs.Common.{◌≡◌, ◌-◌, ◌++◌}
-use Rattle.model_device.specs.Bytes.{zeros}
-use Rattle.model_text.specs.Listing.{hex_text}
+use Rattle.mc_text.specs.model_device.specs.Bytes.{zeros}
+use Rattle.mc_text.specs.model_text.specs.Listing.{hex_text}
 use Rattle.desk_draft.proofs.text.push_zeros.Given as goal
 
 -- the text so far and the zeros that are left are all of them after what the deck had

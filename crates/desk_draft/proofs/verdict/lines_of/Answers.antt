@@ -1,6 +1,6 @@
 use Rattle.std.proofs.Common.{◌∙◌, ℕ, List, Bor, ap, sym}
 use Rattle.std.specs.Prelude.{option_map}
-use Rattle.model_text.specs.Text.{lines}
+use Rattle.mc_text.specs.model_text.specs.Text.{lines}
 use Rattle.mc_asm.specs.Items.{texts}
 use Rattle.desk_draft.proofs.LoadLemmas.{lines_done, lines_more, texts_more}
 use Rattle.desk_draft.proofs.verdict.lines_of.Goals as goal

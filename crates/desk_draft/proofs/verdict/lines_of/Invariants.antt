@@ -1,5 +1,5 @@
 use Rattle.std.proofs.Common.{◌≡◌, ◌++◌, length}
-use Rattle.model_text.specs.Text.{lines}
+use Rattle.mc_text.specs.model_text.specs.Text.{lines}
 use Rattle.mc_asm.specs.Items.{texts}
 use Rattle.desk_draft.proofs.verdict.lines_of.Given as goal
 

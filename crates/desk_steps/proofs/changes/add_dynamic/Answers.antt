@@ -1,5 +1,5 @@
 use Rattle.std.proofs.Common.{List, ℕ, ap, ◌∙◌}
-use Rattle.model_machine.specs.Frame.{dynamic_base}
+use Rattle.law_steps.specs.model_machine.specs.Frame.{dynamic_base}
 use Rattle.desk_json.specs.Json.{any_run, changes, runs_more}
 use Rattle.desk_json.specs.Sheets.{adds_as}
 use Rattle.desk_steps.specs.Shots.{dynamics}

@@ -1,5 +1,5 @@
 use Rattle.std.proofs.Common.{List, ℕ, ap, subst, sym, ◌∙◌}
-use Rattle.model_device.specs.Image.{image_with}
+use Rattle.law_histories.specs.model_device.specs.Image.{image_with}
 use Rattle.lab_key.specs.Shown.{IsShown}
 use Rattle.lab_application.proofs.courses.course_in.Goals as goal
 

@@ -1,7 +1,7 @@
 use Rattle.std.proofs.Common.{ap}
-use Rattle.law_explore.specs.Search.{statements_to}
-use Rattle.law_explore_text.specs.Report.{statements_text}
-use Rattle.law_explore.specs.States.{play_of_deck}
+use Rattle.law_histories.specs.law_explore.specs.Search.{statements_to}
+use Rattle.law_histories.specs.law_explore_text.specs.Report.{statements_text}
+use Rattle.law_histories.specs.law_explore.specs.States.{play_of_deck}
 use Rattle.lab_search.proofs.EndingLemmas.{count_is, fails_as, line_fails, moves_as, path_fails, path_puts, put_failed, writes_as, written_are}
 use Rattle.lab_application.specs.Names.{broken_name}
 use Rattle.lab_application.proofs.ending.put_way.Goals as goal

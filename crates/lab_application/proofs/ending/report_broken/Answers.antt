@@ -1,5 +1,5 @@
 use Rattle.std.proofs.Common.{ap, reverse, ◌∷◌}
-use Rattle.law_explore.specs.Rules as rule
+use Rattle.law_histories.specs.law_explore.specs.Rules as rule
 use Rattle.lab_search.proofs.EndingLemmas.{put_stopped}
 use Rattle.lab_search.proofs.HaltLemmas.{nothing_yet, put_err}
 use Rattle.lab_application.proofs.WordLemmas.{steps_of}

@@ -1,4 +1,4 @@
-use Rattle.law_explore.specs.States.{play_of_deck}
+use Rattle.law_histories.specs.law_explore.specs.States.{play_of_deck}
 use Rattle.lab_application.proofs.HaltLemmas.{reports_broken, reports_full}
 use Rattle.lab_application.proofs.ending.report_halt.Goals as goal
 

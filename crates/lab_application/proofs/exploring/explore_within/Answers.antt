@@ -1,6 +1,6 @@
 use Rattle.lab_application.proofs.DepthLemmas.{app_stops, deck_breaks}
 use Rattle.std.proofs.Common.{length}
-use Rattle.law_explore.specs.States.{play_of_deck}
+use Rattle.law_histories.specs.law_explore.specs.States.{play_of_deck}
 use Rattle.lab_application.proofs.exploring.explore_within.Goals as goal
 
 pub returns-in_err-amounts : goal.returns-in_err-amounts

@@ -1,6 +1,6 @@
 use Rattle.std.proofs.Common.{◌≤◌, ℕ, List, length}
-use Rattle.model_play.specs.DeckGrammar.{DeckLine}
-use Rattle.law_explore.specs.Rules as rule
+use Rattle.law_histories.specs.model_play.specs.DeckGrammar.{DeckLine}
+use Rattle.law_histories.specs.law_explore.specs.Rules as rule
 use Rattle.mc_text.specs.Texts.{sunk_in}
 use Rattle.lab_application.specs.Shadows.{AreMovesOf}
 use Rattle.lab_application.specs.Starts.{StartsWith}

@@ -1,5 +1,5 @@
 use Rattle.std.proofs.Common.{List}
-use Rattle.law_explore.specs.Search.{Node}
+use Rattle.law_histories.specs.law_explore.specs.Search.{Node}
 use Rattle.lab_search.specs.Rounds.{Depth, IsFrom}
 use Rattle.lab_application.specs.Finding.{HoldsMore}
 use Rattle.lab_application.specs.Shadows.{AreShadows}

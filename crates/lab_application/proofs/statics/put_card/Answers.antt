@@ -1,5 +1,5 @@
 use Rattle.std.proofs.Common.{List, ℕ, ap, ◌∙◌}
-use Rattle.model_device.specs.Image.{image_with}
+use Rattle.law_histories.specs.model_device.specs.Image.{image_with}
 use Rattle.lab_application.proofs.statics.put_card.Goals as goal
 
 pub returns-clause-words : goal.returns-clause-words

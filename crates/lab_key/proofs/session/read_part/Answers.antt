@@ -1,10 +1,10 @@
 use Rattle.std.proofs.Common.{◌≡◌, ℕ, ◌+◌, ◌≤◌, List, length, ap, sym, subst, ◌∙◌}
 use Rattle.std.specs.Prelude.{IfOk}
-use Rattle.model_card.specs.declared.card.Sizes.{Sizes}
-use Rattle.model_card.specs.Items.{Site}
-use Rattle.model_device.specs.Bytes.{up}
-use Rattle.model_device.specs.Card.{section}
-use Rattle.model_device.specs.Device.{sized}
+use Rattle.law_explore.specs.model_card.specs.declared.card.Sizes.{Sizes}
+use Rattle.law_explore.specs.model_card.specs.Items.{Site}
+use Rattle.law_explore.specs.model_device.specs.Bytes.{up}
+use Rattle.law_explore.specs.model_device.specs.Card.{section}
+use Rattle.law_explore.specs.model_device.specs.Device.{sized}
 use Rattle.mc_store.specs.Store.{part_from}
 use Rattle.mc_manager.specs.ManagerState.{got_len}
 use Rattle.lab_key.proofs.SiteParts.{ReadsPart, reads_part}

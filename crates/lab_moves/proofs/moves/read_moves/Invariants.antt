@@ -1,5 +1,5 @@
 use Rattle.std.proofs.Common.{◌+◌, ◌≤◌, length}
-use Rattle.model_text.specs.Text.{lines}
+use Rattle.law_histories.specs.model_text.specs.Text.{lines}
 use Rattle.lab_moves.specs.Moves.{moves_read}
 use Rattle.lab_moves.proofs.MoveLemmas.{MovesLeft}
 use Rattle.lab_moves.proofs.moves.read_moves.Given as goal

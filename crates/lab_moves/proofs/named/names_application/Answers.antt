@@ -1,6 +1,6 @@
 use Rattle.std.proofs.Common.{ℕ, List, Bor, ap, sym, ◌∙◌}
 use Rattle.std.specs.Prelude.{codes, false, option_map}
-use Rattle.model_text.specs.Text.{lines}
+use Rattle.law_histories.specs.model_text.specs.Text.{lines}
 use Rattle.law_histories.specs.Histories.{has_rule_of}
 use Rattle.lab_moves.proofs.NamedLemmas.{rule_here, rule_next, rule_none}
 use Rattle.lab_moves.proofs.named.names_application.Goals as goal

@@ -1,6 +1,6 @@
 use Rattle.std.proofs.Common.{◌≡◌, false, length}
 use Rattle.std.specs.Prelude.{codes}
-use Rattle.model_text.specs.Text.{lines}
+use Rattle.law_histories.specs.model_text.specs.Text.{lines}
 use Rattle.law_histories.specs.Histories.{has_rule_of}
 use Rattle.lab_moves.proofs.named.names_application.Given as goal
 

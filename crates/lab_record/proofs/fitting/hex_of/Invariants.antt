@@ -1,6 +1,6 @@
 -- the text so far, and that of the bytes that are left, are the whole text
 use Rattle.std.proofs.Common.{◌≡◌, ◌++◌, drop}
-use Rattle.model_text.specs.Listing.{hex_text}
+use Rattle.mc_isa.specs.model_text.specs.Listing.{hex_text}
 use Rattle.lab_record.proofs.fitting.hex_of.Given as goal
 
 abbrev pub invariant-loop-byte : goal.invariant-loop-byte

@@ -1,5 +1,5 @@
 use Rattle.std.proofs.Common.{arith}
-use Rattle.model_text.specs.Text.{fields}
+use Rattle.mc_text.specs.model_text.specs.Text.{fields}
 use Rattle.lab_rules.proofs.OnLemmas.{allow_faulty, allow_new, allow_there}
 use Rattle.lab_rules.proofs.reading.add_allowance.Goals as goal
 

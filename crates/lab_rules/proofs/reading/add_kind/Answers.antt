@@ -1,9 +1,9 @@
 use Rattle.std.proofs.Common.{ℕ, List, ap, sym, subst}
 use Rattle.std.specs.Prelude.{IfErr, OnOk}
 use Rattle.std.proofs.lemmas.Result.{on_ok_weaker, IfErr-weaker}
-use Rattle.model_text.specs.Text.{fields, trim}
-use Rattle.law_explore.specs.Rules as model
-use Rattle.law_explore.specs.Rules.{with_rule, MoveWord, RuleWord}
+use Rattle.mc_text.specs.model_text.specs.Text.{fields, trim}
+use Rattle.lab_match.specs.law_explore.specs.Rules as model
+use Rattle.lab_match.specs.law_explore.specs.Rules.{with_rule, MoveWord, RuleWord}
 use Rattle.lab_rules.specs.Meanings.{kind_value, AreRules, AreRulesRead, Faulty}
 use Rattle.lab_match.proofs.FieldLemmas.{fields_trimmed}
 use Rattle.lab_rules.proofs.reading.add_kind.Goals as goal

@@ -1,8 +1,8 @@
 use Rattle.std.proofs.Common.{◌≡◌, arith, true, subst, sym, refl}
 use Rattle.std.proofs.lemmas.Result.{on_ok_weaker, IfErr-weaker}
-use Rattle.model_text.specs.Text.{fields}
-use Rattle.law_explore.specs.Rules as model
-use Rattle.law_explore.specs.Rules.{is_marked}
+use Rattle.mc_text.specs.model_text.specs.Text.{fields}
+use Rattle.lab_match.specs.law_explore.specs.Rules as model
+use Rattle.lab_match.specs.law_explore.specs.Rules.{is_marked}
 use Rattle.lab_rules.specs.Meanings.{is_rule, rule_of, rules_with, AreRules, AreRulesRead, Faulty, IsRuleText}
 use Rattle.lab_rules.proofs.ReadLemmas.{longer_fault, outside_rule, rule_line}
 use Rattle.lab_rules.proofs.reading.add_line.Goals as goal

@@ -1,6 +1,6 @@
 use Rattle.std.proofs.Common.{arith}
-use Rattle.model_text.specs.Text.{fields}
-use Rattle.model_play.specs.declared.deck.DeckCause.TheVariants.{BadLine}
+use Rattle.mc_text.specs.model_text.specs.Text.{fields}
+use Rattle.lab_match.specs.model_play.specs.declared.deck.DeckCause.TheVariants.{BadLine}
 use Rattle.lab_rules.specs.declared.fault.Fault.TheVariants as fault
 use Rattle.lab_rules.proofs.MoveLemmas.{not_move}
 use Rattle.lab_rules.proofs.OnLemmas.{move_faulty, move_added}

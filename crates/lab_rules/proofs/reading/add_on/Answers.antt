@@ -1,4 +1,4 @@
-use Rattle.model_text.specs.Text.{fields}
+use Rattle.mc_text.specs.model_text.specs.Text.{fields}
 use Rattle.lab_rules.specs.Meanings.{allowance_values}
 use Rattle.lab_rules.proofs.OnLemmas.{on_added, on_faulty}
 use Rattle.lab_rules.proofs.reading.add_on.Goals as goal

@@ -1,6 +1,6 @@
 use Rattle.std.proofs.Common.{List, ℕ, ap, map, sym, subst, ◌∙◌}
-use Rattle.law_explore.specs.Search.{first_state}
-use Rattle.law_explore.specs.States.{first_play}
+use Rattle.law_explore_text.specs.law_explore.specs.Search.{first_state}
+use Rattle.law_explore_text.specs.law_explore.specs.States.{first_play}
 use Rattle.lab_branch.specs.Branches.{BranchState}
 use Rattle.lab_key.specs.declared.state.CardState.{CardState}
 use Rattle.lab_key.specs.Kept.{IsOfDevice}

@@ -1,5 +1,5 @@
 use Rattle.std.proofs.Common.{ℕ, sym, subst}
-use Rattle.law_explore.specs.States.{play_of_deck}
+use Rattle.law_explore_text.specs.law_explore.specs.States.{play_of_deck}
 use Rattle.mc_script.specs.Players.{device_of}
 use Rattle.lab_search.specs.declared.beginning.Lead.{Lead}
 use Rattle.lab_search.specs.Beginnings.{without_stop, IsFirst}

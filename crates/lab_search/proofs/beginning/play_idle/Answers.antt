@@ -1,5 +1,5 @@
 use Rattle.std.proofs.Common.{[], ◌∷◌}
-use Rattle.model_play.specs.DeckGrammar as line
+use Rattle.law_explore_text.specs.model_play.specs.DeckGrammar as line
 use Rattle.lab_search.proofs.PlayerLemmas.{line_playing}
 use Rattle.lab_search.proofs.BeginLemmas.{idled}
 use Rattle.lab_search.proofs.beginning.play_idle.Goals as goal

@@ -1,6 +1,6 @@
 use Rattle.std.proofs.Common.{◌≡◌, true, List, ℕ, sym, subst}
-use Rattle.model_device.specs.Device.{blank_words, device_words}
-use Rattle.model_play.specs.Play.{start, State}
+use Rattle.law_explore_text.specs.model_device.specs.Device.{blank_words, device_words}
+use Rattle.law_explore_text.specs.model_play.specs.Play.{start, State}
 use Rattle.mc_script.specs.Players.{IsPlayerAt}
 use Rattle.lab_search.specs.Beginnings.{IsFirst}
 use Rattle.lab_search.proofs.CourseLemmas.{if_ok}

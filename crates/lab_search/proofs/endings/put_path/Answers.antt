@@ -1,5 +1,5 @@
 use Rattle.std.proofs.Common.{sym}
-use Rattle.law_explore.specs.Search.{path_statements}
+use Rattle.law_explore_text.specs.law_explore.specs.Search.{path_statements}
 use Rattle.law_explore_text.specs.Report.{statements_text}
 use Rattle.mc_text.proofs.TextLemmas.{fails_before, puts_as, puts_failed, puts_then}
 use Rattle.lab_search.specs.Endings.{lead_list}

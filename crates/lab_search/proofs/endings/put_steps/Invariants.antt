@@ -1,8 +1,8 @@
 use Rattle.std.proofs.Common.{List, Result, drop}
 use Rattle.mc_streams.specs.declared.refusals.WriteFault.{WriteFault}
-use Rattle.law_explore.specs.Rules as rule
-use Rattle.law_explore.specs.Tries.{Try}
-use Rattle.law_explore.specs.Search.{path_statements}
+use Rattle.law_explore_text.specs.law_explore.specs.Rules as rule
+use Rattle.law_explore_text.specs.law_explore.specs.Tries.{Try}
+use Rattle.law_explore_text.specs.law_explore.specs.Search.{path_statements}
 use Rattle.law_explore_text.specs.Report.{statements_text}
 use Rattle.lab_rules.specs.Meanings.{AlikeLists, IsMove}
 use Rattle.mc_text.specs.Texts.{Puts, Sunk, sunk_in}

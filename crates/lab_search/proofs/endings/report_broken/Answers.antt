@@ -1,7 +1,7 @@
 use Rattle.std.proofs.Common.{ap}
-use Rattle.law_explore.specs.Search.{statements_to}
+use Rattle.law_explore_text.specs.law_explore.specs.Search.{statements_to}
 use Rattle.law_explore_text.specs.Report.{statements_text}
-use Rattle.law_explore.specs.States.{play_of_deck}
+use Rattle.law_explore_text.specs.law_explore.specs.States.{play_of_deck}
 use Rattle.lab_search.specs.Reports.{broken_line}
 use Rattle.lab_search.proofs.EndingLemmas.{count_is, fails_as, line_fails, moves_as, path_fails, path_puts, put_failed, writes_as, written_are}
 use Rattle.lab_search.proofs.endings.report_broken.Goals as goal

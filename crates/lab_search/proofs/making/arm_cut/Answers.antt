@@ -1,5 +1,5 @@
 use Rattle.std.proofs.Common.{ℕ, List, None, subst}
-use Rattle.model_play.specs.DeckGrammar as line
+use Rattle.law_explore_text.specs.model_play.specs.DeckGrammar as line
 use Rattle.lab_search.specs.Playing.{PlaysAs}
 use Rattle.lab_search.proofs.TryLemmas.{cut_silent}
 use Rattle.lab_search.proofs.making.arm_cut.Goals as goal

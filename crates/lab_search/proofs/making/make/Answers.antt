@@ -1,5 +1,5 @@
 use Rattle.std.proofs.Common.{sym, ◌∙◌}
-use Rattle.law_explore.specs.States.{play_of}
+use Rattle.law_explore_text.specs.law_explore.specs.States.{play_of}
 use Rattle.lab_search.proofs.TryLemmas.{made_yes, made_no, counts_write}
 use Rattle.lab_search.proofs.making.make.Goals as goal
 

@@ -1,5 +1,5 @@
 use Rattle.std.proofs.Common.{subst}
-use Rattle.model_play.specs.DeckGrammar.{DeckLine}
+use Rattle.law_explore_text.specs.model_play.specs.DeckGrammar.{DeckLine}
 use Rattle.mc_deck.specs.Lines.{line_of}
 use Rattle.lab_search.specs.Playing.{PlaysAs, CountsAs}
 use Rattle.lab_search.proofs.PlayerLemmas.{line_playing, plays_as, reports_as}

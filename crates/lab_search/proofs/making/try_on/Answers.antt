@@ -1,5 +1,5 @@
 use Rattle.std.proofs.Common.{ℕ, sym, subst}
-use Rattle.model_play.specs.Play.{AfterPower}
+use Rattle.law_explore_text.specs.model_play.specs.Play.{AfterPower}
 use Rattle.mc_script.specs.Players.{IsPlayerAt}
 use Rattle.lab_key.specs.Shown.{IsShown}
 use Rattle.lab_search.specs.Shown.{settled_play}

@@ -1,5 +1,5 @@
 use Rattle.std.proofs.Common.{codes, decimal, ◌+◌}
-use Rattle.model_text.specs.Listing.{hex_text}
+use Rattle.law_explore_text.specs.model_text.specs.Listing.{hex_text}
 use Rattle.mc_text.proofs.TextLemmas.{puts_then, puts_failed, fails_then, fails_before, writes_then}
 use Rattle.lab_search.proofs.report.put_cut.Goals as goal
 

@@ -1,4 +1,4 @@
-use Rattle.law_explore.specs.Rules as rule
+use Rattle.law_explore_text.specs.law_explore.specs.Rules as rule
 use Rattle.mc_text.specs.Texts.{sunk_in}
 use Rattle.lab_search.specs.Kept.{IsExplorationOf}
 use Rattle.lab_search.specs.Endings.{DepthsAhead}

@@ -1,5 +1,5 @@
 use Rattle.std.proofs.Common.{[], ◌∷◌, ◌≡◌, length, refl, rules}
-use Rattle.law_explore.specs.Search.{first_state}
+use Rattle.law_explore_text.specs.law_explore.specs.Search.{first_state}
 use Rattle.lab_search.specs.Rounds.{tally_of}
 use Rattle.lab_search.proofs.StartLemmas.{ran_start}
 use Rattle.lab_search.proofs.TallyLemmas.{start_tally}

@@ -1,5 +1,5 @@
 use Rattle.law_family.proofs.DefinitionLemmas.{stop_behind}
-use Rattle.model_card.proofs.ItemLemmas.{stop_within}
+use Rattle.model_play.specs.model_card.proofs.ItemLemmas.{stop_within}
 use Rattle.law_family.proofs.definitions.stops_split.Goals as goal
 
 pub returns : goal.returns

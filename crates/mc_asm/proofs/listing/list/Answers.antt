@@ -1,5 +1,5 @@
 use Rattle.mc_asm.proofs.RoundTripLemmas.{listing_again}
-use Rattle.model_device.proofs.ListLemmas.{all_bytes}
+use Rattle.model_text.specs.model_device.proofs.ListLemmas.{all_bytes}
 use Rattle.mc_asm.proofs.listing.list.Goals as goal
 
 pub returns-clause-again : goal.returns-clause-again

@@ -1,6 +1,6 @@
 use Rattle.std.proofs.Common.{◌≡◌, ◌+◌, ◌*◌, ◌≤◌, length, drop}
 use Rattle.std.specs.List.{AllByRecursion}
-use Rattle.model_device.specs.Pieces.{laid_pieces, word_pieces}
+use Rattle.model_card.specs.model_device.specs.Pieces.{laid_pieces, word_pieces}
 use Rattle.mc_bank.proofs.entries.write_words.Given as goal
 
 abbrev pub invariant-loop-number : goal.invariant-loop-number

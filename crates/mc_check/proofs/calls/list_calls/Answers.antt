@@ -3,7 +3,7 @@ use Rattle.std.specs.Prelude.{slice_get, option_map}
 use Rattle.std.proofs.lemmas.Option.{slice_get-get_or, same_Some}
 use Rattle.mc_check.specs.declared.calls.Call.{Call}
 use Rattle.mc_check.specs.declared.table.Entry.{Entry}
-use Rattle.model_machine.specs.Code.{instruction_at}
+use Rattle.law_family.specs.model_machine.specs.Code.{instruction_at}
 use Rattle.mc_check.specs.CallList.{call_of, target_of}
 use Rattle.mc_check.proofs.CallList.{ListsUpTo, lists_same, lists_more, are_calls}
 use Rattle.mc_check.proofs.calls.list_calls.Goals as goal

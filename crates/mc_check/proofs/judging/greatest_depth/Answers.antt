@@ -1,7 +1,7 @@
 use Rattle.std.proofs.Common.{◌≡◌, ℕ, Bool, not, List, length, sym, subst, arith}
 use Rattle.std.specs.Prelude.{◌&&◌, Result, Ok, Err}
 use Rattle.std.proofs.lemmas.Result.{err_from_is_err_and}
-use Rattle.model_machine.specs.Code.{instruction_at}
+use Rattle.law_family.specs.model_machine.specs.Code.{instruction_at}
 use Rattle.mc_check.specs.declared.table.Entry.{Entry}
 use Rattle.mc_check.specs.declared.table.Refusal.{Refusal}
 use Rattle.mc_check.specs.Judging.{plain_at, depth_of}

@@ -1,6 +1,6 @@
 use Rattle.std.proofs.Common.{◌≡◌, ℕ, false, sym, ◌∙◌}
 use borrow.Author.Count.{below_more}
-use Rattle.model_machine.specs.Code.{instruction_at}
+use Rattle.law_family.specs.model_machine.specs.Code.{instruction_at}
 use Rattle.mc_check.specs.Judging.{HasFactAt, calls_at}
 use Rattle.mc_check.proofs.TableReads.{some_kept, none_kept}
 use Rattle.mc_check.proofs.judging.has_call.Goals as goal

@@ -1,5 +1,5 @@
 use Rattle.mc_check.proofs.VerdictKept.{keeps}
-use Rattle.model_device.proofs.ListLemmas.{all_bytes}
+use Rattle.law_family.specs.model_device.proofs.ListLemmas.{all_bytes}
 use Rattle.mc_check.proofs.verdict.decide.Goals as goal
 
 pub returns-clause-runs : goal.returns-clause-runs

@@ -1,6 +1,6 @@
 use Rattle.std.proofs.Common.{◌++◌, ℕ, List, sym, ap, subst, ◌∙◌}
 use Rattle.std.specs.List.{AllByRecursion}
-use Rattle.model_text.specs.Text.{with_numbers}
+use Rattle.model_play.specs.model_text.specs.Text.{with_numbers}
 use Rattle.model_play.specs.DeckGrammar.{DeckLine}
 use Rattle.model_play.specs.Generator.{turns, closing_lines}
 use Rattle.model_play.specs.ReadyAgain.{IsLine}

@@ -1,5 +1,5 @@
 use Rattle.std.proofs.Common.{◌++◌}
-use Rattle.model_text.specs.Text.{with_numbers}
+use Rattle.model_play.specs.model_text.specs.Text.{with_numbers}
 use Rattle.model_play.specs.Generator.{turns}
 use Rattle.mc_deck.specs.Lines.{grammar_line, said_lines}
 use Rattle.mc_deck.proofs.GeneratorLemmas.{turn_more, turns_done}

@@ -1,6 +1,6 @@
 use Rattle.std.proofs.Common.{◌≡◌, ◌<◌, ◌-◌, ◌^◌, ◌++◌, List}
 use Rattle.std.specs.List.{AllByRecursion}
-use Rattle.model_text.specs.Text.{with_numbers}
+use Rattle.model_play.specs.model_text.specs.Text.{with_numbers}
 use Rattle.model_play.specs.Generator.{turns}
 use Rattle.mc_deck.specs.declared.unit.OwnedUnit.{OwnedUnit}
 use Rattle.mc_deck.specs.Lines.{said_lines, UnitWithin}

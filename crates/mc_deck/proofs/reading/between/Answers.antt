@@ -1,5 +1,5 @@
 use Rattle.std.proofs.Common.{length, Ok, ap, ◌∙◌}
-use Rattle.model_text.specs.Text.{fields}
+use Rattle.model_play.specs.model_text.specs.Text.{fields}
 use Rattle.mc_deck.proofs.TurnLemmas.{in_context, fits_some, between_none, between_some, between_err}
 use Rattle.mc_deck.proofs.reading.between.Goals as goal
 

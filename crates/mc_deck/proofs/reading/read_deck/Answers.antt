@@ -1,6 +1,6 @@
 use Rattle.std.proofs.Common.{◌≡◌, ◌+◌, arith, ℕ, List, Bor, [], false, Ok, sym, ap, subst, ◌∙◌}
 use Rattle.std.specs.Prelude.{option_map}
-use Rattle.model_text.specs.Text.{lines, with_numbers}
+use Rattle.model_play.specs.model_text.specs.Text.{lines, with_numbers}
 use Rattle.model_play.specs.DeckGrammar.{Context, Mode, Between, deck_lines, deck_read}
 use Rattle.law_family.proofs.DeckBytes.{read_lines_law}
 use Rattle.mc_deck.specs.Readers.{lines_of, mode_of}

@@ -1,5 +1,5 @@
 use Rattle.std.proofs.Common.{◌≡◌, ◌≤◌, ◌+◌, length, false, []}
-use Rattle.model_text.specs.Text.{lines, with_numbers}
+use Rattle.model_play.specs.model_text.specs.Text.{lines, with_numbers}
 use Rattle.model_play.specs.DeckGrammar.{Context, Between, deck_lines}
 use Rattle.mc_deck.specs.Readers.{lines_of, mode_of, StandsForContext}
 use Rattle.mc_deck.proofs.TurnLemmas.{left_lines}

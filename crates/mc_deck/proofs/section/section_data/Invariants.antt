@@ -1,5 +1,5 @@
 use Rattle.std.proofs.Common.{◌≡◌, ◌++◌, drop}
-use Rattle.model_text.specs.Text.{ok_as}
+use Rattle.model_play.specs.model_text.specs.Text.{ok_as}
 use Rattle.model_play.specs.DeckGrammar.{section_data}
 use Rattle.mc_asm.specs.Passes.{numbered_lines}
 use Rattle.mc_deck.proofs.section.section_data.Given as goal

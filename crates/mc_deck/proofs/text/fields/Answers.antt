@@ -1,6 +1,6 @@
 use Rattle.std.proofs.Common.{◌≡◌, ◌++◌, ℕ, List, Option, Bor, subst, arith}
 use Rattle.std.specs.Prelude.{option_map}
-use Rattle.model_text.specs.Text.{fields}
+use Rattle.model_play.specs.model_text.specs.Text.{fields}
 use Rattle.mc_asm.specs.Items.{texts}
 use Rattle.mc_asm.proofs.LineLemmas.{operands_full, operands_all}
 use Rattle.mc_deck.proofs.FieldLemmas.{fields_left, field_more, field_none, filled_more}

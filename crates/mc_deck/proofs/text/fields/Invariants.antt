@@ -1,7 +1,7 @@
 use Rattle.std.proofs.Common.{◌≡◌, ◌<◌, ◌≤◌, ◌++◌, length}
 use Rattle.std.specs.Prelude.{option_map}
 use Rattle.std.specs.List.{AllByRecursion}
-use Rattle.model_text.specs.Text.{fields}
+use Rattle.model_play.specs.model_text.specs.Text.{fields}
 use Rattle.mc_asm.specs.Items.{texts}
 use Rattle.mc_deck.proofs.FieldLemmas.{fields_left, left_of}
 use Rattle.mc_deck.proofs.text.fields.Given as goal

@@ -1,5 +1,5 @@
 use Rattle.std.proofs.Common.{◌≡◌, ◌-◌, ◌*◌, ◌/◌, ◌^◌, ◌++◌}
-use Rattle.model_device.specs.Bytes.{zeros}
+use Rattle.model_machine.specs.model_device.specs.Bytes.{zeros}
 use Rattle.model_machine.specs.Des.{bits, pick, choice2}
 use Rattle.mc_des.specs.Words.{key_bits}
 use Rattle.mc_des.proofs.permute.round_key.Given as goal

@@ -1,12 +1,12 @@
 -- That the result holds at the place follows from its being the computed one, since the code consists of bytes.
 use Rattle.std.proofs.Common.{arith, ◌≡◌, ℕ, ◌+◌, ◌-◌, ◌≤◌, sym, ◌∙◌, subst, length, take, drop, get_or, length-take, Result, Ok}
 use Rattle.std.proofs.lemmas.Grind.{common_steps}
-use Rattle.model_machine.specs.Code.{instruction_at, form, DecodesTo}
-use Rattle.model_machine.specs.declared.instruction.DecodeFault.{DecodeFault}
-use Rattle.model_machine.specs.declared.instruction.Ins.{Ins}
+use Rattle.model_text.specs.model_machine.specs.Code.{instruction_at, form, DecodesTo}
+use Rattle.model_text.specs.model_machine.specs.declared.instruction.DecodeFault.{DecodeFault}
+use Rattle.model_text.specs.model_machine.specs.declared.instruction.Ins.{Ins}
 use Rattle.mc_isa.proofs.PlaceLemmas.{decoded_stands}
 use Rattle.mc_isa.proofs.ReadingLemmas.{made_of_inside}
-use Rattle.model_device.proofs.ListLemmas.{all_bytes}
+use Rattle.model_text.specs.model_device.proofs.ListLemmas.{all_bytes}
 use Rattle.mc_isa.proofs.decoding.decode.Goals as goal
 
 pub overflow_add-result : goal.overflow_add-result

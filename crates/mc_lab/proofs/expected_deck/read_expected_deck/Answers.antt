@@ -1,7 +1,7 @@
 use Rattle.std.proofs.Common.{◌≡◌, ◌∙◌, ap, sym, subst, ℕ, List, Some, None, Ok, length, vec_len}
 use Rattle.std.specs.Prelude.{OnOk}
 use Rattle.std.proofs.lemmas.Result.{IfOk-at_ok}
-use Rattle.model_play.specs.DeckGrammar.{DeckLine, deck_read}
+use Rattle.law_explore.specs.model_play.specs.DeckGrammar.{DeckLine, deck_read}
 use Rattle.mc_lab.specs.Rising.{Rising}
 use Rattle.mc_lab.specs.declared.expected_deck.ExpectationRefusal.{ExpectationRefusal}
 use Rattle.mc_lab.specs.ExpectedDecks.{RefusesExpectedDeck}

@@ -1,5 +1,5 @@
 use Rattle.std.proofs.Common.{◌≡◌, ◌+◌, ◌≤◌, ◌∷◌, [], ◌∙◌, ap, sym, arith, zero-add, rules, ℕ, List, Ok, drop, length, slice_index_or}
-use Rattle.model_play.specs.Play.{start}
+use Rattle.law_explore.specs.model_play.specs.Play.{start}
 use Rattle.mc_text.specs.Texts.{sunk_in}
 use Rattle.mc_text.proofs.TextLemmas.{puts_as}
 use Rattle.law_explore.specs.Matching.{fits}

@@ -1,6 +1,6 @@
 use Rattle.std.proofs.Common.{◌≡◌, ◌<◌, List, ℕ, Bor, Ok, arith, ap, sym, subst, length, ◌∙◌}
 use Rattle.std.specs.Prelude.{option_map}
-use Rattle.model_text.specs.Text.{is_blank, pieces}
+use Rattle.law_explore.specs.model_text.specs.Text.{is_blank, pieces}
 use Rattle.mc_text.specs.Texts.{Sunk, Fails, sunk_in}
 use Rattle.mc_text.proofs.TextLemmas.{puts_as, puts_failed, puts_then, fails_then, fails_before, writes_then}
 use Rattle.mc_lab.specs.Expectations.{after_blank, laid_by}

@@ -1,5 +1,5 @@
 use Rattle.std.proofs.Common.{Result, length}
-use Rattle.model_text.specs.Text.{is_blank, pieces}
+use Rattle.law_explore.specs.model_text.specs.Text.{is_blank, pieces}
 use Rattle.mc_streams.specs.declared.refusals.WriteFault.{WriteFault}
 use Rattle.mc_text.specs.Texts.{Sunk, Puts, sunk_in}
 use Rattle.mc_lab.specs.Expectations.{laid_by}

@@ -1,8 +1,8 @@
 use Rattle.std.proofs.Common.{◌≡◌, ◌+◌, ◌++◌, arith, ℕ, List, [], Bor, Bool, Option, false, sym, ap, subst, ◌∙◌}
 use Rattle.std.specs.Prelude.{option_map}
 use Rattle.std.proofs.lemmas.Result.{on_ok_weaker}
-use Rattle.model_text.specs.Text.{fields}
-use Rattle.model_play.specs.DeckGrammar.{deck_read}
+use Rattle.law_explore.specs.model_text.specs.Text.{fields}
+use Rattle.law_explore.specs.model_play.specs.DeckGrammar.{deck_read}
 use Rattle.mc_lab.specs.declared.remark.Remark.{Remark as Found}
 use Rattle.mc_lab.specs.Remarks.{Remark, just}
 use Rattle.mc_lab.specs.Remarked.{line_value, remark_values}

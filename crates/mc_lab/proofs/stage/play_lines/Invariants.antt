@@ -1,5 +1,5 @@
 use Rattle.std.proofs.Common.{List}
-use Rattle.model_play.specs.Play.{Step}
+use Rattle.law_explore.specs.model_play.specs.Play.{Step}
 use Rattle.mc_script.specs.Players.{IsPlaying}
 use Rattle.mc_lab.specs.Stages.{Staged}
 use Rattle.mc_lab.proofs.stage.play_lines.Given as goal

@@ -1,4 +1,4 @@
-use Rattle.model_play.specs.DeckGrammar as line
+use Rattle.law_explore.specs.model_play.specs.DeckGrammar as line
 use Rattle.mc_lab.proofs.SweepPlayers.{line_playing}
 use Rattle.mc_lab.proofs.SweepFrontLemmas.{powered_up}
 use Rattle.mc_lab.proofs.sweep_front.power_up.Goals as goal

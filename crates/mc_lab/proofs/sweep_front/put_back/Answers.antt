@@ -1,5 +1,5 @@
 use Rattle.std.proofs.Common.{sym, subst}
-use Rattle.model_play.specs.Play.{start}
+use Rattle.law_explore.specs.model_play.specs.Play.{start}
 use Rattle.mc_script.specs.Players.{device_of}
 use Rattle.mc_lab.proofs.SweepFrontLemmas.{budget_set, fits_kept, put_back_at}
 use Rattle.mc_lab.proofs.sweep_front.put_back.Goals as goal

@@ -1,5 +1,5 @@
 use Rattle.std.proofs.Common.{Option, Some, refl, sym, subst}
-use Rattle.model_play.specs.Play.{start}
+use Rattle.law_explore.specs.model_play.specs.Play.{start}
 use Rattle.mc_script.specs.Players.{device_of}
 use Rattle.mc_lab.specs.SweepFronts.{IsKeptAt}
 use Rattle.mc_lab.specs.declared.sweep_front.Kept.{Kept}

@@ -1,5 +1,5 @@
 use Rattle.std.proofs.Common.{◌≡◌, drop}
-use Rattle.model_device.specs.Bytes.{has_name}
+use Rattle.law_explore.specs.model_device.specs.Bytes.{has_name}
 use Rattle.mc_lab.proofs.sweep_names.is_among.Given as goal
 
 -- the name is among the rest, or nowhere

@@ -1,7 +1,7 @@
 use Rattle.std.proofs.Common.{ℕ, ap, sym, ◌∙◌}
-use Rattle.model_device.specs.Bytes.{zeros}
-use Rattle.model_play.specs.DeckGrammar.{DeckLine}
-use Rattle.model_play.specs.DeckGrammar as line
+use Rattle.law_explore.specs.model_device.specs.Bytes.{zeros}
+use Rattle.law_explore.specs.model_play.specs.DeckGrammar.{DeckLine}
+use Rattle.law_explore.specs.model_play.specs.DeckGrammar as line
 use Rattle.mc_deck.specs.Lines.{line_of}
 use Rattle.mc_lab.specs.Sweeps.{state_on_blank}
 use Rattle.mc_lab.specs.SweepBodies.{front_of, hits}

@@ -1,6 +1,6 @@
 use Rattle.std.proofs.Common.{◌≡◌, true, false, ap, sym, ◌∙◌, rules, take}
-use Rattle.model_play.specs.Play.{is_card_line}
-use Rattle.model_play.specs.DeckGrammar as line
+use Rattle.law_explore.specs.model_play.specs.Play.{is_card_line}
+use Rattle.law_explore.specs.model_play.specs.DeckGrammar as line
 use Rattle.mc_deck.specs.Lines.{line_of}
 use Rattle.mc_lab.specs.SweepBodies.{line_at}
 use Rattle.mc_lab.proofs.SweepDecks.{shut_card, shut_armed, open_both}

@@ -3,8 +3,8 @@
 use Rattle.std.proofs.Common.{◌≡◌, ℕ, ◌+◌, ◌-◌, ◌<◌, arith, sym, subst, List, length, drop, take, Ok, Err}
 use Rattle.std.specs.Prelude.{min}
 use Rattle.std.proofs.lemmas.Result.{err_from_is_err_and}
-use Rattle.model_machine.specs.declared.instruction.DecodeFault.TheVariants.{Past}
-use Rattle.model_machine.specs.Code.{DecodesTo}
+use Rattle.law_machine.specs.model_machine.specs.declared.instruction.DecodeFault.TheVariants.{Past}
+use Rattle.law_machine.specs.model_machine.specs.Code.{DecodesTo}
 use Rattle.mc_segs.specs.HeldFrames.{app_under}
 use Rattle.mc_isa.proofs.PlaceLemmas.{decoded_only}
 use Rattle.mc_machine.proofs.FetchLemmas.{IsWindow, fault_there, past_there, stands_there}

@@ -1,7 +1,7 @@
 -- No place has a code address.
 use Rattle.std.proofs.Common.{arith}
 use Rattle.std.proofs.lemmas.List.Elements.{All-replicate}
-use Rattle.model_machine.specs.declared.instruction.Ins.TheVariants.{Nop}
+use Rattle.law_machine.specs.model_machine.specs.declared.instruction.Ins.TheVariants.{Nop}
 use Rattle.mc_machine.specs.Known.{IsKnown}
 use Rattle.mc_machine.proofs.known.blank.Goals as goal
 

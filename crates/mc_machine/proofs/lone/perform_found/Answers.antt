@@ -1,16 +1,16 @@
 -- Each end of a turn is that of the definitions.
 use Rattle.std.proofs.Common.{◌≡◌, ℕ, ◌+◌, Some, None, Result, Ok, Err, refl, sym, ap, subst, ◌∙◌, arith}
-use Rattle.model_machine.specs.declared.instruction.DecodeFault.{DecodeFault}
-use Rattle.model_machine.specs.declared.instruction.DecodeFault.TheVariants.{Undefined, Past}
-use Rattle.model_machine.specs.declared.machine.Abend.TheVariants.{A01, A02}
-use Rattle.model_card.specs.Items.{Commit}
-use Rattle.model_machine.specs.Code.{instruction_at}
-use Rattle.model_machine.specs.Primitives.{Around}
-use Rattle.model_machine.specs.Row.{row}
-use Rattle.model_machine.specs.Chain.{Acted, abends_at, around, frame_at, row_turn, turn_of}
+use Rattle.law_machine.specs.model_machine.specs.declared.instruction.DecodeFault.{DecodeFault}
+use Rattle.law_machine.specs.model_machine.specs.declared.instruction.DecodeFault.TheVariants.{Undefined, Past}
+use Rattle.law_machine.specs.model_machine.specs.declared.machine.Abend.TheVariants.{A01, A02}
+use Rattle.law_machine.specs.model_card.specs.Items.{Commit}
+use Rattle.law_machine.specs.model_machine.specs.Code.{instruction_at}
+use Rattle.law_machine.specs.model_machine.specs.Primitives.{Around}
+use Rattle.law_machine.specs.model_machine.specs.Row.{row}
+use Rattle.law_machine.specs.model_machine.specs.Chain.{Acted, abends_at, around, frame_at, row_turn, turn_of}
 use Rattle.mc_segs.specs.HeldFrames.{Held, frame_on_bank, app_under}
 use Rattle.mc_segs.specs.Ends.{RowActs, scene}
-use Rattle.model_device.specs.declared.device.Stop.{Stop}
+use Rattle.law_machine.specs.model_device.specs.declared.device.Stop.{Stop}
 use Rattle.mc_machine.specs.Turns.{chain_at_next, step_of_frame}
 use Rattle.mc_machine.specs.Lone.{lone_chain, LoneDone}
 use Rattle.mc_machine.specs.declared.lone.Lone.{Lone}

@@ -1,6 +1,6 @@
 use Rattle.std.proofs.Common.{None, sym, subst}
-use Rattle.model_machine.specs.Primitives.{Around}
-use Rattle.model_machine.specs.Row.{RowEnd}
+use Rattle.law_machine.specs.model_machine.specs.Primitives.{Around}
+use Rattle.law_machine.specs.model_machine.specs.Row.{RowEnd}
 use Rattle.mc_segs.specs.HeldFrames.{frame_on_bank}
 use Rattle.mc_segs.specs.Ends.{EndActs, scene}
 use Rattle.mc_rows.specs.Rows.{row_result}

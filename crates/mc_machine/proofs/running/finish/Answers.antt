@@ -1,7 +1,7 @@
 -- Each turn keeps the invariant, and each end is that of the whole run.
 use Rattle.std.proofs.Common.{◌∙◌, refl}
 use Rattle.std.proofs.lemmas.Result.{err_from_is_err_and}
-use Rattle.model_machine.specs.Chain.{run_of_chain}
+use Rattle.law_machine.specs.model_machine.specs.Chain.{run_of_chain}
 use Rattle.mc_machine.proofs.RunLemmas.{underway, underway_goes, underway_ends, underway_stops, underway_most, underway_spent}
 use Rattle.mc_machine.proofs.running.finish.Goals as goal
 

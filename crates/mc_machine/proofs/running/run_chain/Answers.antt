@@ -1,7 +1,7 @@
 -- The chain in which the name is called runs to its end.
 use Rattle.std.proofs.Common.{List, sym, subst}
-use Rattle.model_device.specs.Bytes.{lookup}
-use Rattle.model_machine.specs.Chain.{chain_after_call}
+use Rattle.law_machine.specs.model_device.specs.Bytes.{lookup}
+use Rattle.law_machine.specs.model_machine.specs.Chain.{chain_after_call}
 use Rattle.mc_segs.specs.HeldFrames.{Held}
 use Rattle.mc_machine.specs.Chains.{RunsAs}
 use Rattle.mc_machine.specs.Lone.{lone_chain}

@@ -1,7 +1,7 @@
 -- Each turn keeps the invariant, and each end is that of the whole run.
 use Rattle.std.proofs.Common.{ℕ, List, Option, ◌+◌, ◌-◌, ◌∙◌, Ok, refl, sym, ap, subst, arith}
 use Rattle.std.proofs.lemmas.Result.{err_from_is_err_and}
-use Rattle.model_machine.specs.Chain.{run_of_chain, turn_of}
+use Rattle.law_machine.specs.model_machine.specs.Chain.{run_of_chain, turn_of}
 use Rattle.mc_segs.specs.HeldFrames.{app_under}
 use Rattle.mc_machine.specs.Chains.{Chained, RunsAs}
 use Rattle.mc_machine.specs.Lone.{lone_chain, LoneDone, RanDone}

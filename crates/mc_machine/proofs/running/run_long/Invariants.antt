@@ -1,5 +1,5 @@
 use Rattle.std.proofs.Common.{◌≡◌, ◌-◌}
-use Rattle.model_machine.specs.Chain.{Chain, run_of_chain}
+use Rattle.law_machine.specs.model_machine.specs.Chain.{Chain, run_of_chain}
 use Rattle.mc_segs.specs.HeldFrames.{app_under}
 use Rattle.mc_machine.specs.Chains.{RunsAs}
 use Rattle.mc_machine.specs.Known.{KnowsCode}

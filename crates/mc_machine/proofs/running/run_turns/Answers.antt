@@ -1,7 +1,7 @@
 -- Each turn keeps the invariant, and each end is that of the whole run.
 use Rattle.std.proofs.Common.{ℕ, ◌≡◌, List, Option, ◌+◌, ◌-◌, ◌∙◌, Ok, refl, subst, arith}
 use Rattle.std.proofs.lemmas.Result.{err_from_is_err_and}
-use Rattle.model_machine.specs.Chain.{start, turn_of}
+use Rattle.law_machine.specs.model_machine.specs.Chain.{start, turn_of}
 use Rattle.mc_apdu.specs.Command.{parts_of}
 use Rattle.mc_bank.specs.Bank.{name_or}
 use Rattle.mc_machine.specs.Chains.{Chained, RunsAs, run_of_command}

@@ -1,6 +1,6 @@
 use Rattle.std.proofs.Common.{Result, sym, ap, subst}
-use Rattle.model_machine.specs.Primitives.{Around}
-use Rattle.model_machine.specs.Row.{RowEnd, row}
+use Rattle.law_machine.specs.model_machine.specs.Primitives.{Around}
+use Rattle.law_machine.specs.model_machine.specs.Row.{RowEnd, row}
 use Rattle.mc_segs.specs.HeldFrames.{frame_on_bank}
 use Rattle.mc_segs.specs.Ends.{EndActs, RowActs, scene}
 use Rattle.mc_segs.specs.declared.ends.Halt.{Halt}

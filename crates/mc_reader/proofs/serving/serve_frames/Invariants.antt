@@ -1,5 +1,5 @@
 use Rattle.std.proofs.Common.{◌≡◌, ℕ, length}
-use Rattle.model_play.specs.Play.{State}
+use Rattle.mc_deck.specs.model_play.specs.Play.{State}
 use Rattle.mc_text.specs.Texts.{sunk_in}
 use Rattle.mc_script.specs.Players.{device_of, IsPlayerAt}
 use Rattle.mc_script.specs.Lines.{bench_of}

@@ -1,5 +1,5 @@
 use Rattle.std.proofs.Common.{◌≡◌, ◌+◌, ◌-◌, ◌*◌, ◌≤◌, ◌++◌, Some, length, drop}
-use Rattle.model_text.specs.Listing.{hex_text}
+use Rattle.model_play.specs.model_text.specs.Listing.{hex_text}
 use Rattle.mc_bank.specs.Bank.{app_of}
 use Rattle.mc_card.specs.Parts.{card_in}
 use Rattle.mc_script.proofs.text.add_bytes.Given as goal

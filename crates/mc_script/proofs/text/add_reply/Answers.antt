@@ -1,6 +1,6 @@
 use Rattle.std.proofs.Common.{◌≡◌, ◌++◌, ap, sym, ◌∙◌, append_assoc, rules}
-use Rattle.model_device.specs.Bytes.{bytes2}
-use Rattle.model_text.specs.Listing.{hex_text}
+use Rattle.model_play.specs.model_device.specs.Bytes.{bytes2}
+use Rattle.model_play.specs.model_text.specs.Listing.{hex_text}
 use Rattle.mc_text.proofs.TextLemmas.{hex_text_append}
 use Rattle.mc_script.proofs.text.add_reply.Goals as goal
 

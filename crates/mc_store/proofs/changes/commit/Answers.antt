@@ -1,11 +1,11 @@
 use Rattle.std.proofs.Common.{refl, ℕ, arith, ap, ◌∙◌}
-use Rattle.model_card.specs.declared.card.Part.TheVariants.{Data}
-use Rattle.model_card.specs.declared.card.Sizes.{Sizes}
+use Rattle.mc_bank.specs.model_card.specs.declared.card.Part.TheVariants.{Data}
+use Rattle.mc_bank.specs.model_card.specs.declared.card.Sizes.{Sizes}
 use Rattle.mc_store.specs.CommitLaws.{placed_words}
 use Rattle.mc_bank.specs.Slots.{slot_sizes}
 use Rattle.mc_store.specs.Store.{part_from}
 use Rattle.mc_store.proofs.ChangeLemmas.{commit_at, commit_done}
-use Rattle.model_device.specs.Device.{sized}
+use Rattle.mc_base.specs.model_device.specs.Device.{sized}
 use Rattle.mc_store.proofs.changes.commit.Goals as goal
 
 pub overflow_cast-first : goal.overflow_cast-first

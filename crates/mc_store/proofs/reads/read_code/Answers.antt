@@ -1,9 +1,9 @@
 use Rattle.std.proofs.Common.{◌≡◌, ℕ, length, ap, ◌∙◌}
-use Rattle.model_card.specs.declared.card.Sizes.{Sizes}
+use Rattle.mc_bank.specs.model_card.specs.declared.card.Sizes.{Sizes}
 use Rattle.mc_bank.specs.Slots.{slot_place, slot_sizes}
 use Rattle.mc_store.specs.Store.{part_from}
-use Rattle.model_card.specs.declared.card.Part.TheVariants.{Code}
-use Rattle.model_device.specs.Device.{sized}
+use Rattle.mc_bank.specs.model_card.specs.declared.card.Part.TheVariants.{Code}
+use Rattle.mc_base.specs.model_device.specs.Device.{sized}
 use Rattle.mc_store.proofs.ReadLemmas.{reads}
 use Rattle.mc_store.proofs.reads.read_code.Goals as goal
 

@@ -1,7 +1,7 @@
 use Rattle.std.proofs.Common.{◌∙◌, ℕ, List, Bor, arith, ap, sym, length}
 use Rattle.std.proofs.lemmas.Result.{err_from_is_err_and}
 use Rattle.std.specs.Prelude.{option_map}
-use Rattle.model_text.specs.Text.{lines, with_numbers}
+use Rattle.mc_text.specs.model_text.specs.Text.{lines, with_numbers}
 use Rattle.melcard.specs.Judging.{text_digits}
 use Rattle.melcard.proofs.CodeLemmas.{line_counted, lines_counted, line_taken, line_refused, lines_taken}
 use Rattle.melcard.proofs.code.digits_of.Goals as goal

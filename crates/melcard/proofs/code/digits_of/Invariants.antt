@@ -1,5 +1,5 @@
 use Rattle.std.proofs.Common.{◌≡◌, ◌≤◌, ◌+◌, ◌++◌, [], length}
-use Rattle.model_text.specs.Text.{ok_as, lines, with_numbers}
+use Rattle.mc_text.specs.model_text.specs.Text.{ok_as, lines, with_numbers}
 use Rattle.melcard.specs.Judging.{text_digits}
 use Rattle.melcard.proofs.code.digits_of.Given as goal
 

@@ -1,5 +1,5 @@
 use Rattle.std.proofs.Common.{◌≡◌, ◌++◌, drop}
-use Rattle.model_text.specs.Text.{ok_as}
+use Rattle.mc_text.specs.model_text.specs.Text.{ok_as}
 use Rattle.melcard.specs.Judging.{line_digits}
 use Rattle.melcard.proofs.code.push_line.Given as goal
 

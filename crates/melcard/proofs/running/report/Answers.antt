@@ -1,5 +1,5 @@
 use Rattle.std.proofs.Common.{◌∙◌, ap, sym, inr}
-use Rattle.model_play.specs.DeckGrammar.{deck_read}
+use Rattle.mc_deck.specs.model_play.specs.DeckGrammar.{deck_read}
 use Rattle.mc_check.proofs.CheckedPlays.{checked_plays_law}
 use Rattle.melcard.specs.Verdicts.{of_deck}
 use Rattle.melcard.proofs.running.report.Goals as goal

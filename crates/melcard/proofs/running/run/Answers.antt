@@ -1,5 +1,5 @@
 use Rattle.std.proofs.Common.{◌≡◌, refl}
-use Rattle.model_play.specs.Generator.{deck_of_number}
+use Rattle.mc_deck.specs.model_play.specs.Generator.{deck_of_number}
 use Rattle.melcard.specs.declared.job.Job.TheVariants as job
 use Rattle.mc_filter.specs.declared.status.Status.{Status}
 use Rattle.melcard.specs.Running.{PlaysInput, WritesInput}

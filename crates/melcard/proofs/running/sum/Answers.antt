@@ -1,6 +1,6 @@
 use Rattle.std.proofs.Common.{ℕ, List, subst}
-use Rattle.model_play.specs.DeckGrammar.{DeckLine}
-use Rattle.model_play.specs.Generator.{deck_of_number, summary}
+use Rattle.mc_deck.specs.model_play.specs.DeckGrammar.{DeckLine}
+use Rattle.mc_deck.specs.model_play.specs.Generator.{deck_of_number, summary}
 use Rattle.mc_script.specs.Plays.{SumsDeck}
 use Rattle.mc_text.specs.Texts.{sunk}
 use Rattle.mc_check.proofs.CheckedPlays.{checked_plays_law}

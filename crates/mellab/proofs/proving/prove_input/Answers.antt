@@ -1,11 +1,11 @@
 use Rattle.std.proofs.Common.{◌≡◌, ◌∙◌, ap, sym, subst, ℕ, List, Ok}
-use Rattle.model_play.specs.DeckGrammar.{deck_read}
+use Rattle.mc_deck.specs.model_play.specs.DeckGrammar.{deck_read}
 use Rattle.mc_filter.proofs.Statuses.{puts_by}
 use Rattle.mc_filter.specs.Outside.{outside, Outside}
 use Rattle.mc_filter.specs.Statuses.{status_after_writing}
 use Rattle.mc_filter.specs.declared.status.Status.{Status}
-use Rattle.model_rules.specs.Reading.{app_rules_read}
-use Rattle.model_rules.specs.Rules.{AppRules, Target}
+use Rattle.prove_events.specs.model_rules.specs.Reading.{app_rules_read}
+use Rattle.prove_events.specs.model_rules.specs.Rules.{AppRules, Target}
 use Rattle.prove_events.specs.Rules.{AreRules}
 use Rattle.prove_rules.specs.Sums.{AreSums}
 use Rattle.mellab.proofs.RuleLemmas.{kept_as_read, says_proved}

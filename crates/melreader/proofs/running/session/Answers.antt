@@ -1,5 +1,5 @@
 use Rattle.std.proofs.Common.{ℕ, List, Result, refl, subst}
-use Rattle.model_play.specs.DeckGrammar.{DeckLine}
+use Rattle.mc_deck.specs.model_play.specs.DeckGrammar.{DeckLine}
 use Rattle.mc_filter.specs.declared.rejection.Rejection.{Rejection}
 use Rattle.mc_script.specs.Benches.{BenchMembers}
 use Rattle.melreader.specs.Decks.{HasDeck}

@@ -1,7 +1,7 @@
 use Rattle.std.proofs.Common.{◌≡◌, true, subst}
-use Rattle.model_prove.specs.Arrivals.{AtMoment}
-use Rattle.model_prove.specs.Keys as known
-use Rattle.model_prove.specs.Tables.{includes}
+use Rattle.prove_facts.specs.model_prove.specs.Arrivals.{AtMoment}
+use Rattle.prove_facts.specs.model_prove.specs.Keys as known
+use Rattle.prove_facts.specs.model_prove.specs.Tables.{includes}
 use Rattle.prove_arrivals.specs.Subjects.{classes_in, tables_in}
 use Rattle.prove_arrivals.proofs.landings.at_moment.Goals as goal
 

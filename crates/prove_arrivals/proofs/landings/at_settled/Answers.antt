@@ -1,7 +1,7 @@
 use Rattle.std.proofs.Common.{◌≡◌, true, subst}
-use Rattle.model_prove.specs.Arrivals.{AtPlace}
-use Rattle.model_prove.specs.Keys.{Known}
-use Rattle.model_prove.specs.Tables.{includes}
+use Rattle.prove_facts.specs.model_prove.specs.Arrivals.{AtPlace}
+use Rattle.prove_facts.specs.model_prove.specs.Keys.{Known}
+use Rattle.prove_facts.specs.model_prove.specs.Tables.{includes}
 use Rattle.prove_keys.specs.Keys.{place_of}
 use Rattle.prove_arrivals.specs.Subjects.{classes_in, tables_in}
 use Rattle.prove_arrivals.proofs.LandingLemmas.{settled_is}

@@ -1,8 +1,8 @@
 use Rattle.std.proofs.Common.{◌≡◌, true, Bool, List, arith, flat_map, ap, subst, ◌∙◌}
 use Rattle.std.specs.declared.alloc.Global.{Global}
 use Rattle.std.specs.declared.vec.Vec.{Vec}
-use Rattle.model_prove.specs.Arrivals.{Arrival}
-use Rattle.model_prove.specs.Tables.{includes_all}
+use Rattle.prove_facts.specs.model_prove.specs.Arrivals.{Arrival}
+use Rattle.prove_facts.specs.model_prove.specs.Tables.{includes_all}
 use Rattle.prove_arrivals.specs.Replying.{reply_arrivals}
 use Rattle.prove_arrivals.specs.Subjects.{Accepts, tables_in}
 use Rattle.prove_arrivals.proofs.IncludedLemmas.{next_included, none_included}

@@ -1,5 +1,5 @@
 use Rattle.std.proofs.Common.{ℕ, List, flat_map, drop}
-use Rattle.model_prove.specs.Arrivals.{Setting}
+use Rattle.prove_facts.specs.model_prove.specs.Arrivals.{Setting}
 use Rattle.prove_arrivals.specs.Replying.{reply_arrivals}
 use Rattle.prove_arrivals.specs.Subjects.{Accepts, IsOver}
 use Rattle.prove_arrivals.proofs.replies.all_answered.Given as goal

@@ -1,5 +1,5 @@
 use Rattle.std.proofs.Common.{sym, ap, ◌∙◌}
-use Rattle.model_prove.specs.Facts.{Facts, values_at}
+use Rattle.prove_facts.specs.model_prove.specs.Facts.{Facts, values_at}
 use Rattle.prove_arrivals.specs.Subjects.{known_in}
 use Rattle.prove_arrivals.proofs.replies.replies_of.Goals as goal
 

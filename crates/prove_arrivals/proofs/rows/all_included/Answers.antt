@@ -1,6 +1,6 @@
 use Rattle.std.proofs.Common.{List, map, flat_map}
-use Rattle.model_prove.specs.Arrivals.{Arrival}
-use Rattle.model_prove.specs.Steps as steps
+use Rattle.prove_facts.specs.model_prove.specs.Arrivals.{Arrival}
+use Rattle.prove_facts.specs.model_prove.specs.Steps as steps
 use Rattle.prove_scenes.specs.ShapeValues.{next_value}
 use Rattle.prove_arrivals.specs.Following.{followed, late_arrivals, leads, spot_before}
 use Rattle.prove_arrivals.specs.Subjects.{spot_in, tables_in}

@@ -1,5 +1,5 @@
 use Rattle.std.proofs.Common.{◌&&◌, not, nat_lt, Bool, map, ap, ◌∙◌}
-use Rattle.model_prove.specs.Arrivals.{static_size}
+use Rattle.prove_facts.specs.model_prove.specs.Arrivals.{static_size}
 use Rattle.prove_scenes.specs.ShapeValues.{shape_value}
 use Rattle.prove_arrivals.specs.Subjects.{spot_in, tables_in}
 use Rattle.prove_arrivals.proofs.OutcomeLemmas.{coarse_included}

@@ -1,6 +1,6 @@
 use Rattle.std.proofs.Common.{◌≡◌, true, arith, flat_map, subst}
 use Rattle.prove_spots.specs.Grounds.{Ground}
-use Rattle.model_prove.specs.Tables.{includes_all}
+use Rattle.prove_facts.specs.model_prove.specs.Tables.{includes_all}
 use Rattle.prove_arrivals.specs.Following.{followed}
 use Rattle.prove_arrivals.specs.Subjects.{Accepts, tables_in}
 use Rattle.prove_arrivals.proofs.IncludedLemmas.{next_included, none_included}

@@ -1,6 +1,6 @@
 use Rattle.std.proofs.Common.{ℕ, List, flat_map, drop}
-use Rattle.model_machine.specs.declared.instruction.Ins.{Ins}
-use Rattle.model_prove.specs.Arrivals.{Setting}
+use Rattle.mc_arith.specs.model_machine.specs.declared.instruction.Ins.{Ins}
+use Rattle.prove_facts.specs.model_prove.specs.Arrivals.{Setting}
 use Rattle.prove_arrivals.specs.Following.{IsText, followed}
 use Rattle.prove_arrivals.specs.Subjects.{Accepts, IsOver}
 use Rattle.prove_arrivals.proofs.rows.follow_all.Given as goal

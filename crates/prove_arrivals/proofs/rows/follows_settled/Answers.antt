@@ -1,5 +1,5 @@
 use Rattle.std.proofs.Common.{ap, subst, ◌∙◌}
-use Rattle.model_prove.specs.Steps as steps
+use Rattle.prove_facts.specs.model_prove.specs.Steps as steps
 use Rattle.prove_keys.specs.Keys.{amounts_of}
 use Rattle.prove_scenes.specs.ShapeValues.{next_value}
 use Rattle.prove_spots.specs.Grounds.{Ground}

@@ -1,5 +1,5 @@
 use Rattle.std.proofs.Common.{◌≡◌, ap}
-use Rattle.model_prove.specs.Steps as steps
+use Rattle.prove_facts.specs.model_prove.specs.Steps as steps
 use Rattle.prove_scenes.specs.declared.shapes.Next.TheVariants as next
 use Rattle.prove_scenes.specs.ShapeValues.{next_value}
 use Rattle.prove_arrivals.specs.Following.{spot_after, spot_before, turned_arrivals}

@@ -1,5 +1,5 @@
 use Rattle.std.proofs.Common.{Bool, map, sym, ap, ◌∙◌}
-use Rattle.model_prove.specs.Steps as steps
+use Rattle.prove_facts.specs.model_prove.specs.Steps as steps
 use Rattle.prove_scenes.specs.ShapeValues.{shape_value}
 use Rattle.prove_arrivals.specs.Subjects.{spot_in, tables_in}
 use Rattle.prove_arrivals.proofs.OutcomeLemmas.{row_included}

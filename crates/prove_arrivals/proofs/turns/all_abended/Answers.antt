@@ -1,5 +1,5 @@
 use Rattle.std.proofs.Common.{arith, flat_map}
-use Rattle.model_prove.specs.Arrivals as arrivals
+use Rattle.prove_facts.specs.model_prove.specs.Arrivals as arrivals
 use Rattle.prove_keys.specs.Keys.{amounts_of}
 use Rattle.prove_arrivals.specs.Subjects.{Accepts, known_in, start_in, tables_in}
 use Rattle.prove_arrivals.proofs.IncludedLemmas.{next_included, none_included}

@@ -1,6 +1,6 @@
 use Rattle.std.proofs.Common.{ℕ, List, flat_map, drop}
-use Rattle.model_prove.specs.Arrivals as arrivals
-use Rattle.model_prove.specs.Arrivals.{Setting}
+use Rattle.prove_facts.specs.model_prove.specs.Arrivals as arrivals
+use Rattle.prove_facts.specs.model_prove.specs.Arrivals.{Setting}
 use Rattle.prove_keys.specs.Keys.{amounts_of}
 use Rattle.prove_arrivals.specs.Subjects.{Accepts, IsOver, known_in, start_in}
 use Rattle.prove_arrivals.proofs.turns.all_abended.Given as goal

@@ -1,5 +1,5 @@
 use Rattle.std.proofs.Common.{ℕ, List, IfOk, IfSome, ◌∙◌, subst}
-use Rattle.model_rules.specs.Keeping.{OnTurn, after_occasion}
+use Rattle.prove_facts.specs.model_rules.specs.Keeping.{OnTurn, after_occasion}
 use Rattle.prove_keys.specs.Keys.{amounts_of}
 use Rattle.prove_occasions.specs.Amounts.{AreAfter, AreLinesOver}
 use Rattle.prove_arrivals.proofs.turns.amounts_after.Goals as goal

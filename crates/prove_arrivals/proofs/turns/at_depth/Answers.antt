@@ -1,5 +1,5 @@
 use Rattle.std.proofs.Common.{IfSome, subst}
-use Rattle.model_rules.specs.Keeping.{OnTurn, after_occasion, line_of}
+use Rattle.prove_facts.specs.model_rules.specs.Keeping.{OnTurn, after_occasion, line_of}
 use Rattle.prove_keys.specs.Keys.{amounts_of}
 use Rattle.prove_occasions.specs.Amounts.{AreAfter}
 use Rattle.prove_scenes.specs.ShapeValues.{next_value}

@@ -1,8 +1,8 @@
 use Rattle.std.proofs.Common.{◌++◌, flat_map, subst}
-use Rattle.model_prove.specs.Arrivals as arrivals
-use Rattle.model_prove.specs.Arrivals.{Setting, Arrival}
-use Rattle.model_prove.specs.Facts.{Facts}
-use Rattle.model_prove.specs.Steps as steps
+use Rattle.prove_facts.specs.model_prove.specs.Arrivals as arrivals
+use Rattle.prove_facts.specs.model_prove.specs.Arrivals.{Setting, Arrival}
+use Rattle.prove_facts.specs.model_prove.specs.Facts.{Facts}
+use Rattle.prove_facts.specs.model_prove.specs.Steps as steps
 use Rattle.prove_keys.specs.Keys.{amounts_of}
 use Rattle.prove_arrivals.specs.Subjects.{Accepts, known_in, spot_in, start_in, tables_in}
 use Rattle.prove_arrivals.proofs.IncludedLemmas.{both_included, more_included}

@@ -1,6 +1,6 @@
 use Rattle.std.proofs.Common.{◌≡◌, ℕ, true, List, IfOk, sym, ap, subst}
-use Rattle.model_machine.specs.Primitives as model
-use Rattle.model_prove.specs.Arrivals.{Setting}
+use Rattle.mc_arith.specs.model_machine.specs.Primitives as model
+use Rattle.prove_facts.specs.model_prove.specs.Arrivals.{Setting}
 use Rattle.prove_keys.specs.Keys.{amounts_of}
 use Rattle.prove_scenes.specs.ShapeValues.{next_value}
 use Rattle.prove_arrivals.specs.Following.{after_event, spot_after, spot_before}

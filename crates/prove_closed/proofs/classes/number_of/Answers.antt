@@ -1,6 +1,6 @@
 use Rattle.std.proofs.Common.{Bool, List, sym, ap, ◌∙◌}
-use Rattle.model_prove.specs.Digits.{same}
-use Rattle.model_prove.specs.Keys.{same_lists}
+use Rattle.prove_facts.specs.model_prove.specs.Digits.{same}
+use Rattle.prove_facts.specs.model_prove.specs.Keys.{same_lists}
 use Rattle.prove_closed.proofs.ClassLemmas.{class_at}
 use Rattle.prove_closed.proofs.classes.number_of.Goals as goal
 

@@ -1,5 +1,5 @@
 use Rattle.std.proofs.Common.{◌≡◌}
-use Rattle.model_prove.specs.Between.{classes}
+use Rattle.prove_facts.specs.model_prove.specs.Between.{classes}
 use Rattle.prove_patterns.specs.Classes.{class_values}
 use Rattle.prove_closed.proofs.ClosingLemmas.{rules_there}
 use Rattle.prove_closed.proofs.closing.classes_of.Goals as goal

@@ -1,7 +1,7 @@
 use Rattle.std.proofs.Common.{◌≡◌, true, subst}
-use Rattle.model_prove.specs.Keys as known
-use Rattle.model_prove.specs.Arrivals.{Setting}
-use Rattle.model_prove.specs.Tables.{is_closed}
+use Rattle.prove_facts.specs.model_prove.specs.Keys as known
+use Rattle.prove_facts.specs.model_prove.specs.Arrivals.{Setting}
+use Rattle.prove_facts.specs.model_prove.specs.Tables.{is_closed}
 use Rattle.prove_closed.proofs.LoopLemmas.{if_ok}
 use Rattle.prove_closed.proofs.closing.closed_with.Goals as goal
 

@@ -1,4 +1,4 @@
-use Rattle.model_rules.specs.Rules.{AppRules, Target}
+use Rattle.prove_facts.specs.model_rules.specs.Rules.{AppRules, Target}
 use Rattle.prove_events.specs.Rules.{AreRules}
 use Rattle.prove_patterns.specs.Replies.{IsPrepared}
 use Rattle.prove_closed.proofs.LoopLemmas.{if_ok}

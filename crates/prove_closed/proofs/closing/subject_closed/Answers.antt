@@ -1,7 +1,7 @@
 use Rattle.std.proofs.Common.{◌≡◌, true, List, map, subst}
-use Rattle.model_prove.specs.Arrivals.{Setting}
-use Rattle.model_prove.specs.Between as between
-use Rattle.model_prove.specs.Tables.{moments_closed}
+use Rattle.prove_facts.specs.model_prove.specs.Arrivals.{Setting}
+use Rattle.prove_facts.specs.model_prove.specs.Between as between
+use Rattle.prove_facts.specs.model_prove.specs.Tables.{moments_closed}
 use Rattle.prove_events.specs.Rules.{name_of}
 use Rattle.prove_arrivals.specs.Subjects.{tables_in}
 use Rattle.prove_closed.proofs.LoopLemmas.{if_ok}

@@ -1,8 +1,8 @@
 use Rattle.std.proofs.Common.{◌≡◌, ℕ, List, drop}
 use Rattle.std.specs.Prelude.{flat_map}
-use Rattle.model_prove.specs.Facts as known
-use Rattle.model_prove.specs.Arrivals.{Setting}
-use Rattle.model_prove.specs.Between as between
+use Rattle.prove_facts.specs.model_prove.specs.Facts as known
+use Rattle.prove_facts.specs.model_prove.specs.Arrivals.{Setting}
+use Rattle.prove_facts.specs.model_prove.specs.Between as between
 use Rattle.prove_keys.specs.Keys.{amounts_of}
 use Rattle.prove_patterns.specs.Classes.{class_values}
 use Rattle.prove_arrivals.specs.Subjects.{Accepts, IsOver}

@@ -1,7 +1,7 @@
 use Rattle.std.proofs.Common.{◌≡◌, ℕ, true, List, length, drop}
 use Rattle.std.specs.List.{AllByRecursion}
-use Rattle.model_prove.specs.Arrivals.{Setting}
-use Rattle.model_prove.specs.Tables.{places_closed}
+use Rattle.prove_facts.specs.model_prove.specs.Arrivals.{Setting}
+use Rattle.prove_facts.specs.model_prove.specs.Tables.{places_closed}
 use Rattle.prove_keys.specs.Tables.{places_of, IsWholePlace}
 use Rattle.prove_arrivals.specs.Subjects.{IsSubject, classes_in, tables_in}
 use Rattle.prove_closed.proofs.places.places_hold.Given as goal

@@ -1,6 +1,6 @@
 use Rattle.std.proofs.Common.{◌+◌, ◌%◌, arith}
 use Rattle.std.specs.Prelude.{not, ◌&&◌, ◌==◌}
-use Rattle.model_prove.specs.Sets.{is_in}
+use Rattle.prove_facts.specs.model_prove.specs.Sets.{is_in}
 use Rattle.prove_facts.specs.Sets.{set_of}
 use Rattle.prove_digits.specs.Trios.{trio_value}
 use Rattle.prove_digits.proofs.GrowLemmas.{is_grown}

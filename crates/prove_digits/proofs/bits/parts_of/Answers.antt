@@ -1,6 +1,6 @@
 use Rattle.std.proofs.Common.{◌≡◌, ℕ, ◌+◌, sym, subst, ◌∙◌, refl, arith}
 use Rattle.std.specs.Prelude.{◌==◌}
-use Rattle.model_prove.specs.Digits.{digit}
+use Rattle.prove_facts.specs.model_prove.specs.Digits.{digit}
 use Rattle.prove_facts.specs.Sets.{set_of}
 use Rattle.prove_facts.proofs.SetLemmas.{in_values}
 use Rattle.prove_digits.specs.declared.bits.Parts.{Parts}

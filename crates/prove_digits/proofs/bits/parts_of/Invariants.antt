@@ -1,6 +1,6 @@
 use Rattle.std.proofs.Common.{◌≡◌, Bool}
 use Rattle.std.specs.Prelude.{Some}
-use Rattle.model_prove.specs.Digits.{Operation, digit}
+use Rattle.prove_facts.specs.model_prove.specs.Digits.{Operation, digit}
 use Rattle.prove_facts.specs.Sets.{set_of}
 use Rattle.prove_digits.specs.Bits.{AreParts}
 use Rattle.prove_digits.specs.Ways.{bitwise_of}

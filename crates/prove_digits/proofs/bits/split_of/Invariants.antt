@@ -1,6 +1,6 @@
 use Rattle.std.proofs.Common.{◌≡◌, Bool, true}
 use Rattle.std.specs.Prelude.{Some}
-use Rattle.model_prove.specs.Digits.{Operation}
+use Rattle.prove_facts.specs.model_prove.specs.Digits.{Operation}
 use Rattle.prove_facts.specs.Sets.{set_of}
 use Rattle.prove_digits.specs.Trios.{trio_value, trio_in}
 use Rattle.prove_digits.specs.Ways.{bitwise_of}

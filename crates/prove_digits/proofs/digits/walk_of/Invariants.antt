@@ -1,6 +1,6 @@
 use Rattle.std.proofs.Common.{◌≡◌, ◌≤◌, length, drop, true, false}
 use Rattle.std.specs.Prelude.{Some, reverse}
-use Rattle.model_prove.specs.Digits.{Operation}
+use Rattle.prove_facts.specs.model_prove.specs.Digits.{Operation}
 use Rattle.prove_digits.specs.States.{states_one, AreSteps}
 use Rattle.prove_digits.specs.Ways.{operation_of, value_pairs}
 use Rattle.prove_digits.proofs.digits.walk_of.Given as goal

@@ -1,7 +1,7 @@
 use Rattle.std.proofs.Common.{◌≡◌, ◌∙◌, ◌-◌, ◌<◌, ◌++◌, ◌∷◌, [], List, ℕ, suc, get_or, drop, length, ap, sym, arith}
 use Rattle.std.proofs.Math.Seq.{drop-cons}
 use Rattle.std.specs.Prelude.{reverse}
-use Rattle.model_prove.specs.Digits.{Digits}
+use Rattle.prove_facts.specs.model_prove.specs.Digits.{Digits}
 use Rattle.prove_digits.specs.States.{states_one, back_states, back_digits}
 use Rattle.prove_digits.specs.Trios.{trio_value}
 use Rattle.prove_digits.proofs.StepLemmas.{back_more, bytes_more, blank_step}

@@ -1,5 +1,5 @@
 use Rattle.std.proofs.Common.{◌∙◌, ◌++◌, List, map, ap, true, false}
-use Rattle.model_prove.specs.Digits.{Flags, Digits}
+use Rattle.prove_facts.specs.model_prove.specs.Digits.{Flags, Digits}
 use Rattle.prove_digits.specs.States.{way_back}
 use Rattle.prove_digits.specs.Ways.{way_value}
 use Rattle.prove_digits.proofs.StepLemmas.{ways_are}

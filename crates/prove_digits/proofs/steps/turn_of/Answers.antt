@@ -1,5 +1,5 @@
 use Rattle.std.proofs.Common.{subst}
-use Rattle.model_prove.specs.Digits.{Operation}
+use Rattle.prove_facts.specs.model_prove.specs.Digits.{Operation}
 use Rattle.prove_facts.specs.Sets.{set_of}
 use Rattle.prove_digits.specs.Trios.{IsTurn}
 use Rattle.prove_digits.proofs.BitLemmas.{add_is, sub_is, bitwise_else}

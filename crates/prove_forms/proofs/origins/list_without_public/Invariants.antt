@@ -1,6 +1,6 @@
 use Rattle.std.proofs.Common.{◌≡◌, ◌++◌, drop}
 use Rattle.std.specs.Prelude.{nat_lt, filter}
-use Rattle.model_machine.specs.Frame.{public_base}
+use Rattle.model_sums.specs.model_machine.specs.Frame.{public_base}
 use Rattle.prove_forms.specs.Origins.{listed_values}
 use Rattle.prove_forms.proofs.origins.list_without_public.Given as goal
 

@@ -2,10 +2,10 @@ use Rattle.std.proofs.Common.{◌≡◌, ℕ, List, Bool, map, ap, ◌∙◌}
 use Rattle.std.proofs.lemmas.Result.{IfOk-weaker}
 use Rattle.std.specs.declared.alloc.Global.{Global}
 use Rattle.std.specs.declared.vec.Vec.{Vec}
-use Rattle.law_explore.specs.Matching.{fits}
-use Rattle.model_machine.specs.Chain.{Abended}
-use Rattle.model_play.specs.Transcript.{outcome_text}
-use Rattle.model_prove.specs.Arrivals.{result_patterns}
+use Rattle.lab_match.specs.law_explore.specs.Matching.{fits}
+use Rattle.model_text.specs.model_machine.specs.Chain.{Abended}
+use Rattle.lab_match.specs.model_play.specs.Transcript.{outcome_text}
+use Rattle.prove_facts.specs.model_prove.specs.Arrivals.{result_patterns}
 use Rattle.prove_occasions.specs.Picks.{result_marks}
 use Rattle.prove_occasions.proofs.MarkLemmas.{result_lines}
 use Rattle.prove_occasions.proofs.commands.abend_results.Goals as goal

@@ -1,5 +1,5 @@
 use Rattle.std.proofs.Common.{◌≡◌, ℕ, List, Some, subst, ◌∙◌}
-use Rattle.model_prove.specs.Arrivals.{answer_picks, answered_picks}
+use Rattle.prove_facts.specs.model_prove.specs.Arrivals.{answer_picks, answered_picks}
 use Rattle.prove_occasions.specs.Amounts.{after_marked}
 use Rattle.prove_occasions.proofs.LineLemmas.{marked}
 use Rattle.prove_occasions.proofs.MarkLemmas.{answer_lines}

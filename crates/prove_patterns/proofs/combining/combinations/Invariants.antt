@@ -1,6 +1,6 @@
 use Rattle.std.proofs.Common.{◌≡◌, ◌≤◌, length, map, drop}
-use Rattle.model_prove.specs.Texts.{matches_of}
-use Rattle.model_prove.specs.Arrivals.{distinct}
+use Rattle.prove_facts.specs.model_prove.specs.Texts.{matches_of}
+use Rattle.prove_facts.specs.model_prove.specs.Arrivals.{distinct}
 use Rattle.prove_patterns.specs.Opens.{many_of}
 use Rattle.prove_patterns.specs.Replies.{combinations_of}
 use Rattle.prove_patterns.proofs.combining.combinations.Given as goal

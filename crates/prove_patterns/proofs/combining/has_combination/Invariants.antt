@@ -1,5 +1,5 @@
 use Rattle.std.proofs.Common.{◌≡◌, drop}
-use Rattle.model_prove.specs.Arrivals.{has_combination}
+use Rattle.prove_facts.specs.model_prove.specs.Arrivals.{has_combination}
 use Rattle.prove_patterns.specs.Replies.{combinations_of}
 use Rattle.prove_patterns.proofs.combining.has_combination.Given as goal
 

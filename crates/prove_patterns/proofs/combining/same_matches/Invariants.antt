@@ -1,6 +1,6 @@
 use Rattle.std.proofs.Common.{◌≡◌, drop}
-use Rattle.model_prove.specs.Keys.{same_lists}
-use Rattle.model_prove.specs.Digits.{same}
+use Rattle.prove_facts.specs.model_prove.specs.Keys.{same_lists}
+use Rattle.prove_facts.specs.model_prove.specs.Digits.{same}
 use Rattle.prove_patterns.proofs.combining.same_matches.Given as goal
 
 -- what is left of both decides

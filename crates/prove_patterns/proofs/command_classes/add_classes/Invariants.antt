@@ -1,5 +1,5 @@
 use Rattle.std.proofs.Common.{◌≡◌, ◌≤◌, length, map, drop}
-use Rattle.model_prove.specs.Between.{with_classes}
+use Rattle.prove_facts.specs.model_prove.specs.Between.{with_classes}
 use Rattle.prove_facts.specs.Sets.{set_of}
 use Rattle.prove_patterns.specs.Opens.{many_of}
 use Rattle.prove_patterns.specs.Classes.{class_values}

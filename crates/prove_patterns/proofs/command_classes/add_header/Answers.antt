@@ -1,6 +1,6 @@
 use Rattle.std.proofs.Common.{◌∙◌, ◌++◌, List, [], ◌∷◌, Vec, Bor, Global, ℕ, ap, map}
-use Rattle.model_prove.specs.Texts.{Opens, after_any}
-use Rattle.model_prove.specs.Between.{with_classes}
+use Rattle.prove_facts.specs.model_prove.specs.Texts.{Opens, after_any}
+use Rattle.prove_facts.specs.model_prove.specs.Between.{with_classes}
 use Rattle.prove_facts.specs.declared.values.Values.{Values}
 use Rattle.prove_facts.specs.Sets.{set_of}
 use Rattle.prove_patterns.specs.Opens.{many_of}

@@ -1,7 +1,7 @@
 use Rattle.std.proofs.Common.{◌≡◌, ◌∙◌, List, ap, sym, subst, lit≤}
 use Rattle.std.specs.Prelude.{IfOk, IfSome}
-use Rattle.model_prove.specs.Texts.{Opens, any_count}
-use Rattle.model_prove.specs.Between as between
+use Rattle.prove_facts.specs.model_prove.specs.Texts.{Opens, any_count}
+use Rattle.prove_facts.specs.model_prove.specs.Between as between
 use Rattle.prove_patterns.specs.Headers.{headers_of, headers_from}
 use Rattle.prove_patterns.specs.Classes.{class_values}
 use Rattle.prove_patterns.proofs.LineLemmas.{classes_alike}

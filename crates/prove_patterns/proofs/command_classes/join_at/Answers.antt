@@ -1,7 +1,7 @@
 use Rattle.std.proofs.Common.{◌∙◌, List, ap, map}
 use Rattle.std.proofs.lemmas.Result.{on_ok_weaker}
-use Rattle.model_prove.specs.Sets.{Set}
-use Rattle.model_prove.specs.Between.{union_all}
+use Rattle.prove_facts.specs.model_prove.specs.Sets.{Set}
+use Rattle.prove_facts.specs.model_prove.specs.Between.{union_all}
 use Rattle.prove_facts.specs.Sets.{set_of}
 use Rattle.prove_patterns.specs.declared.command_classes.Class.{Class}
 use Rattle.prove_patterns.specs.Classes.{class_value}

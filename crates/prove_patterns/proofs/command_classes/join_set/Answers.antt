@@ -1,6 +1,6 @@
 use Rattle.std.proofs.Common.{◌∙◌, [], ap, sym, map, set}
 use Rattle.std.proofs.lemmas.List.{map-set, get_or-map}
-use Rattle.model_prove.specs.Sets.{Set, union}
+use Rattle.prove_facts.specs.model_prove.specs.Sets.{Set, union}
 use Rattle.prove_facts.specs.declared.values.Values.{Values}
 use Rattle.prove_facts.specs.Sets.{set_of}
 use Rattle.prove_patterns.proofs.command_classes.join_set.Goals as goal

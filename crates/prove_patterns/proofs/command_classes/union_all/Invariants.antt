@@ -1,5 +1,5 @@
 use Rattle.std.proofs.Common.{◌≡◌, map, take}
-use Rattle.model_prove.specs.Between.{union_all}
+use Rattle.prove_facts.specs.model_prove.specs.Between.{union_all}
 use Rattle.prove_facts.specs.Sets.{set_of}
 use Rattle.prove_patterns.proofs.command_classes.union_all.Given as goal
 

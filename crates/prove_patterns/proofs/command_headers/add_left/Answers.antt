@@ -1,7 +1,7 @@
 use Rattle.std.proofs.Common.{◌∙◌, length, ◌++◌, ℕ, List, [], ◌∷◌, Vec, Bor, Global, ap, sym}
 use Rattle.std.proofs.lemmas.List.{length-map, map-append}
 use Rattle.std.proofs.lemmas.Result.{on_ok_weaker}
-use Rattle.model_prove.specs.Sets.{Set}
+use Rattle.prove_facts.specs.model_prove.specs.Sets.{Set}
 use Rattle.prove_patterns.specs.declared.command_headers.Group.{Group}
 use Rattle.prove_patterns.specs.Opens.{opens_of}
 use Rattle.prove_patterns.specs.Headers.{group_of, groups_of, place_of}

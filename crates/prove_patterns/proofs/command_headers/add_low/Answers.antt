@@ -1,6 +1,6 @@
 use Rattle.std.proofs.Common.{◌≡◌, ◌∙◌, ◌+◌, ◌*◌, ◌-◌, ℕ, map, ap, sym, subst, arith}
-use Rattle.model_prove.specs.Between.{by_left, with_left}
-use Rattle.model_prove.specs.Texts.{Opens, after_character}
+use Rattle.prove_facts.specs.model_prove.specs.Between.{by_left, with_left}
+use Rattle.prove_facts.specs.model_prove.specs.Texts.{Opens, after_character}
 use Rattle.prove_patterns.specs.Opens.{opens_of}
 use Rattle.prove_patterns.specs.Ways.{values_from}
 use Rattle.prove_patterns.specs.Headers.{groups_of}

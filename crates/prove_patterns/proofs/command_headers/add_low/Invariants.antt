@@ -1,6 +1,6 @@
 use Rattle.std.proofs.Common.{◌≡◌, ◌≤◌, ◌+◌, ◌*◌, map}
-use Rattle.model_prove.specs.Between.{by_left}
-use Rattle.model_prove.specs.Texts.{Opens, after_character}
+use Rattle.prove_facts.specs.model_prove.specs.Between.{by_left}
+use Rattle.prove_facts.specs.model_prove.specs.Texts.{Opens, after_character}
 use Rattle.prove_patterns.specs.Opens.{opens_of}
 use Rattle.prove_patterns.specs.Ways.{digit_sign, values_from}
 use Rattle.prove_patterns.specs.Headers.{groups_of}

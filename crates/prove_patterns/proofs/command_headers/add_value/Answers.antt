@@ -1,5 +1,5 @@
 use Rattle.std.proofs.Common.{◌∙◌, ap}
-use Rattle.model_prove.specs.Sets.{Set, with_value}
+use Rattle.prove_facts.specs.model_prove.specs.Sets.{Set, with_value}
 use Rattle.prove_facts.specs.Sets.{set_of}
 use Rattle.prove_patterns.specs.declared.command_headers.Group.{Group}
 use Rattle.prove_patterns.specs.Opens.{opens_of}

@@ -1,7 +1,7 @@
 use Rattle.std.proofs.Common.{◌≡◌, ◌∙◌, ◌+◌, ◌-◌, ◌*◌, ℕ, List, map, ap, sym, subst, arith}
-use Rattle.model_prove.specs.Sets.{Set}
-use Rattle.model_prove.specs.Between.{by_left}
-use Rattle.model_prove.specs.Texts.{after_character}
+use Rattle.prove_facts.specs.model_prove.specs.Sets.{Set}
+use Rattle.prove_facts.specs.model_prove.specs.Between.{by_left}
+use Rattle.prove_facts.specs.model_prove.specs.Texts.{after_character}
 use Rattle.prove_patterns.specs.declared.command_headers.Group.{Group}
 use Rattle.prove_patterns.specs.Opens.{opens_of}
 use Rattle.prove_patterns.specs.Ways.{values_from}

@@ -1,5 +1,5 @@
 use Rattle.std.proofs.Common.{◌≡◌, ◌≤◌, ◌*◌}
-use Rattle.model_prove.specs.Between.{by_left}
+use Rattle.prove_facts.specs.model_prove.specs.Between.{by_left}
 use Rattle.prove_patterns.specs.Opens.{opens_of}
 use Rattle.prove_patterns.specs.Ways.{values_from}
 use Rattle.prove_patterns.specs.Headers.{groups_of}

@@ -1,5 +1,5 @@
 use Rattle.std.proofs.Common.{◌≡◌, ◌++◌, drop, flat_map}
-use Rattle.model_prove.specs.Between.{with_header_byte}
+use Rattle.prove_facts.specs.model_prove.specs.Between.{with_header_byte}
 use Rattle.prove_facts.specs.Sets.{set_of}
 use Rattle.prove_patterns.specs.Headers.{headers_of}
 use Rattle.prove_patterns.proofs.command_headers.each_with_byte.Given as goal

@@ -1,6 +1,6 @@
 use Rattle.std.proofs.Common.{◌≡◌, ◌∙◌, List, ap, subst, map}
 use Rattle.std.specs.Prelude.{IfOk}
-use Rattle.model_prove.specs.Between as between
+use Rattle.prove_facts.specs.model_prove.specs.Between as between
 use Rattle.prove_facts.specs.declared.values.Values.{Values}
 use Rattle.prove_facts.specs.Sets.{set_of}
 use Rattle.prove_facts.proofs.SetLemmas.{full_is}

@@ -2,9 +2,9 @@ use Rattle.std.proofs.Common.{◌≡◌, ◌∙◌, List, ap}
 use Rattle.std.proofs.lemmas.List.{map-append}
 use Rattle.std.proofs.lemmas.Result.{IfOk-weaker}
 use Rattle.std.specs.Prelude.{flat_map}
-use Rattle.model_prove.specs.Sets.{Set}
-use Rattle.model_prove.specs.Between as between
-use Rattle.model_prove.specs.Between.{with_header_byte}
+use Rattle.prove_facts.specs.model_prove.specs.Sets.{Set}
+use Rattle.prove_facts.specs.model_prove.specs.Between as between
+use Rattle.prove_facts.specs.model_prove.specs.Between.{with_header_byte}
 use Rattle.prove_patterns.specs.declared.command_headers.Header.{Header}
 use Rattle.prove_patterns.specs.Headers.{header_of, headers_of, bytes_of}
 use Rattle.prove_patterns.proofs.HeaderLemmas.{headers_made}

@@ -1,7 +1,7 @@
 use Rattle.std.proofs.Common.{◌∙◌, Bool, ap, sym}
 use Rattle.std.specs.Prelude.{◌&&◌, ◌||◌, nat_lt}
-use Rattle.model_prove.specs.Sets.{is_in}
-use Rattle.model_prove.specs.Arrivals.{some_value}
+use Rattle.prove_facts.specs.model_prove.specs.Sets.{is_in}
+use Rattle.prove_facts.specs.model_prove.specs.Arrivals.{some_value}
 use Rattle.prove_facts.specs.Sets.{set_of}
 use Rattle.prove_facts.proofs.SetLemmas.{in_values}
 use Rattle.prove_patterns.proofs.LengthLemmas.{above_0, below_4, above_4, lengths_are, is_small}

@@ -1,5 +1,5 @@
 use Rattle.std.proofs.Common.{◌≡◌, ◌++◌, map, drop}
-use Rattle.model_prove.specs.Texts.{after_character}
+use Rattle.prove_facts.specs.model_prove.specs.Texts.{after_character}
 use Rattle.prove_patterns.specs.Opens.{opens_of}
 use Rattle.prove_patterns.proofs.opens.each_after.Given as goal
 

@@ -1,5 +1,5 @@
 use Rattle.std.proofs.Common.{◌≡◌, ◌++◌, drop}
-use Rattle.model_prove.specs.Texts.{matches_of}
+use Rattle.prove_facts.specs.model_prove.specs.Texts.{matches_of}
 use Rattle.prove_patterns.specs.Opens.{opens_of}
 use Rattle.prove_patterns.proofs.opens.matches_of.Given as goal
 

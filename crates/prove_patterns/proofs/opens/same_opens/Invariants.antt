@@ -1,5 +1,5 @@
 use Rattle.std.proofs.Common.{◌≡◌, drop}
-use Rattle.model_prove.specs.Texts.{same_opens}
+use Rattle.prove_facts.specs.model_prove.specs.Texts.{same_opens}
 use Rattle.prove_patterns.specs.Opens.{opens_of}
 use Rattle.prove_patterns.proofs.opens.same_opens.Given as goal
 

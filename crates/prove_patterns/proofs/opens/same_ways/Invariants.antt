@@ -1,5 +1,5 @@
 use Rattle.std.proofs.Common.{◌≡◌, bytes_eq, drop}
-use Rattle.model_prove.specs.Keys.{same_lists}
+use Rattle.prove_facts.specs.model_prove.specs.Keys.{same_lists}
 use Rattle.prove_patterns.specs.Ways.{texts}
 use Rattle.prove_patterns.proofs.opens.same_ways.Given as goal
 

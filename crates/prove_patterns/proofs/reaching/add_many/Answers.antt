@@ -1,6 +1,6 @@
 use Rattle.std.proofs.Common.{◌∙◌, List, Bor, Vec, Global, ℕ, [], ◌∷◌, ap}
 use Rattle.std.proofs.lemmas.List.{map-append}
-use Rattle.model_prove.specs.Texts.{both_opens}
+use Rattle.prove_facts.specs.model_prove.specs.Texts.{both_opens}
 use Rattle.prove_patterns.specs.Opens.{opens_of, many_of}
 use Rattle.prove_patterns.proofs.ReachLemmas.{both_turn}
 use Rattle.prove_patterns.proofs.reaching.add_many.Goals as goal

@@ -1,5 +1,5 @@
 use Rattle.std.proofs.Common.{◌≡◌, vec_len}
-use Rattle.model_prove.specs.Texts.{both_opens}
+use Rattle.prove_facts.specs.model_prove.specs.Texts.{both_opens}
 use Rattle.prove_patterns.specs.Opens.{many_of}
 use Rattle.prove_patterns.proofs.reaching.add_many.Given as goal
 

@@ -1,6 +1,6 @@
 use Rattle.std.proofs.Common.{◌≡◌, ◌∙◌, ℕ, List, Bor, Vec, Global, ap, sym, subst, arith}
-use Rattle.model_prove.specs.Sets.{Set}
-use Rattle.model_prove.specs.Texts.{Opens, after_bytes, with_opens}
+use Rattle.prove_facts.specs.model_prove.specs.Sets.{Set}
+use Rattle.prove_facts.specs.model_prove.specs.Texts.{Opens, after_bytes, with_opens}
 use Rattle.prove_patterns.specs.Opens.{opens_of, many_of}
 use Rattle.prove_patterns.specs.Ways.{values_from}
 use Rattle.prove_patterns.proofs.SignLemmas.{values_none, values_all, bytes_with, bytes_without}

@@ -1,5 +1,5 @@
 use Rattle.std.proofs.Common.{◌≡◌, ◌≤◌}
-use Rattle.model_prove.specs.Texts.{after_bytes}
+use Rattle.prove_facts.specs.model_prove.specs.Texts.{after_bytes}
 use Rattle.prove_patterns.specs.Opens.{opens_of, many_of}
 use Rattle.prove_patterns.specs.Ways.{values_from}
 use Rattle.prove_patterns.proofs.reaching.after_bytes.Given as goal

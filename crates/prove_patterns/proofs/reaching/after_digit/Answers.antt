@@ -1,5 +1,5 @@
 use Rattle.std.proofs.Common.{◌∙◌, ℕ, List, Bor, Vec, Global, ap, sym, arith}
-use Rattle.model_prove.specs.Texts.{Opens, both_opens, after_each, after_digit, hex_digits}
+use Rattle.prove_facts.specs.model_prove.specs.Texts.{Opens, both_opens, after_each, after_digit, hex_digits}
 use Rattle.prove_patterns.specs.Opens.{opens_of, many_of}
 use Rattle.prove_patterns.proofs.ReachLemmas.{back_turn}
 use Rattle.prove_patterns.proofs.reaching.after_digit.Goals as goal

@@ -1,5 +1,5 @@
 use Rattle.std.proofs.Common.{◌≡◌, ◌≤◌, length, drop}
-use Rattle.model_prove.specs.Texts.{after_digit}
+use Rattle.prove_facts.specs.model_prove.specs.Texts.{after_digit}
 use Rattle.prove_patterns.specs.Opens.{many_of}
 use Rattle.prove_patterns.proofs.reaching.after_digit.Given as goal
 

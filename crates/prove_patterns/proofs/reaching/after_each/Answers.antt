@@ -1,5 +1,5 @@
 use Rattle.std.proofs.Common.{◌≡◌, ◌∙◌, ℕ, ap, subst, drop, map, arith}
-use Rattle.model_prove.specs.Texts.{Opens, after_character, after_each, hex_digits, with_opens}
+use Rattle.prove_facts.specs.model_prove.specs.Texts.{Opens, after_character, after_each, hex_digits, with_opens}
 use Rattle.prove_patterns.specs.Opens.{opens_of, many_of}
 use Rattle.prove_patterns.proofs.SignLemmas.{digits_step}
 use Rattle.prove_patterns.proofs.reaching.after_each.Goals as goal

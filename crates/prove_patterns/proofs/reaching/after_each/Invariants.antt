@@ -1,5 +1,5 @@
 use Rattle.std.proofs.Common.{◌≡◌, ◌≤◌, drop}
-use Rattle.model_prove.specs.Texts.{after_each, hex_digits}
+use Rattle.prove_facts.specs.model_prove.specs.Texts.{after_each, hex_digits}
 use Rattle.prove_patterns.specs.Opens.{opens_of, many_of}
 use Rattle.prove_patterns.proofs.reaching.after_each.Given as goal
 

@@ -1,5 +1,5 @@
 use Rattle.std.proofs.Common.{◌≡◌, ◌++◌, drop, flat_map}
-use Rattle.model_prove.specs.Texts.{after_bytes}
+use Rattle.prove_facts.specs.model_prove.specs.Texts.{after_bytes}
 use Rattle.prove_facts.specs.Sets.{set_of}
 use Rattle.prove_patterns.specs.Opens.{many_of}
 use Rattle.prove_patterns.proofs.reaching.each_after_bytes.Given as goal

@@ -1,5 +1,5 @@
 use Rattle.std.proofs.Common.{◌∙◌, List, [], ◌∷◌, Vec, Bor, Global, ℕ, ap, sym}
-use Rattle.model_prove.specs.Texts.{Opens, after_any}
+use Rattle.prove_facts.specs.model_prove.specs.Texts.{Opens, after_any}
 use Rattle.prove_patterns.specs.Opens.{many_of}
 use Rattle.prove_patterns.proofs.ReachLemmas.{any_found}
 use Rattle.prove_patterns.proofs.replies.prepared.Goals as goal

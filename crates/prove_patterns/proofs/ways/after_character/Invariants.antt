@@ -1,5 +1,5 @@
 use Rattle.std.proofs.Common.{◌≡◌, ◌≤◌, length, drop}
-use Rattle.model_prove.specs.Texts.{after_character}
+use Rattle.prove_facts.specs.model_prove.specs.Texts.{after_character}
 use Rattle.prove_patterns.specs.Ways.{texts}
 use Rattle.prove_patterns.proofs.ways.after_character.Given as goal
 

@@ -1,5 +1,5 @@
 use Rattle.std.proofs.Common.{◌≡◌, ◌≤◌, drop}
-use Rattle.model_prove.specs.Texts.{openings}
+use Rattle.prove_facts.specs.model_prove.specs.Texts.{openings}
 use Rattle.prove_patterns.specs.Ways.{texts}
 use Rattle.prove_patterns.proofs.ways.openings.Given as goal
 

@@ -1,5 +1,5 @@
 use Rattle.std.proofs.lemmas.Result.{err_from_is_err_and}
-use Rattle.model_text.specs.Text.{fields}
+use Rattle.mc_text.specs.model_text.specs.Text.{fields}
 use Rattle.prove_rules.proofs.AlwaysLemmas.{total_added, total_line_refused}
 use Rattle.prove_rules.proofs.always.add_total.Goals as goal
 

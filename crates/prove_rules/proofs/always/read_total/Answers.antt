@@ -1,5 +1,5 @@
 use Rattle.std.proofs.Common.{◌≡◌, List, map, Ok, Err, subst, sym}
-use Rattle.model_rules.specs.Reading.{are_names, are_sums, Deck}
+use Rattle.prove_facts.specs.model_rules.specs.Reading.{are_names, are_sums, Deck}
 use Rattle.prove_events.specs.declared.rules.Named.{Named}
 use Rattle.prove_events.specs.Rules.{allowance_of}
 use Rattle.prove_rules.specs.Always.{term_of, AreNoSums}

@@ -1,5 +1,5 @@
 use Rattle.std.proofs.Common.{length}
-use Rattle.model_text.specs.Text.{fields}
+use Rattle.mc_text.specs.model_text.specs.Text.{fields}
 use Rattle.prove_rules.proofs.AlwaysLemmas.{TermsLeft}
 use Rattle.prove_rules.proofs.always.signed_names.Given as goal
 

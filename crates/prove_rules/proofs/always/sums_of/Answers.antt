@@ -1,6 +1,6 @@
 use Rattle.std.proofs.Common.{drop, map, refl}
 use Rattle.std.proofs.lemmas.List.{drop_all}
-use Rattle.model_rules.specs.Reading.{are_sums}
+use Rattle.prove_facts.specs.model_rules.specs.Reading.{are_sums}
 use Rattle.prove_events.specs.Rules.{allowance_of, name_of}
 use Rattle.prove_rules.specs.Always.{term_of}
 use Rattle.prove_rules.proofs.AlwaysLemmas.{are_no_sums, sums_refused, sums_step}

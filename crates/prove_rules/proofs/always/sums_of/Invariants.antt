@@ -1,5 +1,5 @@
 use Rattle.std.proofs.Common.{◌≡◌, drop, map}
-use Rattle.model_rules.specs.Reading.{are_sums}
+use Rattle.prove_facts.specs.model_rules.specs.Reading.{are_sums}
 use Rattle.prove_events.specs.Rules.{allowance_of, name_of}
 use Rattle.prove_rules.specs.Always.{term_of}
 use Rattle.prove_rules.proofs.SumLemmas.{SumsLeft}

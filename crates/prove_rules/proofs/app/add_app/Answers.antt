@@ -1,5 +1,5 @@
 use Rattle.std.proofs.Common.{refl, Some}
-use Rattle.model_text.specs.Text.{fields}
+use Rattle.mc_text.specs.model_text.specs.Text.{fields}
 use Rattle.prove_rules.specs.Loads.{loads_in}
 use Rattle.prove_rules.proofs.AppLemmas.{app_added}
 use Rattle.prove_rules.proofs.app.add_app.Goals as goal

@@ -3,7 +3,7 @@ use Rattle.prove_events.specs.declared.rules.Named.{Named}
 use Rattle.prove_events.specs.Rules.{allowance_of}
 use Rattle.prove_rules.specs.Partials.{place_of}
 use Rattle.std.proofs.lemmas.Result.{err_from_is_err_and}
-use Rattle.model_text.specs.Text.{fields}
+use Rattle.mc_text.specs.model_text.specs.Text.{fields}
 use Rattle.prove_rules.proofs.AppLemmas.{pair_fault, twice_fault}
 use Rattle.prove_rules.proofs.app.add_named.Goals as goal
 

@@ -1,8 +1,8 @@
 use Rattle.std.proofs.lemmas.Result.{on_ok_weaker, IfErr-weaker}
-use Rattle.model_text.specs.Text.{fields}
+use Rattle.mc_text.specs.model_text.specs.Text.{fields}
 use Rattle.prove_rules.specs.Partials.{HasFault}
 use Rattle.prove_rules.proofs.AppLemmas.{sum_added, sum_refused, NamedFault}
-use Rattle.model_rules.specs.Reading.{SumWord}
+use Rattle.prove_facts.specs.model_rules.specs.Reading.{SumWord}
 use Rattle.prove_rules.proofs.app.add_sum.Goals as goal
 
 pub returns-clause-added : goal.returns-clause-added

@@ -1,6 +1,6 @@
 use Rattle.std.proofs.Common.{arith}
 use Rattle.std.proofs.lemmas.Result.{err_from_is_err_and}
-use Rattle.model_text.specs.Text.{fields}
+use Rattle.mc_text.specs.model_text.specs.Text.{fields}
 use Rattle.prove_rules.specs.Parts.{deeds_value}
 use Rattle.prove_rules.proofs.OnLemmas.{answer_empty, answer_none, no_items, result_empty, result_none, some_items}
 use Rattle.prove_rules.proofs.on.answer_head.Goals as goal

@@ -1,7 +1,7 @@
 use Rattle.std.proofs.Common.{sym, subst}
 use Rattle.std.specs.Prelude.{IfErr}
 use Rattle.std.proofs.lemmas.Result.{IfErr-weaker}
-use Rattle.model_text.specs.Text.{fields}
+use Rattle.mc_text.specs.model_text.specs.Text.{fields}
 use Rattle.prove_rules.specs.declared.parts.Deeds.{Deeds}
 use Rattle.prove_rules.specs.declared.parts.Deeds.TheVariants as deeds
 use Rattle.prove_rules.specs.Parts.{action_value}

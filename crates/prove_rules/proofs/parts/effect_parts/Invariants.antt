@@ -1,5 +1,5 @@
 use Rattle.std.proofs.Common.{length}
-use Rattle.model_text.specs.Text.{fields}
+use Rattle.mc_text.specs.model_text.specs.Text.{fields}
 use Rattle.prove_rules.specs.Parts.{effect_words}
 use Rattle.prove_rules.proofs.PartLemmas.{PartsLeft}
 use Rattle.prove_rules.proofs.parts.effect_parts.Given as goal

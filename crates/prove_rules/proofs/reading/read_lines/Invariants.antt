@@ -1,5 +1,5 @@
 use Rattle.std.proofs.Common.{◌+◌, ◌≤◌, length}
-use Rattle.model_text.specs.Text.{lines}
+use Rattle.mc_text.specs.model_text.specs.Text.{lines}
 use Rattle.prove_rules.specs.Lines.{lines_read}
 use Rattle.prove_rules.specs.Loads.{loads_in}
 use Rattle.prove_rules.proofs.ReadLemmas.{RulesLeft}

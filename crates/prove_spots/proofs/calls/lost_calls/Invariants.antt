@@ -1,5 +1,5 @@
 use Rattle.std.proofs.Common.{◌≡◌, ◌≤◌, drop, take}
-use Rattle.model_prove.specs.Keys.{calls_before}
+use Rattle.prove_facts.specs.model_prove.specs.Keys.{calls_before}
 use Rattle.prove_keys.specs.Keys.{calls_of}
 use Rattle.prove_spots.specs.Losses.{IsOrdered, is_lost}
 use Rattle.prove_spots.proofs.calls.lost_calls.Given as goal

@@ -1,5 +1,5 @@
 use Rattle.std.proofs.Common.{◌≡◌, ◌+◌, ◌-◌, ◌++◌, List, map, sym, subst, arith}
-use Rattle.model_prove.specs.Steps.{any_bytes}
+use Rattle.prove_facts.specs.model_prove.specs.Steps.{any_bytes}
 use Rattle.prove_facts.specs.declared.values.Values.{Values}
 use Rattle.prove_facts.specs.Sets.{set_of}
 use Rattle.prove_facts.proofs.SetLemmas.{full_is}

@@ -1,5 +1,5 @@
 use Rattle.std.proofs.Common.{◌≡◌, ◌-◌, ◌++◌, map}
-use Rattle.model_prove.specs.Steps.{any_bytes}
+use Rattle.prove_facts.specs.model_prove.specs.Steps.{any_bytes}
 use Rattle.prove_facts.specs.Sets.{set_of}
 use Rattle.prove_spots.proofs.lists.any_values.Given as goal
 

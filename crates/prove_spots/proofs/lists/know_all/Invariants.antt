@@ -1,5 +1,5 @@
 use Rattle.std.proofs.Common.{◌≡◌, ◌+◌, map, drop}
-use Rattle.model_prove.specs.Facts.{know_all}
+use Rattle.prove_facts.specs.model_prove.specs.Facts.{know_all}
 use Rattle.prove_facts.specs.Sets.{set_of}
 use Rattle.prove_spots.proofs.lists.know_all.Given as goal
 

@@ -1,5 +1,5 @@
 use Rattle.std.proofs.Common.{◌≡◌, ◌++◌, map, drop}
-use Rattle.model_prove.specs.Steps.{sets}
+use Rattle.prove_facts.specs.model_prove.specs.Steps.{sets}
 use Rattle.prove_facts.specs.Sets.{set_of}
 use Rattle.prove_spots.proofs.lists.only_values.Given as goal
 

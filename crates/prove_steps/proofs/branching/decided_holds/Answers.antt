@@ -1,8 +1,8 @@
 use Rattle.std.proofs.Common.{◌∙◌, List, Option, ap, sym, subst}
 use Rattle.std.proofs.lemmas.Bool.{eqb-true}
-use Rattle.model_prove.specs.Facts.{Facts}
-use Rattle.model_prove.specs.Reach.{takes_target}
-use Rattle.model_prove.specs.Splits.{Choice, few_combinations}
+use Rattle.prove_facts.specs.model_prove.specs.Facts.{Facts}
+use Rattle.prove_facts.specs.model_prove.specs.Reach.{takes_target}
+use Rattle.prove_facts.specs.model_prove.specs.Splits.{Choice, few_combinations}
 use Rattle.prove_arrivals.specs.Subjects.{Accepts, tables_in}
 use Rattle.prove_steps.specs.Steps.{after_fetch, before, by_choices, scene_of}
 use Rattle.prove_steps.proofs.StepLemmas.{choices_are, few_alone, from_some}

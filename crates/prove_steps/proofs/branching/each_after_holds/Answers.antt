@@ -1,6 +1,6 @@
 use Rattle.std.proofs.Common.{arith, ◌++◌, List, flat_map}
-use Rattle.model_prove.specs.Arrivals.{Arrival}
-use Rattle.model_prove.specs.Splits as splits
+use Rattle.prove_facts.specs.model_prove.specs.Arrivals.{Arrival}
+use Rattle.prove_facts.specs.model_prove.specs.Splits as splits
 use Rattle.prove_arrivals.specs.Subjects.{Accepts, tables_in}
 use Rattle.prove_steps.specs.Choices.{choice_of, choices_of}
 use Rattle.prove_steps.specs.Steps.{by_choice}

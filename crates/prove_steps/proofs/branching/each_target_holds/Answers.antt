@@ -1,5 +1,5 @@
 use Rattle.std.proofs.Common.{arith, filter, flat_map}
-use Rattle.model_prove.specs.Sets.{numbers_from}
+use Rattle.prove_facts.specs.model_prove.specs.Sets.{numbers_from}
 use Rattle.prove_arrivals.specs.Subjects.{Accepts, tables_in}
 use Rattle.prove_steps.specs.Steps.{by_target, is_target}
 use Rattle.prove_steps.proofs.TargetLemmas.{number_next, numbers_end}

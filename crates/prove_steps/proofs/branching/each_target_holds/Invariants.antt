@@ -1,5 +1,5 @@
 use Rattle.std.proofs.Common.{◌-◌, flat_map, filter}
-use Rattle.model_prove.specs.Sets.{numbers_from}
+use Rattle.prove_facts.specs.model_prove.specs.Sets.{numbers_from}
 use Rattle.prove_steps.specs.Steps.{Leaves, by_target, is_target}
 use Rattle.prove_steps.proofs.branching.each_target_holds.Given as goal
 

@@ -1,8 +1,8 @@
 use Rattle.std.proofs.Common.{◌++◌, ◌∙◌, List, ap, refl, sym}
 use Rattle.std.proofs.lemmas.Bool.{eqb-true}
-use Rattle.model_prove.specs.Arrivals.{Arrival}
-use Rattle.model_prove.specs.Splits.{Choice, combinations, later_deciders, with_values}
-use Rattle.model_prove.specs.Steps as steps
+use Rattle.prove_facts.specs.model_prove.specs.Arrivals.{Arrival}
+use Rattle.prove_facts.specs.model_prove.specs.Splits.{Choice, combinations, later_deciders, with_values}
+use Rattle.prove_facts.specs.model_prove.specs.Steps as steps
 use Rattle.prove_arrivals.specs.Subjects.{tables_in}
 use Rattle.prove_steps.specs.Choices.{choices_of}
 use Rattle.prove_steps.specs.Steps.{by_choice, scene_of}

@@ -1,5 +1,5 @@
 use Rattle.std.proofs.Common.{subst}
-use Rattle.model_prove.specs.Splits.{Choice}
+use Rattle.prove_facts.specs.model_prove.specs.Splits.{Choice}
 use Rattle.prove_arrivals.specs.Subjects.{Accepts, start_in}
 use Rattle.prove_keys.specs.Keys.{amounts_of}
 use Rattle.prove_steps.specs.Steps.{by_first_choice}

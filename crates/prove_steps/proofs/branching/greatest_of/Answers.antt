@@ -1,5 +1,5 @@
 use Rattle.std.proofs.Common.{arith}
-use Rattle.model_prove.specs.Reach.{greatest_value}
+use Rattle.prove_facts.specs.model_prove.specs.Reach.{greatest_value}
 use Rattle.prove_facts.specs.Sets.{has_value, set_of}
 use Rattle.prove_steps.proofs.TargetLemmas.{greatest_first, greatest_next, greatest_end}
 use Rattle.prove_steps.proofs.branching.greatest_of.Goals as goal

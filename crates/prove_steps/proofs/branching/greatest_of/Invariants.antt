@@ -1,6 +1,6 @@
 use Rattle.std.proofs.Common.{◌≡◌, ◌≤◌, ◌-◌, filter}
-use Rattle.model_prove.specs.Reach.{greatest_value}
-use Rattle.model_prove.specs.Sets.{numbers_from}
+use Rattle.prove_facts.specs.model_prove.specs.Reach.{greatest_value}
+use Rattle.prove_facts.specs.model_prove.specs.Sets.{numbers_from}
 use Rattle.prove_facts.specs.Sets.{has_value, set_of}
 use Rattle.prove_steps.proofs.TargetLemmas.{greater}
 use Rattle.prove_steps.proofs.branching.greatest_of.Given as goal

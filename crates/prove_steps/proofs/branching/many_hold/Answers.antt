@@ -1,5 +1,5 @@
 use Rattle.std.proofs.Common.{sym}
-use Rattle.model_prove.specs.Reach.{takes_target}
+use Rattle.prove_facts.specs.model_prove.specs.Reach.{takes_target}
 use Rattle.prove_arrivals.specs.Subjects.{tables_in}
 use Rattle.prove_steps.specs.Steps.{after_fetch, before, scene_of}
 use Rattle.prove_steps.proofs.StepLemmas.{coarsely_included}

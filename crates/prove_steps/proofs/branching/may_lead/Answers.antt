@@ -1,7 +1,7 @@
 use Rattle.std.proofs.Common.{ℕ, ap, ◌∙◌, ◌/◌, ◌%◌, suc}
 use Rattle.std.proofs.Math.Numerals.{add-one}
-use Rattle.model_prove.specs.Facts.{values_at}
-use Rattle.model_prove.specs.Sets.{is_in}
+use Rattle.prove_facts.specs.model_prove.specs.Facts.{values_at}
+use Rattle.prove_facts.specs.model_prove.specs.Sets.{is_in}
 use Rattle.prove_steps.proofs.TargetLemmas.{both_are}
 use Rattle.prove_steps.proofs.branching.may_lead.Goals as goal
 

@@ -1,5 +1,5 @@
 use Rattle.std.proofs.Common.{rules}
-use Rattle.model_prove.specs.Splits.{before_choices}
+use Rattle.prove_facts.specs.model_prove.specs.Splits.{before_choices}
 use Rattle.prove_facts.specs.Sets.{has_value, set_of}
 use Rattle.prove_steps.specs.Choices.{choices_of}
 use Rattle.prove_steps.proofs.ChoiceLemmas.{value_step, value_last}

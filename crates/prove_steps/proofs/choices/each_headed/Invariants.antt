@@ -1,6 +1,6 @@
 use Rattle.std.proofs.Common.{◌≡◌, ◌++◌, ◌-◌, filter}
-use Rattle.model_prove.specs.Sets.{numbers_from}
-use Rattle.model_prove.specs.Splits.{before_choices}
+use Rattle.prove_facts.specs.model_prove.specs.Sets.{numbers_from}
+use Rattle.prove_facts.specs.model_prove.specs.Splits.{before_choices}
 use Rattle.prove_facts.specs.Sets.{has_value, set_of}
 use Rattle.prove_steps.specs.Choices.{choices_of}
 use Rattle.prove_steps.proofs.choices.each_headed.Given as goal

@@ -1,7 +1,7 @@
 use Rattle.std.proofs.Common.{◌∙◌, ap, Option}
-use Rattle.model_machine.specs.Primitives as model
-use Rattle.model_prove.specs.Reach as reach
-use Rattle.model_prove.specs.Steps as steps
+use Rattle.mc_isa.specs.model_machine.specs.Primitives as model
+use Rattle.prove_facts.specs.model_prove.specs.Reach as reach
+use Rattle.prove_facts.specs.model_prove.specs.Steps as steps
 use Rattle.prove_arrivals.specs.Subjects.{classes_in, start_in, tables_in}
 use Rattle.prove_scenes.specs.Coarse.{coarse_value}
 use Rattle.prove_scenes.specs.ShapeValues.{shape_value}

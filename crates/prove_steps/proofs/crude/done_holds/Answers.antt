@@ -1,5 +1,5 @@
 use Rattle.std.proofs.Common.{◌∙◌, ap, map, sym}
-use Rattle.model_prove.specs.Steps as steps
+use Rattle.prove_facts.specs.model_prove.specs.Steps as steps
 use Rattle.prove_arrivals.specs.Subjects.{spot_in, start_in}
 use Rattle.prove_keys.specs.Keys.{amounts_of}
 use Rattle.prove_scenes.specs.Coarse.{coarse_value}

@@ -1,8 +1,8 @@
 use Rattle.std.proofs.Common.{ℕ, List, subst, sym}
-use Rattle.model_machine.specs.declared.machine.Abend.TheVariants.{A07}
-use Rattle.model_machine.specs.Code.{instruction_at}
-use Rattle.model_prove.specs.Arrivals as arrivals
-use Rattle.model_prove.specs.Steps as steps
+use Rattle.mc_isa.specs.model_machine.specs.declared.machine.Abend.TheVariants.{A07}
+use Rattle.mc_isa.specs.model_machine.specs.Code.{instruction_at}
+use Rattle.prove_facts.specs.model_prove.specs.Arrivals as arrivals
+use Rattle.prove_facts.specs.model_prove.specs.Steps as steps
 use Rattle.prove_arrivals.proofs.IncludedLemmas.{both_included}
 use Rattle.prove_arrivals.specs.Subjects.{Accepts, known_in, spot_in, start_in, tables_in}
 use Rattle.prove_keys.specs.Keys.{amounts_of}

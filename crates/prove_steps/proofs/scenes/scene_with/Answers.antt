@@ -1,5 +1,5 @@
 use Rattle.std.proofs.Common.{◌∙◌, ap}
-use Rattle.model_prove.specs.Splits.{Scene, with_values}
+use Rattle.prove_facts.specs.model_prove.specs.Splits.{Scene, with_values}
 use Rattle.prove_spots.specs.Grounds.{spot_of}
 use Rattle.prove_steps.proofs.StepLemmas.{from_some}
 use Rattle.prove_steps.proofs.scenes.scene_with.Goals as goal

@@ -1,5 +1,5 @@
 use Rattle.std.proofs.Common.{arith}
-use Rattle.model_prove.specs.Steps as steps
+use Rattle.prove_facts.specs.model_prove.specs.Steps as steps
 use Rattle.prove_spots.specs.Grounds.{spot_of}
 use Rattle.prove_steps.proofs.StepLemmas.{chosen_next, chosen_last}
 use Rattle.prove_steps.proofs.stepping.know_chosen.Goals as goal

@@ -1,7 +1,7 @@
 use Rattle.std.proofs.Common.{◌≡◌, drop}
-use Rattle.model_rules.specs.Keeping.{Amounts}
-use Rattle.model_prove.specs.Keys.{Start}
-use Rattle.model_prove.specs.Steps as steps
+use Rattle.prove_facts.specs.model_rules.specs.Keeping.{Amounts}
+use Rattle.prove_facts.specs.model_prove.specs.Keys.{Start}
+use Rattle.prove_facts.specs.model_prove.specs.Steps as steps
 use Rattle.prove_spots.specs.Grounds.{spot_of}
 use Rattle.prove_steps.proofs.stepping.know_chosen.Given as goal
 

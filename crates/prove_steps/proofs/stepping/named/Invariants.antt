@@ -1,5 +1,5 @@
 use Rattle.std.proofs.Common.{◌≡◌, ◌++◌, ◌-◌, map}
-use Rattle.model_prove.specs.Sets.{numbers_from}
+use Rattle.prove_facts.specs.model_prove.specs.Sets.{numbers_from}
 use Rattle.prove_scenes.specs.Heads.{around_value}
 use Rattle.prove_steps.specs.Steps.{named_value}
 use Rattle.prove_steps.proofs.stepping.named.Given as goal

@@ -1,6 +1,6 @@
 use Rattle.std.proofs.Common.{◌∙◌, ap, map}
-use Rattle.model_prove.specs.Splits.{with_values}
-use Rattle.model_prove.specs.Steps as steps
+use Rattle.prove_facts.specs.model_prove.specs.Splits.{with_values}
+use Rattle.prove_facts.specs.model_prove.specs.Steps as steps
 use Rattle.prove_arrivals.specs.Subjects.{classes_in, spot_in, start_in, tables_in}
 use Rattle.prove_scenes.specs.Heads.{around_value}
 use Rattle.prove_steps.specs.Steps.{after_fetch, before, scene_of}

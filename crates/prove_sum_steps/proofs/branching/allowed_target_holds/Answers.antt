@@ -1,7 +1,7 @@
 use Rattle.std.proofs.Common.{◌∙◌, ℕ, Bool, sym, ap}
-use Rattle.model_prove.specs.Facts.{Facts}
-use Rattle.model_prove.specs.Reach.{address_choice}
-use Rattle.model_sums.specs.Closed.{choice_closed}
+use Rattle.prove_facts.specs.model_prove.specs.Facts.{Facts}
+use Rattle.prove_facts.specs.model_prove.specs.Reach.{address_choice}
+use Rattle.prove_sums.specs.model_sums.specs.Closed.{choice_closed}
 use Rattle.prove_steps.specs.Steps.{is_target}
 use Rattle.prove_sum_steps.specs.Walks.{turn_of}
 use Rattle.prove_sum_steps.proofs.PassLemmas.{left_out, picked_passes}

@@ -1,6 +1,6 @@
 use Rattle.std.proofs.Common.{◌≡◌, ◌∙◌, true, subst}
-use Rattle.model_prove.specs.Splits.{Choice}
-use Rattle.model_sums.specs.Closed.{choice_closed}
+use Rattle.prove_facts.specs.model_prove.specs.Splits.{Choice}
+use Rattle.prove_sums.specs.model_sums.specs.Closed.{choice_closed}
 use Rattle.prove_sum_steps.specs.Walks.{turn_of}
 use Rattle.prove_sum_steps.proofs.branching.both_hold.Goals as goal
 

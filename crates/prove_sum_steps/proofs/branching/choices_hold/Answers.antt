@@ -1,6 +1,6 @@
 use Rattle.std.proofs.Common.{◌≡◌, List, true, subst, sym}
-use Rattle.model_prove.specs.Reach.{takes_target}
-use Rattle.model_sums.specs.Closed.{all_pass, choices_closed, first_choice_closed}
+use Rattle.prove_facts.specs.model_prove.specs.Reach.{takes_target}
+use Rattle.prove_sums.specs.model_sums.specs.Closed.{all_pass, choices_closed, first_choice_closed}
 use Rattle.prove_steps.specs.declared.choices.Choice as code
 use Rattle.prove_steps.specs.declared.choices.Choices.{Choices}
 use Rattle.prove_steps.specs.Choices.{choices_of, choices_value}

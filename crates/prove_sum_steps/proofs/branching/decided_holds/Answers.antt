@@ -1,9 +1,9 @@
 use Rattle.std.proofs.Common.{◌≡◌, ◌∙◌, List, Option, true, ap, sym, subst}
 use Rattle.std.proofs.lemmas.Bool.{eqb-true}
-use Rattle.model_prove.specs.Facts.{Facts}
-use Rattle.model_prove.specs.Reach.{takes_target}
-use Rattle.model_prove.specs.Splits.{Choice, few_combinations}
-use Rattle.model_sums.specs.Closed.{choices_closed}
+use Rattle.prove_facts.specs.model_prove.specs.Facts.{Facts}
+use Rattle.prove_facts.specs.model_prove.specs.Reach.{takes_target}
+use Rattle.prove_facts.specs.model_prove.specs.Splits.{Choice, few_combinations}
+use Rattle.prove_sums.specs.model_sums.specs.Closed.{choices_closed}
 use Rattle.prove_steps.proofs.StepLemmas.{choices_are, from_some}
 use Rattle.prove_sum_steps.specs.Walks.{turn_of}
 use Rattle.prove_sum_steps.proofs.PassLemmas.{few_alone}

@@ -1,5 +1,5 @@
 use Rattle.std.proofs.Common.{◌≡◌, true, arith}
-use Rattle.model_sums.specs.Closed.{all_pass, first_choice_closed}
+use Rattle.prove_sums.specs.model_sums.specs.Closed.{all_pass, first_choice_closed}
 use Rattle.prove_steps.specs.Choices.{choice_of, choices_of}
 use Rattle.prove_sum_steps.specs.Walks.{turn_of}
 use Rattle.prove_sum_steps.proofs.PassLemmas.{all_passed, item_passes, whole_passes}

@@ -1,5 +1,5 @@
 use Rattle.std.proofs.Common.{drop}
-use Rattle.model_sums.specs.Closed.{all_pass, first_choice_closed}
+use Rattle.prove_sums.specs.model_sums.specs.Closed.{all_pass, first_choice_closed}
 use Rattle.prove_steps.specs.Choices.{choice_of, choices_of}
 use Rattle.prove_sum_steps.specs.Walks.{Leaves, turn_of}
 use Rattle.prove_sum_steps.proofs.branching.each_first_holds.Given as goal

@@ -1,7 +1,7 @@
 use Rattle.std.proofs.Common.{◌-◌, filter}
-use Rattle.model_prove.specs.Reach.{address_choice}
-use Rattle.model_prove.specs.Sets.{numbers_from}
-use Rattle.model_sums.specs.Closed.{all_pass, choice_closed}
+use Rattle.prove_facts.specs.model_prove.specs.Reach.{address_choice}
+use Rattle.prove_facts.specs.model_prove.specs.Sets.{numbers_from}
+use Rattle.prove_sums.specs.model_sums.specs.Closed.{all_pass, choice_closed}
 use Rattle.prove_steps.specs.Steps.{is_target}
 use Rattle.prove_sum_steps.specs.Walks.{Leaves, turn_of}
 use Rattle.prove_sum_steps.proofs.branching.each_target_holds.Given as goal

@@ -1,7 +1,7 @@
 use Rattle.std.proofs.Common.{◌≡◌, ◌++◌, ◌∙◌, Bool, true, List, ap, refl, subst, sym}
 use Rattle.std.proofs.lemmas.Bool.{eqb-true}
-use Rattle.model_prove.specs.Splits.{Choice, Scene, with_values}
-use Rattle.model_sums.specs.Closed.{all_pass, choice_closed}
+use Rattle.prove_facts.specs.model_prove.specs.Splits.{Choice, Scene, with_values}
+use Rattle.prove_sums.specs.model_sums.specs.Closed.{all_pass, choice_closed}
 use Rattle.prove_steps.specs.Choices.{choices_of}
 use Rattle.prove_steps.proofs.StepLemmas.{later_of}
 use Rattle.prove_sum_steps.specs.Walks.{scene_closed, scene_of, turn_in, turn_of}

@@ -1,6 +1,6 @@
 use Rattle.std.proofs.Common.{◌≡◌, true, subst}
-use Rattle.model_prove.specs.Splits.{Choice}
-use Rattle.model_sums.specs.Closed.{first_choice_closed}
+use Rattle.prove_facts.specs.model_prove.specs.Splits.{Choice}
+use Rattle.prove_sums.specs.model_sums.specs.Closed.{first_choice_closed}
 use Rattle.prove_arrivals.specs.Subjects.{start_in}
 use Rattle.prove_keys.specs.Keys.{amounts_of}
 use Rattle.prove_steps.proofs.StepLemmas.{from_some}

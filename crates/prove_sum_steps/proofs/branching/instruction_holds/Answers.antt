@@ -1,7 +1,7 @@
 use Rattle.std.proofs.Common.{◌≡◌, ◌∙◌, List, Option, refl, subst, true}
-use Rattle.model_prove.specs.Reach.{takes_target}
-use Rattle.model_prove.specs.Splits.{Choice}
-use Rattle.model_sums.specs.Closed.{choices_closed}
+use Rattle.prove_facts.specs.model_prove.specs.Reach.{takes_target}
+use Rattle.prove_facts.specs.model_prove.specs.Splits.{Choice}
+use Rattle.prove_sums.specs.model_sums.specs.Closed.{choices_closed}
 use Rattle.prove_arrivals.specs.Subjects.{start_in}
 use Rattle.prove_keys.specs.Keys.{amounts_of}
 use Rattle.prove_steps.proofs.StepLemmas.{few_of, from_some}

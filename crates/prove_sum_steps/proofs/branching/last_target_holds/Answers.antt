@@ -1,7 +1,7 @@
 use Rattle.std.proofs.Common.{◌∙◌, ◌+◌, ◌*◌, ℕ, suc, Bool, ap}
-use Rattle.model_prove.specs.Facts.{Facts, values_at}
-use Rattle.model_prove.specs.Reach.{address_choice, greatest_value}
-use Rattle.model_sums.specs.Closed.{choice_closed}
+use Rattle.prove_facts.specs.model_prove.specs.Facts.{Facts, values_at}
+use Rattle.prove_facts.specs.model_prove.specs.Reach.{address_choice, greatest_value}
+use Rattle.prove_sums.specs.model_sums.specs.Closed.{choice_closed}
 use Rattle.prove_sum_steps.specs.Walks.{turn_of}
 use Rattle.prove_sum_steps.proofs.PassLemmas.{last_passes}
 use Rattle.prove_sum_steps.proofs.branching.last_target_holds.Goals as goal

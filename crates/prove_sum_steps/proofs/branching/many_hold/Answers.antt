@@ -1,8 +1,8 @@
 use Rattle.std.proofs.Common.{◌≡◌, ◌-◌, ℕ, List, Bool, true, None, length, subst, sym}
-use Rattle.model_prove.specs.Reach.{target_choices}
-use Rattle.model_prove.specs.Splits.{Scene}
-use Rattle.model_prove.specs.Steps.{coarse_around}
-use Rattle.model_sums.specs.Closed.{all_pass, choice_closed, choices_closed, coarse_closed}
+use Rattle.prove_facts.specs.model_prove.specs.Reach.{target_choices}
+use Rattle.prove_facts.specs.model_prove.specs.Splits.{Scene}
+use Rattle.prove_facts.specs.model_prove.specs.Steps.{coarse_around}
+use Rattle.prove_sums.specs.model_sums.specs.Closed.{all_pass, choice_closed, choices_closed, coarse_closed}
 use Rattle.prove_sum_steps.specs.Walks.{place_in, turn_in, turn_of}
 use Rattle.prove_sum_steps.proofs.branching.many_hold.Goals as goal
 

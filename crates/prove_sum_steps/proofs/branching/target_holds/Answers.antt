@@ -1,6 +1,6 @@
 use Rattle.std.proofs.Common.{◌≡◌, ℕ, ◌/◌, ◌%◌, ◌∷◌, [], true, subst}
 use Rattle.std.proofs.Math.Numerals.{add-one}
-use Rattle.model_sums.specs.Closed.{choice_closed}
+use Rattle.prove_sums.specs.model_sums.specs.Closed.{choice_closed}
 use Rattle.prove_sum_steps.specs.Walks.{turn_of}
 use Rattle.prove_sum_steps.proofs.branching.target_holds.Goals as goal
 

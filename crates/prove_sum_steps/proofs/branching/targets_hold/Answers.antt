@@ -1,5 +1,5 @@
 use Rattle.std.proofs.Common.{◌-◌, length, rules}
-use Rattle.model_sums.specs.Closed.{choice_closed}
+use Rattle.prove_sums.specs.model_sums.specs.Closed.{choice_closed}
 use Rattle.prove_sum_steps.specs.Walks.{turn_of}
 use Rattle.prove_sum_steps.proofs.PassLemmas.{targets_at}
 use Rattle.prove_sum_steps.proofs.branching.targets_hold.Goals as goal

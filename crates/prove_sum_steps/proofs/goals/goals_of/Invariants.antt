@@ -1,6 +1,6 @@
 use Rattle.std.proofs.Common.{◌≡◌, ◌++◌, ℕ, List, drop, map}
 use Rattle.std.specs.List.{AllByRecursion}
-use Rattle.model_prove.specs.Arrivals.{Setting}
+use Rattle.prove_facts.specs.model_prove.specs.Arrivals.{Setting}
 use Rattle.prove_arrivals.specs.Subjects.{IsSubject}
 use Rattle.prove_sum_steps.specs.Tables.{IsGoal, sums_in}
 use Rattle.prove_sum_steps.proofs.goals.goals_of.Given as goal

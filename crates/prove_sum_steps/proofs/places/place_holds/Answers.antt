@@ -1,6 +1,6 @@
 use Rattle.std.proofs.Common.{◌∙◌, List, subst, sym}
-use Rattle.model_prove.specs.Steps.{place_arrivals}
-use Rattle.model_sums.specs.Sums.{sums_at}
+use Rattle.prove_facts.specs.model_prove.specs.Steps.{place_arrivals}
+use Rattle.prove_sums.specs.model_sums.specs.Sums.{sums_at}
 use Rattle.prove_arrivals.specs.Subjects.{classes_in}
 use Rattle.prove_keys.specs.Keys.{place_of}
 use Rattle.prove_keys.specs.Tables.{moments_of}

@@ -1,6 +1,6 @@
 use Rattle.std.proofs.Common.{◌≡◌, ℕ, true, List, drop}
-use Rattle.model_prove.specs.Arrivals.{Setting}
-use Rattle.model_sums.specs.Closed.{places_closed}
+use Rattle.prove_facts.specs.model_prove.specs.Arrivals.{Setting}
+use Rattle.prove_sums.specs.model_sums.specs.Closed.{places_closed}
 use Rattle.prove_arrivals.specs.Subjects.{classes_in}
 use Rattle.prove_keys.specs.Tables.{places_of}
 use Rattle.prove_sum_steps.specs.Places.{IsStand, table_in}

@@ -1,5 +1,5 @@
 use Rattle.std.proofs.Common.{ℕ, Bool}
-use Rattle.model_sums.specs.Closed.{after_event, is_settled}
+use Rattle.prove_sums.specs.model_sums.specs.Closed.{after_event, is_settled}
 use Rattle.prove_arrivals.specs.Subjects.{classes_in}
 use Rattle.prove_sum_steps.specs.Walks.{turn_in}
 use Rattle.prove_sum_steps.proofs.RowLemmas.{at_class, at_delegated}

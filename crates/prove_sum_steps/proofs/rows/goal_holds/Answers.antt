@@ -1,4 +1,4 @@
-use Rattle.model_sums.specs.Closed.{depth_closed}
+use Rattle.prove_sums.specs.model_sums.specs.Closed.{depth_closed}
 use Rattle.prove_arrivals.specs.Subjects.{classes_in}
 use Rattle.prove_sum_steps.specs.Tables.{goal_key}
 use Rattle.prove_sum_steps.specs.Walks.{turn_in}

@@ -1,10 +1,10 @@
 use Rattle.std.proofs.Common.{◌≡◌, ℕ, List, drop, true}
-use Rattle.model_machine.specs.Primitives.{Then}
-use Rattle.model_prove.specs.Arrivals.{Setting}
-use Rattle.model_prove.specs.Keys.{Known}
-use Rattle.model_prove.specs.Splits.{Scene}
-use Rattle.model_sums.specs.Closed.{all_pass, arrival_closed}
-use Rattle.model_sums.specs.Sums.{Sums, SumsTable}
+use Rattle.model_text.specs.model_machine.specs.Primitives.{Then}
+use Rattle.prove_facts.specs.model_prove.specs.Arrivals.{Setting}
+use Rattle.prove_facts.specs.model_prove.specs.Keys.{Known}
+use Rattle.prove_facts.specs.model_prove.specs.Splits.{Scene}
+use Rattle.prove_sums.specs.model_sums.specs.Closed.{all_pass, arrival_closed}
+use Rattle.prove_sums.specs.model_sums.specs.Sums.{Sums, SumsTable}
 use Rattle.prove_scenes.specs.Outlines.{outlined_next}
 use Rattle.prove_scenes.specs.ShapeValues.{next_value}
 use Rattle.prove_sums.specs.Values.{SumsAre}

@@ -1,4 +1,4 @@
-use Rattle.model_rules.specs.Keeping.{mode_of}
+use Rattle.prove_facts.specs.model_rules.specs.Keeping.{mode_of}
 use Rattle.prove_sums.specs.Values.{sums_value}
 use Rattle.prove_sum_steps.proofs.EventLemmas.{counted_is}
 use Rattle.prove_keys.proofs.TableLemmas.{if_ok}

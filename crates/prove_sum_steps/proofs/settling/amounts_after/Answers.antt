@@ -1,5 +1,5 @@
 use Rattle.std.proofs.Common.{◌≡◌, List, ℕ, length, IfOk, IfSome, subst, sym}
-use Rattle.model_rules.specs.Keeping.{OnTurn, after_occasion}
+use Rattle.prove_facts.specs.model_rules.specs.Keeping.{OnTurn, after_occasion}
 use Rattle.prove_keys.specs.Keys.{amounts_of}
 use Rattle.prove_occasions.specs.Amounts.{AreAfter, AreLinesOver}
 use Rattle.prove_occasions.specs.Turns.{line_of_turn}

@@ -1,6 +1,6 @@
 use Rattle.std.proofs.Common.{◌≡◌, ◌∙◌, ℕ, List, IfSome, true, sym, subst}
-use Rattle.model_rules.specs.Keeping.{OnTurn, after_occasion, line_of}
-use Rattle.model_sums.specs.Closed.{event_leads_to}
+use Rattle.prove_facts.specs.model_rules.specs.Keeping.{OnTurn, after_occasion, line_of}
+use Rattle.prove_sums.specs.model_sums.specs.Closed.{event_leads_to}
 use Rattle.prove_keys.specs.Keys.{amounts_of}
 use Rattle.prove_occasions.specs.Amounts.{AreAfter}
 use Rattle.prove_occasions.specs.Turns.{line_of_turn}

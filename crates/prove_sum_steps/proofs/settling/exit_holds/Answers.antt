@@ -1,6 +1,6 @@
 use Rattle.std.proofs.Common.{◌≡◌, ◌∙◌, ℕ, Bool, List, true, ap, subst}
-use Rattle.model_rules.specs.Keeping.{line_of}
-use Rattle.model_sums.specs.Closed.{is_settled}
+use Rattle.prove_facts.specs.model_rules.specs.Keeping.{line_of}
+use Rattle.prove_sums.specs.model_sums.specs.Closed.{is_settled}
 use Rattle.prove_sum_steps.specs.Walks.{event_sums, turn_in}
 use Rattle.prove_sum_steps.proofs.settling.exit_holds.Goals as goal
 

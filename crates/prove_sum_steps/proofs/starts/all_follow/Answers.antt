@@ -1,6 +1,6 @@
 use Rattle.std.proofs.Common.{◌≡◌, Bool, true, arith, sym, subst}
-use Rattle.model_sums.specs.Closed.{all_pass, has_sums}
-use Rattle.model_sums.specs.Sums.{first_known, sums_at}
+use Rattle.prove_sums.specs.model_sums.specs.Closed.{all_pass, has_sums}
+use Rattle.prove_sums.specs.model_sums.specs.Sums.{first_known, sums_at}
 use Rattle.prove_keys.proofs.ListLemmas.{all_at}
 use Rattle.prove_sum_steps.specs.declared.goals.Goal.{Goal}
 use Rattle.prove_sum_steps.specs.Tables.{IsGoal, goal_key}

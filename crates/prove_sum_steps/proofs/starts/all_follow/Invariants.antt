@@ -1,8 +1,8 @@
 use Rattle.std.proofs.Common.{◌≡◌, ℕ, List, drop, true}
 use Rattle.std.specs.List.{AllByRecursion}
-use Rattle.model_rules.specs.Rules.{Total}
-use Rattle.model_sums.specs.Closed.{all_pass, has_sums}
-use Rattle.model_sums.specs.Sums.{SumsTable, first_known, sums_at}
+use Rattle.prove_facts.specs.model_rules.specs.Rules.{Total}
+use Rattle.prove_sums.specs.model_sums.specs.Closed.{all_pass, has_sums}
+use Rattle.prove_sums.specs.model_sums.specs.Sums.{SumsTable, first_known, sums_at}
 use Rattle.prove_arrivals.specs.declared.subject.Subject.{Subject}
 use Rattle.prove_rules.specs.Sums.{AreTotals}
 use Rattle.prove_sums.specs.Values.{SumsAre}

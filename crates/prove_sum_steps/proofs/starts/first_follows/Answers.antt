@@ -1,4 +1,4 @@
-use Rattle.model_sums.specs.Sums.{first_known, sums_at}
+use Rattle.prove_sums.specs.model_sums.specs.Sums.{first_known, sums_at}
 use Rattle.prove_sums.specs.Values.{sums_value}
 use Rattle.prove_sum_steps.specs.Tables.{goal_key}
 use Rattle.prove_sum_steps.proofs.EventLemmas.{sums_there}

@@ -1,5 +1,5 @@
 use Rattle.std.proofs.Common.{◌≡◌, true, map, arith}
-use Rattle.model_sums.specs.Closed.{all_pass, turn_closed}
+use Rattle.prove_sums.specs.model_sums.specs.Closed.{all_pass, turn_closed}
 use Rattle.prove_scenes.specs.Heads.{around_value}
 use Rattle.prove_sum_steps.specs.Walks.{turn_in}
 use Rattle.prove_sum_steps.proofs.PassLemmas.{all_passed, next_passes, whole_passes}

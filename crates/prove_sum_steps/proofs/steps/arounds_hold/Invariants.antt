@@ -1,5 +1,5 @@
 use Rattle.std.proofs.Common.{drop, map}
-use Rattle.model_sums.specs.Closed.{all_pass, turn_closed}
+use Rattle.prove_sums.specs.model_sums.specs.Closed.{all_pass, turn_closed}
 use Rattle.prove_scenes.specs.Heads.{around_value}
 use Rattle.prove_sum_steps.specs.Walks.{Leaves, turn_in}
 use Rattle.prove_sum_steps.proofs.steps.arounds_hold.Given as goal

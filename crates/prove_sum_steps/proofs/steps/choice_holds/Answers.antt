@@ -1,5 +1,5 @@
 use Rattle.std.proofs.Common.{◌≡◌, true, subst}
-use Rattle.model_prove.specs.Splits.{Scene}
+use Rattle.prove_facts.specs.model_prove.specs.Splits.{Scene}
 use Rattle.prove_arrivals.specs.Subjects.{start_in}
 use Rattle.prove_keys.specs.Keys.{amounts_of}
 use Rattle.prove_steps.proofs.StepLemmas.{from_some}

@@ -1,9 +1,9 @@
 use Rattle.std.proofs.Common.{◌≡◌, ◌∙◌, true, ap, subst}
-use Rattle.law_rows.specs.Shapes.{shape}
-use Rattle.model_machine.specs.Primitives.{Around}
-use Rattle.model_prove.specs.Reach.{coarse}
-use Rattle.model_prove.specs.Steps.{coarse_for}
-use Rattle.model_sums.specs.Closed.{coarse_closed}
+use Rattle.prove_facts.specs.law_rows.specs.Shapes.{shape}
+use Rattle.model_text.specs.model_machine.specs.Primitives.{Around}
+use Rattle.prove_facts.specs.model_prove.specs.Reach.{coarse}
+use Rattle.prove_facts.specs.model_prove.specs.Steps.{coarse_for}
+use Rattle.prove_sums.specs.model_sums.specs.Closed.{coarse_closed}
 use Rattle.prove_arrivals.specs.Subjects.{classes_in}
 use Rattle.prove_scenes.specs.Heads.{around_value}
 use Rattle.prove_scenes.specs.ShapeValues.{shape_value}

@@ -1,8 +1,8 @@
 use Rattle.std.proofs.Common.{◌≡◌, ◌∙◌, ℕ, ◌+◌, List, map, length, true, ap, subst, sym}
 use Rattle.std.specs.Prelude.{nat_le}
 use Rattle.std.proofs.lemmas.Bool.{and_from}
-use Rattle.model_rules.specs.Keeping.{Amounts, are_totals, first_sums}
-use Rattle.model_sums.specs.Closed.{all_pass}
+use Rattle.prove_facts.specs.model_rules.specs.Keeping.{Amounts, are_totals, first_sums}
+use Rattle.prove_sums.specs.model_sums.specs.Closed.{all_pass}
 use Rattle.prove_events.specs.declared.rules.Named.{Named}
 use Rattle.prove_events.specs.Rules.{allowance_of, name_of}
 use Rattle.prove_rules.specs.Sums.{AreTotals}

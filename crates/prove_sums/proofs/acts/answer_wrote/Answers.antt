@@ -1,5 +1,5 @@
 use Rattle.std.proofs.Common.{ℕ, Option, subst, sym}
-use Rattle.model_sums.specs.Moves as moves
+use Rattle.prove_forms.specs.model_sums.specs.Moves as moves
 use Rattle.prove_sums.specs.Values.{SumsAre}
 use Rattle.prove_sums.proofs.acts.answer_wrote.Goals as goal
 

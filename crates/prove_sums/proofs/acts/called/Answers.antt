@@ -1,5 +1,5 @@
 use Rattle.std.proofs.Common.{ℕ, Bool, cond, sym, subst}
-use Rattle.model_sums.specs.Writes as writes
+use Rattle.prove_forms.specs.model_sums.specs.Writes as writes
 use Rattle.prove_sums.specs.Values.{SumsAre}
 use Rattle.prove_sums.proofs.acts.called.Goals as goal
 

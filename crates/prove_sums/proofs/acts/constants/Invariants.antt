@@ -1,5 +1,5 @@
 use Rattle.std.proofs.Common.{◌≡◌, ◌++◌, drop}
-use Rattle.model_sums.specs.Moves as moves
+use Rattle.prove_forms.specs.model_sums.specs.Moves as moves
 use Rattle.prove_forms.specs.Origins.{origin_values}
 use Rattle.prove_sums.proofs.acts.constants.Given as goal
 

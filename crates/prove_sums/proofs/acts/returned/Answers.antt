@@ -1,7 +1,7 @@
 use Rattle.std.proofs.Common.{◌∙◌, ◌+◌, ℕ, List, None, length, ap, sym, subst}
 use Rattle.std.proofs.lemmas.List.{length-map}
-use Rattle.model_sums.specs.Origins as model
-use Rattle.model_sums.specs.Writes as writes
+use Rattle.prove_forms.specs.model_sums.specs.Origins as model
+use Rattle.prove_forms.specs.model_sums.specs.Writes as writes
 use Rattle.prove_forms.specs.Origins.{origin_value}
 use Rattle.prove_sums.specs.Values.{SumsAre}
 use Rattle.prove_sums.proofs.acts.returned.Goals as goal

@@ -1,4 +1,4 @@
-use Rattle.model_prove.specs.Reach.{is_reached}
+use Rattle.prove_facts.specs.model_prove.specs.Reach.{is_reached}
 use Rattle.prove_forms.specs.Origins.{listed_values}
 use Rattle.prove_scenes.specs.Scenes.{frame_to}
 use Rattle.prove_works.specs.Reaches.{reach_value}

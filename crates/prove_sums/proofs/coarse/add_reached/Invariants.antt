@@ -1,8 +1,8 @@
 use Rattle.std.proofs.Common.{◌≡◌, ◌++◌, ◌-◌, filter, ℕ}
 use Rattle.std.specs.Prelude.{map}
-use Rattle.model_prove.specs.Reach.{is_reached}
-use Rattle.model_prove.specs.Sets.{numbers_from}
-use Rattle.model_sums.specs.Origins as origins
+use Rattle.prove_facts.specs.model_prove.specs.Reach.{is_reached}
+use Rattle.prove_facts.specs.model_prove.specs.Sets.{numbers_from}
+use Rattle.prove_forms.specs.model_sums.specs.Origins as origins
 use Rattle.prove_forms.specs.Origins.{listed_values}
 use Rattle.prove_scenes.specs.Scenes.{frame_to}
 use Rattle.prove_works.specs.Reaches.{reach_value}

@@ -1,7 +1,7 @@
 use Rattle.std.proofs.Common.{ℕ, subst, sym}
-use Rattle.model_prove.specs.Reach as known
-use Rattle.model_sums.specs.Moves as moves
-use Rattle.model_sums.specs.Writes as writes
+use Rattle.prove_facts.specs.model_prove.specs.Reach as known
+use Rattle.prove_forms.specs.model_sums.specs.Moves as moves
+use Rattle.prove_forms.specs.model_sums.specs.Writes as writes
 use Rattle.prove_scenes.specs.Coarse.{coarse_value}
 use Rattle.prove_scenes.specs.declared.coarse_rows.Coarse.{Coarse}
 use Rattle.prove_scenes.specs.Scenes.{frame_to}

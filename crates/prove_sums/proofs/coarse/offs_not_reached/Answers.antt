@@ -1,5 +1,5 @@
 use Rattle.std.proofs.Common.{◌∙◌, Bool, cond, None, ap, sym, subst, arith, ℕ}
-use Rattle.model_prove.specs.Reach.{some_reached}
+use Rattle.prove_facts.specs.model_prove.specs.Reach.{some_reached}
 use Rattle.prove_forms.specs.Forms.{OptionalIs, OptionalsAre}
 use Rattle.prove_scenes.specs.Scenes.{frame_to}
 use Rattle.prove_works.specs.Reaches.{reach_value}

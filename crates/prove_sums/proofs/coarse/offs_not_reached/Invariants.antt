@@ -1,6 +1,6 @@
 use Rattle.std.proofs.Common.{ℕ, List, drop, cond, None}
-use Rattle.model_rules.specs.Rules.{Total}
-use Rattle.model_prove.specs.Reach.{some_reached}
+use Rattle.prove_facts.specs.model_rules.specs.Rules.{Total}
+use Rattle.prove_facts.specs.model_prove.specs.Reach.{some_reached}
 use Rattle.prove_forms.specs.Forms.{OptionalsAre}
 use Rattle.prove_rules.specs.Sums.{AreTotals}
 use Rattle.prove_scenes.specs.Scenes.{frame_to}

@@ -1,8 +1,8 @@
 use Rattle.std.proofs.Common.{◌∙◌, ◌++◌, ◌-◌, ℕ, List, ap}
-use Rattle.model_machine.specs.Frame.{dynamic_base, dynamic_end, public_base, public_end}
-use Rattle.model_prove.specs.Reach.{is_reached}
-use Rattle.model_prove.specs.Sets.{numbers_from}
-use Rattle.model_sums.specs.Origins as model
+use Rattle.mc_arith.specs.model_machine.specs.Frame.{dynamic_base, dynamic_end, public_base, public_end}
+use Rattle.prove_facts.specs.model_prove.specs.Reach.{is_reached}
+use Rattle.prove_facts.specs.model_prove.specs.Sets.{numbers_from}
+use Rattle.prove_forms.specs.model_sums.specs.Origins as model
 use Rattle.prove_forms.specs.declared.origins.Listed.{Listed}
 use Rattle.prove_scenes.specs.Scenes.{frame_to}
 use Rattle.prove_works.specs.Reaches.{reach_value}

@@ -1,6 +1,6 @@
 use Rattle.std.proofs.Common.{List, ℕ, subst, sym}
 use Rattle.std.specs.Prelude.{map}
-use Rattle.model_sums.specs.Events as events
+use Rattle.prove_forms.specs.model_sums.specs.Events as events
 use Rattle.prove_events.specs.declared.rules.SignedSum.{SignedSum}
 use Rattle.prove_events.specs.Rules.{name_of}
 use Rattle.prove_forms.specs.Forms.{OptionalIs}

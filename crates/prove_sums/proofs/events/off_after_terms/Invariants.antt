@@ -1,6 +1,6 @@
 use Rattle.std.proofs.Common.{drop, Bool, List, ℕ}
 use Rattle.std.specs.Prelude.{map}
-use Rattle.model_rules.specs.Rules.{SumLine}
+use Rattle.prove_facts.specs.model_rules.specs.Rules.{SumLine}
 use Rattle.prove_events.specs.Rules.{name_of}
 use Rattle.prove_forms.specs.Forms.{OptionalIs}
 use Rattle.prove_rules.specs.Sums.{AreTerms}

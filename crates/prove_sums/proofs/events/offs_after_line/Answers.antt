@@ -1,6 +1,6 @@
 use Rattle.std.proofs.Common.{sym, subst, arith}
 use Rattle.std.specs.Prelude.{map}
-use Rattle.model_sums.specs.Events.{off_after_line}
+use Rattle.prove_forms.specs.model_sums.specs.Events.{off_after_line}
 use Rattle.prove_events.specs.Rules.{name_of}
 use Rattle.prove_forms.specs.Forms.{OptionalsAre}
 use Rattle.prove_sums.proofs.WalkLemmas.{Offs, line_each, walk_end, walk_next, walk_stop}

@@ -1,7 +1,7 @@
 use Rattle.std.proofs.Common.{List, drop}
 use Rattle.std.specs.Prelude.{map}
-use Rattle.model_rules.specs.Rules.{SumLine, Total}
-use Rattle.model_sums.specs.Events.{off_after_line}
+use Rattle.prove_facts.specs.model_rules.specs.Rules.{SumLine, Total}
+use Rattle.prove_forms.specs.model_sums.specs.Events.{off_after_line}
 use Rattle.prove_events.specs.Rules.{name_of}
 use Rattle.prove_forms.specs.Forms.{OptionalsAre}
 use Rattle.prove_rules.specs.Sums.{AreTotals}

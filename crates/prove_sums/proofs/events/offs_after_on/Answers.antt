@@ -1,6 +1,6 @@
 use Rattle.std.proofs.Common.{◌≡◌, ◌∙◌, ℕ, List, Option, Some, ap, sym, subst}
 use Rattle.std.specs.Prelude.{map, slice_get}
-use Rattle.law_explore.specs.Matching.{fits}
+use Rattle.lab_match.specs.law_explore.specs.Matching.{fits}
 use Rattle.prove_events.specs.declared.rules.Balance.{Balance}
 use Rattle.prove_events.specs.declared.rules.Named.{Named}
 use Rattle.prove_events.specs.Rules.{name_of}

@@ -1,6 +1,6 @@
 use Rattle.std.proofs.Common.{List, drop}
 use Rattle.std.specs.Prelude.{map}
-use Rattle.model_rules.specs.Rules.{SumLine, Total}
+use Rattle.prove_facts.specs.model_rules.specs.Rules.{SumLine, Total}
 use Rattle.prove_events.specs.Rules.{name_of}
 use Rattle.prove_forms.specs.Forms.{OptionalsAre}
 use Rattle.prove_forms.specs.Origins.{origins_value}

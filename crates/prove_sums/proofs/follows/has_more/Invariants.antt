@@ -1,5 +1,5 @@
 use Rattle.std.proofs.Common.{drop}
-use Rattle.model_sums.specs.Sums as sums
+use Rattle.prove_forms.specs.model_sums.specs.Sums as sums
 use Rattle.prove_sums.specs.Values.{MoreIs, MoresAre}
 use Rattle.prove_sums.proofs.FollowLemmas.{Has}
 use Rattle.prove_sums.proofs.MoreLemmas.{Mores}

@@ -1,5 +1,5 @@
 use Rattle.std.proofs.Common.{ℕ, List, drop}
-use Rattle.model_rules.specs.Rules.{Total}
+use Rattle.prove_facts.specs.model_rules.specs.Rules.{Total}
 use Rattle.prove_forms.specs.Forms.{OptionalsAre}
 use Rattle.prove_rules.specs.Sums.{AreTotals}
 use Rattle.prove_sums.proofs.FollowLemmas.{Paired}

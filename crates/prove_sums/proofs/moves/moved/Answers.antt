@@ -1,10 +1,10 @@
 use Rattle.std.proofs.Common.{ℕ, List, None, sym, subst}
-use Rattle.model_prove.specs.Keys.{PlaceKey}
-use Rattle.model_rules.specs.Rules.{Total}
-use Rattle.model_sums.specs.Moves as moves
-use Rattle.model_sums.specs.Origins as model
-use Rattle.model_sums.specs.Sums as sums
-use Rattle.model_sums.specs.Writes as writes
+use Rattle.prove_facts.specs.model_prove.specs.Keys.{PlaceKey}
+use Rattle.prove_facts.specs.model_rules.specs.Rules.{Total}
+use Rattle.prove_forms.specs.model_sums.specs.Moves as moves
+use Rattle.prove_forms.specs.model_sums.specs.Origins as model
+use Rattle.prove_forms.specs.model_sums.specs.Sums as sums
+use Rattle.prove_forms.specs.model_sums.specs.Writes as writes
 use Rattle.prove_rules.specs.Sums.{AreTotals}
 use Rattle.prove_scenes.specs.declared.working.Work.{Work}
 use Rattle.prove_scenes.specs.ShapeValues.{act_value, shape_value}

@@ -1,6 +1,6 @@
 use Rattle.std.proofs.Common.{◌∙◌, List, ap, sym, subst}
-use Rattle.model_sums.specs.Origins as model
-use Rattle.model_sums.specs.Writes as writes
+use Rattle.prove_forms.specs.model_sums.specs.Origins as model
+use Rattle.prove_forms.specs.model_sums.specs.Writes as writes
 use Rattle.prove_forms.specs.declared.origins.Origin.{Origin}
 use Rattle.prove_forms.specs.Origins.{origin_values}
 use Rattle.prove_sums.specs.declared.values.More.{More}

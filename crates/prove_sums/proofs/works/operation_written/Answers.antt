@@ -1,6 +1,6 @@
 use Rattle.std.proofs.Common.{◌∙◌, List, ap, sym, subst}
-use Rattle.model_sums.specs.Operations as operations
-use Rattle.model_sums.specs.Origins as model
+use Rattle.prove_forms.specs.model_sums.specs.Operations as operations
+use Rattle.prove_forms.specs.model_sums.specs.Origins as model
 use Rattle.prove_forms.specs.declared.origins.Origin.{Origin}
 use Rattle.prove_forms.specs.Forms.{OptionalIs}
 use Rattle.prove_forms.specs.Origins.{origin_values}

@@ -1,5 +1,5 @@
 use Rattle.std.proofs.Common.{arith}
-use Rattle.model_sums.specs.Writes.{more_after}
+use Rattle.prove_forms.specs.model_sums.specs.Writes.{more_after}
 use Rattle.prove_sums.proofs.MoreLemmas.{flat_end, flat_next}
 use Rattle.prove_sums.proofs.writes.mores_after.Goals as goal
 

@@ -1,5 +1,5 @@
 use Rattle.std.proofs.Common.{drop}
-use Rattle.model_sums.specs.Writes.{more_after}
+use Rattle.prove_forms.specs.model_sums.specs.Writes.{more_after}
 use Rattle.prove_forms.specs.Forms.{OptionalIs}
 use Rattle.prove_sums.specs.Values.{MoresAre}
 use Rattle.prove_sums.proofs.MoreLemmas.{Flat, Mores}

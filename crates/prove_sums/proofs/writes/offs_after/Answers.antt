@@ -1,5 +1,5 @@
 use Rattle.std.proofs.Common.{sym, subst, arith}
-use Rattle.model_sums.specs.Writes.{off_after}
+use Rattle.prove_forms.specs.model_sums.specs.Writes.{off_after}
 use Rattle.prove_forms.specs.Forms.{OptionalsAre}
 use Rattle.prove_sums.proofs.WalkLemmas.{Offs, walk_end, walk_next, walk_stop, written_each}
 use Rattle.prove_sums.proofs.writes.offs_after.Goals as goal

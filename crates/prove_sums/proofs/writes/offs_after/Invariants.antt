@@ -1,6 +1,6 @@
 use Rattle.std.proofs.Common.{ℕ, List, drop}
-use Rattle.model_rules.specs.Rules.{Total}
-use Rattle.model_sums.specs.Writes.{off_after}
+use Rattle.prove_facts.specs.model_rules.specs.Rules.{Total}
+use Rattle.prove_forms.specs.model_sums.specs.Writes.{off_after}
 use Rattle.prove_forms.specs.Forms.{OptionalIs, OptionalsAre}
 use Rattle.prove_rules.specs.Sums.{AreTotals}
 use Rattle.prove_sums.proofs.WalkLemmas.{Off, Offs, Walk}

@@ -1,5 +1,5 @@
 use Rattle.std.proofs.Common.{◌≡◌}
-use Rattle.model_sums.specs.Origins as origins
+use Rattle.prove_forms.specs.model_sums.specs.Origins as origins
 use Rattle.prove_forms.specs.Origins.{origin_values}
 use Rattle.prove_sums.proofs.writes.unknowns.Given as goal
 

@@ -2,7 +2,7 @@ use Rattle.std.specs.Prelude.{ℕ, List, map, ◌-◌}
 use Rattle.std.proofs.Common.{◌∙◌, ap}
 use Rattle.prove_facts.specs.declared.values.Values.{Values}
 use Rattle.prove_facts.specs.Sets.{set_of}
-use Rattle.model_prove.specs.Steps as steps
+use Rattle.prove_facts.specs.model_prove.specs.Steps as steps
 use Rattle.prove_spots.specs.Grounds.{spot_of}
 use Rattle.prove_works.proofs.SpotLemmas.{written_at}
 use Rattle.prove_works.proofs.coarse.any_replaced.Goals as goal

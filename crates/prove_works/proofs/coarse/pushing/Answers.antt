@@ -1,4 +1,4 @@
-use Rattle.model_prove.specs.Steps as steps
+use Rattle.prove_facts.specs.model_prove.specs.Steps as steps
 use Rattle.prove_spots.specs.Grounds.{spot_of}
 use Rattle.prove_works.proofs.SpotLemmas.{alone}
 use Rattle.prove_works.proofs.coarse.pushing.Goals as goal

@@ -1,9 +1,9 @@
 use Rattle.std.specs.Prelude.{List}
 use Rattle.std.proofs.Common.{◌∙◌, ap}
-use Rattle.model_prove.specs.Compares.{Compare}
-use Rattle.model_prove.specs.Facts.{Facts}
-use Rattle.model_prove.specs.Reach as known
-use Rattle.model_prove.specs.Steps as steps
+use Rattle.prove_facts.specs.model_prove.specs.Compares.{Compare}
+use Rattle.prove_facts.specs.model_prove.specs.Facts.{Facts}
+use Rattle.prove_facts.specs.model_prove.specs.Reach as known
+use Rattle.prove_facts.specs.model_prove.specs.Steps as steps
 use Rattle.prove_keys.specs.declared.keys.Call.{Call}
 use Rattle.prove_keys.specs.Compares.{said}
 use Rattle.prove_keys.specs.Keys.{calls_of}

@@ -1,8 +1,8 @@
 use Rattle.std.proofs.Common.{◌≡◌, ◌++◌, drop}
 use Rattle.std.specs.Prelude.{map}
-use Rattle.model_rules.specs.Keeping.{Amounts}
-use Rattle.model_prove.specs.Keys.{Start}
-use Rattle.model_prove.specs.Steps as steps
+use Rattle.prove_facts.specs.model_rules.specs.Keeping.{Amounts}
+use Rattle.prove_facts.specs.model_prove.specs.Keys.{Start}
+use Rattle.prove_facts.specs.model_prove.specs.Steps as steps
 use Rattle.prove_keys.specs.Keys.{calls_of}
 use Rattle.prove_scenes.specs.Scenes.{frame_to}
 use Rattle.prove_spots.specs.Grounds.{spot_of}

@@ -1,7 +1,7 @@
 use Rattle.std.specs.Prelude.{false, map}
 use Rattle.std.proofs.Common.{◌∙◌, ap}
-use Rattle.model_prove.specs.Digits.{Flags}
-use Rattle.model_prove.specs.Steps as steps
+use Rattle.prove_facts.specs.model_prove.specs.Digits.{Flags}
+use Rattle.prove_facts.specs.model_prove.specs.Steps as steps
 use Rattle.prove_works.proofs.coarse.searching.Goals as goal
 
 pub returns-in_ok-with_any_z-in-Some : goal.returns-in_ok-with_any_z-in-Some

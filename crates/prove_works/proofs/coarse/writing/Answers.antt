@@ -1,8 +1,8 @@
 use Rattle.std.specs.Prelude.{ℕ, List, map}
 use Rattle.std.proofs.Common.{◌∙◌, ap}
-use Rattle.model_prove.specs.Keys.{Call}
-use Rattle.model_prove.specs.Reach as known
-use Rattle.model_prove.specs.Steps as steps
+use Rattle.prove_facts.specs.model_prove.specs.Keys.{Call}
+use Rattle.prove_facts.specs.model_prove.specs.Reach as known
+use Rattle.prove_facts.specs.model_prove.specs.Steps as steps
 use Rattle.prove_scenes.specs.Scenes.{frame_to}
 use Rattle.prove_spots.specs.Grounds.{spot_of}
 use Rattle.prove_works.specs.Reaches.{reach_value, calls_from}

@@ -1,5 +1,5 @@
 use Rattle.std.proofs.Common.{◌≡◌, ◌-◌, ◌++◌, length, take, drop}
-use Rattle.model_prove.specs.Reach as reach
+use Rattle.prove_facts.specs.model_prove.specs.Reach as reach
 use Rattle.prove_keys.specs.Keys.{calls_of}
 use Rattle.prove_scenes.specs.Scenes.{frame_to}
 use Rattle.prove_works.specs.Reaches.{reach_value, calls_from}

@@ -1,5 +1,5 @@
 use Rattle.std.proofs.Common.{◌≡◌, ◌+◌, Some, drop}
-use Rattle.model_prove.specs.Facts as known
+use Rattle.prove_facts.specs.model_prove.specs.Facts as known
 use Rattle.prove_works.specs.Searches.{sets_of}
 use Rattle.prove_works.proofs.narrowing.narrow_all.Given as goal
 

@@ -1,5 +1,5 @@
 use Rattle.std.specs.Prelude.{◌%◌}
-use Rattle.model_prove.specs.Sets.{is_in}
+use Rattle.prove_facts.specs.model_prove.specs.Sets.{is_in}
 use Rattle.prove_facts.specs.Sets.{set_of}
 use Rattle.prove_works.proofs.ReachLemmas.{no_address}
 use Rattle.prove_works.proofs.reach.is_start.Goals as goal

@@ -1,5 +1,5 @@
 use Rattle.std.proofs.Common.{◌≡◌, ◌+◌, ◌-◌}
-use Rattle.model_prove.specs.Reach.{some_reached}
+use Rattle.prove_facts.specs.model_prove.specs.Reach.{some_reached}
 use Rattle.prove_scenes.specs.Scenes.{frame_to}
 use Rattle.prove_works.specs.Reaches.{reach_value}
 use Rattle.prove_works.proofs.reach.some_reached.Given as goal

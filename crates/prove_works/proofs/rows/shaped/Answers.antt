@@ -1,6 +1,6 @@
 use Rattle.std.specs.Prelude.{map}
 use Rattle.std.proofs.Common.{◌∙◌, ap}
-use Rattle.model_prove.specs.Steps as steps
+use Rattle.prove_facts.specs.model_prove.specs.Steps as steps
 use Rattle.prove_facts.specs.Sets.{set_of}
 use Rattle.prove_scenes.specs.ShapeValues.{act_value}
 use Rattle.prove_spots.specs.Grounds.{spot_of}

@@ -1,7 +1,7 @@
 use Rattle.std.specs.Prelude.{false, map, [], ◌∷◌}
 use Rattle.std.proofs.Common.{◌∙◌, ap}
-use Rattle.model_prove.specs.Sets.{Set}
-use Rattle.model_prove.specs.Steps as steps
+use Rattle.prove_facts.specs.model_prove.specs.Sets.{Set}
+use Rattle.prove_facts.specs.model_prove.specs.Steps as steps
 use Rattle.prove_facts.specs.Sets.{set_of}
 use Rattle.prove_spots.specs.Grounds.{spot_of}
 use Rattle.prove_works.specs.Numbers.{flags_of}

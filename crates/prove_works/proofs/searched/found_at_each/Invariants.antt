@@ -1,8 +1,8 @@
 use Rattle.std.proofs.Common.{◌≡◌, ◌++◌, drop}
 use Rattle.std.specs.Prelude.{map, true}
-use Rattle.model_rules.specs.Keeping.{Amounts}
-use Rattle.model_prove.specs.Keys.{Start}
-use Rattle.model_prove.specs.Steps as steps
+use Rattle.prove_facts.specs.model_rules.specs.Keeping.{Amounts}
+use Rattle.prove_facts.specs.model_prove.specs.Keys.{Start}
+use Rattle.prove_facts.specs.model_prove.specs.Steps as steps
 use Rattle.prove_spots.specs.Grounds.{spot_of}
 use Rattle.prove_works.proofs.searched.found_at_each.Given as goal
 

@@ -1,8 +1,8 @@
 use Rattle.std.specs.Prelude.{List}
 use Rattle.std.proofs.Common.{◌∙◌, ap}
-use Rattle.model_prove.specs.Sets.{Set}
-use Rattle.model_prove.specs.Facts as known
-use Rattle.model_prove.specs.Steps as steps
+use Rattle.prove_facts.specs.model_prove.specs.Sets.{Set}
+use Rattle.prove_facts.specs.model_prove.specs.Facts as known
+use Rattle.prove_facts.specs.model_prove.specs.Steps as steps
 use Rattle.prove_facts.specs.declared.values.Values.{Values}
 use Rattle.prove_spots.specs.Grounds.{spot_of}
 use Rattle.prove_works.specs.Searches.{sets_of}

@@ -1,6 +1,6 @@
 use Rattle.std.proofs.Common.{◌≡◌, ℕ, ◌<◌, ◌||◌, drop}
-use Rattle.model_prove.specs.Sets.{is_in}
-use Rattle.model_prove.specs.Steps as steps
+use Rattle.prove_facts.specs.model_prove.specs.Sets.{is_in}
+use Rattle.prove_facts.specs.model_prove.specs.Steps as steps
 use Rattle.prove_facts.specs.Sets.{has_value}
 use Rattle.prove_works.specs.Searches.{sets_of}
 use Rattle.prove_works.proofs.searches.found_at.Given as goal

@@ -1,6 +1,6 @@
 use Rattle.std.proofs.Common.{◌≡◌, drop}
-use Rattle.model_prove.specs.Arrivals.{some_value}
-use Rattle.model_prove.specs.Steps as steps
+use Rattle.prove_facts.specs.model_prove.specs.Arrivals.{some_value}
+use Rattle.prove_facts.specs.model_prove.specs.Steps as steps
 use Rattle.prove_works.specs.Searches.{sets_of}
 use Rattle.prove_works.proofs.searches.some_pass.Given as goal
 

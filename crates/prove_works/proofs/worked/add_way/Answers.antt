@@ -1,7 +1,7 @@
 use Rattle.std.specs.Prelude.{map}
 use Rattle.std.proofs.Common.{◌∙◌, ap, sym}
-use Rattle.model_prove.specs.Compares.{Compare}
-use Rattle.model_prove.specs.Steps as steps
+use Rattle.prove_facts.specs.model_prove.specs.Compares.{Compare}
+use Rattle.prove_facts.specs.model_prove.specs.Steps as steps
 use Rattle.prove_scenes.specs.Works.{digitwise_value, operand_value}
 use Rattle.prove_spots.specs.Grounds.{spot_of}
 use Rattle.prove_works.specs.Numbers.{flags_of}

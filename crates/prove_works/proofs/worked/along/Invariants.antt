@@ -1,7 +1,7 @@
 use Rattle.std.proofs.Common.{◌≡◌, ◌++◌, drop}
 use Rattle.std.specs.Prelude.{map, flat_map}
-use Rattle.model_rules.specs.Keeping.{Amounts}
-use Rattle.model_prove.specs.Keys.{Start}
+use Rattle.prove_facts.specs.model_rules.specs.Keeping.{Amounts}
+use Rattle.prove_facts.specs.model_prove.specs.Keys.{Start}
 use Rattle.prove_digits.specs.Ways.{way_value}
 use Rattle.prove_scenes.specs.Works.{digitwise_value}
 use Rattle.prove_spots.specs.Grounds.{spot_of}

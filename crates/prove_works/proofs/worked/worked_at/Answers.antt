@@ -1,6 +1,6 @@
 use Rattle.std.specs.Prelude.{List}
 use Rattle.std.proofs.Common.{◌∙◌, ap}
-use Rattle.model_prove.specs.Steps as steps
+use Rattle.prove_facts.specs.model_prove.specs.Steps as steps
 use Rattle.prove_facts.specs.declared.values.Values.{Values}
 use Rattle.prove_scenes.specs.Works.{digitwise_value}
 use Rattle.prove_spots.specs.Grounds.{spot_of}

@@ -1,8 +1,8 @@
 use Rattle.std.specs.Prelude.{List, map, flat_map}
 use Rattle.std.proofs.Common.{◌∙◌, ap}
-use Rattle.model_prove.specs.Digits.{Flags, Digits}
-use Rattle.model_prove.specs.Facts as known
-use Rattle.model_prove.specs.Steps as steps
+use Rattle.prove_facts.specs.model_prove.specs.Digits.{Flags, Digits}
+use Rattle.prove_facts.specs.model_prove.specs.Facts as known
+use Rattle.prove_facts.specs.model_prove.specs.Steps as steps
 use Rattle.prove_digits.specs.declared.digits.Way.{Way}
 use Rattle.prove_digits.specs.Ways.{way_value, ways_found}
 use Rattle.prove_scenes.specs.Works.{digitwise_value}

@@ -1,5 +1,5 @@
 use Rattle.std.proofs.Common.{◌∙◌, ap}
-use Rattle.model_prove.specs.Steps as steps
+use Rattle.prove_facts.specs.model_prove.specs.Steps as steps
 use Rattle.prove_spots.specs.Grounds.{Ground, spot_of}
 use Rattle.prove_works.specs.Searches.{sets_of}
 use Rattle.prove_works.proofs.worked.written_over.Goals as goal

@@ -1,5 +1,5 @@
 use Rattle.std.proofs.Common.{ℕ, ◌-◌, ◌++◌, List, codes, decimal, length, take, ap, subst, ◌∙◌}
-use Rattle.model_text.specs.TurnText.{turn_line}
+use Rattle.mc_isa.specs.model_text.specs.TurnText.{turn_line}
 use Rattle.mc_machine.specs.Turns.{turn_value}
 use Rattle.desk_cover.specs.Tracing.{Adds, adds_on, state_part_of}
 use Rattle.desk_cover.proofs.TraceLemmas.{line_parts}

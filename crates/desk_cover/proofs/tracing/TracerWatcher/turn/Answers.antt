@@ -1,6 +1,6 @@
 use Rattle.std.proofs.Common.{[], ◌∷◌, ap, sym, subst, ◌∙◌}
 use Rattle.std.specs.Prelude.{option_map}
-use Rattle.model_machine.specs.Chain.{turn_of}
+use Rattle.mc_arith.specs.model_machine.specs.Chain.{turn_of}
 use Rattle.desk_draft.specs.FullTurns.{running_code}
 use Rattle.desk_cover.specs.Tracing.{Traced, line_value}
 use Rattle.desk_cover.specs.Watching.{full_turn_of}

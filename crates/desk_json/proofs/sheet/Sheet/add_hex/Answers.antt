@@ -1,6 +1,6 @@
 use Rattle.std.proofs.Common.{◌+◌, drop, get_or, refl}
 use Rattle.std.proofs.lemmas.List.{drop_more}
-use Rattle.model_text.specs.Listing.{hex_text}
+use Rattle.mc_text.specs.model_text.specs.Listing.{hex_text}
 use Rattle.desk_json.proofs.SheetLemmas.{leads_end, leads_on}
 use Rattle.desk_json.proofs.sheet.Sheet.add_hex.Goals as goal
 

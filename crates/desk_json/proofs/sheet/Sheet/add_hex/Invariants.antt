@@ -1,5 +1,5 @@
 use Rattle.std.proofs.Common.{drop}
-use Rattle.model_text.specs.Listing.{hex_text}
+use Rattle.mc_text.specs.model_text.specs.Listing.{hex_text}
 use Rattle.desk_json.specs.declared.sheet.Sheet.{Sheet}
 use Rattle.desk_json.specs.Sheets.{Adds}
 use Rattle.desk_json.proofs.sheet.Sheet.add_hex.Given as goal

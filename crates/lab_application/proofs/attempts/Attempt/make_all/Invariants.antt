@@ -1,7 +1,7 @@
 use Rattle.std.proofs.Common.{◌≡◌, true, List, length}
-use Rattle.model_play.specs.Family.{is_running}
-use Rattle.law_explore.specs.Rules as rule
-use Rattle.law_explore.specs.Search.{Node}
+use Rattle.law_histories.specs.model_play.specs.Family.{is_running}
+use Rattle.law_histories.specs.law_explore.specs.Rules as rule
+use Rattle.law_histories.specs.law_explore.specs.Search.{Node}
 use Rattle.lab_search.specs.Kept.{names_in}
 use Rattle.lab_search.specs.Rounds.{Depth, TriesMove}
 use Rattle.lab_application.specs.Finding.{AreKeptWith, IsSameSearch}

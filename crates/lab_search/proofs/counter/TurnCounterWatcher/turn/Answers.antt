@@ -1,5 +1,5 @@
 use Rattle.std.proofs.Common.{[], ◌∷◌, sym, subst}
-use Rattle.model_machine.specs.Chain.{Turn, turn_of}
+use Rattle.law_explore_text.specs.model_machine.specs.Chain.{Turn, turn_of}
 use Rattle.lab_search.specs.Counters.{CountsTurns}
 use Rattle.lab_search.proofs.counter.TurnCounterWatcher.turn.Goals as goal
 

@@ -1,9 +1,9 @@
 use Rattle.std.proofs.Common.{◌≡◌, ◌+◌, ◌-◌, true, List}
-use Rattle.model_play.specs.Family.{is_running}
-use Rattle.law_explore.specs.Rules as rule
-use Rattle.law_explore.specs.States.{play_of}
-use Rattle.law_explore.specs.Tries.{cuts_from, writes_of}
-use Rattle.law_explore.specs.Search.{Node}
+use Rattle.law_explore_text.specs.model_play.specs.Family.{is_running}
+use Rattle.law_explore_text.specs.law_explore.specs.Rules as rule
+use Rattle.law_explore_text.specs.law_explore.specs.States.{play_of}
+use Rattle.law_explore_text.specs.law_explore.specs.Tries.{cuts_from, writes_of}
+use Rattle.law_explore_text.specs.law_explore.specs.Search.{Node}
 use Rattle.lab_search.specs.Rounds.{round_in, tally_of, tries_from, tries_in, Ahead, Depth, TriesMove}
 use Rattle.lab_search.proofs.rounds.Search.cut_all.Given as goal
 

@@ -1,6 +1,6 @@
 use Rattle.std.proofs.Common.{List, ◌∷◌}
-use Rattle.law_explore.specs.Search.{Node}
-use Rattle.law_explore.specs.Tries.{Try}
+use Rattle.law_explore_text.specs.law_explore.specs.Search.{Node}
+use Rattle.law_explore_text.specs.law_explore.specs.Tries.{Try}
 use Rattle.lab_search.specs.Rounds.{Depth, IsFrom, IsTry}
 use Rattle.lab_search.proofs.PathLemmas.{Walked}
 use Rattle.lab_search.proofs.rounds.Search.path.Given as goal

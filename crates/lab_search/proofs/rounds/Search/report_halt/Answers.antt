@@ -1,5 +1,5 @@
 use Rattle.std.proofs.Common.{Ok, refl, reverse}
-use Rattle.law_explore.specs.States.{play_of_deck}
+use Rattle.law_explore_text.specs.law_explore.specs.States.{play_of_deck}
 use Rattle.lab_search.specs.declared.endings.Explored.TheVariants as explored
 use Rattle.lab_search.proofs.EndingLemmas.{put_stopped}
 use Rattle.lab_search.proofs.HaltLemmas.{err_ending, halt_broken, nothing_yet, path_tries, put_err, reports_broken, reports_full, steps_as}

@@ -1,6 +1,6 @@
 use Rattle.std.proofs.Common.{List}
-use Rattle.law_explore.specs.Tries.{tries_of}
-use Rattle.law_explore.specs.Search.{Node}
+use Rattle.law_explore_text.specs.law_explore.specs.Tries.{tries_of}
+use Rattle.law_explore_text.specs.law_explore.specs.Search.{Node}
 use Rattle.lab_search.specs.Rounds.{round_in, tally_of, tries_from, Ahead, AreCandidates, Depth, IsFrom}
 use Rattle.lab_search.proofs.CourseLemmas.{moves_left}
 use Rattle.lab_search.proofs.rounds.Search.try_moves.Given as goal

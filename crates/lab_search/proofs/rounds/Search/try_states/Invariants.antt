@@ -1,5 +1,5 @@
 use Rattle.std.proofs.Common.{◌≡◌, ◌≤◌, List, drop, length}
-use Rattle.law_explore.specs.Search.{round_of_states, Node}
+use Rattle.law_explore_text.specs.law_explore.specs.Search.{round_of_states, Node}
 use Rattle.lab_search.specs.Rounds.{round_in, tally_of, Ahead, AreCandidates, Depth, Holds}
 use Rattle.lab_search.proofs.CourseLemmas.{states_left}
 use Rattle.lab_search.proofs.rounds.Search.try_states.Given as goal

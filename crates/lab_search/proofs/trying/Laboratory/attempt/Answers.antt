@@ -1,7 +1,7 @@
 use Rattle.std.proofs.Common.{rules, ◌≡◌, ◌∙◌, ℕ, List, length, map, sym, subst}
 use Rattle.std.specs.Prelude.{vec_len}
 use Rattle.std.proofs.lemmas.List.{take_at}
-use Rattle.law_explore.specs.Tries.{allowances_after}
+use Rattle.law_explore_text.specs.law_explore.specs.Tries.{allowances_after}
 use Rattle.lab_rules.specs.Occasions.{AreSpent}
 use Rattle.lab_search.proofs.AttemptLemmas.{broken_is, keeps_more, made_by, missed_by, none_is, of_device, reached_is, spends_by, tried_step}
 use Rattle.lab_search.proofs.trying.Laboratory.attempt.Goals as goal

@@ -1,10 +1,10 @@
 use Rattle.std.proofs.Common.{rules, ◌≡◌, List, ℕ, length, replicate, sym, subst, ◌∙◌, ap}
 use Rattle.std.specs.Prelude.{vec_len, IfOk}
 use Rattle.std.proofs.lemmas.List.{take_at}
-use Rattle.model_device.specs.Image.{image_with}
-use Rattle.model_play.specs.TraceText.{shown_turns}
-use Rattle.law_explore.specs.States.{play_of}
-use Rattle.law_explore.specs.Tries.{step_of}
+use Rattle.law_explore_text.specs.model_device.specs.Image.{image_with}
+use Rattle.law_explore_text.specs.model_play.specs.TraceText.{shown_turns}
+use Rattle.law_explore_text.specs.law_explore.specs.States.{play_of}
+use Rattle.law_explore_text.specs.law_explore.specs.Tries.{step_of}
 use Rattle.lab_rules.specs.Occasions.{counts_after_turns}
 use Rattle.lab_search.specs.Reports.{manner_value}
 use Rattle.lab_key.specs.Shown.{IsShown}

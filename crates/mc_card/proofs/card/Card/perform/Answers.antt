@@ -1,8 +1,8 @@
 use Rattle.std.proofs.Common.{ℕ, Result, Option, sym, ◌∙◌, ap, subst, Ok, Err}
 use Rattle.std.proofs.lemmas.Result.{err_from_is_err_and}
-use Rattle.model_device.specs.declared.device.Stop.{Stop}
-use Rattle.model_device.specs.Orders.{answer_of}
-use Rattle.model_card.specs.Manager.{route}
+use Rattle.mc_base.specs.model_device.specs.declared.device.Stop.{Stop}
+use Rattle.mc_base.specs.model_device.specs.Orders.{answer_of}
+use Rattle.mc_bank.specs.model_card.specs.Manager.{route}
 use Rattle.mc_apdu.specs.Command.{parts_of}
 use Rattle.mc_machine.specs.declared.outcome.End.{End}
 use Rattle.mc_machine.specs.Turns.{reply_or_stop}

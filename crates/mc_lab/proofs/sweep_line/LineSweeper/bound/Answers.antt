@@ -1,5 +1,5 @@
 use Rattle.std.proofs.Common.{◌≡◌, ◌+◌, false, arith, rules}
-use Rattle.model_device.specs.Bytes.{zeros}
+use Rattle.law_explore.specs.model_device.specs.Bytes.{zeros}
 use Rattle.mc_lab.proofs.SweepLoops.{missed_past}
 use Rattle.mc_lab.proofs.sweep_line.LineSweeper.bound.Goals as goal
 

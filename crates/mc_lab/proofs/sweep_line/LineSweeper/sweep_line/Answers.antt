@@ -1,6 +1,6 @@
 use Rattle.std.proofs.Common.{◌≡◌, ◌<◌, false, length, arith, rules, sym, ◌∙◌}
 use Rattle.std.proofs.lemmas.List.{length-set}
-use Rattle.model_device.specs.Bytes.{zeros}
+use Rattle.law_explore.specs.model_device.specs.Bytes.{zeros}
 use Rattle.mc_lab.specs.SweepBodies.{writes_in}
 use Rattle.mc_lab.proofs.SweepLoops.{missed_past, swept_none, sweeping_more}
 use Rattle.mc_lab.proofs.sweep_line.LineSweeper.sweep_line.Goals as goal

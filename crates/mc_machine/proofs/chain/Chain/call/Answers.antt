@@ -1,7 +1,7 @@
 use Rattle.std.proofs.Common.{◌≡◌, ℕ, List, ◌∷◌, sym, ap, subst, ◌∙◌}
-use Rattle.model_device.specs.Bytes.{lookup}
-use Rattle.model_machine.specs.Frame.{with_sw}
-use Rattle.model_machine.specs.Chain.{chain_after_call}
+use Rattle.law_machine.specs.model_device.specs.Bytes.{lookup}
+use Rattle.law_machine.specs.model_machine.specs.Frame.{with_sw}
+use Rattle.law_machine.specs.model_machine.specs.Chain.{chain_after_call}
 use Rattle.mc_segs.specs.HeldFrames.{Held, new_held}
 use Rattle.mc_machine.specs.Chains.{Chained, RunsAs}
 use Rattle.mc_machine.specs.contracts.chain.Chain.{the_view}

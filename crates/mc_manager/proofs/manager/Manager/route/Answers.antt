@@ -1,5 +1,5 @@
 use Rattle.std.proofs.Common.{[]}
-use Rattle.model_device.specs.Orders.{answer_of}
+use Rattle.model_card.specs.model_device.specs.Orders.{answer_of}
 use Rattle.model_card.specs.Manager.{manage}
 use Rattle.mc_apdu.specs.Command.{parts_of}
 use Rattle.mc_manager.specs.ManagerState.{view_of, session_state_of}

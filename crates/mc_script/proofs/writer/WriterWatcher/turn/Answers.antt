@@ -1,5 +1,5 @@
 use Rattle.std.proofs.Common.{[], ◌∷◌, sym, subst}
-use Rattle.model_machine.specs.Chain.{Turn, turn_of}
+use Rattle.model_play.specs.model_machine.specs.Chain.{Turn, turn_of}
 use Rattle.mc_script.specs.Writers.{WriterKeeps}
 use Rattle.mc_script.proofs.writer.WriterWatcher.turn.Goals as goal
 

@@ -1,5 +1,5 @@
 use Rattle.mc_bank.specs.Bank.{name_or}
-use Rattle.model_card.specs.Items.{Commit}
+use Rattle.mc_bank.specs.model_card.specs.Items.{Commit}
 use Rattle.mc_store.specs.Store.{store_named}
 use Rattle.mc_store.specs.StoreItems.{store_did, one_item}
 use Rattle.mc_store.specs.Laws.{store_obeys, store_spares, store_leaves}

@@ -1,4 +1,4 @@
-use Rattle.model_card.specs.Manager.{word_parts}
+use Rattle.mc_bank.specs.model_card.specs.Manager.{word_parts}
 use Rattle.mc_store.proofs.BankLemmas.{running}
 use Rattle.mc_store.proofs.FoldLemmas.{all_kept, all_changes, kept_good, kept_slots, pieces_plain, fill_piece, fill_others, good_in}
 use Rattle.mc_store.proofs.store.StoreBank.fill.Goals as goal

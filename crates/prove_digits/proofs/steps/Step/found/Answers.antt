@@ -1,5 +1,5 @@
 use Rattle.std.proofs.Common.{ap, ◌∙◌, true, false}
-use Rattle.model_prove.specs.Digits.{Digits}
+use Rattle.prove_facts.specs.model_prove.specs.Digits.{Digits}
 use Rattle.prove_digits.specs.States.{with_edges, found_digits}
 use Rattle.prove_digits.proofs.GrowLemmas.{none_value}
 use Rattle.prove_digits.proofs.steps.Step.found.Goals as goal

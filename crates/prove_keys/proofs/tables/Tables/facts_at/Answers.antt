@@ -1,5 +1,5 @@
 use Rattle.std.proofs.Common.{◌≡◌, ◌<◌, List, length, get_or, sym, subst}
-use Rattle.model_prove.specs.Facts.{Facts}
+use Rattle.prove_facts.specs.model_prove.specs.Facts.{Facts}
 use Rattle.prove_keys.proofs.TableLemmas.{if_some, moment_there}
 use Rattle.prove_keys.proofs.tables.Tables.facts_at.Goals as goal
 

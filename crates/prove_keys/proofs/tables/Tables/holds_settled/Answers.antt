@@ -1,5 +1,5 @@
 use Rattle.std.proofs.Common.{◌≡◌, Bool, true, sym, subst}
-use Rattle.model_prove.specs.Keys.{known_follows}
+use Rattle.prove_facts.specs.model_prove.specs.Keys.{known_follows}
 use Rattle.prove_keys.specs.Compares.{said}
 use Rattle.prove_keys.specs.Known.{known_of, settled_of}
 use Rattle.prove_keys.proofs.TableLemmas.{known_there}

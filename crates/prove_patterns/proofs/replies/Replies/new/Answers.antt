@@ -1,6 +1,6 @@
 use Rattle.std.proofs.Common.{◌∙◌, sym, subst}
 use Rattle.std.specs.Prelude.{IfOk, IfSome}
-use Rattle.model_prove.specs.Texts.{Opens}
+use Rattle.prove_facts.specs.model_prove.specs.Texts.{Opens}
 use Rattle.prove_patterns.specs.Replies.{ArePrepared}
 use Rattle.prove_patterns.proofs.LineLemmas.{results_are}
 use Rattle.prove_patterns.proofs.replies.Replies.new.Goals as goal

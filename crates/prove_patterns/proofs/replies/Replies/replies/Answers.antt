@@ -1,8 +1,8 @@
 use Rattle.std.proofs.Common.{◌≡◌, List, Bool, ap, subst, map}
 use Rattle.std.specs.Prelude.{IfOk}
 use Rattle.std.proofs.Common.{lit≤}
-use Rattle.model_prove.specs.Texts.{opened, any_count}
-use Rattle.model_prove.specs.Arrivals.{Lengths, result_patterns}
+use Rattle.prove_facts.specs.model_prove.specs.Texts.{opened, any_count}
+use Rattle.prove_facts.specs.model_prove.specs.Arrivals.{Lengths, result_patterns}
 use Rattle.prove_facts.specs.Sets.{set_of}
 use Rattle.prove_patterns.specs.Replies.{combinations_of}
 use Rattle.prove_patterns.proofs.ReplyLemmas.{replies_are}

@@ -1,6 +1,6 @@
 use Rattle.std.proofs.Common.{ℕ, map, length, ◌-◌, sym, ap, ◌∙◌}
 use Rattle.std.proofs.lemmas.List.{length-map}
-use Rattle.model_prove.specs.Steps as steps
+use Rattle.prove_facts.specs.model_prove.specs.Steps as steps
 use Rattle.prove_facts.specs.Sets.{set_of}
 use Rattle.prove_scenes.specs.ShapeValues.{act_value}
 use Rattle.prove_scenes.specs.declared.shapes.Act.{Act}

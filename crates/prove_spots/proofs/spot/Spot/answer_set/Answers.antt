@@ -1,6 +1,6 @@
 use Rattle.std.proofs.Common.{ℕ, Option, List, map, sym, ap, ◌∙◌}
-use Rattle.model_prove.specs.Sets.{Set}
-use Rattle.model_prove.specs.Steps as steps
+use Rattle.prove_facts.specs.model_prove.specs.Sets.{Set}
+use Rattle.prove_facts.specs.model_prove.specs.Steps as steps
 use Rattle.prove_facts.specs.Sets.{set_of}
 use Rattle.prove_spots.specs.Grounds.{spot_of}
 use Rattle.prove_spots.proofs.SpotLemmas.{done_from}

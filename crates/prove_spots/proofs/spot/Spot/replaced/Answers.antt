@@ -1,5 +1,5 @@
 use Rattle.std.proofs.Common.{ℕ, map, length, ◌-◌, ap, arith}
-use Rattle.model_prove.specs.Steps as steps
+use Rattle.prove_facts.specs.model_prove.specs.Steps as steps
 use Rattle.prove_facts.specs.Sets.{set_of}
 use Rattle.prove_spots.specs.Grounds.{spot_of}
 use Rattle.prove_spots.proofs.SpotLemmas.{done_from}

@@ -1,5 +1,5 @@
 use Rattle.std.proofs.Common.{◌∙◌, List, None, ap}
-use Rattle.model_sums.specs.Origins as model
+use Rattle.prove_forms.specs.model_sums.specs.Origins as model
 use Rattle.prove_forms.specs.declared.origins.Origin.{Origin}
 use Rattle.prove_forms.specs.Origins.{origin_values}
 use Rattle.prove_sums.proofs.values.Sums.lost.Goals as goal
