@@ -19,8 +19,6 @@ mod rule;
 mod scope;
 mod source;
 mod statement;
-#[cfg(test)]
-mod tests;
 mod text;
 mod verdict;
 

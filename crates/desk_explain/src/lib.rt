@@ -13,8 +13,6 @@ mod reach;
 mod refusals;
 mod rule;
 mod sentence;
-#[cfg(test)]
-mod tests;
 mod text;
 mod uses;
 mod verdicts;

@@ -8,6 +8,3 @@ mod refusal;
 
 pub use reading::{Application, read_application};
 pub use refusal::ApplicationRefusal;
-
-#[cfg(test)]
-mod tests;

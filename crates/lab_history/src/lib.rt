@@ -20,6 +20,3 @@ pub use course::{Course, Deed, Extent, Happening};
 pub use durable::is_durable;
 pub use laws::{blocks_are_sums, places_are_names, ranges_are_ranges};
 pub use standing::{Break, Standing, broken_always};
-
-#[cfg(test)]
-mod tests;

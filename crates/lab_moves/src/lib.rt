@@ -7,6 +7,3 @@ mod named;
 
 pub use moves::read_moves;
 pub use named::names_application;
-
-#[cfg(test)]
-mod tests;

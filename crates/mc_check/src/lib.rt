@@ -9,8 +9,6 @@ mod closing;
 mod judging;
 mod laws;
 mod primitives;
-#[cfg(test)]
-mod rows;
 mod shape;
 mod table;
 mod uses;

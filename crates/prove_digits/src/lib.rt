@@ -11,6 +11,3 @@ mod trios;
 mod turns;
 
 pub use digits::{Digit, Way, ways};
-
-#[cfg(test)]
-mod tests;

@@ -6,7 +6,6 @@ mod forms;
 mod numbers;
 mod origins;
 mod spelled;
-mod tests;
 
 pub use forms::{Form, Term};
 pub use origins::{Listed, Origin, Origins};

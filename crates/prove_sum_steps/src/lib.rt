@@ -16,6 +16,3 @@ mod totals;
 mod turns;
 
 pub use closing::sums_are_closed;
-
-#[cfg(test)]
-mod tests;

@@ -13,7 +13,6 @@ mod moves;
 mod numbers;
 mod optional;
 mod stack;
-mod tests;
 mod values;
 mod works;
 mod writes;

@@ -1,5 +1,5 @@
 // A whole draft, and its deck, which makes itself.
-use crate::tests::makes;
+use crate::drafts::makes;
 
 #[test]
 fn deck_of_the_purse(rt: HostRuntime) {

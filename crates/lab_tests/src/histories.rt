@@ -1,4 +1,4 @@
-use crate::{Course, Deed, Extent, Happening, Standing, apply, is_durable};
+use lab_history::{Course, Deed, Extent, Happening, Standing, apply, is_durable};
 use mc_base::NoMemory;
 use prove_events::{Amount, Balance, Effect, Event, Load, Named, On, Rules, SignedSum};
 use std::alloc::{AllocError, Global};

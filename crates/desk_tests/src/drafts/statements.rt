@@ -1,5 +1,5 @@
 // Names of sections, and commands.
-use crate::tests::makes;
+use crate::drafts::makes;
 
 #[test]
 fn loads(rt: HostRuntime) {

@@ -1,5 +1,5 @@
 // Names in instructions.
-use crate::tests::makes;
+use crate::drafts::makes;
 
 #[test]
 fn sizes(rt: HostRuntime) {

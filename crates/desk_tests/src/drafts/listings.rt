@@ -1,5 +1,5 @@
 // Listings.
-use crate::tests::{lists, refuses_desk};
+use crate::drafts::{lists, refuses_desk};
 use mc_deck::model_play::DeckCause;
 
 #[test]

@@ -1,5 +1,5 @@
 // Declarations, and the lines that they leave in the deck.
-use crate::tests::makes;
+use crate::drafts::makes;
 
 #[test]
 fn whole_draft(rt: HostRuntime) {

@@ -1,6 +1,6 @@
 // What is explained of small drafts.
 
-use crate::explain;
+use desk_explain::explain;
 use std::alloc::Global;
 
 // Whether what is explained of a draft is a text, and whether the draft passes as it should.

@@ -8,7 +8,7 @@ mod refusals;
 mod statements;
 mod verdicts;
 
-use crate::{DeckRefusal, Loads, deck_of, list, push_source_part, read_desk};
+use desk_draft::{DeckRefusal, Loads, deck_of, list, push_source_part, read_desk};
 use mc_deck::model_play::DeckCause;
 use std::alloc::Global;
 

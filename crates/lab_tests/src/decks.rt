@@ -1,4 +1,4 @@
-use crate::{ApplicationRefusal, read_application};
+use lab_deck::{ApplicationRefusal, read_application};
 use mc_deck::{DeckCause, read_deck};
 use prove_rules::RuleCause;
 use std::alloc::Global;

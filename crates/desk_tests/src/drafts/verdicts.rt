@@ -1,5 +1,5 @@
 // The source lines of places.
-use crate::tests::has_part;
+use crate::drafts::has_part;
 
 #[test]
 fn source_lines(rt: HostRuntime) {

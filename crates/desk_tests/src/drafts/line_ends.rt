@@ -1,5 +1,5 @@
 // What ends lines.
-use crate::tests::{makes, refuses};
+use crate::drafts::{makes, refuses};
 use mc_deck::model_play::DeckCause;
 
 #[test]

@@ -1,10 +1,10 @@
 // No clause says that a comparison returns `true`.
-use crate::{Before, Sums, moved};
 use mc_arith::model_machine::Ins;
 use mc_base::NoMemory;
 use prove_events::Balance;
 use prove_forms::{Form, Origin};
 use prove_scenes::{Act, Next, Shape, Work};
+use prove_sums::{Before, Sums, moved};
 use std::alloc::Global;
 use std::test::Fail;
 

@@ -1,5 +1,5 @@
 // Ways through one byte, two bytes and none.
-use crate::{Digit, ways};
+use prove_digits::{Digit, ways};
 use prove_facts::Values;
 use std::test::Fail;
 

@@ -1,5 +1,5 @@
 // No clause says that a comparison returns `true`, nor that a call has room.
-use crate::{Form, Origin, Origins, form_of};
+use prove_forms::{Form, Origin, Origins, form_of};
 use std::alloc::Global;
 use std::test::Fail;
 

@@ -1,9 +1,9 @@
 // A table of sums beside tables without keys: what is left is what the totals are as the application is created.
-use crate::sums_are_closed;
 use mc_base::NoMemory;
 use prove_events::{Balance, Load, Named, Rules, SignedSum};
 use prove_facts::push;
 use prove_keys::Tables;
+use prove_sum_steps::sums_are_closed;
 use std::alloc::Global;
 use std::test::Fail;
 

@@ -1,7 +1,6 @@
 // Code whose verdict is known.
-use crate::verdict::{Verdict, check};
-use law_family::model_text::CheckCause;
 use mc_base::{MOST_CODE, NoMemory};
+use mc_check::{CheckCause, Verdict, check};
 use std::alloc::Global;
 use std::test::Fail;
 
