@@ -9,13 +9,12 @@ ghost use Rattle.prove_keys.specs.Tables.{tables_of};
 ghost use Rattle.prove_rules.specs.Sums.{AreSums};
 ghost use Rattle.prove_tables.specs.Closed.{AreProved, HasSums, tables_with};
 
-use crate::subject::Subject;
 use crate::sums_table::table_of_sums;
-use crate::tables::Found;
 use mc_base::NoMemory;
 use prove_closed::is_closed;
 use prove_events::{Class, Event, On};
 use prove_facts::push;
+use prove_search::{Found, Subject};
 use prove_sum_steps::sums_are_closed;
 use std::alloc::Global;
 use std::collections::BTreeSet;

@@ -7,21 +7,19 @@ ghost use Rattle.law_sum_plays.specs.model_rules.specs.Rules.{AppRules, Target};
 ghost use Rattle.prove_events.specs.Rules.{AreRules};
 ghost use Rattle.prove_rules.specs.Sums.{AreSums};
 ghost use Rattle.prove_tables.specs.Closed.{AreProved};
-ghost use Rattle.prove_tables.specs.Reports.{IsReport};
+ghost use Rattle.prove_report.specs.Reports.{IsReport};
 
-use crate::balances::balance_at_creation;
 use crate::closing::are_proved;
-use crate::keys::{Break, Rule};
-use crate::searching::{Stopped, search};
-use crate::subject::{Subject, blocks_of};
-use crate::tables::{Found, MOST_KEYS};
-use crate::text::{add_verdict, break_ranges, text_of_tables};
 use law_sum_plays::closed_sums_keep_rules;
 use law_sum_plays::law_prove_closed::closed_tables_keep_rules;
 use mc_base::NoMemory;
 use prove_events::{Balance, Load, Rules};
 use prove_facts::{Facts, Values, mask, push};
 use prove_keys::MomentKey;
+use prove_report::{add_verdict, break_ranges, text_of_tables};
+use prove_search::{
+    Break, Found, MOST_KEYS, Rule, Stopped, Subject, balance_at_creation, blocks_of, search,
+};
 use std::alloc::Global;
 
 /// A text, and whether it says that all rules are proved.

@@ -1,11 +1,10 @@
 // The shortest ways to what is broken: from the creation, over the keys of finished tables.
-use crate::keys::{Break, Outcome, Rule};
-use crate::searching::{outcomes_of_moment, outcomes_of_place};
-use crate::subject::Subject;
-use crate::tables::{Found, is_kept};
 use mc_base::NoMemory;
 use prove_facts::push;
 use prove_keys::{Begun, PlaceKey, Tables};
+use prove_search::{
+    Break, Found, Outcome, Rule, Subject, is_kept, outcomes_of_moment, outcomes_of_place,
+};
 use std::alloc::Global;
 use std::collections::{BTreeMap, VecDeque};
 

@@ -1,6 +1,6 @@
 use Rattle.std.proofs.Common.{length, ◌≡◌, ℕ, ◌<◌, List, arith, sym, take}
 use Rattle.std.proofs.lemmas.List.{length-take-le}
-use Rattle.prove_tables.proofs.subject.code_of.Goals as goal
+use Rattle.prove_search.proofs.subject.code_of.Goals as goal
 
 -- the front of a list that is longer has this length
 front : (code : List ℕ) → 8192 < length code → length (take 8192 code) ≡ 8192

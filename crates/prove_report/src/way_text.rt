@@ -1,13 +1,13 @@
 // The text of a way: what a terminal does, and the lines or places of the code.
-use crate::subject::{Subject, code_of};
 use crate::text::{add, add_number, add_values, add_word};
 use crate::ways::Key;
-use law_sum_plays::model_machine::Ins;
 use mc_base::NoMemory;
 use mc_isa::decode;
+use mc_isa::model_machine::Ins;
 use prove_events::{Class, CodeLine};
 use prove_facts::{Facts, Values};
 use prove_keys::{Begun, Tables};
+use prove_search::{Subject, code_of};
 use std::alloc::Global;
 
 // The addresses of CLA, INS, P1 and P2.

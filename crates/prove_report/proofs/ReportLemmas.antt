@@ -1,7 +1,7 @@
 -- The text of a proof, piece by piece.
 use Rattle.std.proofs.Common.{◌≡◌, ◌∙◌, ap, refl, ℕ, true, List, [], ◌∷◌, ◌++◌, Result, Ok, Err}
 use Rattle.std.specs.Prelude.{OnOk}
-use Rattle.prove_tables.specs.Reports.{is_of_lines}
+use Rattle.prove_report.specs.Reports.{is_of_lines}
 
 -- a line that was ended
 ended : (t : List ℕ) → is_of_lines (t ++ 10 ∷ []) ≡ true

@@ -21,7 +21,7 @@ pub enum Stopped {
 
 impl From<NoMemory> for Stopped {
     ghost use Rattle.std.specs.Prelude.{◌≡◌};
-    ghost use Rattle.prove_tables.specs.declared.searching.Stopped.TheVariants.{NoMemory};
+    ghost use Rattle.prove_search.specs.declared.searching.Stopped.TheVariants.{NoMemory};
 
     ghost from_gives = { λ f e. e ≡ NoMemory };
 

@@ -1,6 +1,6 @@
 // What is asked: an application, its rules, and the classes of commands.
 ghost use Rattle.std.specs.Prelude.{◌≡◌, ◌≤◌, length, IfOk};
-ghost use Rattle.law_sum_plays.specs.model_device.specs.Limits.{most_code};
+ghost use Rattle.mc_isa.specs.model_device.specs.Limits.{most_code};
 
 use mc_base::NoMemory;
 use prove_events::{Class, Load, Rules, classes};

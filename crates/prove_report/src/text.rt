@@ -1,10 +1,7 @@
 // The text of finished tables.
 ghost use Rattle.std.specs.Prelude.{◌≡◌, ◌++◌, decimal, true, IfOk, OnOk};
-ghost use Rattle.prove_tables.specs.Reports.{is_of_lines, verdict_words, IsReport};
+ghost use Rattle.prove_report.specs.Reports.{is_of_lines, verdict_words, IsReport};
 
-use crate::keys::{Break, Rule};
-use crate::subject::{Subject, code_of};
-use crate::tables::{Found, all_keep};
 use crate::way_text::add_way;
 use crate::ways::{Key, Walk, walk_to_faults};
 use itoa::Buffer;
@@ -13,6 +10,7 @@ use mc_isa::{decode, text_of};
 use mc_text::digit;
 use prove_facts::{Fact, Facts, Values};
 use prove_keys::{DYNAMIC, MomentKey, Tables};
+use prove_search::{Break, Found, Rule, Subject, all_keep, code_of};
 use std::alloc::Global;
 use std::collections::BTreeMap;
 

@@ -1,13 +1,13 @@
 // The outcomes of a place of the code.
-ghost use Rattle.law_sum_plays.specs.model_machine.specs.Code.{Shaped};
+ghost use Rattle.mc_isa.specs.model_machine.specs.Code.{Shaped};
 
 use crate::balances::{ask_balances, count_sums};
 use crate::ends::{abend, exit, reply_lengths, stop};
 use crate::events::amounts_after;
 use crate::keys::{Break, Outcome, Rule};
 use crate::subject::{Subject, code_of};
-use law_sum_plays::model_machine::{DecodeFault, Ins};
 use mc_base::NoMemory;
+use mc_isa::model_machine::{DecodeFault, Ins};
 use mc_isa::{decode, text_of};
 use prove_events::{TurnEvent, turn_lines};
 use prove_facts::push;

@@ -1,6 +1,6 @@
 use Rattle.std.proofs.Common.{◌≡◌, true}
-use Rattle.prove_tables.specs.Reports.{is_of_lines}
-use Rattle.prove_tables.proofs.text.add_breaks.Given as goal
+use Rattle.prove_report.specs.Reports.{is_of_lines}
+use Rattle.prove_report.proofs.text.add_breaks.Given as goal
 
 -- the text so far has whole lines
 abbrev pub invariant-loop-broken : goal.invariant-loop-broken
