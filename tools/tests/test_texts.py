@@ -4,6 +4,7 @@ It needs pytest, and the programs, built by tools/build or by `rt ci`.
 """
 
 import pathlib
+import re
 import subprocess
 import sys
 import xml.etree.ElementTree as xml
@@ -183,3 +184,15 @@ def test_a_campaign_is_a_page_and_cases(tmp_path):
     assert page.returncode == 1 and "refused: line 4 BadLine" in page.stdout and page.stdout.rstrip().endswith("</html>")
     suites = xml.fromstring(tool("junit.py", "--campaign", tmp_path, "--decks", TOP).stdout.split("\n", 1)[1])
     assert [it.get("errors") for it in suites] == ["0", "0", "0", "0", "1", "1"]
+
+
+@pytest.mark.parametrize("name", ["pin", "pin_proved"])
+def test_the_purse_of_the_examples_is_the_proved_one(name):
+    """Its section is assembled to the code of the laws of `example_purse`, and it is loaded as the application that they are about."""
+    section = example(name).partition("app purse A000000100\n")[2].partition("end\n")[0].splitlines()
+    data = "".join(line.split()[1] for line in section if line.startswith("DATA "))
+    text = "\n".join(line for line in section if not line.startswith("DATA "))
+    code = subprocess.run([program_path("melcard"), "asm"], input=text.encode(), stdout=subprocess.PIPE, check=True).stdout.decode()
+    proved = (TOP / "crates" / "example_purse" / "src" / "purse.rt").read_text(encoding="utf-8").partition("const CODE")[2].partition("];")[0]
+    assert code.replace("\n", "") == "".join(re.findall(r"0x(..)", proved))
+    assert data == "03E8031234" and "\nload purse 7 1\n" in example(name)
