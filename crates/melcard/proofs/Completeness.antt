@@ -42,8 +42,8 @@ summed_whole ls x y a b s (Err f) quiet e sums = absurd (quiet sums.text.cause)
 done_whole : (v : JobVerdict) (s : Status) (a : CardOutside) → (Rose a.streams.out_old.faults a.streams.out.faults → ⊥) → IsDone v s a → s ≡ status_of v
 done_whole (Whole text) s a quiet d = written_whole a.streams.out_old a.streams.out text Done s d.result quiet d.status d.written
 done_whole (Refusal line) s a quiet d = written_whole a.streams.out_old a.streams.out line Failed s d.result quiet d.status d.written
-done_whole (Plays t lines) s a quiet d = played_whole (text_of_step t) lines a.dev_old a.dev a.streams.out_old a.streams.out s d.result quiet d.status d.plays
-done_whole (Sums lines) s a quiet d = summed_whole lines a.dev_old a.dev a.streams.out_old a.streams.out s d.result quiet d.status d.sums
+done_whole (Plays t lines) s a quiet d = played_whole (text_of_step t) lines a.dev_old a.dev a.streams.out_old a.streams.out s d.result quiet d.status d.counts.deck
+done_whole (Sums lines) s a quiet d = summed_whole lines a.dev_old a.dev a.streams.out_old a.streams.out s d.result quiet d.status d.counts.deck
 
 -- ---- the status
 

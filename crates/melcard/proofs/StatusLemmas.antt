@@ -55,7 +55,7 @@ pub says_played : (Kept : Type 0) (t : Reporting) (s : Status) (a : CardOutside)
 says_played Kept t s a p = says_done Kept (job.Play t) a p.played.result s p.played.status (record { verdict = Plays t p.lines; due = p.due; done = (p.played, tt) })
 
 -- a generated deck was played
-pub says_summed : (Kept : Type 0) (n : ℕ) (s : Status) (a : CardOutside) → Untouched a.streams → IsSummed (deck_of_number n) s a.dev_old a.streams.out_old a.dev a.streams.out → MelcardSays Kept s (Some (job.Generate n)) a
+pub says_summed : (Kept : Type 0) (n : ℕ) (s : Status) (a : CardOutside) → Untouched a.streams → IsSummed (deck_of_number n) s a.dev_old a.streams.out_old a.dev a.streams.out a.steps_old a.steps → MelcardSays Kept s (Some (job.Generate n)) a
 says_summed Kept n s a still d = says_done Kept (job.Generate n) a d.result s d.status (record { verdict = Sums (deck_of_number n); due = (still, refl); done = (d, tt) })
 
 -- the text of an input was written
@@ -98,25 +98,26 @@ no_part Kept (Some work) a says = says
 -- ---- the environment of a call
 
 module _ {S T N : Type 0} (input : source.Ghosts S) (output : sink.Ghosts T) (members : BenchMembers N) where
-  -- source, sink and device before and after the call
-  abbrev pub around : S → S → T → T → N → N → CardOutside
-  around s t x y d e = card_outside input output members s t x y d e
+  -- source, sink, device and steps before and after the call
+  abbrev pub around : S → S → T → T → N → N → ℕ → ℕ → CardOutside
+  around s t x y d e i j = card_outside input output members s t x y d e i j
 
-  -- the meaning of a status does not depend on how the job, the source, the sink and the device are named
-  pub says_at : (s t u : S) (x y z : T) (d e f : N) (work other : Job) (q : Status) → t ≡ u → y ≡ z → e ≡ f → work ≡ other → MelcardSays (f ≡ d) q (Some other) (around s u x z d f) → MelcardSays (e ≡ d) q (Some work) (around s t x y d e)
-  says_at s t u x y z d e f work other q from to device is says =
-      subst (λ t. MelcardSays (e ≡ d) q (Some work) (around s t x y d e)) (sym from)
-      (subst (λ y. MelcardSays (e ≡ d) q (Some work) (around s u x y d e)) (sym to)
-      (subst (λ e. MelcardSays (e ≡ d) q (Some work) (around s u x z d e)) (sym device)
-      (subst (λ w. MelcardSays (f ≡ d) q (Some w) (around s u x z d f)) (sym is) says)))
+  -- the meaning of a status does not depend on how the job, the source, the sink, the device and the steps are named
+  pub says_at : (s t u : S) (x y z : T) (d e f : N) (i j k : ℕ) (work other : Job) (q : Status) → t ≡ u → y ≡ z → e ≡ f → j ≡ k → work ≡ other → MelcardSays (f ≡ d) q (Some other) (around s u x z d f i k) → MelcardSays (e ≡ d) q (Some work) (around s t x y d e i j)
+  says_at s t u x y z d e f i j k work other q from to device count is says =
+      subst (λ t. MelcardSays (e ≡ d) q (Some work) (around s t x y d e i j)) (sym from)
+      (subst (λ y. MelcardSays (e ≡ d) q (Some work) (around s u x y d e i j)) (sym to)
+      (subst (λ e. MelcardSays (e ≡ d) q (Some work) (around s u x z d e i j)) (sym device)
+      (subst (λ j. MelcardSays (f ≡ d) q (Some work) (around s u x z d f i j)) (sym count)
+      (subst (λ w. MelcardSays (f ≡ d) q (Some w) (around s u x z d f i k)) (sym is) says))))
 
   -- a job that was rejected, by the result of the call that did not do it: its sink and device were unchanged
-  pub rejected_at : (s t u : S) (x y z m : T) (d e f : N) (work other : Job) (done result : Result Status Rejection) (why : Rejection) (q : Status) → done ≡ Err why → t ≡ u → y ≡ z → e ≡ f → done ≡ result → work ≡ other
+  pub rejected_at : (s t u : S) (x y z m : T) (d e f : N) (i j k : ℕ) (work other : Job) (done result : Result Status Rejection) (why : Rejection) (q : Status) → done ≡ Err why → t ≡ u → y ≡ z → e ≡ f → j ≡ k → done ≡ result → work ≡ other
       → IfErr result (RejectsJob other (outside input output s u x z)) → IfErr result (λ _. z ≡ x) → IfErr result (λ _. f ≡ d)
-      → RejectionEnds why (sunk output y) q (sunk output m) → MelcardSays (e ≡ d) q (Some work) (around s t x m d e)
-  rejected_at s t u x y z m d e f work other done result why q err from to device came is rejects same kept ends =
-      let after = around s u x m d f in
+      → RejectionEnds why (sunk output y) q (sunk output m) → MelcardSays (e ≡ d) q (Some work) (around s t x m d e i j)
+  rejected_at s t u x y z m d e f i j k work other done result why q err from to device count came is rejects same kept ends =
+      let after = around s u x m d f i k in
       let cause = err_is done result why (RejectsJob other (outside input output s u x z)) err came rejects in
       let before = to ∙ err_is done result why (λ _. z ≡ x) err came same in
       let end = subst (λ (y : T). RejectionEnds why (sunk output y) q (sunk output m)) before ends in
-      says_at s t u x m m d e f work other q from refl device is (says_rejected (f ≡ d) other after (sunk output z) why q (err_is done result why (λ _. f ≡ d) err came kept) cause end)
+      says_at s t u x m m d e f i j k work other q from refl device count is (says_rejected (f ≡ d) other after (sunk output z) why q (err_is done result why (λ _. f ≡ d) err came kept) cause end)

@@ -26,7 +26,7 @@ RejectsJob job a rejection.NoMemory = (a.input.faults ≡ a.input_old.faults) ×
 pub record PlaysInput (t : Reporting) (s : Status) (a : CardOutside) : Type 0 where
   pub lines : List (ℕ × DeckLine)
   pub due : IsDue (job.Play t) a.streams (Plays t lines)
-  pub played : IsPlayed t lines s a.dev_old a.streams.out_old a.dev a.streams.out
+  pub played : IsPlayed t lines s a.dev_old a.streams.out_old a.dev a.streams.out a.steps_old a.steps
 
 -- the text of an input was written
 pub record WritesInput (f : Form) (s : Status) (a : Outside) : Type 0 where

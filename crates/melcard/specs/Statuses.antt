@@ -10,7 +10,8 @@ use Rattle.mc_streams.specs.declared.source.Source as source
 use Rattle.mc_text.specs.Texts.{Sunk}
 use Rattle.mc_check.specs.Plays.{KeepToVerdicts}
 use Rattle.mc_script.specs.Benches.{bench_at, BenchMembers}
-use Rattle.mc_script.specs.Plays.{Bench, plain_text, traced_text, PlaysDeck, SumsDeck}
+use Rattle.mc_script.specs.Plays.{Bench, plain_text, traced_text}
+use Rattle.mc_script.specs.StepCounts.{CountsDeck, CountsSum}
 use Rattle.mc_filter.specs.declared.status.Status.{Status}
 use Rattle.mc_filter.specs.declared.status.Status.TheVariants.{Done, Failed}
 use Rattle.mc_filter.specs.Inputs.{TookLimited}
@@ -25,19 +26,23 @@ use Rattle.melcard.specs.Verdicts.{JobVerdict, Whole, Refusal, Plays, Sums, Stan
 
 -- ---- the environment
 
--- the environment of the call: source and sink before and after it, and the device before and after it
+-- the environment of the call: source and sink, the device, and the number of steps, each before and after it
 pub record CardOutside : Type 0 where
   pub streams : Outside
   pub dev_old : Bench
   pub dev : Bench
+  pub steps_old : ℕ
+  pub steps : ℕ
 
 -- the environment, by the values of a call before and after it
-abbrev pub card_outside : {S T N : Type 0} → source.Ghosts S → sink.Ghosts T → BenchMembers N → S → S → T → T → N → N → CardOutside
-card_outside s t n in_old in_new out_old out_new dev_old dev_new =
+abbrev pub card_outside : {S T N : Type 0} → source.Ghosts S → sink.Ghosts T → BenchMembers N → S → S → T → T → N → N → ℕ → ℕ → CardOutside
+card_outside s t n in_old in_new out_old out_new dev_old dev_new steps_old steps =
     record {
       streams = outside s t in_old in_new out_old out_new;
       dev_old = bench_at n dev_old;
       dev = bench_at n dev_new;
+      steps_old = steps_old;
+      steps = steps;
     }
 
 -- ---- what was read
@@ -62,27 +67,28 @@ abbrev pub text_of_step : Reporting → Step → List ℕ
 text_of_step Transcript = plain_text
 text_of_step Trace = traced_text
 
--- A deck was played and its output written, completely or up to a fault. Accepted code on its card keeps to its
--- verdict.
-pub record IsPlayed (t : Reporting) (lines : List (ℕ × DeckLine)) (s : Status) (dev_old : Bench) (out_old : Sunk) (dev : Bench) (out : Sunk) : Type 0 where
+-- A deck was played and its output written, completely or up to a fault, with a step for each executed instruction and
+-- those of the searches for room. Accepted code on its card keeps to its verdict.
+pub record IsPlayed (t : Reporting) (lines : List (ℕ × DeckLine)) (s : Status) (dev_old : Bench) (out_old : Sunk) (dev : Bench) (out : Sunk) (steps_old steps : ℕ) : Type 0 where
   pub result : Result (Unit {0}) Fault
   pub status : s ≡ status_after_writing Done result
-  pub plays : PlaysDeck (text_of_step t) lines dev_old out_old result dev out
-  pub checked : KeepToVerdicts (play.plays (play.start dev_old.device.words) plays.from.lines plays.from.worn)
+  pub counts : CountsDeck (text_of_step t) lines dev_old out_old result dev out steps_old steps
+  pub checked : KeepToVerdicts (play.plays (play.start dev_old.device.words) counts.deck.from.lines counts.deck.from.worn)
 
--- A deck was played and summarised, completely or up to a fault. Accepted code on its card keeps to its verdict.
-pub record IsSummed (lines : List (ℕ × DeckLine)) (s : Status) (dev_old : Bench) (out_old : Sunk) (dev : Bench) (out : Sunk) : Type 0 where
+-- A deck was played and summarised, completely or up to a fault, with its steps. Accepted code on its card keeps to its
+-- verdict.
+pub record IsSummed (lines : List (ℕ × DeckLine)) (s : Status) (dev_old : Bench) (out_old : Sunk) (dev : Bench) (out : Sunk) (steps_old steps : ℕ) : Type 0 where
   pub result : Result (Unit {0}) Fault
   pub status : s ≡ status_after_writing Done result
-  pub sums : SumsDeck summary lines dev_old out_old result dev out
-  pub checked : KeepToVerdicts (play.plays (play.start dev_old.device.words) lines sums.worn)
+  pub counts : CountsSum summary lines dev_old out_old result dev out steps_old steps
+  pub checked : KeepToVerdicts (play.plays (play.start dev_old.device.words) lines counts.deck.worn)
 
 -- the verdict on an input was carried out
 abbrev pub IsDone : JobVerdict → Status → CardOutside → Type 0
 IsDone (Whole text) s a = IsWritten Done text s a.streams.out_old a.streams.out
 IsDone (Refusal line) s a = IsWritten Failed line s a.streams.out_old a.streams.out
-IsDone (Plays t lines) s a = IsPlayed t lines s a.dev_old a.streams.out_old a.dev a.streams.out
-IsDone (Sums lines) s a = IsSummed lines s a.dev_old a.streams.out_old a.dev a.streams.out
+IsDone (Plays t lines) s a = IsPlayed t lines s a.dev_old a.streams.out_old a.dev a.streams.out a.steps_old a.steps
+IsDone (Sums lines) s a = IsSummed lines s a.dev_old a.streams.out_old a.dev a.streams.out a.steps_old a.steps
 
 -- a device on which nothing is played is unchanged
 abbrev pub IsKeptUnlessPlayed : Type 0 → JobVerdict → Type 0

@@ -20,7 +20,7 @@ fn on_blank<S: Source, T: Sink, L: Ledger>(
     out: &mut T,
     steps: &mut Steps<L>,
 ) -> u8
-    ensures { IsNumberOf (λ s. DoesCardJob words.now (outside S.Source T.Sink input.old input.new out.old out.new) s
+    ensures { IsNumberOf (λ s. DoesCardJob words.now (outside S.Source T.Sink input.old input.new out.old out.new) steps.old s
         ⊎ IsShort (outside S.Source T.Sink input.old input.new out.old out.new) s) result }
 {
     match blank_device(alloc) {

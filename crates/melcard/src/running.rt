@@ -13,7 +13,7 @@ ghost use Rattle.melcard.specs.Jobs.{greatest_number, job_of, JobFits};
 ghost use Rattle.melcard.specs.Running.{PlaysInput, RejectsJob, WritesInput};
 ghost use Rattle.mc_script.specs.Benches.{bench_at};
 ghost use Rattle.melcard.specs.Statuses.{card_outside, text_of_step, IsSummed, MelcardCompletes, MelcardSays};
-ghost use Rattle.mc_script.specs.Plays.{PlaysDeck};
+ghost use Rattle.mc_script.specs.StepCounts.{CountsDeck};
 
 use crate::form::text_of;
 use crate::job::{Form, Job, Reporting, job_of};
@@ -35,9 +35,9 @@ fn play_as<T: Sink, N: Bench, L: Ledger>(
     steps: &mut Steps<L>,
 ) -> Result<(), WriteFault>
     requires { IsUnfused (N.bench dev.old) }
-    ensures { PlaysDeck (text_of_step reporting) deck.now (bench_at N.Bench dev.old)
+    ensures { CountsDeck (text_of_step reporting) deck.now (bench_at N.Bench dev.old)
         (sunk T.Sink out.old) result (bench_at N.Bench dev.new)
-        (sunk T.Sink out.new) }
+        (sunk T.Sink out.new) steps.old steps.new }
 {
     match reporting {
         Reporting::Transcript => play(deck, dev, out, steps),
@@ -56,7 +56,7 @@ fn report<S: Source, T: Sink, N: Bench, L: Ledger>(
 ) -> Result<Status, Rejection>
     requires { IsUnfused (N.bench dev.old) }
     ensures done { IfOk result (λ s. PlaysInput reporting s
-        (card_outside S.Source T.Sink N.Bench input.old input.new out.old out.new dev.old dev.new)) }
+        (card_outside S.Source T.Sink N.Bench input.old input.new out.old out.new dev.old dev.new steps.old steps.new)) }
     ensures rejected { IfErr result
         (RejectsJob (job.Play reporting) (outside S.Source T.Sink input.old input.new out.old out.new)) }
     ensures out { IfErr result (λ e. out.new ≡ out.old) }
@@ -79,7 +79,7 @@ fn sum<T: Sink, N: Bench, L: Ledger>(
     requires fuses { IsUnfused (N.bench dev.old) }
     ensures done { IfOk result (λ s. IsSummed (deck_of_number number) s
         (bench_at N.Bench dev.old) (sunk T.Sink out.old)
-        (bench_at N.Bench dev.new) (sunk T.Sink out.new)) }
+        (bench_at N.Bench dev.new) (sunk T.Sink out.new) steps.old steps.new) }
     ensures rejected { IfErr result (λ e. e ≡ rejection.NoMemory) }
     ensures out { IfErr result (λ e. out.new ≡ out.old) }
     ensures device { IfErr result (λ e. dev.new ≡ dev.old) }
@@ -118,7 +118,7 @@ fn run<S: Source, T: Sink, N: Bench, L: Ledger>(
     requires fits { JobFits job }
     requires fuses { IsUnfused (N.bench dev.old) }
     ensures { MelcardSays (dev.new ≡ dev.old) result (Some job)
-        (card_outside S.Source T.Sink N.Bench input.old input.new out.old out.new dev.old dev.new) }
+        (card_outside S.Source T.Sink N.Bench input.old input.new out.old out.new dev.old dev.new steps.old steps.new) }
 {
     let done = match job {
         Job::Play(reporting) => report(alloc, reporting, input, out, dev, steps),
@@ -142,7 +142,7 @@ fn run_words<S: Source, T: Sink, N: Bench, L: Ledger>(
 ) -> Status
     requires { IsUnfused (N.bench dev.old) }
     ensures { MelcardSays (dev.new ≡ dev.old) result (job_of words.now)
-        (card_outside S.Source T.Sink N.Bench input.old input.new out.old out.new dev.old dev.new) }
+        (card_outside S.Source T.Sink N.Bench input.old input.new out.old out.new dev.old dev.new steps.old steps.new) }
 {
     let Some(job) = job_of(words) else {
         let usage = b"usage: melcard play | asm | list | gen N | check | trace\n";
@@ -164,28 +164,28 @@ pub fn melcard<S: Source, T: Sink, N: Bench, L: Ledger>(
     requires { IsUnfused (N.bench dev.old) }
     // 0: the input was read to its end, the job is done, and all its text was written.
     ensures done { result ≡ 0 → MelcardSays (dev.new ≡ dev.old) status.Done (job_of words.now)
-        (card_outside S.Source T.Sink N.Bench input.old input.new out.old out.new dev.old dev.new) }
+        (card_outside S.Source T.Sink N.Bench input.old input.new out.old out.new dev.old dev.new steps.old steps.new) }
     // 1: the input is refused, the line that says why was written, and the device is unchanged.
     ensures refused { result ≡ 1 → MelcardSays (dev.new ≡ dev.old) status.Failed (job_of words.now)
-        (card_outside S.Source T.Sink N.Bench input.old input.new out.old out.new dev.old dev.new) }
+        (card_outside S.Source T.Sink N.Bench input.old input.new out.old out.new dev.old dev.new steps.old steps.new) }
     // 2: the words select no job, the usage line was written, and source and device are unchanged.
     ensures no_job { result ≡ 2 → MelcardSays (dev.new ≡ dev.old) status.NoForm (job_of words.now)
-        (card_outside S.Source T.Sink N.Bench input.old input.new out.old out.new dev.old dev.new) }
+        (card_outside S.Source T.Sink N.Bench input.old input.new out.old out.new dev.old dev.new steps.old steps.new) }
     // 3: one call of the source failed, nothing was written, and the device is unchanged.
     ensures read_fault { result ≡ 3 → MelcardSays (dev.new ≡ dev.old) status.ReadFault (job_of words.now)
-        (card_outside S.Source T.Sink N.Bench input.old input.new out.old out.new dev.old dev.new) }
+        (card_outside S.Source T.Sink N.Bench input.old input.new out.old out.new dev.old dev.new steps.old steps.new) }
     // 4: a call of the sink failed, and a front of the text that is due was written.
     ensures write_fault { result ≡ 4 → MelcardSays (dev.new ≡ dev.old) status.WriteFault (job_of words.now)
-        (card_outside S.Source T.Sink N.Bench input.old input.new out.old out.new dev.old dev.new) }
+        (card_outside S.Source T.Sink N.Bench input.old input.new out.old out.new dev.old dev.new steps.old steps.new) }
     // 5: out of memory before the first byte was written, and the device is unchanged.
     ensures memory { result ≡ 5 → MelcardSays (dev.new ≡ dev.old) status.NoMemory (job_of words.now)
-        (card_outside S.Source T.Sink N.Bench input.old input.new out.old out.new dev.old dev.new) }
+        (card_outside S.Source T.Sink N.Bench input.old input.new out.old out.new dev.old dev.new steps.old steps.new) }
     // There is no other status.
     ensures statuses { result ≤ 5 }
     // If no call of source and sink fails, all that is due for the input is done, or the status is 5.
     ensures complete { (s : Status) → result ≡ number_of s
         → IfSome (job_of words.now) (λ job. MelcardCompletes s job
-        (card_outside S.Source T.Sink N.Bench input.old input.new out.old out.new dev.old dev.new)) }
+        (card_outside S.Source T.Sink N.Bench input.old input.new out.old out.new dev.old dev.new steps.old steps.new)) }
 {
     number(run_words(alloc, words, input, out, dev, steps))
 }

@@ -12,7 +12,7 @@ use Rattle.melcard.proofs.program.on_blank.Goals as goal
 pub returns-in-Ok : goal.returns-in-Ok
 returns-in-Ok g c =
     let h = c.melcard.ensures in
-    let a : CardOutside = on_device (outside g.S.Source g.T.Sink c.args.input.now c.melcard.new.input c.args.out.now c.melcard.new.out) c.in-Ok.device c.melcard.new.dev in
+    let a : CardOutside = on_device (outside g.S.Source g.T.Sink c.args.input.now c.melcard.new.input c.args.out.now c.melcard.new.out) c.in-Ok.device c.melcard.new.dev c.args.steps.now c.melcard.new.steps in
     let said : IsNumberOf (λ (s : Status). MelcardSays (c.melcard.new.dev ≡ c.in-Ok.device) s (job_of c.args.words.now) a) c.melcard.result =
     some_number (λ (s : Status). MelcardSays (c.melcard.new.dev ≡ c.in-Ok.device) s (job_of c.args.words.now) a) c.melcard.result h.statuses h.done h.refused h.no_job h.read_fault h.write_fault h.memory in (
       said.0,
@@ -21,6 +21,7 @@ returns-in-Ok g c =
         dev_old = c.in-Ok.device;
         dev = c.melcard.new.dev;
         blank = c.in-Ok.ensures;
+        steps = c.melcard.new.steps;
         says = said.2;
         completes = h.complete said.0 said.1;
       }),

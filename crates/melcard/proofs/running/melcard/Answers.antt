@@ -13,7 +13,7 @@ use Rattle.melcard.proofs.running.melcard.Goals as goal
 pub returns : goal.returns
 returns g c =
     let members : BenchMembers _ = record { state = g.N.Nvm.state; wrote = g.N.Nvm.wrote; same = g.N.Nvm.same; bench = g.N.Bench.bench } in
-    let a : CardOutside = around g.S.Source g.T.Sink members c.args.input.now c.run_words.new.input c.args.out.now c.run_words.new.out c.args.dev.now c.run_words.new.dev in
+    let a : CardOutside = around g.S.Source g.T.Sink members c.args.input.now c.run_words.new.input c.args.out.now c.run_words.new.out c.args.dev.now c.run_words.new.dev c.args.steps.now c.run_words.new.steps in
     let said : IsNumberOf (λ (s : Status). MelcardSays (c.run_words.new.dev ≡ c.args.dev.now) s (job_of c.args.words.now) a) c.number.result = (c.run_words.result, c.number.ensures, c.run_words.ensures) in
     record {
       done = λ is. at_number (λ (s : Status). MelcardSays (c.run_words.new.dev ≡ c.args.dev.now) s (job_of c.args.words.now) a) Done c.number.result said is;

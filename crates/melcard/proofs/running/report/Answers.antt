@@ -13,7 +13,7 @@ returns-clause-done g c =
       played = record {
         result = c.play_as.result;
         status = c.ended.ensures;
-        plays = c.play_as.ensures;
-        checked = checked_plays_law c.play_as.ensures.from.lines (g.N.Nvm.state c.args.dev.now).words c.play_as.ensures.from.worn;
+        counts = c.play_as.ensures;
+        checked = checked_plays_law c.play_as.ensures.deck.from.lines (g.N.Nvm.state c.args.dev.now).words c.play_as.ensures.deck.from.worn;
       };
     }

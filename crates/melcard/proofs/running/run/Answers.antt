@@ -17,29 +17,30 @@ returns-in-Ok g c =
     let input = c.args.input.now in
     let out = c.args.out.now in
     let dev = c.args.dev.now in
+    let steps = c.args.steps.now in
     let all = c.match-job in
     let s = c.in-Ok.status in
     elim c.match-job.branch [
       | in-Play w ↦
           let t = w.in-Play.reporting in
           let did = w.report-done in
-          let a : CardOutside = around source sink members input did.new.input out did.new.out dev did.new.dev in
+          let a : CardOutside = around source sink members input did.new.input out did.new.out dev did.new.dev steps did.new.steps in
           let played = ok_is all.done did.result s (λ (s : Status). PlaysInput t s a) c.in-Ok.is w.done-is did.ensures.done in
-          says_at source sink members input all.input did.new.input out all.out did.new.out dev all.dev did.new.dev c.args.job (job.Play t) s w.input-is w.out-is w.dev-is w.in-Play.is
+          says_at source sink members input all.input did.new.input out all.out did.new.out dev all.dev did.new.dev steps all.steps did.new.steps c.args.job (job.Play t) s w.input-is w.out-is w.dev-is w.steps-is w.in-Play.is
           (says_played (did.new.dev ≡ dev) t s a played)
       | in-Generate w ↦
           let n = w.in-Generate.number in
           let did = w.sum-done in
-          let a : CardOutside = around source sink members input input out did.new.out dev did.new.dev in
-          let summed = ok_is all.done did.result s (λ (s : Status). IsSummed (deck_of_number n) s a.dev_old a.streams.out_old a.dev a.streams.out) c.in-Ok.is w.done-is did.ensures.done in
-          says_at source sink members input all.input input out all.out did.new.out dev all.dev did.new.dev c.args.job (job.Generate n) s w.input-is w.out-is w.dev-is w.in-Generate.is
+          let a : CardOutside = around source sink members input input out did.new.out dev did.new.dev steps did.new.steps in
+          let summed = ok_is all.done did.result s (λ (s : Status). IsSummed (deck_of_number n) s a.dev_old a.streams.out_old a.dev a.streams.out a.steps_old a.steps) c.in-Ok.is w.done-is did.ensures.done in
+          says_at source sink members input all.input input out all.out did.new.out dev all.dev did.new.dev steps all.steps did.new.steps c.args.job (job.Generate n) s w.input-is w.out-is w.dev-is w.steps-is w.in-Generate.is
           (says_summed (did.new.dev ≡ dev) n s a refl summed)
       | in-Write w ↦
           let f = w.in-Write.form in
           let did = w.write-done in
-          let a : CardOutside = around source sink members input did.new.input out did.new.out dev dev in
+          let a : CardOutside = around source sink members input did.new.input out did.new.out dev dev steps steps in
           let written = ok_is all.done did.result s (λ (s : Status). WritesInput f s a.streams) c.in-Ok.is w.done-is did.ensures.done in
-          says_at source sink members input all.input did.new.input out all.out did.new.out dev all.dev dev c.args.job (job.Write f) s w.input-is w.out-is w.dev-is w.in-Write.is
+          says_at source sink members input all.input did.new.input out all.out did.new.out dev all.dev dev steps all.steps steps c.args.job (job.Write f) s w.input-is w.out-is w.dev-is w.steps-is w.in-Write.is
           (says_written (dev ≡ dev) f s a refl written)
     ]
 
@@ -51,23 +52,24 @@ returns-in-Err g c =
     let input = c.args.input.now in
     let out = c.args.out.now in
     let dev = c.args.dev.now in
+    let steps = c.args.steps.now in
     let all = c.match-job in
     let why = c.in-Err.rejection in
     let end = c.reject in
     elim c.match-job.branch [
       | in-Play w ↦
           let did = w.report-done in
-          rejected_at source sink members input all.input did.new.input out all.out did.new.out end.new.out dev all.dev did.new.dev c.args.job (job.Play w.in-Play.reporting) all.done did.result why end.result
-          c.in-Err.is w.input-is w.out-is w.dev-is w.done-is w.in-Play.is did.ensures.rejected did.ensures.out did.ensures.device end.ensures
+          rejected_at source sink members input all.input did.new.input out all.out did.new.out end.new.out dev all.dev did.new.dev steps all.steps did.new.steps c.args.job (job.Play w.in-Play.reporting) all.done did.result why end.result
+          c.in-Err.is w.input-is w.out-is w.dev-is w.steps-is w.done-is w.in-Play.is did.ensures.rejected did.ensures.out did.ensures.device end.ensures
       | in-Generate w ↦
           let did = w.sum-done in
           let work = job.Generate w.in-Generate.number in
-          let a : CardOutside = around source sink members input input out did.new.out dev did.new.dev in
-          rejected_at source sink members input all.input input out all.out did.new.out end.new.out dev all.dev did.new.dev c.args.job work all.done did.result why end.result
-          c.in-Err.is w.input-is w.out-is w.dev-is w.done-is w.in-Generate.is (memory_only work a.streams did.result refl refl did.ensures.rejected) did.ensures.out did.ensures.device end.ensures
+          let a : CardOutside = around source sink members input input out did.new.out dev did.new.dev steps did.new.steps in
+          rejected_at source sink members input all.input input out all.out did.new.out end.new.out dev all.dev did.new.dev steps all.steps did.new.steps c.args.job work all.done did.result why end.result
+          c.in-Err.is w.input-is w.out-is w.dev-is w.steps-is w.done-is w.in-Generate.is (memory_only work a.streams did.result refl refl did.ensures.rejected) did.ensures.out did.ensures.device end.ensures
       | in-Write w ↦
           let did = w.write-done in
           let kept = err_always {P = dev ≡ dev} did.result refl in
-          rejected_at source sink members input all.input did.new.input out all.out did.new.out end.new.out dev all.dev dev c.args.job (job.Write w.in-Write.form) all.done did.result why end.result
-          c.in-Err.is w.input-is w.out-is w.dev-is w.done-is w.in-Write.is did.ensures.rejected did.ensures.out kept end.ensures
+          rejected_at source sink members input all.input did.new.input out all.out did.new.out end.new.out dev all.dev dev steps all.steps steps c.args.job (job.Write w.in-Write.form) all.done did.result why end.result
+          c.in-Err.is w.input-is w.out-is w.dev-is w.steps-is w.done-is w.in-Write.is did.ensures.rejected did.ensures.out kept end.ensures
     ]

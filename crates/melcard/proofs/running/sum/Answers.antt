@@ -1,7 +1,7 @@
 use Rattle.std.proofs.Common.{ℕ, List, subst}
 use Rattle.mc_deck.specs.model_play.specs.DeckGrammar.{DeckLine}
 use Rattle.mc_deck.specs.model_play.specs.Generator.{deck_of_number, summary}
-use Rattle.mc_script.specs.Plays.{SumsDeck}
+use Rattle.mc_script.specs.StepCounts.{CountsSum}
 use Rattle.mc_text.specs.Texts.{sunk}
 use Rattle.mc_check.proofs.CheckedPlays.{checked_plays_law}
 use Rattle.mc_script.specs.Benches.{bench_at, BenchMembers}
@@ -18,10 +18,10 @@ returns-clause-done g c =
     let after = bench_at members c.summarise.new.dev in
     let from = sunk g.T.Sink c.args.out.now in
     let to = sunk g.T.Sink c.summarise.new.out in
-    let sums = subst (λ (ls : List (ℕ × DeckLine)). SumsDeck summary ls before from c.summarise.result after to) c.in_ok-deck.ensures c.summarise.ensures.sums in
+    let counts = subst (λ (ls : List (ℕ × DeckLine)). CountsSum summary ls before from c.summarise.result after to c.args.steps.now c.summarise.new.steps) c.in_ok-deck.ensures c.summarise.ensures.steps in
     record {
       result = c.summarise.result;
       status = c.ended.ensures;
-      sums = sums;
-      checked = checked_plays_law (deck_of_number c.args.number) before.device.words sums.worn;
+      counts = counts;
+      checked = checked_plays_law (deck_of_number c.args.number) before.device.words counts.deck.worn;
     }
