@@ -1,23 +1,24 @@
 """What `mellab prove` has proved of an application, no exploration breaks; and a rule that is broken is found where a deck's moves lead to it.
 
-Each deck of prove_decks.tar.xz, and each of examples/ with rules of an application, gets moves: its selection, a power line, and the commands that
-its code tells apart. If `prove` says `proved`, the exploration breaks nothing; if the exploration breaks a rule, `prove` does not say `proved`, and
-the lines that the exploration writes play to it: counted over `melcard trace`, by the reading of rules that attacks have, they break that rule.
+Each deck of prove_decks.tar.xz, and each of examples/ with rules of an application, gets moves: its selection, a power line, another application that
+delegates to it, and the commands of attacks that came to new places of its code. If `prove` says `proved`, the exploration breaks nothing; if the
+exploration breaks a rule, `prove` names it. So it is of decks that are changed in one place, of which explorations have to break a part. The lines
+that an exploration writes play to it: counted over `melcard trace`, by the reading of rules that attacks have, they break that rule.
 
 It needs pytest, and the programs, built by tools/build or by `rt ci`.
 """
 
-import pathlib
+import functools
 import re
 import subprocess
-import tarfile
 
 import pytest
 from card import program_path
-from test_prove import DECKS, DOORS, VICTIMS, Broken, Play
+from test_prove import DOORS, RELAYS, VICTIMS, Broken, Play, relays_to
+from test_prove_attacks import FOUND as ATTACKED
+from test_prove_attacks import TEXTS, WORTH, attack, change, changes, verdict, victim_of
 
-TOP = pathlib.Path(__file__).resolve().parent.parent.parent
-DEPTH = "3"
+DEPTH, STATES, MOVES = "5", "300", 12
 
 
 def mellab(*words, deck):
@@ -26,56 +27,70 @@ def mellab(*words, deck):
     return done.stdout.decode("latin-1"), done.returncode
 
 
-def decks():
-    """The decks with rules of an application, by their names."""
-    found = {}
-    with tarfile.open(DECKS) as tar:
-        for member in tar.getmembers():
-            if member.name.endswith(".deck"):
-                found[pathlib.Path(member.name).stem] = tar.extractfile(member).read().decode("latin-1")
-    for path in sorted((TOP / "examples").glob("*.deck")):
-        text = path.read_text(encoding="latin-1")
-        if re.search(r"^#@ app ", text, re.MULTILINE):
-            found[path.stem] = text
-    return found
+# Without those in which nothing can be broken.
+FOUND = {name: deck for name, deck in ATTACKED.items() if re.search(r"^#@ (on|never|always) ", deck, re.MULTILINE)}
+PROVED = [name for name in FOUND if TEXTS[name][0]]
+REFUTED = [name for name in FOUND if TEXTS[name][0] is False]
 
 
-# Without those in which nothing can be broken, and one whose `move` line is no move: `prove` passes over it, `explore` refuses it.
-FOUND = {name: text for name, text in decks().items() if re.search(r"^#@ (on|never|always) ", text, re.MULTILINE) and name != "refused_move_is_nothing"}
-PROVED = {name: mellab("prove", deck=text)[0] for name, text in FOUND.items() if name not in ("many_keys", "limit", "limit_under")}
+@functools.lru_cache(maxsize=None)
+def moves_of(name):
+    """Moves for a deck, as lines: power, the selection of its application and of one that delegates to it, and the commands that came to new places
+    of its code when it was attacked."""
+    deck = FOUND[name]
+    known = [f"#@ move {line}" for line in deck.splitlines() if line.startswith("apdu ")]
+    try:
+        commands = attack(deck, "", range(4), name).favourites
+    except AssertionError:
+        commands = victim_of(deck, name).liked[:MOVES]
+    lines = ["#@ move power", f"#@ move select {victim_of(deck, name).aid}", f"#@ move select {RELAYS[0]}", *known, *(f"#@ move apdu {it}" for it in commands)]
+    return "\n".join(list(dict.fromkeys(lines))[:MOVES]) + "\n"
 
 
-def moves_of(text):
-    """Moves for a deck: its application is selected, power comes, and commands are sent whose INS its code compares, without data and with some."""
-    unit = re.search(r"^#@ app (\w+)", text, re.MULTILINE).group(1)
-    aid = re.search(rf"^app {unit} (\w+)", text, re.MULTILINE).group(1)
-    codes = sorted({int(it, 0) for it in re.findall(r"CMPB (?:PT\[-12\]|INS),(\w+)", text)} | {0x01})
-    sizes = sorted({int(it, 0) for it in re.findall(r"CMPW (?:PT\[-8\]|Lc),(\w+)", text)} & set(range(1, 9)))
-    known = [line for line in text.splitlines() if line.startswith("apdu ")]
-    lines = [f"#@ move select {aid}", "#@ move power"] + sorted({f"#@ move {it}" for it in known})
-    for code in codes[:6]:
-        lines.append(f"#@ move apdu 80{code:02X}000000")
-        for size in sizes[:2]:
-            lines.append(f"#@ move apdu 80{code:02X}0000{size:02X}" + "1234567890ABCDEF"[:2 * size])
-    return "\n".join(lines[:12]) + "\n"
+def explored(name, deck):
+    """What an exploration writes of a deck, with the moves of one by its name."""
+    victim = victim_of(deck, name)
+    lines = [it for it in victim.deck.splitlines() if not it.startswith("#@ move ")]
+    relays = relays_to(victim.aid)
+    front = next(at for at, line in enumerate(lines) if line == "power") + 1
+    return mellab("explore", DEPTH, "--states", STATES, deck="\n".join([*lines[:front], *relays, *lines[front:]]) + "\n" + moves_of(name))
 
 
-@pytest.mark.parametrize("name", [it for it, text in PROVED.items() if text.splitlines()[-1].startswith("proved")])
+def breaks(name, deck):
+    """The names of the rules that an exploration breaks, none or one."""
+    text, status = explored(name, deck)
+    last = text.splitlines()[-1]
+    broken = [line.split()[1] for line in text.splitlines() if line.startswith("broken ")]
+    assert status == 1 if broken else last.startswith("explored states ") and status in (0, 6), text
+    return broken
+
+
+@pytest.mark.parametrize("name", PROVED)
 def test_explores_what_is_proved(name):
     """No exploration of a proved deck breaks a rule."""
-    text, status = mellab("explore", DEPTH, deck=FOUND[name].rstrip("\n") + "\n" + moves_of(FOUND[name]))
-    assert text.splitlines()[-1].startswith("explored states "), text
-    assert status in (0, 6)
+    assert breaks(name, FOUND[name]) == []
 
 
-@pytest.mark.parametrize("name", [it for it, text in PROVED.items() if text.splitlines()[-1].startswith("not proved")])
+@pytest.mark.parametrize("name", REFUTED)
 def test_breaks_only_what_is_not_proved(name):
     """What an exploration breaks is a rule that the text of `prove` names."""
-    text, status = mellab("explore", DEPTH, deck=FOUND[name].rstrip("\n") + "\n" + moves_of(FOUND[name]))
-    broken = [line.split()[1] for line in text.splitlines() if line.startswith("broken ")]
-    assert status == (1 if broken else status)
-    for rule in broken:
-        assert re.search(rf"^(broken {re.escape(rule)} |unknown )", PROVED[name], re.MULTILINE), (text, PROVED[name])
+    for rule in breaks(name, FOUND[name]):
+        assert re.search(rf"^(broken {re.escape(rule)} |unknown )", TEXTS[name][1], re.MULTILINE), TEXTS[name][1]
+
+
+def test_breaks_what_is_changed():
+    """Of applications and rules that are changed in one place, explorations break none that is still proved, and a part of those that are not."""
+    still, broken, missed = 0, 0, []
+    for name in WORTH:
+        for seed in range(changes(name)):
+            deck = change(FOUND[name], f"explored {name} {seed}")
+            proved, text = verdict(deck) if deck is not None else (None, "")
+            found = breaks(name, deck) if proved is not None else []
+            assert not (proved and found), (name, seed, found, deck)
+            assert not found or re.search(rf"^(broken {re.escape(found[0])} |unknown )", text, re.MULTILINE), (name, seed, found, deck)
+            still, broken = still + (proved is True), broken + bool(found)
+            missed += [f"{name} {seed}"] if proved is False and not found else []
+    assert still > len(WORTH) and broken > len(missed) // 2, (still, broken, missed)
 
 
 def liked_moves(victim):

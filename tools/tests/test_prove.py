@@ -25,16 +25,18 @@ SEEDS = int(os.environ.get("PROVE_SEEDS", "8"))
 # Decks with the texts that another program wrote of them, which was made from the same description.
 DECKS = pathlib.Path(__file__).resolve().parent / "prove_decks.tar.xz"
 PURSE = (TOP / "examples" / "pin_proved.deck").read_text(encoding="ascii")
-RELAY = "A0000003F1"
-# An application that delegates to another; its DATA are the length and the name of that one.
-RELAYS = """app relay {relay}
+# Applications that delegate to another; their DATA are the length and the name of that one: the victim, or the relay before it.
+RELAYS = ("A0000003F1", "A0000003F2", "A0000003F3")
+RELAYING = """app {name} {aid}
         LOADA SB[0]
         PRIM 7
         EXIT
-DATA 05{victim}
+DATA 05{next}
 end
-load relay 6 0
+load {name} 6 0
 """
+# At which depth a victim's frame is, if the terminal has selected this application.
+DEPTHS = {aid: str(2 + i) for i, aid in enumerate(RELAYS)}
 # Three rides, each counted down before it is answered, and told by delegation too.
 TICKET = """format
 power
@@ -317,6 +319,10 @@ class Play:
                 self.statement(number, line.split(), *self.results[number])
         return self.watch.events
 
+    def commands(self):
+        """The commands of the play, each with its turns."""
+        return [(line[5:], self.results[number][0]) for number, line in enumerate(self.lines, 1) if line.startswith("apdu ") and number in self.results]
+
     def statement(self, number, words, turns, result):
         """What one line did."""
         is_stop = result.startswith("off") or result == "6581"
@@ -350,7 +356,7 @@ class Play:
         if re.match("FF|BE|00A404", apdu):
             return
         is_first = self.selected == self.victim.aid
-        depth, data = "1" if is_first else "2", data_of(apdu)
+        depth, data = "1" if is_first else DEPTHS.get(self.selected, "2"), data_of(apdu)
         if is_first:
             self.watch.happened("command", apdu)
         done = turns[:-1] if result.startswith("abend") else turns
@@ -362,9 +368,9 @@ class Play:
             hit = hit_turn(self.lines, number, turns, self.victim.aid, kept)
             if hit is not None and hit[0] == depth:
                 self.watch.turn(hit, data)
+        elif self.watch.rules.never and re.match("abend 0[^7]", result) and self.watch.exists and turns and turns[-1][0] == depth:
+            raise Broken("abend")
         elif is_first:
-            if self.watch.rules.never and re.match("abend 0[^7]", result):
-                raise Broken("abend")
             self.watch.happened("answer", apdu, result)
         self.watch.frame_ended()
 
@@ -466,11 +472,17 @@ def application(seed):
 # ---- the attack
 
 
+def relays_to(aid):
+    """Applications of which each delegates to the one before it, the first to a victim."""
+    return [line for i, (relay, other) in enumerate(zip(RELAYS, (aid, *RELAYS)))
+            for line in RELAYING.format(name=f"relay{i}", aid=relay, next=other).splitlines()]
+
+
 def hostile(victim, seed, count=60):
     """A victim's deck, and lines that a hostile host sends after it."""
     r = random.Random(seed)
     deck = [it for it in victim.deck.splitlines() if it.split()[:1] != ["select"]]
-    lines = [*deck, *RELAYS.format(relay=RELAY, victim=victim.aid).splitlines(), f"select {victim.aid}"]
+    lines = [*deck, *relays_to(victim.aid), f"select {victim.aid}"]
     back = ["power", f"dump {victim.aid}"]
     for _ in range(count):
         kind = r.random()
@@ -481,11 +493,11 @@ def hostile(victim, seed, count=60):
         elif kind < 0.28:
             lines += [f"budget {r.randint(1, 30)}", apdu, apdu, "budget 10000", f"dump {victim.aid}"]
         elif kind < 0.36:
-            lines += [f"select {RELAY}", apdu, apdu, f"select {victim.aid}"]
+            lines += [f"select {r.choice(RELAYS)}", apdu, apdu, f"select {victim.aid}"]
         elif kind < 0.40:
             lines += ["power", f"select {victim.aid}"]
         elif kind < 0.43:
-            lines += ["power", f"delete {victim.aid}", f"select {RELAY}", apdu, victim.load, f"dump {victim.aid}", f"select {victim.aid}"]
+            lines += ["power", f"delete {victim.aid}", f"select {r.choice(RELAYS)}", apdu, victim.load, f"dump {victim.aid}", f"select {victim.aid}"]
         else:
             lines.append(apdu)
     return [*lines, *back]
