@@ -9,7 +9,9 @@ import subprocess
 import sys
 import tarfile
 
-from card import program_path
+import pytest
+from card import deck_of, program_path
+from test_prove import Broken, Play, Victim
 
 TOOLS = pathlib.Path(__file__).resolve().parent.parent
 TOP = TOOLS.parent
@@ -86,3 +88,56 @@ def test_the_proposed_moves_break_the_rule():
 
 def test_nothing_is_proposed_of_what_is_proved():
     assert run("prove_moves.py", PURSE) == (1, "")
+
+
+# ---- an application of a new user: rules, faults that are found and shown, and mended
+
+DOOR = (pathlib.Path(__file__).resolve().parent / "door.draft").read_text(encoding="ascii")
+PAID = "        SETB known,0            ; one opening for each PIN, before it is counted\n"
+# Each fault of it, and the rule that it breaks.
+FAULTS = {
+    "torn": ([("        PRIM 3,2\n", "")], "waits"),
+    "again": ([("        DECN voucher\n", "")], "vouchers"),
+    "guessed": ([("        DECN tries\n", "")], "guesses"),
+    "late": ([(PAID, ""), ("        DECN uses\n", "        DECN uses\n" + PAID)], "shown"),
+}
+
+
+def faulty(fault):
+    """The draft of the door's key with a fault, and the rule that it breaks."""
+    edits, rule = FAULTS[fault]
+    draft = DOOR
+    for old, new in edits:
+        assert draft.count(old) == 1, old
+        draft = draft.replace(old, new)
+    return draft, rule
+
+
+def test_the_key_of_a_door_keeps_its_rules():
+    assert proved(deck_of(DOOR)).splitlines()[-1].startswith("proved keys ")
+
+
+@pytest.mark.parametrize("fault", FAULTS)
+def test_a_fault_of_it_is_found(fault):
+    draft, rule = faulty(fault)
+    assert re.search(rf"^broken {rule} line ", proved(deck_of(draft)), re.MULTILINE)
+
+
+@pytest.mark.parametrize("fault", [it for it in FAULTS if it != "late"])
+def test_the_proposed_moves_show_it(fault):
+    draft, rule = faulty(fault)
+    status, deck = run("prove_moves.py", draft)
+    depth = re.search(r"^# mellab explore (\d+)$", deck, re.MULTILINE)[1]
+    done = subprocess.run([program_path("mellab"), "explore", depth], input=deck.encode(), stdout=subprocess.PIPE, timeout=200, check=False)
+    assert status == 0 and re.search(rf"^broken {rule} after \d+ lines", done.stdout.decode(), re.MULTILINE), done.stdout.decode()
+
+
+def test_a_fault_that_needs_a_budget_is_shown_by_a_play():
+    """No move has a budget of its own: two openings for one PIN, of which the first ends before its flag is taken away."""
+    draft, rule = faulty("late")
+    victim = Victim(deck_of(draft), "A000000500", "load door 10 1", ())
+    lines = ["select A000000500", "apdu 8020000003112233", "budget 9", "apdu 80300000", "apdu 80300000"]
+    with pytest.raises(Broken, match=rule):
+        Play(victim, [*victim.deck.splitlines(), *lines]).run()
+    kept = Victim(deck_of(DOOR), victim.aid, victim.load, ())
+    Play(kept, [*kept.deck.splitlines(), *lines]).run()
