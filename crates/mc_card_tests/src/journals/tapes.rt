@@ -1,7 +1,8 @@
 use crate::journals::bench::{Answer, prepare, recover, write, wrong_place};
 use crate::journals::rule::{Journal, ZERO, device_write, is_tried, recovery_write};
-use mc_base::Stop;
+use mc_base::{NoMemory, Stop};
 use mc_nvm::{Entry, TapeNvm};
+use std::alloc::Global;
 use std::test::Fail;
 
 /// An atomic write of `w` words whose device write `first` failed, and, if `second` is not 0, its recovery
@@ -20,44 +21,85 @@ struct Refusals {
 fn failure_writes(rt: HostRuntime) -> Result<(), Fail> {
     for journal in [Journal::One, Journal::Two] {
         for w in [1, 2, 3, 64] {
-            for first in 1..=journal.cost(w) {
-                let owes = journal.owes(w, first, ZERO);
-                for second in 0..=owes {
-                    if !is_tried(w, second) && first != journal.opens_at(w).saturating_add(1) {
-                        continue;
-                    }
-                    let refusals = Refusals {
-                        journal,
-                        w,
-                        first,
-                        second,
-                    };
-                    let worn = [first as u32, first as u32 + second as u32];
-                    let mut device = TapeNvm::new(rt.alloc(), 256, 512, &worn)?;
-                    prepare(&mut device);
-                    assert_eq!(rt; write(&mut device, journal, w), Answer::Stopped(Stop::Worn));
-                    if second > 0 {
-                        assert_eq!(rt; recover(&mut device, journal), Answer::Stopped(Stop::Worn));
-                    }
-                    assert_eq!(rt;
-                        recover(&mut device, journal),
-                        Answer::Recovered(left_to_do(refusals)),
-                        "{journal:?}, {w} words, writes {first} and {second}"
-                    );
-                    assert_eq!(rt;
-                        wrong_place(&device, journal, w, journal.stands(w, first, ZERO)),
-                        None
-                    );
-                    assert_eq!(rt;
-                        wrong_entry(device.tape(), refusals),
-                        None,
-                        "{journal:?}, {w} words, writes {first} and {second}"
-                    );
-                }
-            }
+            assert_eq!(rt;
+                wrong_write(rt.alloc(), journal, w)?,
+                None,
+                "{journal:?}, {w} words"
+            );
         }
     }
     Ok(())
+}
+
+// The first pair of refused writes that does not go by the rule: one of the write, and one of its recovery.
+fn wrong_write(alloc: Global, journal: Journal, w: u8) -> Result<Option<(u16, u16)>, NoMemory> {
+    for first in 1..=journal.cost(w) {
+        if let Some(second) = wrong_recovery(alloc, journal, w, first)? {
+            return Ok(Some((first, second)));
+        }
+    }
+    Ok(None)
+}
+
+// The first refused write of a recovery, or 0, that does not go by the rule: of 64 words each of those that are tried,
+// and right after the gate was opened every one.
+fn wrong_recovery(
+    alloc: Global,
+    journal: Journal,
+    w: u8,
+    first: u16,
+) -> Result<Option<u16>, NoMemory> {
+    let all = first == journal.opens_at(w).saturating_add(1);
+    for second in 0..=journal.owes(w, first, ZERO) {
+        let refusals = Refusals {
+            journal,
+            w,
+            first,
+            second,
+        };
+        if (all || is_tried(w, second)) && !goes_by_rule(alloc, refusals)? {
+            return Ok(Some(second));
+        }
+    }
+    Ok(None)
+}
+
+// Whether the answers, the words and the tape of a device that refuses these writes are those of the rule.
+fn goes_by_rule(alloc: Global, refusals: Refusals) -> Result<bool, NoMemory> {
+    let first = refusals.first as u32;
+    let worn = [first, first + refusals.second as u32];
+    let mut device = TapeNvm::new(alloc, 256, 512, &worn)?;
+    prepare(&mut device);
+    let answers = is_answered(&mut device, refusals);
+    Ok(answers && is_left(&device, refusals))
+}
+
+// Whether the write and its recovery are refused, and the next recovery has the writes to make that are left.
+fn is_answered(device: &mut TapeNvm, refusals: Refusals) -> bool {
+    let Refusals {
+        journal,
+        w,
+        second,
+        ..
+    } = refusals;
+    let refused = Answer::Stopped(Stop::Worn);
+    if write(device, journal, w) != refused || second > 0 && recover(device, journal) != refused {
+        return false;
+    }
+    recover(device, journal) == Answer::Recovered(left_to_do(refusals))
+}
+
+// Whether the words and the tape are those of the rule.
+fn is_left(device: &TapeNvm, refusals: Refusals) -> bool {
+    let Refusals {
+        journal,
+        w,
+        first,
+        ..
+    } = refusals;
+    let stands = journal.stands(w, first, ZERO);
+    wrong_place(device, journal, w, stands).is_none()
+        && wrong_entry(device.tape(), refusals).is_none()
 }
 
 // The number of writes of the last recovery.

@@ -49,43 +49,64 @@ pub fn wrong_at<L: Ledger>(
     requires some { 0 < blank.parts }
 {
     let mut steps = Steps::<L>::new(blank);
-    let Ok(mut bank) = MemBank::new(alloc) else {
-        return Err(Fault::NoMemory);
-    };
     let [first, ..] = row.apps else {
         return Err(Fault::Absent);
     };
-    load_all(alloc, &mut bank, row.apps, &mut steps)?;
     let name = name_of(alloc, first.name)?;
-    if let Some(at) = wrong_command(alloc, &mut bank, &name, row, &mut steps)? {
-        return Ok(Some(at));
-    }
-    let left = bytes_of(alloc, row.left)?;
-    if static_bytes(alloc, &bank, &name)?.as_slice() != left.as_slice() {
-        return Ok(Some(row.commands.len()));
-    }
-    Ok(None)
+    let Ok(mut bank) = MemBank::new(alloc) else {
+        return Err(Fault::NoMemory);
+    };
+    wrong_in(alloc, &mut bank, &name, row, &mut steps)
 }
 
-fn load_all<L: Ledger>(
+fn wrong_in<L: Ledger>(
     alloc: Global,
     bank: &mut MemBank,
-    apps: &[App<'_>],
+    name: &Aid,
+    row: &Row<'_>,
+    steps: &mut Steps<L>,
+) -> Result<Option<usize>, Fault> {
+    for app in row.apps {
+        load_app(alloc, bank, app, steps)?;
+    }
+    match wrong_command(alloc, bank, name, row, steps)? {
+        Some(at) => Ok(Some(at)),
+        None => wrong_bytes(alloc, bank, name, row),
+    }
+}
+
+fn load_app<L: Ledger>(
+    alloc: Global,
+    bank: &mut MemBank,
+    app: &App<'_>,
     steps: &mut Steps<L>,
 ) -> Result<(), Fault> {
-    for app in apps {
-        let name = name_of(alloc, app.name)?;
-        let code = bytes_of(alloc, app.code)?;
-        let data = bytes_of(alloc, app.data)?;
-        let unit = Unit {
-            code: code.as_slice(),
-            data: data.as_slice(),
-            fixed: app.fixed,
-            deny: app.deny,
-        };
-        load(bank, &name, &unit, steps)?;
+    let name = name_of(alloc, app.name)?;
+    let code = bytes_of(alloc, app.code)?;
+    let data = bytes_of(alloc, app.data)?;
+    let unit = Unit {
+        code: code.as_slice(),
+        data: data.as_slice(),
+        fixed: app.fixed,
+        deny: app.deny,
+    };
+    load(bank, &name, &unit, steps)
+}
+
+// The number of commands, if other static bytes are left.
+fn wrong_bytes(
+    alloc: Global,
+    bank: &MemBank,
+    name: &Aid,
+    row: &Row<'_>,
+) -> Result<Option<usize>, Fault> {
+    let due = bytes_of(alloc, row.left)?;
+    let left = static_bytes(alloc, bank, name)?;
+    if left.as_slice() == due.as_slice() {
+        Ok(None)
+    } else {
+        Ok(Some(row.commands.len()))
     }
-    Ok(())
 }
 
 fn wrong_command<L: Ledger>(
@@ -96,13 +117,26 @@ fn wrong_command<L: Ledger>(
     steps: &mut Steps<L>,
 ) -> Result<Option<usize>, Fault> {
     for (at, (text, answer)) in row.commands.iter().enumerate() {
-        let bytes = bytes_of(alloc, text)?;
-        let outcome = command(bank, name, bytes.as_slice(), row.budget, steps)?;
-        if !is_answer(alloc, &outcome, answer)? {
+        if !is_due(alloc, bank, name, text, row.budget, answer, steps)? {
             return Ok(Some(at));
         }
     }
     Ok(None)
+}
+
+// Whether a command in hexadecimal has an answer.
+fn is_due<L: Ledger>(
+    alloc: Global,
+    bank: &mut MemBank,
+    name: &Aid,
+    text: &str,
+    budget: u32,
+    answer: &Answer<'_>,
+    steps: &mut Steps<L>,
+) -> Result<bool, Fault> {
+    let bytes = bytes_of(alloc, text)?;
+    let outcome = command(bank, name, bytes.as_slice(), budget, steps)?;
+    is_answer(alloc, &outcome, answer)
 }
 
 fn is_answer(alloc: Global, outcome: &Outcome, answer: &Answer<'_>) -> Result<bool, Fault> {
@@ -165,6 +199,18 @@ pub fn lone<L: Ledger>(
         deny: 0,
     };
     load(&mut bank, &name, &unit, &mut steps)?;
-    let outcome = command(&mut bank, &name, bytes, budget, &mut steps)?;
-    Ok((outcome, static_bytes(alloc, &bank, &name)?))
+    ended(alloc, &mut bank, &name, bytes, budget, &mut steps)
+}
+
+// The outcome of a command, and the static bytes that it leaves.
+fn ended<L: Ledger>(
+    alloc: Global,
+    bank: &mut MemBank,
+    name: &Aid,
+    bytes: &[u8],
+    budget: u32,
+    steps: &mut Steps<L>,
+) -> Result<(Outcome, Vec<u8>), Fault> {
+    let outcome = command(bank, name, bytes, budget, steps)?;
+    Ok((outcome, static_bytes(alloc, bank, name)?))
 }

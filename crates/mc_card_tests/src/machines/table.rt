@@ -1,12 +1,12 @@
 // The worked rows of commands to single applications, and of chains of them.
 use crate::machines::card::Fault;
 use crate::machines::rows::{Answer, App, Row, lone, wrong_at};
+use mc_base::NoMemory;
 use mc_machine::Outcome;
 use mc_segs::Abend;
 use std::alloc::Global;
 use std::marker::Brand;
 use std::sync::ledger::Blank;
-use std::test::Fail;
 
 // Whether a row is as due.
 fn goes(alloc: Global, row: &Row<'_>) -> bool {
@@ -53,7 +53,7 @@ const PLAIN: Case = Case {
 };
 
 // Static bytes, arithmetic and calls.
-const ACCESSES: [Case; 6] = [
+const ACCESSES: &[Case] = &[
     Case {
         title: "carry and zero",
         code: "B9020000280246010000060001",
@@ -103,7 +103,7 @@ const ACCESSES: [Case; 6] = [
 ];
 
 // Budgets that are sufficient, and budgets that are not.
-const BUDGETS: [Case; 4] = [
+const BUDGETS: &[Case] = &[
     Case {
         title: "budget of 3",
         code: "000004",
@@ -133,7 +133,7 @@ const BUDGETS: [Case; 4] = [
 ];
 
 // Primitives without a key.
-const PRIMITIVES: [Case; 5] = [
+const PRIMITIVES: &[Case] = &[
     Case {
         title: "lookup",
         code: "210B220000280446010000060001",
@@ -172,7 +172,7 @@ const PRIMITIVES: [Case; 5] = [
 ];
 
 // Ciphers and digests.
-const CIPHERS: [Case; 5] = [
+const CIPHERS: &[Case] = &[
     Case {
         title: "DES",
         code: "22C00022C000220000290408060008",
@@ -223,7 +223,7 @@ const CIPHERS: [Case; 5] = [
 ];
 
 // Transactions.
-const TRANSACTIONS: [Case; 2] = [
+const TRANSACTIONS: &[Case] = &[
     Case {
         title: "transaction of two words",
         code: "290302691100006922000829030104",
@@ -241,7 +241,7 @@ const TRANSACTIONS: [Case; 2] = [
 ];
 
 // Extended commands, and a reply that is too long.
-const COMMANDS: [Case; 5] = [
+const COMMANDS: &[Case] = &[
     Case {
         title: "extended case 4",
         code: "060004",
@@ -302,32 +302,32 @@ fn wrong_case(alloc: Global, cases: &[Case]) -> Option<&'static str> {
 
 #[test]
 fn accesses(rt: HostRuntime) {
-    assert_eq!(rt; wrong_case(rt.alloc(), &ACCESSES), None);
+    assert_eq!(rt; wrong_case(rt.alloc(), ACCESSES), None);
 }
 
 #[test]
 fn budgets(rt: HostRuntime) {
-    assert_eq!(rt; wrong_case(rt.alloc(), &BUDGETS), None);
+    assert_eq!(rt; wrong_case(rt.alloc(), BUDGETS), None);
 }
 
 #[test]
 fn primitives(rt: HostRuntime) {
-    assert_eq!(rt; wrong_case(rt.alloc(), &PRIMITIVES), None);
+    assert_eq!(rt; wrong_case(rt.alloc(), PRIMITIVES), None);
 }
 
 #[test]
 fn ciphers(rt: HostRuntime) {
-    assert_eq!(rt; wrong_case(rt.alloc(), &CIPHERS), None);
+    assert_eq!(rt; wrong_case(rt.alloc(), CIPHERS), None);
 }
 
 #[test]
 fn transactions(rt: HostRuntime) {
-    assert_eq!(rt; wrong_case(rt.alloc(), &TRANSACTIONS), None);
+    assert_eq!(rt; wrong_case(rt.alloc(), TRANSACTIONS), None);
 }
 
 #[test]
 fn extended_commands(rt: HostRuntime) {
-    assert_eq!(rt; wrong_case(rt.alloc(), &COMMANDS), None);
+    assert_eq!(rt; wrong_case(rt.alloc(), COMMANDS), None);
 }
 
 // Public bytes do not stay from one command to the next.
@@ -444,7 +444,7 @@ fn access_list(rt: HostRuntime) {
 }
 
 // The code that writes the first byte of `words` words under protection, and commits them.
-fn writes(alloc: Global, words: u16) -> Result<Vec<u8>, Fail> {
+fn writes(alloc: Global, words: u16) -> Result<Vec<u8>, NoMemory> {
     let mut code = Vec::from_slice(alloc, &[0x29, 0x03, 0x02])?;
     for word in 0..words {
         let at = (word % 256) * 8;
@@ -452,6 +452,14 @@ fn writes(alloc: Global, words: u16) -> Result<Vec<u8>, Fail> {
     }
     code.extend_from_slice(&[0x29, 0x03, 0x01, 0x04])?;
     Ok(code)
+}
+
+// The outcome of a command that runs it, and the static bytes that it leaves.
+fn written(alloc: Global, words: u16) -> Result<(Outcome, Vec<u8>), Fault> {
+    let Ok(code) = writes(alloc, words) else {
+        return Err(Fault::NoMemory);
+    };
+    ended(alloc, code.as_slice(), 520, &[0x80, 1, 0, 0], 65536)
 }
 
 // Whether a command was answered by this reply, and left these static bytes.
@@ -476,18 +484,13 @@ fn is_abend(end: &Result<(Outcome, Vec<u8>), Fault>, abend: Abend, left: &[u8]) 
 
 // At most 64 words are pending: with one more nothing is written.
 #[test]
-fn pending_limit(rt: HostRuntime) -> Result<(), Fail> {
+fn pending_limit(rt: HostRuntime) {
     let mut marked = [0; 520];
     for word in 0..64 {
         marked[8 * word] = 1;
     }
-    let code = writes(rt.alloc(), 64)?;
-    let end = ended(rt.alloc(), code.as_slice(), 520, &[0x80, 1, 0, 0], 65536);
-    assert!(rt; is_reply(&end, 0x9000, &[], &marked));
-    let code = writes(rt.alloc(), 65)?;
-    let end = ended(rt.alloc(), code.as_slice(), 520, &[0x80, 1, 0, 0], 65536);
-    assert!(rt; is_abend(&end, Abend::A08, &[0; 520]));
-    Ok(())
+    assert!(rt; is_reply(&written(rt.alloc(), 64), 0x9000, &[], &marked));
+    assert!(rt; is_abend(&written(rt.alloc(), 65), Abend::A08, &[0; 520]));
 }
 
 // Every code of one byte ends.

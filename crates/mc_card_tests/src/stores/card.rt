@@ -29,6 +29,14 @@ pub fn counter(last: u8) -> Unit {
     }
 }
 
+/// Returns the counter with two static bytes, under one of many other names.
+pub fn chained(last: u8) -> Unit {
+    Unit {
+        name: [0xA0, 0, 0, 1, last],
+        ..counter(last)
+    }
+}
+
 /// The result of a change.
 #[derive(Clone, Copy, Debug, PartialEq, Eq, Drop)]
 pub enum Came {

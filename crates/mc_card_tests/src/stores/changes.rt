@@ -2,11 +2,12 @@
 ghost use Rattle.std.specs.Prelude.{◌≡◌, false, None, OnOk};
 
 use crate::stores::bench::{Power, power_of};
-use crate::stores::card::{Came, Unit, commit, delete, first_wrong, load};
+use crate::stores::card::{Came, Unit, chained, commit, delete, first_wrong, load};
 use mc_bank::Bank;
-use mc_base::{Steps, Stop, Word};
+use mc_base::{NoMemory, Steps, Stop, Word};
 use mc_nvm::Bench;
 use mc_store::Store;
+use std::alloc::Global;
 use std::sync::ledger::Ledger;
 
 /// A load, a deletion, or a commit of the first word of the static bytes and another.
@@ -29,6 +30,22 @@ pub enum Went {
 
 /// An application with its static bytes.
 pub type App = (Unit, &'static [u8]);
+
+/// Returns the loads of the first of many applications, of twelve words each, and deletions of some of them.
+///
+/// # Errors
+///
+/// Returns `NoMemory` if it is out of memory.
+pub fn chain_of(alloc: Global, count: u8, deleted: &[u8]) -> Result<Vec<(Change, Came)>, NoMemory> {
+    let mut rows = Vec::new(alloc);
+    for last in 1..=count {
+        rows.extend_from_slice(&[(Change::Load(chained(last)), Came::Done)])?;
+    }
+    for last in deleted {
+        rows.extend_from_slice(&[(Change::Delete(chained(*last)), Came::Done)])?;
+    }
+    Ok(rows)
+}
 
 /// Makes one change.
 pub fn make<B: Bank, L: Ledger>(

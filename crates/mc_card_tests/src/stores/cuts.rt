@@ -255,25 +255,53 @@ fn try_case<L: Ledger>(alloc: Global, blank: Blank, case: &Case) -> Result<Tried
     let mut taped = TapeNvm::new(alloc, 256, 64, &[])?;
     restore(&mut taped, &image);
     let _went = play(&mut taped, &[(case.change, Came::Done)], &mut steps);
-    let writes = writes_of(&taped);
-    let mut other = None;
-    for first in 1..=writes {
-        for left in [ZERO, OPEN_1, OPEN_2, due_word(&taped, first)] {
-            for stop in [Stop::Off, Stop::Worn] {
-                let stops = Stops {
-                    stop,
-                    first,
-                    left,
-                    second: 0,
-                    then: ZERO,
-                };
-                if other.is_none() {
-                    other = second_stops(&mut device, &image, case, stops, &taped, &mut steps);
-                }
+    Ok(Tried {
+        writes: writes_of(&taped),
+        other: other_stops(&mut device, &image, case, &taped, &mut steps),
+    })
+}
+
+// The first stops with another result.
+fn other_stops<L: Ledger>(
+    device: &mut SimNvm,
+    image: &Image,
+    case: &Case,
+    taped: &TapeNvm,
+    steps: &mut Steps<L>,
+) -> Option<(Stops, Seen)> {
+    for first in 1..=writes_of(taped) {
+        for left in [ZERO, OPEN_1, OPEN_2, due_word(taped, first)] {
+            if let Some(other) = both_ways(device, image, case, first, left, taped, steps) {
+                return Some(other);
             }
         }
     }
-    Ok(Tried { writes, other })
+    None
+}
+
+// A power cut and a failed write as the first stop, and each second one.
+fn both_ways<L: Ledger>(
+    device: &mut SimNvm,
+    image: &Image,
+    case: &Case,
+    first: u16,
+    left: Word,
+    taped: &TapeNvm,
+    steps: &mut Steps<L>,
+) -> Option<(Stops, Seen)> {
+    for stop in [Stop::Off, Stop::Worn] {
+        let stops = Stops {
+            stop,
+            first,
+            left,
+            second: 0,
+            then: ZERO,
+        };
+        if let Some(other) = second_stops(device, image, case, stops, taped, steps) {
+            return Some(other);
+        }
+    }
+    None
 }
 
 // Tests a case, with steps of its own.

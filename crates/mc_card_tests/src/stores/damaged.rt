@@ -1,7 +1,9 @@
 // Words that are not a card, and words that are.
 use crate::stores::bench::{Power, format, power_up, set_number};
+use mc_base::NoMemory;
 use mc_blocks::Cause;
 use mc_nvm::{DEVICE_WORDS, SimNvm};
+use std::alloc::Global;
 use std::test::Fail;
 
 /// The words that open the journals of layout 1 and of layout 2.
@@ -191,29 +193,40 @@ const RECORDS: &[Row] = &[
     ),
 ];
 
-fn came(device: &mut SimNvm, base: &[(u16, u64)], words: &[(u16, u64)]) -> Power {
-    format(device);
-    for (at, number) in base {
-        set_number(device, *at, *number);
-    }
+// The result of the power-up of an empty card with words set.
+fn came(alloc: Global, base: &[(u16, u64)], words: &[(u16, u64)]) -> Result<Power, NoMemory> {
+    let mut device = SimNvm::new(alloc, DEVICE_WORDS)?;
+    format(&mut device);
+    set_all(&mut device, base);
+    set_all(&mut device, words);
+    Ok(power_up(&mut device))
+}
+
+fn set_all(device: &mut SimNvm, words: &[(u16, u64)]) {
     for (at, number) in words {
         set_number(device, *at, *number);
     }
-    power_up(device)
+}
+
+// The first row with another result.
+fn first_other(
+    alloc: Global,
+    base: &[(u16, u64)],
+    rows: &[Row],
+) -> Result<Option<usize>, NoMemory> {
+    for (i, (words, due)) in rows.iter().enumerate() {
+        if came(alloc, base, words)? != *due {
+            return Ok(Some(i));
+        }
+    }
+    Ok(None)
 }
 
 // The first cause in their order, and its place.
 #[test]
 fn damaged_words(rt: HostRuntime) -> Result<(), Fail> {
-    for (base, rows) in [
-        (&[] as &[(u16, u64)], JOURNALS),
-        (&[], BLOCKS),
-        (HELD, RECORDS),
-    ] {
-        for (i, (words, due)) in rows.iter().enumerate() {
-            let mut device = SimNvm::new(rt.alloc(), DEVICE_WORDS)?;
-            assert_eq!(rt; came(&mut device, base, words), *due, "row {i}");
-        }
-    }
+    assert_eq!(rt; first_other(rt.alloc(), &[], JOURNALS)?, None);
+    assert_eq!(rt; first_other(rt.alloc(), &[], BLOCKS)?, None);
+    assert_eq!(rt; first_other(rt.alloc(), HELD, RECORDS)?, None);
     Ok(())
 }

@@ -2,8 +2,8 @@
 ghost use Rattle.std.specs.Prelude.{◌≡◌, ◌<◌, ◌≤◌};
 
 use crate::stores::bench::{Power, format, number_at, power_up, stop_at};
-use crate::stores::card::{COUNTER, Came, Unit, counter};
-use crate::stores::changes::{App, Change, Shown, Went, play, show};
+use crate::stores::card::{COUNTER, Came, Unit};
+use crate::stores::changes::{App, Change, Shown, Went, chain_of, play, show};
 use crate::stores::rule::{OPEN_2, ZERO};
 use mc_base::{NoMemory, Steps, Stop, Word};
 use mc_nvm::{DEVICE_WORDS, SimNvm};
@@ -72,117 +72,139 @@ fn wrong_word(device: &SimNvm, words: &[(u16, u64)]) -> Option<u16> {
 // Blank devices are not cards. An empty card has five words, and no writes for recovery.
 #[test]
 fn empty_cards(rt: HostRuntime) -> Result<(), Fail> {
-    for (size, root, hole) in [
-        (8192, 0x4D454C0220000083, 0x48001F7D00000000),
-        (256, 0x4D454C0201000083, 0x4800007D00000000),
-    ] {
-        let mut device = SimNvm::new(rt.alloc(), size)?;
-        assert_eq!(rt;
-            power_up(&mut device),
-            Power::Unusable(mc_blocks::Cause::NoRoot, 0)
-        );
-        format(&mut device);
-        let words = [
-            (0, root),
-            (1, 0x534855542D2D2D2D),
-            (2, 0),
-            (3, 0xFFFFFFFFFFFFFFFF),
-            (130, 0x534855542D2D2D2D),
-            (131, hole),
-        ];
-        assert_eq!(rt; wrong_word(&device, &words), None);
-        assert_eq!(rt; power_up(&mut device), Power::Ready(0));
-        assert_eq!(rt; power_up(&mut device), Power::Ready(0));
-    }
+    let due = (
+        Power::Unusable(mc_blocks::Cause::NoRoot, 0),
+        None,
+        Power::Ready(0),
+        Power::Ready(0),
+    );
+    let large = empty_card(rt.alloc(), 8192, 0x4D454C0220000083, 0x48001F7D00000000)?;
+    assert_eq!(rt; large, due);
+    let small = empty_card(rt.alloc(), 256, 0x4D454C0201000083, 0x4800007D00000000)?;
+    assert_eq!(rt; small, due);
     Ok(())
 }
 
-fn chained(last: u8, fixed: u16) -> Unit {
-    Unit {
-        name: [0xA0, 0, 0, 1, last],
-        code: COUNTER,
-        init: &[],
-        fixed,
-    }
+// The result of the power-up of a blank device, the first word of the empty card on it that is not as due, and the
+// results of two power-ups of the card.
+fn empty_card(
+    alloc: Global,
+    size: u32,
+    root: u64,
+    hole: u64,
+) -> Result<(Power, Option<u16>, Power, Power), NoMemory>
+    requires low { 256 ≤ size }
+    requires high { size ≤ 16384 }
+{
+    let mut device = SimNvm::new(alloc, size)?;
+    let blank = power_up(&mut device);
+    format(&mut device);
+    let words = [
+        (0, root),
+        (1, 0x534855542D2D2D2D),
+        (2, 0),
+        (3, 0xFFFFFFFFFFFFFFFF),
+        (130, 0x534855542D2D2D2D),
+        (131, hole),
+    ];
+    let wrong = wrong_word(&device, &words);
+    let first = power_up(&mut device);
+    Ok((blank, wrong, first, power_up(&mut device)))
 }
 
-fn loads(last: u8) -> (Change, Came) {
-    (Change::Load(chained(last, 2)), Came::Done)
-}
+// The counter with two static bytes, under three names.
+const FIRST: Unit = Unit {
+    name: [0xA0, 0, 0, 0, 1],
+    code: COUNTER,
+    init: &[],
+    fixed: 2,
+};
 
-fn deletes(last: u8) -> (Change, Came) {
-    (Change::Delete(chained(last, 2)), Came::Done)
-}
+const SECOND: Unit = Unit {
+    name: [0xA0, 0, 0, 0, 2],
+    ..FIRST
+};
 
-fn sized(last: u8, fixed: u16) -> Change {
-    Change::Load(Unit {
-        fixed,
-        ..counter(last)
-    })
-}
+const THIRD: Unit = Unit {
+    name: [0xA0, 0, 0, 0, 3],
+    ..FIRST
+};
+
+const LOAD: &[(Change, Came)] = &[(Change::Load(FIRST), Came::Done)];
 
 // One load.
 #[test]
 fn one_load(rt: HostRuntime) -> Result<(), Fail> {
-    let rows = [(Change::Load(counter(1)), Came::Done)];
     let words = [
         (0, 0x4D454C022000008F),
         (131, 0x5500000C00000000),
         (143, 0x48001F7100000000),
     ];
-    assert_eq!(rt; words_after(rt.alloc(), DEVICE_WORDS, &rows, &words)?, WELL);
+    assert_eq!(rt; words_after(rt.alloc(), DEVICE_WORDS, LOAD, &words)?, WELL);
     Ok(())
 }
+
+const SIZED: &[(Change, Came)] = &[
+    (
+        Change::Load(Unit {
+            fixed: 400,
+            ..FIRST
+        }),
+        Came::Done,
+    ),
+    (
+        Change::Load(Unit {
+            fixed: 400,
+            ..SECOND
+        }),
+        Came::Done,
+    ),
+    (
+        Change::Load(Unit {
+            fixed: 424,
+            ..THIRD
+        }),
+        Came::NoRoom,
+    ),
+    (Change::Delete(SECOND), Came::Done),
+    (
+        Change::Load(Unit {
+            fixed: 432,
+            ..THIRD
+        }),
+        Came::NoRoom,
+    ),
+    (
+        Change::Load(Unit {
+            fixed: 424,
+            ..THIRD
+        }),
+        Came::Done,
+    ),
+    (Change::Load(THIRD), Came::NoRoom),
+];
 
 // The third load has no room until there is a hole of 64 words.
 #[test]
 fn room(rt: HostRuntime) -> Result<(), Fail> {
-    let rows = [
-        (sized(1, 400), Came::Done),
-        (sized(2, 400), Came::Done),
-        (sized(3, 424), Came::NoRoom),
-        (Change::Delete(counter(2)), Came::Done),
-        (sized(3, 432), Came::NoRoom),
-        (sized(3, 424), Came::Done),
-        (sized(3, 2), Came::NoRoom),
-    ];
     let words = [
         (0, 0x4D454C0201000000),
         (131, 0x5500003D00000000),
         (192, 0x5500004000000000),
     ];
-    assert_eq!(rt; words_after(rt.alloc(), 256, &rows, &words)?, WELL);
+    assert_eq!(rt; words_after(rt.alloc(), 256, SIZED, &words)?, WELL);
     Ok(())
+}
+
+// The results of twenty loads and of deletions on an empty card.
+fn chain_after(alloc: Global, deleted: &[u8], words: &[(u16, u64)]) -> Result<Seen, NoMemory> {
+    let rows = chain_of(alloc, 20, deleted)?;
+    words_after(alloc, DEVICE_WORDS, rows.as_slice(), words)
 }
 
 // Twenty applications, and holes in the places of some of them.
 #[test]
 fn hole_chain(rt: HostRuntime) -> Result<(), Fail> {
-    let rows = [
-        loads(1),
-        loads(2),
-        loads(3),
-        loads(4),
-        loads(5),
-        loads(6),
-        loads(7),
-        loads(8),
-        loads(9),
-        loads(10),
-        loads(11),
-        loads(12),
-        loads(13),
-        loads(14),
-        loads(15),
-        loads(16),
-        loads(17),
-        loads(18),
-        loads(19),
-        loads(20),
-        deletes(2),
-        deletes(4),
-        deletes(3),
-    ];
     let two = [
         (0, 0x4D454C022000008F),
         (143, 0x4800000C00A70000),
@@ -194,11 +216,8 @@ fn hole_chain(rt: HostRuntime) -> Result<(), Fail> {
         (143, 0x4800002401730000),
         (371, 0x48001E8D00000000),
     ];
-    assert_eq!(rt;
-        words_after(rt.alloc(), DEVICE_WORDS, &rows[..22], &two)?,
-        WELL
-    );
-    assert_eq!(rt; words_after(rt.alloc(), DEVICE_WORDS, &rows, &one)?, WELL);
+    assert_eq!(rt; chain_after(rt.alloc(), &[2, 4], &two)?, WELL);
+    assert_eq!(rt; chain_after(rt.alloc(), &[2, 4, 3], &one)?, WELL);
     Ok(())
 }
 
@@ -248,42 +267,38 @@ fn stands_after(
     left_by::<Brand>(alloc, Blank::new(1), rows, k, fill, apps)
 }
 
+const REPLACED: &[(Change, Came)] = &[
+    (Change::Load(FULL), Came::Done),
+    (Change::Delete(FULL), Came::Done),
+    (Change::Load(EMPTY), Came::Done),
+];
+
+const REPLACES: &[App] = &[(EMPTY, &[0; 8])];
+
+// A card as due, whose power-up made this number of writes.
+fn shown(writes: u16) -> Shown {
+    Shown {
+        power: Power::Ready(writes),
+        wrong: None,
+    }
+}
+
 // An application without data, in the words of a deleted one with data.
 #[test]
 fn no_stale_byte(rt: HostRuntime) -> Result<(), Fail> {
-    let rows = [
-        (Change::Load(FULL), Came::Done),
-        (Change::Delete(FULL), Came::Done),
-        (Change::Load(EMPTY), Came::Done),
-    ];
-    let shown = Shown {
-        power: Power::Ready(0),
-        wrong: None,
-    };
-    assert_eq!(rt;
-        stands_after(rt.alloc(), &rows, 0, ZERO, &[(EMPTY, &[0; 8])])?,
-        (Went::Through, shown)
-    );
+    let seen = stands_after(rt.alloc(), REPLACED, 0, ZERO, REPLACES)?;
+    assert_eq!(rt; seen, (Went::Through, shown(0)));
     Ok(())
 }
+
+const LOADED: &[App] = &[(FIRST, &[0, 0])];
 
 // A load of 21 writes, cut in the write before its gate opens, and in the one that opens it.
 #[test]
 fn cut_in_a_load(rt: HostRuntime) -> Result<(), Fail> {
-    let rows = [(Change::Load(counter(1)), Came::Done)];
-    for (k, fill, writes, apps) in [
-        (16, ZERO, 0, &[] as &[App]),
-        (17, OPEN_2, 4, &[(counter(1), &[0, 0])]),
-    ] {
-        let shown = Shown {
-            power: Power::Ready(writes),
-            wrong: None,
-        };
-        assert_eq!(rt;
-            stands_after(rt.alloc(), &rows, k, fill, apps)?,
-            (Went::Stopped(Stop::Off), shown),
-            "write {k}"
-        );
-    }
+    let before = stands_after(rt.alloc(), LOAD, 16, ZERO, &[])?;
+    assert_eq!(rt; before, (Went::Stopped(Stop::Off), shown(0)));
+    let opened = stands_after(rt.alloc(), LOAD, 17, OPEN_2, LOADED)?;
+    assert_eq!(rt; opened, (Went::Stopped(Stop::Off), shown(4)));
     Ok(())
 }

@@ -61,16 +61,18 @@ const ROWS: &[Row] = &[
 const ROOT_1: u64 = 0x4D454C0120000083;
 
 // The first power-up with another result.
-fn first_other(
-    device: &mut SimNvm,
-    words: &[(u16, u64)],
-    ups: &[(u16, Word, Power)],
-) -> Option<usize> {
-    format(device);
-    set_number(device, 0, ROOT_1);
-    for (at, number) in words {
-        set_number(device, *at, *number);
+fn first_other(alloc: Global, row: &Row) -> Result<Option<usize>, NoMemory> {
+    let (words, ups) = row;
+    let mut device = SimNvm::new(alloc, DEVICE_WORDS)?;
+    format(&mut device);
+    set_number(&mut device, 0, ROOT_1);
+    for (at, number) in *words {
+        set_number(&mut device, *at, *number);
     }
+    Ok(other_power(&mut device, ups))
+}
+
+fn other_power(device: &mut SimNvm, ups: &[(u16, Word, Power)]) -> Option<usize> {
     for (i, (k, fill, due)) in ups.iter().enumerate() {
         stop_at(device, Stop::Off, *k, *fill);
         if power_up(device) != *due {
@@ -83,9 +85,8 @@ fn first_other(
 // Six writes, after those of the recovery.
 #[test]
 fn migrations(rt: HostRuntime) -> Result<(), Fail> {
-    for (i, (words, ups)) in ROWS.iter().enumerate() {
-        let mut device = SimNvm::new(rt.alloc(), DEVICE_WORDS)?;
-        assert_eq!(rt; first_other(&mut device, words, ups), None, "row {i}");
+    for (i, row) in ROWS.iter().enumerate() {
+        assert_eq!(rt; first_other(rt.alloc(), row)?, None, "row {i}");
     }
     Ok(())
 }
@@ -209,24 +210,42 @@ fn first_stops<L: Ledger>(
     let mut taped = TapeNvm::new(alloc, 256, 64, &[])?;
     restore(&mut taped, &image);
     let _whole = power_up(&mut taped);
-    let mut other = None;
+    let other = other_stops(&mut device, &image, &taped);
+    Ok((writes_of(&taped), other))
+}
+
+fn other_stops(device: &mut SimNvm, image: &Image, taped: &TapeNvm) -> Option<(Stops, Seen)> {
     for first in 1..7 {
-        for left in [ZERO, OPEN_1, OPEN_2, due_word(&taped, first)] {
-            for stop in [Stop::Off, Stop::Worn] {
-                let stops = Stops {
-                    stop,
-                    first,
-                    left,
-                    second: 0,
-                    then: ZERO,
-                };
-                if other.is_none() {
-                    other = second_stops(&mut device, &image, stops, &taped);
-                }
+        for left in [ZERO, OPEN_1, OPEN_2, due_word(taped, first)] {
+            if let Some(other) = both_ways(device, image, first, left, taped) {
+                return Some(other);
             }
         }
     }
-    Ok((writes_of(&taped), other))
+    None
+}
+
+// A power cut and a failed write as the first stop, and each second one.
+fn both_ways(
+    device: &mut SimNvm,
+    image: &Image,
+    first: u16,
+    left: Word,
+    taped: &TapeNvm,
+) -> Option<(Stops, Seen)> {
+    for stop in [Stop::Off, Stop::Worn] {
+        let stops = Stops {
+            stop,
+            first,
+            left,
+            second: 0,
+            then: ZERO,
+        };
+        if let Some(other) = second_stops(device, image, stops, taped) {
+            return Some(other);
+        }
+    }
+    None
 }
 
 // Each second stop after one first stop.

@@ -9,8 +9,8 @@ ghost use Rattle.mc_store.specs.Store.{is_going, store_named};
 ghost use Rattle.mc_store.specs.Power.{device_of, count_of};
 
 use crate::stores::bench::format;
-use crate::stores::card::{COUNTER, Came, Unit, delete, fill, sizes_of, slot_of};
-use crate::stores::changes::{Change, Went, make_all};
+use crate::stores::card::{Came, Unit, chained, fill, sizes_of, slot_of};
+use crate::stores::changes::{Change, Went, chain_of, make_all};
 use crate::stores::counting::Counting;
 use mc_bank::{Bank, Slot};
 use mc_base::{Aid, NoMemory, Steps};
@@ -48,58 +48,6 @@ struct Plans {
     search: u32,
     take: u32,
     free: u32,
-}
-
-// The counter under one of many names.
-fn chained(last: u8, fixed: u16) -> Unit {
-    Unit {
-        name: [0xA0, 0, 0, 1, last],
-        code: COUNTER,
-        init: &[],
-        fixed,
-    }
-}
-
-fn loads(last: u8) -> (Change, Came) {
-    (Change::Load(chained(last, 2)), Came::Done)
-}
-
-// Thirty-two applications of twelve words each, the maximum of a card.
-fn all_loads() -> [(Change, Came); 32] {
-    [
-        loads(1),
-        loads(2),
-        loads(3),
-        loads(4),
-        loads(5),
-        loads(6),
-        loads(7),
-        loads(8),
-        loads(9),
-        loads(10),
-        loads(11),
-        loads(12),
-        loads(13),
-        loads(14),
-        loads(15),
-        loads(16),
-        loads(17),
-        loads(18),
-        loads(19),
-        loads(20),
-        loads(21),
-        loads(22),
-        loads(23),
-        loads(24),
-        loads(25),
-        loads(26),
-        loads(27),
-        loads(28),
-        loads(29),
-        loads(30),
-        loads(31),
-        loads(32),
-    ]
 }
 
 // The reads of a load and of a deletion.
@@ -172,12 +120,11 @@ fn empty_card(alloc: Global) -> Result<SimNvm, NoMemory>
     Ok(device)
 }
 
-// The reads on a card with `count` applications, after some of them are deleted.
+// The reads on a card after some changes.
 fn reads_over<L: Ledger>(
     alloc: Global,
     blank: Blank,
-    count: usize,
-    deleted: &[(Change, Came)],
+    rows: &[(Change, Came)],
 ) -> Result<Option<Reads>, NoMemory>
     requires name { blank.name ≡ L.name }
     requires parts { blank.parts ≡ L.parts }
@@ -192,50 +139,44 @@ fn reads_over<L: Ledger>(
     let Ok((mut store, _)) = Store::power_up(device) else {
         return Ok(None);
     };
-    let seen = reads_of(&mut store, count, deleted, &reads, &mut steps);
+    let seen = reads_of(&mut store, rows, &reads, &mut steps);
     let _device = store.into_dev();
     Ok(seen)
 }
 
 fn reads_of<B: Bank, L: Ledger>(
     bank: &mut B,
-    count: usize,
-    deleted: &[(Change, Came)],
+    rows: &[(Change, Came)],
     reads: &Cell<u32>,
     steps: &mut Steps<L>,
 ) -> Option<Reads>
     requires going { (B.state bank.old).stopped ≡ false }
 {
-    let _last = slot_of_twentieth(bank, count, deleted, steps)?;
-    count_reads(bank, &chained(33, 2), &chained(20, 2), reads, steps)
+    let _last = slot_of_twentieth(bank, rows, steps)?;
+    count_reads(bank, &chained(33), &chained(20), reads, steps)
 }
 
-// Loads `count` applications and deletes some of them; returns the slot of the twentieth.
+// Makes changes, and returns the slot of the twentieth application.
 fn slot_of_twentieth<B: Bank, L: Ledger>(
     bank: &mut B,
-    count: usize,
-    deleted: &[(Change, Came)],
+    rows: &[(Change, Came)],
     steps: &mut Steps<L>,
 ) -> Option<Slot>
     requires going { (B.state bank.old).stopped ≡ false }
     ensures going { IfSome result (λ slot. (B.state bank.new).stopped ≡ false) }
     ensures there { IfSome result (λ slot. IsSome (B.named bank.new slot)) }
 {
-    let loads = all_loads();
-    if make_all(bank, loads.get(..count)?, steps) != Went::Through {
+    if make_all(bank, rows, steps) != Went::Through {
         return None;
     }
-    if make_all(bank, deleted, steps) != Went::Through {
-        return None;
-    }
-    slot_of(bank, &chained(20, 2).name)
+    slot_of(bank, &chained(20).name)
 }
 
 // The reads of the search and of the plans on such cards.
 fn plans_over<L: Ledger>(
     alloc: Global,
     blank: Blank,
-    deleted: &[(Change, Came)],
+    rows: &[(Change, Came)],
 ) -> Result<Option<Plans>, NoMemory>
     requires name { blank.name ≡ L.name }
     requires parts { blank.parts ≡ L.parts }
@@ -250,7 +191,7 @@ fn plans_over<L: Ledger>(
     let Ok((mut store, _)) = Store::power_up(device) else {
         return Ok(None);
     };
-    match slot_of_twentieth(&mut store, 20, deleted, &mut steps) {
+    match slot_of_twentieth(&mut store, rows, &mut steps) {
         Some(slot) => Ok(count_plans(store, slot, &reads, &mut steps)),
         None => {
             let _device = store.into_dev();
@@ -302,84 +243,80 @@ fn plans_of<N: Nvm, L: Ledger>(
     })
 }
 
-fn deletes(last: u8) -> (Change, Came) {
-    (Change::Delete(chained(last, 2)), Came::Done)
+// The reads on a card with `count` applications, after some of them are deleted.
+fn store_reads(alloc: Global, count: u8, deleted: &[u8]) -> Result<Option<Reads>, NoMemory> {
+    let rows = chain_of(alloc, count, deleted)?;
+    reads_over::<Brand>(alloc, Blank::new(1), rows.as_slice())
 }
 
-// The reads on a card, with steps of their own.
-fn store_reads(
-    alloc: Global,
-    count: usize,
-    deleted: &[(Change, Came)],
-) -> Result<Option<Reads>, NoMemory> {
-    reads_over::<Brand>(alloc, Blank::new(1), count, deleted)
+// The reads of plans on a card with twenty applications, after some of them are deleted.
+fn plan_reads(alloc: Global, deleted: &[u8]) -> Result<Option<Plans>, NoMemory> {
+    let rows = chain_of(alloc, 20, deleted)?;
+    plans_over::<Brand>(alloc, Blank::new(1), rows.as_slice())
 }
 
-fn plan_reads(alloc: Global, deleted: &[(Change, Came)]) -> Result<Option<Plans>, NoMemory> {
-    plans_over::<Brand>(alloc, Blank::new(1), deleted)
+const CARDS: &[(u8, &[u8], u32)] = &[
+    (20, &[], 1),
+    (20, &[2, 4], 3),
+    (20, &[2, 4, 3], 2),
+    (20, &[2, 4, 6, 8], 5),
+    (31, &[], 1),
+    (32, &[2], 2),
+    (32, &[2, 4], 3),
+];
+
+// Whether there are at most two more reads than there are holes to find room, and eight more to create or to delete;
+// and whether a read of bytes of an application takes the reads of the words that they lie in.
+fn are_few(reads: &Option<Reads>, holes: u32) -> bool {
+    let Some(reads) = reads else {
+        return false;
+    };
+    let due = Fetches {
+        one: 1,
+        two: 2,
+        fixed: 1,
+    };
+    reads.open <= holes.saturating_add(2)
+        && reads.create.max(reads.delete) <= holes.saturating_add(8)
+        && reads.bytes == due
 }
 
-// Along the chain of holes alone: at most two more reads than there are holes to find room, and eight more to
-// create or to delete, both on a full card and on one with twenty applications. A read of bytes of an
-// application takes the reads of the words that they lie in.
+// Along the chain of holes alone, both on a full card and on one with twenty applications.
 #[test]
 fn reads_of_a_store(rt: HostRuntime) -> Result<(), Fail> {
-    for (count, deleted, holes) in [
-        (20, &[] as &[(Change, Came)], 1),
-        (20, &[deletes(2), deletes(4)], 3),
-        (20, &[deletes(2), deletes(4), deletes(3)], 2),
-        (20, &[deletes(2), deletes(4), deletes(6), deletes(8)], 5),
-        (31, &[], 1),
-        (32, &[deletes(2)], 2),
-        (32, &[deletes(2), deletes(4)], 3),
-    ] {
-        let reads = store_reads(rt.alloc(), count, deleted)?;
-        assert!(rt; reads.is_some(), "{count} applications, {holes} holes");
-        if let Some(
-            Reads {
-                open,
-                create,
-                delete,
-                bytes,
-            },
-        ) = reads
-        {
-            assert!(rt; open <= holes + 2, "{open} reads, {holes} holes");
-            assert!(rt; create <= holes + 8, "{create} reads, {holes} holes");
-            assert!(rt; delete <= holes + 8, "{delete} reads, {holes} holes");
-            let Fetches { one, two, fixed } = bytes;
-            assert_eq!(rt; (one, two, fixed), (1, 2, 1));
-        }
+    for (count, deleted, holes) in CARDS {
+        let reads = store_reads(rt.alloc(), *count, deleted)?;
+        assert!(rt;
+            are_few(&reads, *holes),
+            "{count} applications, {holes} holes: {reads:?}"
+        );
     }
     Ok(())
 }
 
-// At most four more reads than there are holes to make a plan.
+const HOLES: &[(&[u8], u32, u16, u32)] = &[
+    (&[], 1, 371, 2),
+    (&[2, 4], 3, 371, 4),
+    (&[2, 4, 3], 2, 143, 2),
+];
+
+// Whether a search has this place and this number of reads, and a plan at most four more reads than there are holes.
+fn is_planned(plans: &Option<Plans>, holes: u32, place: u16, search: u32) -> bool {
+    let Some(plans) = plans else {
+        return false;
+    };
+    let most = holes.saturating_add(4);
+    plans.place == place && plans.search == search && plans.take <= most && plans.free <= most
+}
+
 #[test]
 fn reads_of_plans(rt: HostRuntime) -> Result<(), Fail> {
-    for (deleted, holes, search) in [
-        (&[] as &[(Change, Came)], 1, 2),
-        (&[deletes(2), deletes(4)], 3, 4),
-        (&[deletes(2), deletes(4), deletes(3)], 2, 2),
-    ] {
+    for (deleted, holes, place, search) in HOLES {
         let plans = plan_reads(rt.alloc(), deleted)?;
-        assert!(rt; plans.is_some(), "{holes} holes");
-        if let Some(
-            Plans {
-                place,
-                search: found,
-                take,
-                free,
-            },
-        ) = plans
-        {
-            assert_eq!(rt;
-                (place, found),
-                (if holes == 2 { 143 } else { 371 }, search)
-            );
-            assert!(rt; take <= holes + 4, "{take} reads, {holes} holes");
-            assert!(rt; free <= holes + 4, "{free} reads, {holes} holes");
-        }
+        assert!(rt;
+            is_planned(&plans, *holes, *place, *search),
+            "{holes} holes: {plans:?}"
+        );
     }
     Ok(())
 }
