@@ -1,6 +1,7 @@
 // Writes of bytes without facts, also at addresses that are not known.
+use crate::shared::any_bytes;
 use crate::splitting::{Span, reach};
-use crate::state::{Segment, Sizes, State, plain, where_is};
+use crate::state::{Segment, Sizes, State, where_is};
 use crate::step::{Step, abend, goes_or_wrote, limit};
 use mc_base::NoMemory;
 use prove_facts::{Origin, Values, push};
@@ -46,6 +47,10 @@ fn forget(alloc: Global, sizes: &Sizes<'_>, state: &mut State, spans: &[Span]) -
 }
 
 /// A write of bytes without facts, of one of some lengths at one of many addresses.
+///
+/// # Errors
+///
+/// Returns `NoMemory` if it is out of memory.
 pub fn coarse_write(
     alloc: Global,
     sizes: &Sizes<'_>,
@@ -60,22 +65,44 @@ pub fn coarse_write(
     if spans.is_empty() {
         return Ok(());
     }
-    let segment = if touches(spans.as_slice(), 0, sizes.fixed as u32) {
+    write_over(alloc, sizes, state, spans.as_slice(), out)
+}
+
+// A write of bytes without facts somewhere in some spans.
+fn write_over(
+    alloc: Global,
+    sizes: &Sizes<'_>,
+    state: &State,
+    spans: &[Span],
+    out: &mut Vec<Step>,
+) -> Grown {
+    let segment = if touches(spans, 0, sizes.fixed as u32) {
         Segment::Static
     } else {
         Segment::Dynamic
     };
     limit(sizes, state, segment, out)?;
     let mut next = state.copied(alloc)?;
-    forget(alloc, sizes, &mut next, spans.as_slice())?;
+    forget(alloc, sizes, &mut next, spans)?;
     for (i, call) in state.calls.iter().enumerate() {
         let end = call.end as u32;
-        if touches(spans.as_slice(), end.saturating_sub(4), end) {
-            let mut hit = next.copied(alloc)?;
-            hit.drop_calls(alloc, i.saturating_add(1))?;
-            push(out, goes_or_wrote(hit, segment))?;
+        if touches(spans, end.saturating_sub(4), end) {
+            lose_calls(alloc, &next, i.saturating_add(1), segment, out)?;
         }
     }
+    push(out, goes_or_wrote(next, segment))
+}
+
+// The outcome of a write after which the first calls are lost.
+fn lose_calls(
+    alloc: Global,
+    state: &State,
+    lost: usize,
+    segment: Segment,
+    out: &mut Vec<Step>,
+) -> Grown {
+    let mut next = state.copied(alloc)?;
+    next.drop_calls(alloc, lost)?;
     push(out, goes_or_wrote(next, segment))
 }
 
@@ -96,10 +123,7 @@ pub fn write_any(
         return abend(3, out);
     };
     limit(sizes, state, segment, out)?;
-    let mut bytes = Vec::new(alloc);
-    for _ in 0..n {
-        push(&mut bytes, plain(Values::ALL))?;
-    }
+    let bytes = any_bytes(alloc, n)?;
     let mut next = state.copied(alloc)?;
     next.write(alloc, sizes, at, bytes.as_slice())?;
     push(out, goes_or_wrote(next, segment))

@@ -3,7 +3,7 @@ use crate::state::{Segment, Sizes, State, plain, where_is};
 use crate::step::{Step, goes_or_wrote, limit};
 use mc_base::NoMemory;
 use prove_digits::{Digit, Way, ways};
-use prove_facts::{Form, Values, form_of, mask, push};
+use prove_facts::{Form, Origin, Values, form_of, mask, push};
 use prove_keys::{Bounds, Last, Order};
 use std::alloc::Global;
 
@@ -151,14 +151,45 @@ fn form_moved(
     let Some(second) = compute.second else {
         return Ok((Some(Form::constant(alloc, compute.constant)), times));
     };
-    let mut origins = Vec::new(alloc);
-    for i in 0..compute.n {
-        push(
-            &mut origins,
-            state.known.sums.origin(second.saturating_add(i)),
-        )?;
-    }
+    let origins = origins_of(alloc, state, second, compute.n)?;
     Ok((form_of(alloc, origins.as_slice())?, times))
+}
+
+// Where the n bytes at an address come from.
+fn origins_of(alloc: Global, state: &State, at: u16, n: u16) -> Result<Vec<Origin>, NoMemory> {
+    let mut origins = Vec::new(alloc);
+    for i in 0..n {
+        push(&mut origins, state.known.sums.origin(at.saturating_add(i)))?;
+    }
+    Ok(origins)
+}
+
+// The operands that are left as they are have only the values of a way.
+fn narrow_operands(next: &mut State, compute: &Computation, way: &Way) -> Result<(), NoMemory> {
+    if let Some(second) = compute.second {
+        next.narrow_all(second, way.y.as_slice())?;
+    }
+    if compute.writes {
+        Ok(())
+    } else {
+        next.narrow_all(compute.first, way.x.as_slice())
+    }
+}
+
+fn write_result(
+    alloc: Global,
+    sizes: &Sizes<'_>,
+    state: &State,
+    compute: &Computation,
+    way: &Way,
+    next: &mut State,
+) -> Result<(), NoMemory> {
+    let (form, times) = form_moved(alloc, state, compute)?;
+    let mut bytes = Vec::new(alloc);
+    for values in &way.r {
+        push(&mut bytes, plain(*values))?;
+    }
+    next.write_moved(alloc, sizes, compute.first, bytes.as_slice(), &form, times)
 }
 
 fn outcome(
@@ -170,12 +201,7 @@ fn outcome(
     segment: Segment,
 ) -> Result<Option<Step>, NoMemory> {
     let mut next = state.copied(alloc)?;
-    if let Some(second) = compute.second {
-        next.narrow_all(second, way.y.as_slice())?;
-    }
-    if !compute.writes {
-        next.narrow_all(compute.first, way.x.as_slice())?;
-    }
+    narrow_operands(&mut next, compute, way)?;
     if next.is_empty(compute.first, compute.n) {
         return Ok(None);
     }
@@ -189,16 +215,27 @@ fn outcome(
     if !compute.writes {
         return Ok(Some(Step::Goes(next)));
     }
-    let (form, times) = form_moved(alloc, state, compute)?;
-    let mut bytes = Vec::new(alloc);
-    for values in &way.r {
-        push(&mut bytes, plain(*values))?;
-    }
-    next.write_moved(alloc, sizes, compute.first, bytes.as_slice(), &form, times)?;
+    write_result(alloc, sizes, state, compute, way, &mut next)?;
     Ok(Some(goes_or_wrote(next, segment)))
 }
 
+// The values of the second operand.
+fn second_values(
+    alloc: Global,
+    state: &State,
+    compute: &Computation,
+) -> Result<Vec<Values>, NoMemory> {
+    match compute.second {
+        Some(second) => state.values_of(alloc, second, compute.n),
+        None => constant_values(alloc, compute.constant, compute.n),
+    }
+}
+
 /// The outcomes of a computation whose bytes are whole in a segment.
+///
+/// # Errors
+///
+/// Returns `NoMemory` if it is out of memory.
 pub fn compute_at(
     alloc: Global,
     sizes: &Sizes<'_>,
@@ -208,12 +245,21 @@ pub fn compute_at(
     out: &mut Vec<Step>,
 ) -> Result<(), NoMemory> {
     let xs = state.values_of(alloc, compute.first, compute.n)?;
-    let ys = match compute.second {
-        Some(second) => state.values_of(alloc, second, compute.n)?,
-        None => constant_values(alloc, compute.constant, compute.n)?,
-    };
+    let ys = second_values(alloc, state, compute)?;
     let found = ways(alloc, compute.digit, xs.as_slice(), ys.as_slice())?;
-    for way in &found {
+    go_by_ways(alloc, sizes, state, compute, found.as_slice(), segment, out)
+}
+
+fn go_by_ways(
+    alloc: Global,
+    sizes: &Sizes<'_>,
+    state: &State,
+    compute: &Computation,
+    found: &[Way],
+    segment: Segment,
+    out: &mut Vec<Step>,
+) -> Result<(), NoMemory> {
+    for way in found {
         if is_possible(&state.known.last, compute, way.c, way.z) {
             if let Some(step) = outcome(alloc, sizes, state, compute, way, segment)? {
                 push(out, step)?;
@@ -224,6 +270,10 @@ pub fn compute_at(
 }
 
 /// The outcomes of a computation at an address that may be none: abend 03 if its bytes are outside.
+///
+/// # Errors
+///
+/// Returns `NoMemory` if it is out of memory.
 pub fn compute(
     alloc: Global,
     sizes: &Sizes<'_>,

@@ -39,17 +39,27 @@ fn enter(alloc: Global, sizes: &Sizes<'_>, state: State, to: i32, out: &mut Vec<
         return abend(5, out);
     }
     let mut next = state;
+    open_call(alloc, &mut next)?;
+    next.registers.at = to as u16;
+    goes(next, out)
+}
+
+// Saves LB and the place on the stack, and begins the routine's own part of it.
+fn open_call(alloc: Global, next: &mut State) -> Grown {
     let place = next.registers.at;
     let lb = next.registers.lb;
     next.push(&known_word(lb))?;
     next.push(&known_word(place))?;
     let end = next.registers.dt;
-    let mut calls = Vec::from_slice(alloc, next.calls.as_slice())?;
-    push(&mut calls, Call { end, lb, place })?;
-    next.calls = calls;
+    next.calls = calls_with(alloc, next.calls.as_slice(), Call { end, lb, place })?;
     next.registers.lb = end;
-    next.registers.at = to as u16;
-    goes(next, out)
+    Ok(())
+}
+
+fn calls_with(alloc: Global, calls: &[Call], call: Call) -> Result<Vec<Call>, NoMemory> {
+    let mut all = Vec::from_slice(alloc, calls)?;
+    push(&mut all, call)?;
+    Ok(all)
 }
 
 fn go_or_enter(
@@ -83,13 +93,30 @@ fn go_from_stack(
     let lows = state.values(at.saturating_add(1));
     let mut popped = state.copied(alloc)?;
     popped.pop(alloc, sizes, 2)?;
+    if go_high(alloc, sizes, &popped, calls, &highs, &lows, out)? {
+        abend(2, out)
+    } else {
+        Ok(())
+    }
+}
+
+// Whether some place is outside the code.
+fn go_high(
+    alloc: Global,
+    sizes: &Sizes<'_>,
+    popped: &State,
+    calls: bool,
+    highs: &Values,
+    lows: &Values,
+    out: &mut Vec<Step>,
+) -> Result<bool, NoMemory> {
     let mut outside = false;
     for high in 0..=255u8 {
         if highs.has(high) {
-            outside = go_low(alloc, sizes, &popped, calls, high, &lows, out)? || outside;
+            outside = go_low(alloc, sizes, popped, calls, high, lows, out)? || outside;
         }
     }
-    if outside { abend(2, out) } else { Ok(()) }
+    Ok(outside)
 }
 
 fn go_low(
@@ -178,25 +205,35 @@ pub fn come_back(
     if (lb as u32) < needed || lb as u32 + o as u32 > state.registers.dt as u32 {
         return abend(4, out);
     }
-    let open = state.calls.len();
-    let Some(call) = state.calls.get(open.saturating_sub(1)) else {
-        return push(out, Step::Unknown);
-    };
-    if call.end != lb {
-        return push(out, Step::Unknown);
+    match state.calls.get(state.calls.len().saturating_sub(1)) {
+        Some(call) if call.end == lb => {
+            if call.place >= sizes.code {
+                return abend(2, out);
+            }
+            let base = lb.saturating_sub(4).saturating_sub(i as u16);
+            let mut next = state.copied(alloc)?;
+            close_call(alloc, sizes, &mut next, call, base, o as u16)?;
+            goes(next, out)
+        }
+        _ => push(out, Step::Unknown),
     }
-    if call.place >= sizes.code {
-        return abend(2, out);
-    }
-    let top = state.registers.dt.saturating_sub(o as u16);
-    let moved = state.bytes_of(alloc, top, o as u16)?;
-    let mut next = state.copied(alloc)?;
+}
+
+// Returns from the last call: the top n bytes go to an address of the stack, which ends after them.
+fn close_call(
+    alloc: Global,
+    sizes: &Sizes<'_>,
+    next: &mut State,
+    call: &Call,
+    base: u16,
+    n: u16,
+) -> Grown {
+    let dt = next.registers.dt;
+    let moved = next.bytes_of(alloc, dt.saturating_sub(n), n)?;
     next.registers.lb = call.lb;
     next.registers.at = call.place;
+    let open = next.calls.len();
     next.calls.truncate(open.saturating_sub(1));
-    let base = lb.saturating_sub(4).saturating_sub(i as u16);
-    let down = state.registers.dt.saturating_sub(base);
-    next.pop(alloc, sizes, down)?;
-    next.push(moved.as_slice())?;
-    goes(next, out)
+    next.pop(alloc, sizes, dt.saturating_sub(base))?;
+    next.push(moved.as_slice())
 }

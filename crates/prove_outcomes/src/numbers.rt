@@ -21,9 +21,14 @@ fn compare_any(alloc: Global, next: &State, out: &mut Vec<Step>) -> Grown {
     let mut next = next.copied(alloc)?;
     next.known.last = Last::Nothing;
     abend(3, out)?;
-    with_flags(alloc, &next, true, false, out)?;
-    with_flags(alloc, &next, false, true, out)?;
-    with_flags(alloc, &next, false, false, out)
+    say_any(alloc, &next, out)
+}
+
+// Less, equal, or greater.
+fn say_any(alloc: Global, next: &State, out: &mut Vec<Step>) -> Grown {
+    with_flags(alloc, next, true, false, out)?;
+    with_flags(alloc, next, false, true, out)?;
+    with_flags(alloc, next, false, false, out)
 }
 
 fn compare_at(
@@ -98,13 +103,23 @@ pub fn numbers(
     let next = after_pop(alloc, sizes, state, len)?;
     match split(alloc, sets.as_slice())? {
         None => numbers_any(alloc, sizes, &next, row, sets.as_slice(), out),
-        Some(rows) => {
-            for one in rows.as_slice().chunks((len as usize).max(1)) {
-                numbers_at(alloc, sizes, &next, row, one, out)?;
-            }
-            Ok(())
-        }
+        Some(rows) => numbers_each(alloc, sizes, &next, row, rows.as_slice(), out),
     }
+}
+
+// Each combination of the popped bytes by itself.
+fn numbers_each(
+    alloc: Global,
+    sizes: &Sizes<'_>,
+    next: &State,
+    row: NumberRow,
+    rows: &[u8],
+    out: &mut Vec<Step>,
+) -> Grown {
+    for one in rows.chunks((numbers_len(row) as usize).max(1)) {
+        numbers_at(alloc, sizes, next, row, one, out)?;
+    }
+    Ok(())
 }
 
 // The lengths from 1 to 255 that the two bytes of a length allow.

@@ -4,8 +4,8 @@ use crate::numbers::{NumberRow, cipher, fixed, numbers};
 use crate::shared::{after_pop, top, values_in, with_flags};
 use crate::shifts::{bits, shift};
 use crate::splitting::{MOST, number_at, split};
-use crate::state::{Sizes, State, is_outside, known_byte, plain, where_is};
-use crate::step::{Step, abend, goes_or_wrote, limit};
+use crate::state::{Byte, Sizes, State, is_outside, known_byte, plain, where_is};
+use crate::step::{Step, abend, goes, goes_or_wrote, limit};
 use mc_base::NoMemory;
 use prove_facts::{Values, push};
 use std::alloc::Global;
@@ -18,7 +18,7 @@ fn check_case(alloc: Global, sizes: &Sizes<'_>, state: &State, out: &mut Vec<Ste
     if state.is_under(sizes, 1) {
         return abend(4, out);
     }
-    let values = values_in(top(alloc, state, 1)?.as_slice(), 0);
+    let values = top_byte(state);
     let cases = Values::range(1, 4);
     if !values.is_within(&cases) {
         abend(6, out)?;
@@ -26,9 +26,18 @@ fn check_case(alloc: Global, sizes: &Sizes<'_>, state: &State, out: &mut Vec<Ste
     if values.and(&cases).is_empty() {
         return Ok(());
     }
-    let next = after_pop(alloc, sizes, state, 1)?;
-    with_flags(alloc, &next, next.registers.c, false, out)?;
-    with_flags(alloc, &next, next.registers.c, true, out)
+    say_either(alloc, &after_pop(alloc, sizes, state, 1)?, out)
+}
+
+// The values of the byte on top of the stack.
+fn top_byte(state: &State) -> Values {
+    state.values(state.registers.dt.saturating_sub(1))
+}
+
+// Zero is set or not.
+fn say_either(alloc: Global, next: &State, out: &mut Vec<Step>) -> Grown {
+    with_flags(alloc, next, next.registers.c, false, out)?;
+    with_flags(alloc, next, next.registers.c, true, out)
 }
 
 fn load_flags(alloc: Global, state: &State, out: &mut Vec<Step>) -> Grown {
@@ -43,7 +52,7 @@ fn load_flags(alloc: Global, state: &State, out: &mut Vec<Step>) -> Grown {
     };
     let mut next = state.copied(alloc)?;
     next.push(&[known_byte(value)])?;
-    push(out, Step::Goes(next))
+    goes(next, out)
 }
 
 const FLAGS: [u8; 4] = [0, 1, 2, 3];
@@ -52,11 +61,15 @@ fn store_flags(alloc: Global, sizes: &Sizes<'_>, state: &State, out: &mut Vec<St
     if state.is_under(sizes, 1) {
         return abend(4, out);
     }
-    let values = values_in(top(alloc, state, 1)?.as_slice(), 0);
-    let next = after_pop(alloc, sizes, state, 1)?;
+    let values = top_byte(state);
+    set_flags(alloc, &after_pop(alloc, sizes, state, 1)?, &values, out)
+}
+
+// The flags that the lowest two bits of some values spell.
+fn set_flags(alloc: Global, next: &State, values: &Values, out: &mut Vec<Step>) -> Grown {
     for flags in FLAGS {
-        if has_flags(&values, flags) {
-            with_flags(alloc, &next, flags >= 2, flags % 2 == 1, out)?;
+        if has_flags(values, flags) {
+            with_flags(alloc, next, flags >= 2, flags % 2 == 1, out)?;
         }
     }
     Ok(())
@@ -78,21 +91,29 @@ fn lookup(alloc: Global, sizes: &Sizes<'_>, state: &State, out: &mut Vec<Step>) 
     if state.is_under(sizes, 3) {
         return abend(4, out);
     }
-    let sets = top(alloc, state, 3)?;
+    let value = state.values(state.registers.dt.saturating_sub(3));
+    let address = top(alloc, state, 2)?;
     let next = after_pop(alloc, sizes, state, 3)?;
-    let value = values_in(sets.as_slice(), 0);
-    let address = match sets.as_slice() {
-        [_, address @ ..] => address,
-        [] => &[],
-    };
-    let Some(rows) = split(alloc, address)? else {
-        return lookup_any(alloc, &next, &value, out);
-    };
-    if counts_of(sizes, &next, rows.as_slice()) > MOST {
-        return lookup_any(alloc, &next, &value, out);
+    match split(alloc, address.as_slice())? {
+        None => lookup_any(alloc, &next, &value, out),
+        Some(rows) => lookup_each(alloc, sizes, &next, &value, rows.as_slice(), out),
     }
-    for row in rows.as_slice().chunks(2) {
-        lookup_at(alloc, sizes, &next, &value, number_at(row, 0), out)?;
+}
+
+// Each address by itself, if there are not too many counts at them.
+fn lookup_each(
+    alloc: Global,
+    sizes: &Sizes<'_>,
+    next: &State,
+    value: &Values,
+    rows: &[u8],
+    out: &mut Vec<Step>,
+) -> Grown {
+    if counts_of(sizes, next, rows) > MOST {
+        return lookup_any(alloc, next, value, out);
+    }
+    for row in rows.chunks(2) {
+        lookup_at(alloc, sizes, next, value, number_at(row, 0), out)?;
     }
     Ok(())
 }
@@ -125,7 +146,7 @@ fn found(alloc: Global, state: &State, index: &Values, z: bool, out: &mut Vec<St
     let mut next = state.copied(alloc)?;
     next.push(&[plain(*index)])?;
     next.registers.z = z;
-    push(out, Step::Goes(next))
+    goes(next, out)
 }
 
 fn lookup_at(
@@ -163,17 +184,7 @@ fn lookup_in(
     }
     let mut next = state.copied(alloc)?;
     next.narrow(at, &Values::one(count))?;
-    let mut left = *value;
-    let mut places = Values::NONE;
-    for i in 0..count {
-        let there = next.values(from.saturating_add(i as u16));
-        if !left.and(&there).is_empty() {
-            places = places.with(i);
-        }
-        if there.only().is_some() {
-            left = left.and(&there.not());
-        }
-    }
+    let (places, left) = places_of(&next, value, from, count);
     if !places.is_empty() {
         found(alloc, &next, &places, true, out)?;
     }
@@ -184,6 +195,23 @@ fn lookup_in(
     }
 }
 
+// The places among the bytes from an address at which some value may be found first, and the values that may be found at
+// none.
+fn places_of(state: &State, value: &Values, from: u16, count: u8) -> (Values, Values) {
+    let mut left = *value;
+    let mut places = Values::NONE;
+    for i in 0..count {
+        let there = state.values(from.saturating_add(i as u16));
+        if !left.and(&there).is_empty() {
+            places = places.with(i);
+        }
+        if there.only().is_some() {
+            left = left.and(&there.not());
+        }
+    }
+    (places, left)
+}
+
 // ---- delegation
 
 fn delegate(alloc: Global, sizes: &Sizes<'_>, state: &State, out: &mut Vec<Step>) -> Grown {
@@ -192,16 +220,29 @@ fn delegate(alloc: Global, sizes: &Sizes<'_>, state: &State, out: &mut Vec<Step>
     }
     let sets = top(alloc, state, 2)?;
     let next = after_pop(alloc, sizes, state, 2)?;
-    let rows = match split(alloc, sets.as_slice())? {
-        Some(rows) if counts_of(sizes, &next, rows.as_slice()) <= MOST => rows,
-        _ => {
-            abend(3, out)?;
-            abend(6, out)?;
-            return push(out, Step::Delegates(next));
+    match split(alloc, sets.as_slice())? {
+        Some(rows) if counts_of(sizes, &next, rows.as_slice()) <= MOST => {
+            delegate_each(alloc, sizes, &next, rows.as_slice(), out)
         }
-    };
-    for row in rows.as_slice().chunks(2) {
-        delegate_at(alloc, sizes, &next, number_at(row, 0), out)?;
+        _ => delegate_any(next, out),
+    }
+}
+
+fn delegate_any(next: State, out: &mut Vec<Step>) -> Grown {
+    abend(3, out)?;
+    abend(6, out)?;
+    push(out, Step::Delegates(next))
+}
+
+fn delegate_each(
+    alloc: Global,
+    sizes: &Sizes<'_>,
+    next: &State,
+    rows: &[u8],
+    out: &mut Vec<Step>,
+) -> Grown {
+    for row in rows.chunks(2) {
+        delegate_at(alloc, sizes, next, number_at(row, 0), out)?;
     }
     Ok(())
 }
@@ -221,27 +262,34 @@ fn delegate_at(
     if !counts.is_within(&named) {
         abend(6, out)?;
     }
-    let mut whole = Values::NONE;
-    for count in 5..=16u8 {
-        if counts.has(count) {
-            if is_outside(
-                sizes,
-                state.registers.dt,
-                at.saturating_add(1),
-                count as u16,
-            ) {
-                abend(3, out)?;
-            } else {
-                whole = whole.with(count);
-            }
-        }
-    }
+    let whole = whole_names(sizes, state, at.saturating_add(1), &counts, out)?;
     if whole.is_empty() {
         return Ok(());
     }
     let mut next = state.copied(alloc)?;
     next.narrow(at, &whole)?;
     push(out, Step::Delegates(next))
+}
+
+// The lengths of names at an address that are whole in a segment; the others abend.
+fn whole_names(
+    sizes: &Sizes<'_>,
+    state: &State,
+    from: u16,
+    counts: &Values,
+    out: &mut Vec<Step>,
+) -> Result<Values, NoMemory> {
+    let mut whole = Values::NONE;
+    for count in 5..=16u8 {
+        if counts.has(count) {
+            if is_outside(sizes, state.registers.dt, from, count as u16) {
+                abend(3, out)?;
+            } else {
+                whole = whole.with(count);
+            }
+        }
+    }
+    Ok(whole)
 }
 
 fn delegator(
@@ -258,23 +306,44 @@ fn delegator(
     let mut next = after_pop(alloc, sizes, state, 2)?;
     next.registers.z = !delegated;
     if !delegated {
-        return push(out, Step::Goes(next));
+        return goes(next, out);
     }
-    let Some(rows) = split(alloc, sets.as_slice())? else {
-        let (highs, lows) = (values_in(sets.as_slice(), 0), values_in(sets.as_slice(), 1));
-        return coarse_write(
+    name_anywhere(alloc, sizes, &next, sets.as_slice(), out)
+}
+
+// The delegator's name, of each length, at each address that two bytes allow.
+fn name_anywhere(
+    alloc: Global,
+    sizes: &Sizes<'_>,
+    next: &State,
+    sets: &[Values],
+    out: &mut Vec<Step>,
+) -> Grown {
+    let (highs, lows) = (values_in(sets, 0), values_in(sets, 1));
+    match split(alloc, sets)? {
+        None => coarse_write(
             alloc,
             sizes,
-            &next,
+            next,
             &highs,
             &lows,
             &Values::range(6, 17),
             out,
-        );
-    };
-    for row in rows.as_slice().chunks(2) {
+        ),
+        Some(rows) => names_written(alloc, sizes, next, rows.as_slice(), out),
+    }
+}
+
+fn names_written(
+    alloc: Global,
+    sizes: &Sizes<'_>,
+    next: &State,
+    rows: &[u8],
+    out: &mut Vec<Step>,
+) -> Grown {
+    for row in rows.chunks(2) {
         for len in 5..=16u8 {
-            name_written(alloc, sizes, &next, number_at(row, 0), len, out)?;
+            name_written(alloc, sizes, next, number_at(row, 0), len, out)?;
         }
     }
     Ok(())
@@ -292,14 +361,20 @@ fn name_written(
         return abend(3, out);
     };
     limit(sizes, state, segment, out)?;
+    let bytes = name_bytes(alloc, len)?;
+    let mut next = state.copied(alloc)?;
+    next.write(alloc, sizes, at, bytes.as_slice())?;
+    push(out, goes_or_wrote(next, segment))
+}
+
+// A length, and a name of this length.
+fn name_bytes(alloc: Global, len: u8) -> Result<Vec<Byte>, NoMemory> {
     let mut bytes = Vec::new(alloc);
     push(&mut bytes, known_byte(len))?;
     for _ in 0..len {
         push(&mut bytes, plain(Values::ALL))?;
     }
-    let mut next = state.copied(alloc)?;
-    next.write(alloc, sizes, at, bytes.as_slice())?;
-    push(out, goes_or_wrote(next, segment))
+    Ok(bytes)
 }
 
 // ---- protection
@@ -334,37 +409,60 @@ pub fn prim(
     out: &mut Vec<Step>,
 ) -> Grown {
     let [first, second, third] = *args;
+    let word = second as u16 * 256 + third as u16;
     match (set, number) {
-        (0, 1) => check_case(alloc, sizes, s, out),
-        (0, 2) => load_flags(alloc, s, out),
-        (0, 3) => store_flags(alloc, sizes, s, out),
-        (0, 4) => lookup(alloc, sizes, s, out),
-        (0, 5) => numbers(alloc, sizes, s, NumberRow::Compare, out),
-        (0, 6) => numbers(alloc, sizes, s, NumberRow::Copy, out),
-        (0, 7) => delegate(alloc, sizes, s, out),
-        (0, 8) => delegator(alloc, sizes, delegated, s, out),
-        (0, 9) => numbers(alloc, sizes, s, NumberRow::Digest, out),
-        (1, 1) => fixed(alloc, sizes, s, false, first, out),
-        (1, 2) => fixed(alloc, sizes, s, true, first, out),
-        (1, 3) => protect(alloc, s, first, out),
-        (1, 4) | (1, 5) => cipher(alloc, sizes, s, 8, 8, false, first, out),
-        (1, 6) | (1, 7) => cipher(alloc, sizes, s, 8, 16, false, first, out),
-        (1, 8) => cipher(alloc, sizes, s, 8, 8, true, first, out),
-        (1, 9) => cipher(alloc, sizes, s, 8, 16, true, first, out),
-        (1, 10) | (1, 11) => cipher(alloc, sizes, s, 16, 16, false, first, out),
-        (1, 12) => cipher(alloc, sizes, s, 16, 16, true, first, out),
+        (0, _) => plain_prim(alloc, sizes, number, delegated, s, out),
+        (1, _) => measured_prim(alloc, sizes, number, first, s, out),
         (2, 1) => bits(alloc, sizes, s, first, second as u16, 1, out),
         (2, 2) => shift(alloc, sizes, s, true, first, second, out),
         (2, 3) => shift(alloc, sizes, s, false, first, second, out),
-        (3, 1) => bits(
-            alloc,
-            sizes,
-            s,
-            first,
-            second as u16 * 256 + third as u16,
-            2,
-            out,
-        ),
+        (3, 1) => bits(alloc, sizes, s, first, word, 2, out),
+        _ => abend(6, out),
+    }
+}
+
+// The primitives without an argument.
+fn plain_prim(
+    alloc: Global,
+    sizes: &Sizes<'_>,
+    number: u8,
+    delegated: bool,
+    s: &State,
+    out: &mut Vec<Step>,
+) -> Grown {
+    match number {
+        1 => check_case(alloc, sizes, s, out),
+        2 => load_flags(alloc, s, out),
+        3 => store_flags(alloc, sizes, s, out),
+        4 => lookup(alloc, sizes, s, out),
+        5 => numbers(alloc, sizes, s, NumberRow::Compare, out),
+        6 => numbers(alloc, sizes, s, NumberRow::Copy, out),
+        7 => delegate(alloc, sizes, s, out),
+        8 => delegator(alloc, sizes, delegated, s, out),
+        9 => numbers(alloc, sizes, s, NumberRow::Digest, out),
+        _ => abend(6, out),
+    }
+}
+
+// The primitives with one argument, which is a length or the mode of protection.
+fn measured_prim(
+    alloc: Global,
+    sizes: &Sizes<'_>,
+    number: u8,
+    n: u8,
+    s: &State,
+    out: &mut Vec<Step>,
+) -> Grown {
+    match number {
+        1 => fixed(alloc, sizes, s, false, n, out),
+        2 => fixed(alloc, sizes, s, true, n, out),
+        3 => protect(alloc, s, n, out),
+        4 | 5 => cipher(alloc, sizes, s, 8, 8, false, n, out),
+        6 | 7 => cipher(alloc, sizes, s, 8, 16, false, n, out),
+        8 => cipher(alloc, sizes, s, 8, 8, true, n, out),
+        9 => cipher(alloc, sizes, s, 8, 16, true, n, out),
+        10 | 11 => cipher(alloc, sizes, s, 16, 16, false, n, out),
+        12 => cipher(alloc, sizes, s, 16, 16, true, n, out),
         _ => abend(6, out),
     }
 }

@@ -3,7 +3,7 @@ use crate::coarse::coarse_write;
 use crate::compute::{Computation, compute};
 use crate::jumps::{branch, come_back, jump};
 use crate::prims::prim;
-use crate::shared::{known_word, values_at};
+use crate::shared::{any_bytes, known_word, top, values_at};
 use crate::splitting::{number_at, split};
 use crate::state::{Byte, Sizes, State, constant, is_outside, known_byte, plain, where_is};
 use crate::step::{Step, abend, goes, goes_or_wrote, limit};
@@ -48,6 +48,15 @@ fn push_bytes(alloc: Global, state: &State, bytes: &[Byte], out: &mut Vec<Step>)
     let mut next = state.copied(alloc)?;
     next.push(bytes)?;
     goes(next, out)
+}
+
+fn push_byte(alloc: Global, state: &State, b: u8, out: &mut Vec<Step>) -> Grown {
+    push_bytes(alloc, state, &[constant(b)], out)
+}
+
+fn push_word(alloc: Global, state: &State, w: u16, out: &mut Vec<Step>) -> Grown {
+    let [high, low] = bytes_of(w);
+    push_bytes(alloc, state, &[constant(high), constant(low)], out)
 }
 
 fn push_zeros(alloc: Global, state: &State, n: u8, out: &mut Vec<Step>) -> Grown {
@@ -97,16 +106,27 @@ fn load(
     if state.is_over(n) {
         return abend(5, out);
     }
-    let bytes = state.bytes_of(alloc, at, n)?;
     let mut next = state.copied(alloc)?;
-    next.push(bytes.as_slice())?;
-    let to = state.registers.dt;
-    if !next.known.sums.is_idle() {
-        next.known
-            .sums
-            .load(alloc, sizes.blocks, &Block { at, n }, to)?;
-    }
+    load_at(alloc, sizes, &mut next, at, n)?;
     goes(next, out)
+}
+
+// Pushes the n bytes at an address.
+fn load_at(alloc: Global, sizes: &Sizes<'_>, next: &mut State, at: u16, n: u16) -> Grown {
+    let to = next.registers.dt;
+    push_from(alloc, next, at, n)?;
+    if next.known.sums.is_idle() {
+        return Ok(());
+    }
+    next.known
+        .sums
+        .load(alloc, sizes.blocks, &Block { at, n }, to)
+}
+
+// Pushes the n bytes at an address, without what is known of their sums.
+fn push_from(alloc: Global, next: &mut State, at: u16, n: u16) -> Grown {
+    let bytes = next.bytes_of(alloc, at, n)?;
+    next.push(bytes.as_slice())
 }
 
 // The address of n bytes that are whole in a segment.
@@ -155,15 +175,21 @@ fn store_at(
         return abend(3, out);
     };
     limit(sizes, state, segment, out)?;
-    let bytes = state.bytes_of(alloc, top, n)?;
-    let more = state
+    let mut next = state.copied(alloc)?;
+    move_top(alloc, sizes, &mut next, at, n)?;
+    push(out, goes_or_wrote(next, segment))
+}
+
+// Moves the top n bytes to an address that is whole in a segment.
+fn move_top(alloc: Global, sizes: &Sizes<'_>, next: &mut State, at: u16, n: u16) -> Grown {
+    let top = next.registers.dt.saturating_sub(n);
+    let bytes = next.bytes_of(alloc, top, n)?;
+    let more = next
         .known
         .sums
         .more_of(alloc, sizes.blocks, top, &Block { at, n })?;
-    let mut next = state.copied(alloc)?;
     next.pop(alloc, sizes, n)?;
-    next.write_moved(alloc, sizes, at, bytes.as_slice(), &more, 1)?;
-    push(out, goes_or_wrote(next, segment))
+    next.write_moved(alloc, sizes, at, bytes.as_slice(), &more, 1)
 }
 
 fn load_far(
@@ -186,11 +212,24 @@ fn load_far(
         return abend(3, out);
     };
     let sets = state.values_of(alloc, at, 2)?;
-    let Some(rows) = split(alloc, sets.as_slice())? else {
-        return load_any(alloc, state, n, out);
-    };
+    match split(alloc, sets.as_slice())? {
+        None => load_any(alloc, state, n, out),
+        Some(rows) => load_each(alloc, sizes, state, at, rows.as_slice(), n, out),
+    }
+}
+
+// Each of the addresses that the bytes at a place spell.
+fn load_each(
+    alloc: Global,
+    sizes: &Sizes<'_>,
+    state: &State,
+    at: u16,
+    rows: &[u8],
+    n: u16,
+    out: &mut Vec<Step>,
+) -> Grown {
     let mut outside = false;
-    for row in rows.as_slice().chunks(2) {
+    for row in rows.chunks(2) {
         outside = !load_one(alloc, sizes, state, at, row, n, out)? || outside;
     }
     if outside { abend(3, out) } else { Ok(()) }
@@ -201,10 +240,7 @@ fn load_any(alloc: Global, state: &State, n: u16, out: &mut Vec<Step>) -> Grown 
     if state.is_over(n) {
         return abend(5, out);
     }
-    let mut bytes = Vec::new(alloc);
-    for _ in 0..n {
-        push(&mut bytes, plain(Values::ALL))?;
-    }
+    let bytes = any_bytes(alloc, n)?;
     push_bytes(alloc, state, bytes.as_slice(), out)
 }
 
@@ -223,18 +259,22 @@ fn load_one(
         return Ok(false);
     }
     let mut next = state.copied(alloc)?;
-    next.narrow_all(at, &[values_at(row, 0), values_at(row, 1)])?;
+    spell(&mut next, at, row)?;
     if next.is_empty(at, 2) {
         return Ok(true);
     }
-    let bytes = next.bytes_of(alloc, from, n)?;
     if next.is_over(n) {
         abend(5, out)?;
         return Ok(true);
     }
-    next.push(bytes.as_slice())?;
+    push_from(alloc, &mut next, from, n)?;
     goes(next, out)?;
     Ok(true)
+}
+
+// The two bytes at a place have only these values.
+fn spell(next: &mut State, at: u16, row: &[u8]) -> Grown {
+    next.narrow_all(at, &[values_at(row, 0), values_at(row, 1)])
 }
 
 fn store_far(
@@ -258,12 +298,25 @@ fn store_far(
         _ => return abend(3, out),
     };
     let sets = state.values_of(alloc, at, 2)?;
-    let Some(rows) = split(alloc, sets.as_slice())? else {
-        return store_any(alloc, sizes, state, sets.as_slice(), n, out);
-    };
-    for row in rows.as_slice().chunks(2) {
+    match split(alloc, sets.as_slice())? {
+        None => store_any(alloc, sizes, state, sets.as_slice(), n, out),
+        Some(rows) => store_each(alloc, sizes, state, at, rows.as_slice(), n, out),
+    }
+}
+
+// Each of the addresses that the bytes at a place spell.
+fn store_each(
+    alloc: Global,
+    sizes: &Sizes<'_>,
+    state: &State,
+    at: u16,
+    rows: &[u8],
+    n: u16,
+    out: &mut Vec<Step>,
+) -> Grown {
+    for row in rows.chunks(2) {
         let mut next = state.copied(alloc)?;
-        next.narrow_all(at, &[values_at(row, 0), values_at(row, 1)])?;
+        spell(&mut next, at, row)?;
         store_at(alloc, sizes, &next, number_at(row, 0), n, out)?;
     }
     Ok(())
@@ -318,25 +371,19 @@ fn index(
     let Some(base) = state.operand(sizes, tag, off, 0) else {
         return abend(3, out);
     };
-    let from = state.registers.dt.saturating_sub(under);
-    let mut sets = state.values_of(alloc, from, under)?;
-    if tag != 0 {
-        let [high, low] = bytes_of(base);
-        let mut all = Vec::new(alloc);
-        push(&mut all, Values::one(high))?;
-        push(&mut all, Values::one(low))?;
-        all.extend_from_slice(sets.as_slice())?;
-        sets = all;
-    }
-    let mut next = state.copied(alloc)?;
-    next.pop(alloc, sizes, under)?;
-    let (highs, lows, outside) = indexed(alloc, sets.as_slice(), size)?;
+    let (highs, lows, outside) = if tag == 0 {
+        indexed(alloc, top(alloc, state, 3)?.as_slice(), size)?
+    } else {
+        indexed_from(alloc, base, top(alloc, state, 1)?.as_slice(), size)?
+    };
     if outside {
         abend(3, out)?;
     }
     if highs.is_empty() {
         return Ok(());
     }
+    let mut next = state.copied(alloc)?;
+    next.pop(alloc, sizes, under)?;
     if next.is_over(2) {
         return abend(5, out);
     }
@@ -344,15 +391,32 @@ fn index(
     goes(next, out)
 }
 
+// The values of an indexed address whose base is known.
+fn indexed_from(
+    alloc: Global,
+    base: u16,
+    index: &[Values],
+    size: u8,
+) -> Result<(Values, Values, bool), NoMemory> {
+    let [high, low] = bytes_of(base);
+    let mut sets = Vec::from_slice(alloc, &[Values::one(high), Values::one(low)])?;
+    sets.extend_from_slice(index)?;
+    indexed(alloc, sets.as_slice(), size)
+}
+
 // The values of the two bytes of an indexed address, and whether some combination gives none.
 fn indexed(alloc: Global, sets: &[Values], size: u8) -> Result<(Values, Values, bool), NoMemory> {
-    let Some(rows) = split(alloc, sets)? else {
-        return Ok((Values::ALL, Values::ALL, true));
-    };
+    match split(alloc, sets)? {
+        None => Ok((Values::ALL, Values::ALL, true)),
+        Some(rows) => Ok(indexed_in(rows.as_slice(), size)),
+    }
+}
+
+fn indexed_in(rows: &[u8], size: u8) -> (Values, Values, bool) {
     let mut highs = Values::NONE;
     let mut lows = Values::NONE;
     let mut outside = false;
-    for row in rows.as_slice().chunks(3) {
+    for row in rows.chunks(3) {
         let i = match row.get(2) {
             Some(i) => *i as u32,
             None => 0,
@@ -367,7 +431,7 @@ fn indexed(alloc: Global, sets: &[Values], size: u8) -> Result<(Values, Values, 
             lows = lows.with((at % 256) as u8);
         }
     }
-    Ok((highs, lows, outside))
+    (highs, lows, outside)
 }
 
 // ---- bytes and words at a place
@@ -395,6 +459,30 @@ fn set(
     let mut next = state.copied(alloc)?;
     next.write(alloc, sizes, at, bytes)?;
     push(out, goes_or_wrote(next, segment))
+}
+
+fn set_byte(
+    alloc: Global,
+    sizes: &Sizes<'_>,
+    state: &State,
+    tag: u8,
+    off: i16,
+    b: u8,
+    out: &mut Vec<Step>,
+) -> Grown {
+    set(alloc, sizes, state, tag, off, &[known_byte(b)], out)
+}
+
+fn set_word(
+    alloc: Global,
+    sizes: &Sizes<'_>,
+    state: &State,
+    tag: u8,
+    off: i16,
+    w: u16,
+    out: &mut Vec<Step>,
+) -> Grown {
+    set(alloc, sizes, state, tag, off, &known_word(w), out)
 }
 
 /// A computation of a row on the n bytes of its operand with a constant.
@@ -517,7 +605,43 @@ fn makes(digit: Digit, writes: bool) -> Kind {
     }
 }
 
+fn go_on(alloc: Global, s: &State, out: &mut Vec<Step>) -> Grown {
+    goes(s.copied(alloc)?, out)
+}
+
+fn exit(alloc: Global, s: &State, out: &mut Vec<Step>) -> Grown {
+    push(out, Step::Exits(s.copied(alloc)?))
+}
+
+// The frame goes on with a status word and a length of its answer.
+fn go_on_with(
+    alloc: Global,
+    sizes: &Sizes<'_>,
+    s: &State,
+    sw: Option<u16>,
+    la: Option<u16>,
+    out: &mut Vec<Step>,
+) -> Grown {
+    goes(status(alloc, sizes, s, sw, la)?, out)
+}
+
+// The frame exits with a status word and a length of its answer.
+fn exit_with(
+    alloc: Global,
+    sizes: &Sizes<'_>,
+    s: &State,
+    sw: Option<u16>,
+    la: Option<u16>,
+    out: &mut Vec<Step>,
+) -> Grown {
+    push(out, Step::Exits(status(alloc, sizes, s, sw, la)?))
+}
+
 /// The outcomes of an instruction in a frame whose code address is already the place after it.
+///
+/// # Errors
+///
+/// Returns `NoMemory` if it is out of memory.
 pub fn row(
     alloc: Global,
     sizes: &Sizes<'_>,
@@ -527,26 +651,20 @@ pub fn row(
     out: &mut Vec<Step>,
 ) -> Grown {
     match *ins {
-        Ins::Nop => goes(s.copied(alloc)?, out),
-        Ins::Setsw { sw } => goes(status(alloc, sizes, s, Some(sw), None)?, out),
-        Ins::Setla { la } => goes(status(alloc, sizes, s, None, Some(la))?, out),
-        Ins::Setswla { sw, la } => goes(status(alloc, sizes, s, Some(sw), Some(la))?, out),
-        Ins::Exit => push(out, Step::Exits(s.copied(alloc)?)),
-        Ins::Exitsw { sw } => push(out, Step::Exits(status(alloc, sizes, s, Some(sw), None)?)),
-        Ins::Exitla { la } => push(out, Step::Exits(status(alloc, sizes, s, None, Some(la))?)),
-        Ins::Exitswla { sw, la } => push(
-            out,
-            Step::Exits(status(alloc, sizes, s, Some(sw), Some(la))?),
-        ),
+        Ins::Nop => go_on(alloc, s, out),
+        Ins::Setsw { sw } => go_on_with(alloc, sizes, s, Some(sw), None, out),
+        Ins::Setla { la } => go_on_with(alloc, sizes, s, None, Some(la), out),
+        Ins::Setswla { sw, la } => go_on_with(alloc, sizes, s, Some(sw), Some(la), out),
+        Ins::Exit => exit(alloc, s, out),
+        Ins::Exitsw { sw } => exit_with(alloc, sizes, s, Some(sw), None, out),
+        Ins::Exitla { la } => exit_with(alloc, sizes, s, None, Some(la), out),
+        Ins::Exitswla { sw, la } => exit_with(alloc, sizes, s, Some(sw), Some(la), out),
         Ins::Branch { cond, d } => branch(alloc, sizes, s, cond, d, out),
         Ins::Jump { cond, to } => jump(alloc, sizes, s, false, cond, to, out),
         Ins::Call { cond, to } => jump(alloc, sizes, s, true, cond, to, out),
         Ins::Pushz { n } => push_zeros(alloc, s, n, out),
-        Ins::Pushb { b } => push_bytes(alloc, s, &[constant(b)], out),
-        Ins::Pushw { w } => {
-            let [high, low] = bytes_of(w);
-            push_bytes(alloc, s, &[constant(high), constant(low)], out)
-        }
+        Ins::Pushb { b } => push_byte(alloc, s, b, out),
+        Ins::Pushw { w } => push_word(alloc, s, w, out),
         Ins::Popn { n } => pop(alloc, sizes, s, n, out),
         Ins::Popb => pop(alloc, sizes, s, 1, out),
         Ins::Popw => pop(alloc, sizes, s, 2, out),
@@ -575,8 +693,8 @@ fn operand_row(
         Ins::Storei { tag, off, n } => store_far(alloc, sizes, s, tag, off, n, out),
         Ins::Loada { tag, off } => push_address(alloc, sizes, s, tag, off, out),
         Ins::Index { tag, off, size } => index(alloc, sizes, s, tag, off, size, out),
-        Ins::Setb { tag, off, b } => set(alloc, sizes, s, tag, off, &[known_byte(b)], out),
-        Ins::Setw { tag, off, w } => set(alloc, sizes, s, tag, off, &known_word(w), out),
+        Ins::Setb { tag, off, b } => set_byte(alloc, sizes, s, tag, off, b, out),
+        Ins::Setw { tag, off, w } => set_word(alloc, sizes, s, tag, off, w, out),
         Ins::Cmpb { tag, off, b } => one(alloc, sizes, s, tag, off, 1, compares(b as u128), out),
         Ins::Addb { tag, off, b } => one(alloc, sizes, s, tag, off, 1, adds(b as u128), out),
         Ins::Subb { tag, off, b } => one(alloc, sizes, s, tag, off, 1, subtracts(b as u128), out),

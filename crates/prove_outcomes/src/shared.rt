@@ -1,8 +1,8 @@
 // Small parts of the rows: bytes on top of the stack, values of sets, flags.
-use crate::state::{Byte, Sizes, State, known_byte};
+use crate::state::{Byte, Sizes, State, known_byte, plain};
 use crate::step::{Step, goes};
 use mc_base::{NoMemory, bytes_of};
-use prove_facts::Values;
+use prove_facts::{Values, push};
 use std::alloc::Global;
 
 /// Returns a frame without the top n bytes of its stack.
@@ -19,6 +19,19 @@ pub fn after_pop(
     let mut next = state.copied(alloc)?;
     next.pop(alloc, sizes, n)?;
     Ok(next)
+}
+
+/// Returns n bytes of which nothing is known.
+///
+/// # Errors
+///
+/// Returns `NoMemory` if it is out of memory.
+pub fn any_bytes(alloc: Global, n: u16) -> Result<Vec<Byte>, NoMemory> {
+    let mut bytes = Vec::new(alloc);
+    for _ in 0..n {
+        push(&mut bytes, plain(Values::ALL))?;
+    }
+    Ok(bytes)
 }
 
 /// Returns the values of the n bytes on top of the stack.

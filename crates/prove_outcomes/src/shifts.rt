@@ -1,12 +1,12 @@
 // Bit manipulations and shifts of the top of the stack.
 use crate::compute::{Computation, compute};
-use crate::shared::{top, with_flags};
+use crate::shared::{any_bytes, top, with_flags};
 use crate::splitting::split;
-use crate::state::{Sizes, State, known_byte, plain};
+use crate::state::{Byte, Sizes, State, known_byte};
 use crate::step::{Step, abend};
 use mc_base::NoMemory;
 use prove_digits::Digit;
-use prove_facts::{Values, mask, push};
+use prove_facts::{mask, push};
 use std::alloc::Global;
 
 type Grown = Result<(), NoMemory>;
@@ -78,27 +78,40 @@ pub fn shift(
         return abend(4, out);
     }
     let sets = top(alloc, state, n as u16)?;
-    let Some(rows) = split(alloc, sets.as_slice())? else {
-        return shift_any(alloc, sizes, state, n, out);
-    };
-    for row in rows.as_slice().chunks((n as usize).max(1)) {
+    match split(alloc, sets.as_slice())? {
+        None => shift_any(alloc, sizes, state, n as u16, out),
+        Some(rows) => shift_each(alloc, sizes, state, left, n, rows.as_slice(), b, out),
+    }
+}
+
+// Each combination of n bytes by itself.
+fn shift_each(
+    alloc: Global,
+    sizes: &Sizes<'_>,
+    state: &State,
+    left: bool,
+    n: u8,
+    rows: &[u8],
+    b: u8,
+    out: &mut Vec<Step>,
+) -> Grown {
+    for row in rows.chunks((n as usize).max(1)) {
         shift_one(alloc, sizes, state, left, row, b, out)?;
     }
     Ok(())
 }
 
-fn shift_any(alloc: Global, sizes: &Sizes<'_>, state: &State, n: u8, out: &mut Vec<Step>) -> Grown {
-    let mut bytes = Vec::new(alloc);
-    for _ in 0..n {
-        push(&mut bytes, plain(Values::ALL))?;
-    }
+fn shift_any(
+    alloc: Global,
+    sizes: &Sizes<'_>,
+    state: &State,
+    n: u16,
+    out: &mut Vec<Step>,
+) -> Grown {
+    let bytes = any_bytes(alloc, n)?;
+    let at = state.registers.dt.saturating_sub(n);
     let mut next = state.copied(alloc)?;
-    next.write(
-        alloc,
-        sizes,
-        state.registers.dt.saturating_sub(n as u16),
-        bytes.as_slice(),
-    )?;
+    next.write(alloc, sizes, at, bytes.as_slice())?;
     for flags in FLAGS {
         with_flags(alloc, &next, flags >= 2, flags % 2 == 1, out)?;
     }
@@ -128,6 +141,16 @@ fn shifted(value: u128, n: u16, left: bool, b: u8) -> (u128, bool) {
     )
 }
 
+// The lowest n bytes of a number.
+fn known_bytes(alloc: Global, number: u128, n: u16) -> Result<Vec<Byte>, NoMemory> {
+    let mut bytes = Vec::new(alloc);
+    for i in (0..n).rev() {
+        let byte = number.wrapping_shr(8 * i as u32) & 255;
+        push(&mut bytes, known_byte(byte as u8))?;
+    }
+    Ok(bytes)
+}
+
 fn shift_one(
     alloc: Global,
     sizes: &Sizes<'_>,
@@ -139,20 +162,10 @@ fn shift_one(
 ) -> Grown {
     let n = row.len().min(16) as u16;
     let (result, last) = shifted(number_of(row), n, left, b);
-    let mut bytes = Vec::new(alloc);
-    for i in (0..n).rev() {
-        push(
-            &mut bytes,
-            known_byte((result.wrapping_shr(8 * i as u32) & 255) as u8),
-        )?;
-    }
+    let bytes = known_bytes(alloc, result, n)?;
+    let at = state.registers.dt.saturating_sub(n);
     let mut next = state.copied(alloc)?;
-    next.write(
-        alloc,
-        sizes,
-        state.registers.dt.saturating_sub(n),
-        bytes.as_slice(),
-    )?;
+    next.write(alloc, sizes, at, bytes.as_slice())?;
     next.registers.c = last;
     next.registers.z = result == 0;
     push(out, Step::Goes(next))
