@@ -28,6 +28,26 @@ pub fn refuses(alloc: Global, draft: &[u8], line: u32, cause: DeckCause) -> bool
     }
 }
 
+// The number of the first draft that does not make its deck.
+pub fn first_unmade(alloc: Global, rows: &[(&[u8], &[u8])]) -> Option<usize> {
+    for (number, (draft, deck)) in rows.iter().enumerate() {
+        if !makes(alloc, draft, deck) {
+            return Some(number);
+        }
+    }
+    None
+}
+
+// The number of the first draft that is not refused at its line for its cause.
+pub fn first_unrefused(alloc: Global, rows: &[(&[u8], u32, DeckCause)]) -> Option<usize> {
+    for (number, (draft, line, cause)) in rows.iter().enumerate() {
+        if !refuses(alloc, draft, *line, *cause) {
+            return Some(number);
+        }
+    }
+    None
+}
+
 // Whether a draft has this listing.
 pub fn lists(alloc: Global, draft: &[u8], listing: &[u8]) -> bool {
     match list(alloc, draft) {

@@ -1,5 +1,5 @@
 // Declarations, and the lines that they leave in the deck.
-use crate::drafts::makes;
+use crate::drafts::{first_unmade, makes};
 
 #[test]
 fn whole_draft(rt: HostRuntime) {
@@ -12,36 +12,28 @@ fn whole_draft(rt: HostRuntime) {
     );
 }
 
+const ZEROS_BETWEEN: &[(&[u8], &[u8])] = &[
+    (
+        b"app a A000000100\nSTATIC x 1\nSTATIC y 3\nSTATIC z 2 ABcd\nSTATIC w 2\nend\n",
+        b"app a A000000100\nDATA 00\nDATA 000000\nDATA ABcd\n\nend\n",
+    ),
+    (
+        b"app a A000000100\nSTATIC x 1\nSTATIC y 3\nend\nload a",
+        b"app a A000000100\n\n\nend\nload a 4 0",
+    ),
+    (
+        b"app a A000000100\nSTATIC x 1\n NOP\nSTATIC y 1 FF\n LOAD y\nend\n",
+        b"app a A000000100\nDATA 00\n NOP\nDATA FF\n LOAD SB[1],1\nend\n",
+    ),
+    (
+        b"app a A000000100\nSTATIC x 1\nend\napp b A000000101\nSTATIC y 1 01\nend\n",
+        b"app a A000000100\n\nend\napp b A000000101\nDATA 01\nend\n",
+    ),
+];
+
 #[test]
 fn zeros_between(rt: HostRuntime) {
-    assert!(rt;
-        makes(
-            rt.alloc(),
-            b"app a A000000100\nSTATIC x 1\nSTATIC y 3\nSTATIC z 2 ABcd\nSTATIC w 2\nend\n",
-            b"app a A000000100\nDATA 00\nDATA 000000\nDATA ABcd\n\nend\n"
-        )
-    );
-    assert!(rt;
-        makes(
-            rt.alloc(),
-            b"app a A000000100\nSTATIC x 1\nSTATIC y 3\nend\nload a",
-            b"app a A000000100\n\n\nend\nload a 4 0"
-        )
-    );
-    assert!(rt;
-        makes(
-            rt.alloc(),
-            b"app a A000000100\nSTATIC x 1\n NOP\nSTATIC y 1 FF\n LOAD y\nend\n",
-            b"app a A000000100\nDATA 00\n NOP\nDATA FF\n LOAD SB[1],1\nend\n"
-        )
-    );
-    assert!(rt;
-        makes(
-            rt.alloc(),
-            b"app a A000000100\nSTATIC x 1\nend\napp b A000000101\nSTATIC y 1 01\nend\n",
-            b"app a A000000100\n\nend\napp b A000000101\nDATA 01\nend\n"
-        )
-    );
+    assert_eq!(rt; first_unmade(rt.alloc(), ZEROS_BETWEEN), None);
 }
 
 #[test]
@@ -77,73 +69,51 @@ fn header(rt: HostRuntime) {
     );
 }
 
+const IN_FORCE: &[(&[u8], &[u8])] = &[
+    (
+        b"app a A000000100\n LOAD x\nSTATIC x 1\n LOAD x\nend\n",
+        b"app a A000000100\n LOAD x\n\n LOAD SB[0],1\nend\n",
+    ),
+    (
+        b"app a A000000100\nSTATIC x 1\nend\napp b A000000101\n LOAD x\nend\n",
+        b"app a A000000100\n\nend\napp b A000000101\n LOAD x\nend\n",
+    ),
+    (
+        b"app a A000000100\nSTATIC x 1\nend\napp b A000000101\nSESSION x 2\n LOAD x\nend\n",
+        b"app a A000000100\n\nend\napp b A000000101\n\n LOAD DB[0],2\nend\n",
+    ),
+];
+
 #[test]
 fn in_force(rt: HostRuntime) {
-    assert!(rt;
-        makes(
-            rt.alloc(),
-            b"app a A000000100\n LOAD x\nSTATIC x 1\n LOAD x\nend\n",
-            b"app a A000000100\n LOAD x\n\n LOAD SB[0],1\nend\n"
-        )
-    );
-    assert!(rt;
-        makes(
-            rt.alloc(),
-            b"app a A000000100\nSTATIC x 1\nend\napp b A000000101\n LOAD x\nend\n",
-            b"app a A000000100\n\nend\napp b A000000101\n LOAD x\nend\n"
-        )
-    );
-    assert!(rt;
-        makes(
-            rt.alloc(),
-            b"app a A000000100\nSTATIC x 1\nend\napp b A000000101\nSESSION x 2\n LOAD x\nend\n",
-            b"app a A000000100\n\nend\napp b A000000101\n\n LOAD DB[0],2\nend\n"
-        )
-    );
+    assert_eq!(rt; first_unmade(rt.alloc(), IN_FORCE), None);
 }
+
+const FORMS: &[(&[u8], &[u8])] = &[
+    (
+        b"app a A000000100\n\tSTATIC \t x  1;c\n LOAD x\nend\n",
+        b"app a A000000100\n\n LOAD SB[0],1\nend\n",
+    ),
+    (
+        b"app a A000000100\n  STATIC x 1 0a ; c\nend\n",
+        b"app a A000000100\nDATA 0a\nend\n",
+    ),
+    (
+        b"app a A000000100\nSTATIC: NOP\nCONST : NOP\nSESSION :NOP\nPUBLIC\t: \nend\n",
+        b"app a A000000100\nSTATIC: NOP\nCONST : NOP\nSESSION :NOP\nPUBLIC\t: \nend\n",
+    ),
+    (
+        b"app a A000000100\nstatic x 1\nend\n",
+        b"app a A000000100\nstatic x 1\nend\n",
+    ),
+    (b"STATIC x 1\n LOAD CLA\n", b"STATIC x 1\n LOAD CLA\n"),
+    (
+        b"app a A000000100\nSTATIC x 1 01\nSESSION y 1",
+        b"app a A000000100\nDATA 01\n",
+    ),
+];
 
 #[test]
 fn forms(rt: HostRuntime) {
-    assert!(rt;
-        makes(
-            rt.alloc(),
-            b"app a A000000100\n\tSTATIC \t x  1;c\n LOAD x\nend\n",
-            b"app a A000000100\n\n LOAD SB[0],1\nend\n"
-        )
-    );
-    assert!(rt;
-        makes(
-            rt.alloc(),
-            b"app a A000000100\n  STATIC x 1 0a ; c\nend\n",
-            b"app a A000000100\nDATA 0a\nend\n"
-        )
-    );
-    assert!(rt;
-        makes(
-            rt.alloc(),
-            b"app a A000000100\nSTATIC: NOP\nCONST : NOP\nSESSION :NOP\nPUBLIC\t: \nend\n",
-            b"app a A000000100\nSTATIC: NOP\nCONST : NOP\nSESSION :NOP\nPUBLIC\t: \nend\n"
-        )
-    );
-    assert!(rt;
-        makes(
-            rt.alloc(),
-            b"app a A000000100\nstatic x 1\nend\n",
-            b"app a A000000100\nstatic x 1\nend\n"
-        )
-    );
-    assert!(rt;
-        makes(
-            rt.alloc(),
-            b"STATIC x 1\n LOAD CLA\n",
-            b"STATIC x 1\n LOAD CLA\n"
-        )
-    );
-    assert!(rt;
-        makes(
-            rt.alloc(),
-            b"app a A000000100\nSTATIC x 1 01\nSESSION y 1",
-            b"app a A000000100\nDATA 01\n"
-        )
-    );
+    assert_eq!(rt; first_unmade(rt.alloc(), FORMS), None);
 }
