@@ -69,7 +69,7 @@ fn course_in<L: Ledger>(
         alloc,
         &mut laboratory.device,
         &laboratory.budget,
-        &saved.live,
+        saved.live,
         &chosen.line(),
         subject,
         steps,

@@ -43,14 +43,14 @@ fn statics_of(
 }
 
 /// Puts the card that was saved on a device.
-pub fn put_card(device: &mut BranchNvm, saved: &Saved)
-    ensures words { device.new.device.words ≡ image_with device.old.root saved.now.words.items }
+pub fn put_card(device: &mut BranchNvm, saved: Saved<'_>)
+    ensures words { device.new.device.words ≡ image_with device.old.root saved.words.now }
     ensures root { device.new.root ≡ device.old.root }
     ensures cut { device.new.device.cut ≡ None }
     ensures worn { device.new.device.worn ≡ None }
 {
     device.return_to_root();
-    device.put_words(saved.words.as_slice());
+    device.put_words(saved.words);
 }
 
 /// Puts the card of a state on the device of a laboratory, and returns the static bytes of the application with a name, or
@@ -74,5 +74,5 @@ pub fn statics_in(
         return Err(NoMemory);
     };
     put_card(&mut laboratory.device, saved);
-    statics_of(alloc, &laboratory.device, &saved.live, aid)
+    statics_of(alloc, &laboratory.device, saved.live, aid)
 }

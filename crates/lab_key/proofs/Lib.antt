@@ -4,5 +4,7 @@ pub mod Showing
 pub mod SameSessions
 pub mod Reflexive
 pub mod SameKeys
+pub mod Tables
+pub mod SharedLives
 pub mod Entries
 pub mod SameStates

@@ -28,10 +28,10 @@ use Rattle.lab_key.proofs.Reflexive.{base_self, live_self}
 -- ---- what runs
 
 -- whether what runs is equal, by the test of the code
-abbrev live_eq : LiveKey → LiveKey → Bool
+abbrev pub live_eq : LiveKey → LiveKey → Bool
 live_eq = (live_key.ghosts).eq
 
-live_same : (a b : LiveKey) → live_eq a b ≡ true → live_value a ≡ live_value b
+pub live_same : (a b : LiveKey) → live_eq a b ≡ true → live_value a ≡ live_value b
 live_same key.Unpowered key.Unpowered h = refl
 live_same key.Muted key.Muted h = refl
 live_same (key.Running s) (key.Running t) h = ap (λ (x : SessionState). Running x) (session_same s t h)
@@ -45,7 +45,7 @@ live_same (key.Running s) key.Muted h = absurd (cc h)
 one_session : (s t : SessionState) → Running s ≡ Running t → s ≡ t
 one_session s t h = cc
 
-live_equal : (a b : LiveKey) → live_value a ≡ live_value b → live_eq a b ≡ true
+pub live_equal : (a b : LiveKey) → live_value a ≡ live_value b → live_eq a b ≡ true
 live_equal key.Unpowered key.Unpowered h = refl
 live_equal key.Muted key.Muted h = refl
 live_equal (key.Running s) (key.Running t) h = session_equal s t (one_session (session_value s) (session_value t) h)

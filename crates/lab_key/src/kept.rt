@@ -5,7 +5,7 @@ ghost use Rattle.law_explore.specs.model_play.specs.Play as play;
 ghost use Rattle.lab_key.specs.Shown.{IsShown, ShowsSome};
 ghost use Rattle.lab_key.specs.Kept.{IsKeptCard, IsOfDevice, IsSavedOf};
 
-use crate::key::CardKey;
+use crate::key::{CardKey, PlaceKey, Stage};
 use indexmap::{IndexMap, IndexSet};
 use lab_branch::{BranchNvm, Roster};
 use mc_base::{NoMemory, Word};
@@ -13,17 +13,21 @@ use mc_script::Live;
 use std::alloc::Global;
 
 /// What puts a card back on a device: the words that differ from its root, each with its place, and what ran on them.
-#[derive(Drop)]
-pub struct Saved {
-    pub words: Vec<(u16, Word)>,
-    pub live: Live,
+#[derive(Clone, Copy)]
+pub struct Saved<'a> {
+    pub words: &'a [(u16, Word)],
+    pub live: &'a Live,
 }
 
-/// The rosters and the cards that were found, each once with its number, and for each card what puts it back.
+/// The rosters, the stages with what ran there, and the cards that were found, each once with its number, and for each
+/// card the words that put it back.
+///
+/// What ran is kept once for all cards of a stage: it takes much more room than the words and the key of a card.
 #[derive(Drop)]
 pub struct Rosters {
     rosters: IndexSet<Roster>,
-    cards: IndexMap<CardKey, Saved>,
+    stages: IndexMap<Stage, Live>,
+    cards: IndexMap<PlaceKey, Vec<(u16, Word)>>,
 }
 
 impl Rosters {
@@ -31,17 +35,24 @@ impl Rosters {
     pub fn new(alloc: Global) -> Rosters {
         Rosters {
             rosters: IndexSet::new(alloc),
+            stages: IndexMap::new(alloc),
             cards: IndexMap::new(alloc),
         }
     }
 
     /// Returns what puts the card with a number back, or `None` if there is none.
-    pub fn saved(&self, card: usize) -> Option<&Saved>
+    pub fn saved(&self, card: usize) -> Option<Saved<'_>>
         ensures { (root : List (List ℕ)) (b : Base) (l : play.Live) → IsKeptCard root self.now card b l
             → IsSavedOf root b l result }
     {
-        match self.cards.get_index(card) {
-            Some((_, saved)) => Some(saved),
+        let Some((key, words)) = self.cards.get_index(card) else {
+            return None;
+        };
+        match self.stages.get_index(key.stage) {
+            Some((_, live)) => Some(Saved {
+                words: words.as_slice(),
+                live,
+            }),
             None => None,
         }
     }
@@ -64,7 +75,23 @@ impl Rosters {
     {
         let key = CardKey::read(alloc, device, &mut self.rosters, &live)?;
         let words = device.differences(alloc)?;
-        let Ok(kept) = self.cards.insert_full(key, Saved { words, live }) else {
+        let CardKey {
+            roster,
+            statics,
+            live: running,
+        } = key;
+        let stage = Stage {
+            roster,
+            live: running,
+        };
+        let Ok(staged) = self.stages.insert_full(stage, live) else {
+            return Err(NoMemory);
+        };
+        let place = PlaceKey {
+            stage: staged.0,
+            statics,
+        };
+        let Ok(kept) = self.cards.insert_full(place, words) else {
             return Err(NoMemory);
         };
         Ok(kept.0)

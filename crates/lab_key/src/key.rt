@@ -18,7 +18,7 @@ use std::alloc::Global;
 
 /// The key of what runs on a device: no card, which may be mute after a failed write, or a card with its session state.
 #[derive(PartialEq, Eq, Hash, Drop)]
-enum LiveKey {
+pub(crate) enum LiveKey {
     Unpowered,
     Muted,
     Running(SessionKey),
@@ -29,9 +29,23 @@ enum LiveKey {
 /// terminal or a power cut can tell apart; what free words and a closed journal hold does not count.
 #[derive(PartialEq, Eq, Hash, Drop)]
 pub struct CardKey {
-    roster: usize,
-    statics: Vec<u8>,
-    live: LiveKey,
+    pub(crate) roster: usize,
+    pub(crate) statics: Vec<u8>,
+    pub(crate) live: LiveKey,
+}
+
+/// What the keys of many cards have in common: a roster by its number, and what runs.
+#[derive(PartialEq, Eq, Hash, Drop)]
+pub struct Stage {
+    pub(crate) roster: usize,
+    pub(crate) live: LiveKey,
+}
+
+/// The key of a card that is kept: the number of its stage, and the static bytes of its applications.
+#[derive(PartialEq, Eq, Hash, Drop)]
+pub struct PlaceKey {
+    pub(crate) stage: usize,
+    pub(crate) statics: Vec<u8>,
 }
 
 impl CardKey {

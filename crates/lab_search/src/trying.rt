@@ -107,14 +107,14 @@ impl Laboratory {
     fn play<L: Ledger>(
         &mut self,
         alloc: Global,
-        saved: &Saved,
+        saved: Saved<'_>,
         candidate: &Candidate<'_>,
         manner: Manner,
         steps: &mut Steps<L>,
     ) -> Result<Option<Live>, NoMemory>
-        requires shown { ShowsSome (image_with self.old.device.root saved.now.words.items) saved.now.live }
+        requires shown { ShowsSome (image_with self.old.device.root saved.words.now) saved.live.now }
         ensures tried { (c : model.CardState) (m : rule.Move)
-            → IsShown (image_with self.old.device.root saved.now.words.items) saved.now.live c.base c.live
+            → IsShown (image_with self.old.device.root saved.words.now) saved.live.now c.base c.live
             → c.budget ≡ self.old.budget → IsMove candidate.now.chosen.now m → is_card_line m.line ≡ true
             → CanCut c manner → TriedAs c m manner candidate.now.ons.now candidate.now.applies.now
             (replicate (vec_len self.old.counts) 0) self.new.counts.items self.new.text.value.items
@@ -124,13 +124,13 @@ impl Laboratory {
         ensures short { array_vec_len self.new.text.value ≤ 8210 }
     {
         self.device.return_to_root();
-        self.device.put_words(saved.words.as_slice());
+        self.device.put_words(saved.words);
         zero(&mut self.counts);
         let (_device, live) = try_on(
             alloc,
             &mut self.device,
             &self.budget,
-            &saved.live,
+            saved.live,
             candidate,
             manner,
             self.counts.as_mut_slice(),

@@ -13,8 +13,8 @@ use Rattle.lab_search.proofs.trying.Laboratory.play.Goals as goal
 
 pub returns-clause-tried : goal.returns-clause-tried
 returns-clause-tried g c k m shown budget is card can =
-    let words = c.put_words.ensures.words ∙ ap (λ (n : List (List ℕ)). image_with n c.as_slice.result.now) c.return_to_root.ensures.words ∙ ap (λ ps. image_with c.args.self.now.device.root ps) c.as_slice.ensures.value in
-    let here = subst (λ (n : List (List ℕ)). IsShown n c.args.saved.now.live k.base k.live) (sym words) shown in
+    let words = c.put_words.ensures.words ∙ ap (λ (n : List (List ℕ)). image_with n c.args.saved.words.now) c.return_to_root.ensures.words in
+    let here = subst (λ (n : List (List ℕ)). IsShown n c.args.saved.live.now k.base k.live) (sym words) shown in
     let t = c.try_on-device.ensures.tried k m here budget is card can in
     let long : length c.try_on-device.new.counts ≡ c.zero.new.counts.len = search rules in
     let zeros : c.as_mut_slice.result.now ≡ replicate (vec_len c.args.self.now.counts) 0 = c.as_mut_slice.ensures.value ∙ c.zero.ensures in
