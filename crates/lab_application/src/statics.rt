@@ -44,7 +44,7 @@ fn statics_of(
 
 /// Puts the card that was saved on a device.
 pub fn put_card(device: &mut BranchNvm, saved: Saved<'_>)
-    ensures words { device.new.device.words ≡ image_with device.old.root saved.words.now }
+    ensures words { device.new.device.words ≡ image_with device.old.root saved.entry.words.now }
     ensures root { device.new.root ≡ device.old.root }
     ensures cut { device.new.device.cut ≡ None }
     ensures worn { device.new.device.worn ≡ None }

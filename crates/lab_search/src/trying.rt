@@ -114,7 +114,7 @@ impl Laboratory {
     ) -> Result<Option<Live>, NoMemory>
         requires shown { ShowsSome (image_with self.old.device.root saved.words.now) saved.live.now }
         ensures tried { (c : model.CardState) (m : rule.Move)
-            → IsShown (image_with self.old.device.root saved.words.now) saved.live.now c.base c.live
+            → IsShown (image_with self.old.device.root saved.entry.words.now) saved.entry.live.now c.base c.live
             → c.budget ≡ self.old.budget → IsMove candidate.now.chosen.now m → is_card_line m.line ≡ true
             → CanCut c manner → TriedAs c m manner candidate.now.ons.now candidate.now.applies.now
             (replicate (vec_len self.old.counts) 0) self.new.counts.items self.new.text.value.items
