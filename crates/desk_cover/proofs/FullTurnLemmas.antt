@@ -96,7 +96,7 @@ module _ {N : Type 0} (state : N → DeviceState) where
   pub chained_name : (c : Card N) (ch : Chain) (left : ℕ) (r : RunsChain state c ch left) → name_in state c r.chained.running ≡ ch.frame.name
   chained_name c ch left r = ap (λ (s : Seen). s.name) r.runs.running.same
 
-  chained_code : (c : Card N) (ch : Chain) (left : ℕ) (r : RunsChain state c ch left) → code_on state c r.chained.running ≡ running_code ch
+  pub chained_code : (c : Card N) (ch : Chain) (left : ℕ) (r : RunsChain state c ch left) → code_on state c r.chained.running ≡ running_code ch
   chained_code c ch left r =
       let name = chained_name c ch left r in
       named_code (view_in state c).state.apps ((view_in state c).named r.chained.running.slot) ch.frame.name (there_is ((view_in state c).named r.chained.running.slot) ch.frame.name r.runs.running.fits.there name)

@@ -12,5 +12,6 @@ pub mod CounterLemmas
 pub mod AfterLemmas
 pub mod FrontLemmas
 pub mod LookLemmas
+pub mod KnownLemmas
 pub mod TraceLemmas
 pub mod TracePlayLemmas

@@ -110,14 +110,14 @@ module _ {N : Type 0} (state : N → DeviceState) where
   place_there o f g (Some code) fixed dt lb at h = h ∙ place_same f g code fixed dt lb at
 
   -- what is kept of the running frame is that of the chain's
-  pub scene_is : (s : Scene) (c : Card N) (ch : Chain) (left : ℕ) (h : Chained) (code : Option (List ℕ)) → RunsChain state c ch left → Some h ≡ c.chain → s.name.items ≡ name_in state c h.running → s.floor ≡ floor h.running.frame → s.stack.items ≡ stack_of h.running.frame
+  pub scene_is : (s : Scene) (c : Card N) (ch : Chain) (left : ℕ) (h : Chained) (code : Option (List ℕ)) → RunsChain state c ch left → Some h ≡ c.chain → s.name.items ≡ ch.frame.name → s.floor ≡ floor h.running.frame → s.stack.items ≡ stack_of h.running.frame
       → IsPlace s.place h.running.frame code → h.running.frame.dt ≤ dynamic_end → IsScene s ch.frame code
   scene_is s c ch left h code r e name bottom stack place high =
       let k = alike c ch left h r e in
       let f = frame_in state c h.running in
       let dt : h.running.frame.dt ≡ ch.frame.dt = ap (λ (x : Seen). x.dt) k.reads in
       record {
-        name = name ∙ k.name;
+        name = name;
         floor = bottom ∙ ap (λ (x : Seen). dynamic_base + x.session) k.reads;
         stack = stack ∙ stack_same f ch.frame k.reads;
         place = place_there s.place h.running.frame ch.frame code k.fixed dt (ap (λ (x : Seen). x.lb) k.reads) (ap (λ (x : Seen). x.at) k.reads) place;
@@ -125,10 +125,10 @@ module _ {N : Type 0} (state : N → DeviceState) where
       }
 
   -- what is kept of a frame that is the running one
-  pub scene_found : (s : Scene) (c : Card N) (ch : Chain) (left : ℕ) (h : Chained) (k : Held) (code : Option (List ℕ)) → RunsChain state c ch left → Some h ≡ c.chain → k ≡ h.running → s.name.items ≡ name_in state c k → s.floor ≡ floor k.frame → s.stack.items ≡ stack_of k.frame → IsPlace s.place k.frame code
+  pub scene_found : (s : Scene) (c : Card N) (ch : Chain) (left : ℕ) (h : Chained) (k : Held) (code : Option (List ℕ)) → RunsChain state c ch left → Some h ≡ c.chain → k ≡ h.running → s.name.items ≡ ch.frame.name → s.floor ≡ floor k.frame → s.stack.items ≡ stack_of k.frame → IsPlace s.place k.frame code
       → k.frame.dt ≤ dynamic_end → IsScene s ch.frame code
   scene_found s c ch left h k code r e same name bottom stack place high =
-      scene_is s c ch left h code r e (name ∙ ap (λ (x : Held). name_in state c x) same) (bottom ∙ ap (λ (x : Held). floor x.frame) same) (stack ∙ ap (λ (x : Held). stack_of x.frame) same)
+      scene_is s c ch left h code r e name (bottom ∙ ap (λ (x : Held). floor x.frame) same) (stack ∙ ap (λ (x : Held). stack_of x.frame) same)
       (subst (λ (x : Held). IsPlace s.place x.frame code) same place) (subst (λ (x : Held). x.frame.dt ≤ dynamic_end) same high)
 
   -- ---- after a turn

@@ -17,8 +17,9 @@ ghost use Rattle.desk_cover.specs.Watching.{full_turn_of};
 ghost use Rattle.desk_cover.specs.Plays.{CountsPlay, CoversBy};
 ghost use Rattle.desk_cover.specs.Counting.{Counted, counted_none, counted_on, holds_by, line_by, line_risen, lines_by, new_line, new_lines, risen, took_by};
 
+use crate::following::{Follower, run_followed};
+use crate::known::Known;
 use crate::lcov::{LineCount, put_record};
-use crate::looking::running_section;
 use crate::sections::{Section, Sections, bytes_of};
 use desk_draft::CodeLine;
 use mc_arith::Flags;
@@ -28,7 +29,7 @@ use mc_deck::Deck;
 use mc_isa::{Ins, decode};
 use mc_machine::Outcome;
 use mc_nvm::{Bench, Nvm};
-use mc_script::{Player, Runner, Watcher, run_watched};
+use mc_script::{Player, Runner};
 use mc_streams::{Sink, WriteFault};
 use std::alloc::{AllocError, Global};
 use std::sync::ledger::Ledger;
@@ -132,14 +133,12 @@ fn line_risen(line: &LineCount, flags: &Flags) -> LineCount
     }
 }
 
-// A line after a turn at a place of a section.
-fn line_by(line: &LineCount, section: usize, at: u16, flags: &Flags) -> LineCount
-    ensures { result ≡ line_by section at flags.now.c flags.now.z line.now }
+// Counts a turn at a place of a section for a line.
+fn count_at(line: &mut LineCount, section: usize, at: u16, flags: &Flags)
+    ensures { line.new ≡ line_by section at flags.now.c flags.now.z line.old }
 {
     if line.section == section && at == line.place {
-        line_risen(line, flags)
-    } else {
-        *line
+        *line = line_risen(line, flags);
     }
 }
 
@@ -148,7 +147,7 @@ fn count(lines: &mut [LineCount], section: usize, at: u16, flags: &Flags)
     ensures { lines.new ≡ map (line_by section at flags.now.c flags.now.z) lines.old }
 {
     for i in 0..lines.len() {
-        lines[i] = line_by(&lines[i], section, at, flags);
+        count_at(&mut lines[i], section, at, flags);
     }
 }
 
@@ -213,25 +212,29 @@ impl<'s, 'o> Counter<'s, 'o> {
     }
 }
 
-impl<'s, 'o> Watcher for Counter<'s, 'o> {
+impl<'s, 'o> Follower for Counter<'s, 'o> {
     ghost Seen = { FullTurn };
 
     ghost seen = { full_turn_of };
 
     ghost watched = { Counted };
 
+    ghost sources = { λ q. q.sections.now };
+
     ghost silent = { counted_none };
 
     ghost onward = { counted_on };
 
+    ghost stays = { λ q r ts h. h.sections };
+
     fn turn<N: Nvm, L: Ledger>(
         &mut self,
         card: &mut Card<N>,
+        known: &Known,
         steps: &mut Steps<L>,
     ) -> Result<Turn, Stop> {
-        let section = running_section(card, self.sections);
         let turn = card.turn(steps)?;
-        self.count(section, &turn);
+        self.count(known.section(), &turn);
         Ok(turn)
     }
 }
@@ -251,7 +254,8 @@ impl<'s, 'o> Runner for Counter<'s, 'o> {
         into: &mut Outcome,
         steps: &mut Steps<L>,
     ) -> Result<(), Stop> {
-        run_watched(self, card, bytes, budget, into, steps)
+        let sections = self.sections;
+        run_followed(self, sections, card, bytes, budget, into, steps)
     }
 }
 

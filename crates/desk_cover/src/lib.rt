@@ -3,6 +3,8 @@
 //! Plays of drafts that show the source line of each turn, or count how often each line ran.
 
 mod covering;
+mod following;
+mod known;
 mod lcov;
 mod looking;
 mod sections;

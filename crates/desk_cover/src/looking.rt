@@ -138,19 +138,18 @@ fn operand_place(frame: &Frame, code: &[u8]) -> Option<(Place, u8)>
     }
 }
 
-// The stack of a frame.
-fn stack_of(frame: &Frame) -> ArrayVec<u8, 512>
-    ensures { result.items ≡ stack_of frame.now.frame }
+// Replaces a stack by that of a frame.
+fn put_stack(frame: &Frame, into: &mut ArrayVec<u8, 512>)
+    ensures { into.new.items ≡ stack_of frame.now.frame }
 {
     let _dt = frame.dt();
     let _floor = frame.floor();
-    let mut copy = ArrayVec::new();
-    copy.try_extend_from_slice(frame.stack()).unwrap();
-    copy
+    into.clear();
+    into.try_extend_from_slice(frame.stack()).unwrap();
 }
 
-// The name of the application of a slot.
-fn name_of<B: Bank>(bank: &B, slot: Slot) -> ArrayVec<u8, 16>
+/// Returns the name of the application of a slot.
+pub fn name_of<B: Bank>(bank: &B, slot: Slot) -> ArrayVec<u8, 16>
     requires going { (B.state bank.now).stopped ≡ false }
     requires there { IsSome (B.named bank.now slot) }
     ensures { result.items ≡ name_or (B.named bank.now slot) }
@@ -172,113 +171,144 @@ fn place_by(frame: &Frame, code: Option<&[u8]>) -> Option<(Place, u8)>
     }
 }
 
-// What is kept of a frame before its next turn.
-fn scene_in<N: Nvm>(card: &Card<N>, frame: &Frame, code: Option<&[u8]>) -> Scene
-    requires runs { FrameRuns N.state card.now frame.now }
-    requires short { IfSome code (λ c. length c.now ≤ most_code) }
-    ensures name { result.name.items ≡ name_in N.state card.now frame.now }
-    ensures floor { result.floor ≡ floor frame.now.frame }
-    ensures stack { result.stack.items ≡ stack_of frame.now.frame }
-    ensures place { IsPlace result.place frame.now.frame (option_map (λ c. c.now) code.entry) }
-    ensures high { frame.now.frame.dt ≤ dynamic_end }
-{
-    let _dt = frame.dt();
-    Scene {
-        name: name_of(card.bank(), frame.slot()),
-        floor: frame.floor(),
-        stack: stack_of(frame),
-        place: place_by(frame, code),
-    }
-}
-
-/// Returns what is kept of the running frame of a card before its next turn, by the code of its section, if it is of
-/// one.
-pub fn scene_of<N: Nvm>(card: &Card<N>, code: Option<&[u8]>) -> Scene
-    requires running { IsRunning N.state card.now }
-    requires short { IfSome code (λ c. length c.now ≤ most_code) }
-    ensures { (ch : ModelChain) (left : ℕ) → RunsChain N.state card.now ch left
-        → IsScene result ch.frame (option_map (λ c. c.now) code.entry) }
-{
-    match card.chain() {
-        Some(chain) => scene_in(card, chain.running(), code),
-        None => Scene {
+impl Scene {
+    /// Returns what is kept before the first turn.
+    pub fn blank() -> Scene {
+        Scene {
             name: ArrayVec::new(),
             floor: 0,
             stack: ArrayVec::new(),
             place: None,
-        },
+        }
+    }
+
+    // Becomes what is kept of a frame before its next turn.
+    fn take_frame(&mut self, frame: &Frame, name: &[u8], code: Option<&[u8]>)
+        requires few { length name.now ≤ 16 }
+        requires short { IfSome code (λ c. length c.now ≤ most_code) }
+        ensures name { self.new.name.items ≡ name.now }
+        ensures floor { self.new.floor ≡ floor frame.now.frame }
+        ensures stack { self.new.stack.items ≡ stack_of frame.now.frame }
+        ensures place { IsPlace self.new.place frame.now.frame (option_map (λ c. c.now) code.entry) }
+        ensures high { frame.now.frame.dt ≤ dynamic_end }
+    {
+        let _dt = frame.dt();
+        self.name.clear();
+        self.name.try_extend_from_slice(name).unwrap();
+        self.floor = frame.floor();
+        put_stack(frame, &mut self.stack);
+        self.place = place_by(frame, code);
+    }
+
+    /// Becomes what is kept of the running frame of a card before its next turn, by the name of its application and the
+    /// code of its section, if it is of one. It is written in place to avoid copying it.
+    pub fn take<N: Nvm>(&mut self, card: &Card<N>, name: &[u8], code: Option<&[u8]>)
+        requires running { IsRunning N.state card.now }
+        requires name { (ch : ModelChain) (left : ℕ) → RunsChain N.state card.now ch left → name.now ≡ ch.frame.name }
+        requires few { length name.now ≤ 16 }
+        requires short { IfSome code (λ c. length c.now ≤ most_code) }
+        ensures { (ch : ModelChain) (left : ℕ) → RunsChain N.state card.now ch left
+            → IsScene self.new ch.frame (option_map (λ c. c.now) code.entry) }
+    {
+        match card.chain() {
+            Some(chain) => self.take_frame(chain.running(), name, code),
+            None => {}
+        }
     }
 }
 
-// The bytes at a place of the running frame.
-fn bytes_at<N: Nvm>(card: &Card<N>, chain: &Chain, place: &Option<(Place, u8)>) -> ArrayVec<u8, 255>
+// Replaces bytes by those at a place of the running frame.
+fn put_bytes<N: Nvm>(
+    card: &Card<N>,
+    chain: &Chain,
+    place: &Option<(Place, u8)>,
+    into: &mut ArrayVec<u8, 255>,
+)
     requires { FrameRuns N.state card.now chain.now.running }
     ensures { IfSome place.now (λ p. lies_in_segment chain.now.running.frame chain.now.public p.0 p.1 ≡ true)
-        → result.items ≡ bytes_there (frame_in N.state card.now chain.now.running) chain.now.public
+        → into.new.items ≡ bytes_there (frame_in N.state card.now chain.now.running) chain.now.public
         (option_map place_pair place.now) }
 {
-    let mut found = ArrayVec::new();
+    into.clear();
     let Some((place, size)) = place else {
-        return found;
+        return;
     };
     let mut bytes = [0; 255];
     let piece = &mut bytes[..*size as usize];
     if look(card.bank(), chain.running(), chain.public(), *place, piece) {
-        found.try_extend_from_slice(piece).unwrap();
-    }
-    found
-}
-
-// What is left of a frame that runs no more: no operand, and the stack that it had, up to DT.
-fn left_of(scene: &Scene, dt: u16) -> After
-    ensures operand { result.operand.items ≡ [] }
-    ensures stack { result.stack.items ≡ take (dt - scene.now.floor) scene.now.stack.items }
-{
-    let count = dt.saturating_sub(scene.floor) as usize;
-    let kept = count.min(scene.stack.len());
-    let mut stack = ArrayVec::new();
-    stack
-        .try_extend_from_slice(&scene.stack.as_slice()[..kept])
-        .unwrap();
-    After {
-        operand: ArrayVec::new(),
-        stack,
+        into.try_extend_from_slice(piece).unwrap();
     }
 }
 
-// The operand and the stack of the frame that a scene is of, by the frame that runs after a turn.
-fn after_in<N: Nvm>(card: &Card<N>, chain: &Chain, scene: &Scene, dt: u16) -> After
-    requires { FrameRuns N.state card.now chain.now.running }
-    ensures operand { IfSome scene.now.place
-        (λ p. lies_in_segment chain.now.running.frame chain.now.public p.0 p.1 ≡ true)
-        → result.operand.items ≡ cond (bytes_eq (name_in N.state card.now chain.now.running) scene.now.name.items)
-        (bytes_there (frame_in N.state card.now chain.now.running) chain.now.public
-        (option_map place_pair scene.now.place)) [] }
-    ensures stack { result.stack.items
-        ≡ cond (bytes_eq (name_in N.state card.now chain.now.running) scene.now.name.items)
-        (stack_of chain.now.running.frame) (take (dt - scene.now.floor) scene.now.stack.items) }
-{
-    if name_of(card.bank(), chain.running().slot()).as_slice() != scene.name.as_slice() {
-        return left_of(scene, dt);
+impl After {
+    /// Returns what is shown before the first turn.
+    pub fn blank() -> After {
+        After {
+            operand: ArrayVec::new(),
+            stack: ArrayVec::new(),
+        }
     }
-    After {
-        operand: bytes_at(card, chain, &scene.place),
-        stack: stack_of(chain.running()),
-    }
-}
 
-/// Returns the operand's bytes and the stack of a frame after a turn, by what was kept of it before the turn and
-/// by its DT after it.
-pub fn after_turn<N: Nvm>(card: &Card<N>, scene: &Scene, dt: u16) -> After
-    requires { IsWatched N.state card.now }
-    ensures operand { (f : ModelFrame) (code : List ℕ) (next : Follows) → IsScene scene.now f (Some code)
-        → Shows N.state card.now next → LiesAfter (place_in f (span_in f code)) next
-        → result.operand.items ≡ operand_after f (place_in f (span_in f code)) next }
-    ensures stack { (f : ModelFrame) (code : List ℕ) (next : Follows) → IsScene scene.now f (Some code)
-        → Shows N.state card.now next → result.stack.items ≡ stack_after f dt next }
-{
-    match card.chain() {
-        Some(chain) => after_in(card, chain, scene, dt),
-        None => left_of(scene, dt),
+    // Becomes what is left of a frame that runs no more: no operand, and the stack that it had, up to DT.
+    fn take_left(&mut self, scene: &Scene, dt: u16)
+        ensures operand { self.new.operand.items ≡ [] }
+        ensures stack { self.new.stack.items ≡ take (dt - scene.now.floor) scene.now.stack.items }
+    {
+        let count = dt.saturating_sub(scene.floor) as usize;
+        let kept = count.min(scene.stack.len());
+        self.operand.clear();
+        self.stack.clear();
+        self.stack
+            .try_extend_from_slice(&scene.stack.as_slice()[..kept])
+            .unwrap();
+    }
+
+    // Becomes the operand and the stack of the frame that runs.
+    fn take_running<N: Nvm>(&mut self, card: &Card<N>, chain: &Chain, scene: &Scene)
+        requires { FrameRuns N.state card.now chain.now.running }
+        ensures operand { IfSome scene.now.place
+            (λ p. lies_in_segment chain.now.running.frame chain.now.public p.0 p.1 ≡ true)
+            → self.new.operand.items ≡ bytes_there (frame_in N.state card.now chain.now.running) chain.now.public
+            (option_map place_pair scene.now.place) }
+        ensures stack { self.new.stack.items ≡ stack_of chain.now.running.frame }
+    {
+        put_bytes(card, chain, &scene.place, &mut self.operand);
+        put_stack(chain.running(), &mut self.stack);
+    }
+
+    // Becomes the operand and the stack of the frame that a scene is of, by the frame that runs after a turn.
+    fn take_chain<N: Nvm>(&mut self, card: &Card<N>, chain: &Chain, scene: &Scene, dt: u16)
+        requires { FrameRuns N.state card.now chain.now.running }
+        ensures operand { IfSome scene.now.place
+            (λ p. lies_in_segment chain.now.running.frame chain.now.public p.0 p.1 ≡ true)
+            → self.new.operand.items ≡ cond (bytes_eq (name_in N.state card.now chain.now.running) scene.now.name.items)
+            (bytes_there (frame_in N.state card.now chain.now.running) chain.now.public
+            (option_map place_pair scene.now.place)) [] }
+        ensures stack { self.new.stack.items
+            ≡ cond (bytes_eq (name_in N.state card.now chain.now.running) scene.now.name.items)
+            (stack_of chain.now.running.frame) (take (dt - scene.now.floor) scene.now.stack.items) }
+    {
+        let name = name_of(card.bank(), chain.running().slot());
+        if name.as_slice() == scene.name.as_slice() {
+            self.take_running(card, chain, scene);
+        } else {
+            self.take_left(scene, dt);
+        }
+    }
+
+    /// Becomes the operand's bytes and the stack of a frame after a turn, by what was kept of it before the turn and
+    /// by its DT after it. It is written in place to avoid copying it.
+    pub fn take<N: Nvm>(&mut self, card: &Card<N>, scene: &Scene, dt: u16)
+        requires { IsWatched N.state card.now }
+        ensures operand { (f : ModelFrame) (code : List ℕ) (next : Follows) → IsScene scene.now f (Some code)
+            → Shows N.state card.now next → LiesAfter (place_in f (span_in f code)) next
+            → self.new.operand.items ≡ operand_after f (place_in f (span_in f code)) next }
+        ensures stack { (f : ModelFrame) (code : List ℕ) (next : Follows) → IsScene scene.now f (Some code)
+            → Shows N.state card.now next → self.new.stack.items ≡ stack_after f dt next }
+    {
+        match card.chain() {
+            Some(chain) => self.take_chain(card, chain, scene, dt),
+            None => self.take_left(scene, dt),
+        }
     }
 }

@@ -19,7 +19,9 @@ ghost use Rattle.desk_cover.specs.Looking.{section_at};
 ghost use Rattle.desk_cover.specs.Tracing.{line_pair, line_value, log_of, same_after, same_itself, same_texts, same_traced, state_part_of, traced_none, traced_on, turn_text, Adds, IsSameTracer, Traced};
 ghost use Rattle.desk_cover.specs.Watching.{full_turn_of};
 
-use crate::looking::{After, after_turn, running_section, scene_of};
+use crate::following::{Follower, run_followed};
+use crate::known::Known;
+use crate::looking::{After, Scene};
 use crate::sections::Sections;
 use arrayvec::ArrayVec;
 use desk_draft::CodeLine;
@@ -28,9 +30,7 @@ use mc_card::{Card, Turn};
 use mc_deck::Deck;
 use mc_machine::Outcome;
 use mc_nvm::{Bench, Nvm};
-use mc_script::{
-    Answer, Player, Reporter, Runner, Text, Watcher, gather_result, play_lines, run_watched,
-};
+use mc_script::{Answer, Player, Reporter, Runner, Text, gather_result, play_lines};
 use mc_streams::{Sink, WriteFault};
 use mc_text::{add, add_decimal, add_hex, put};
 use mc_trace::line_of;
@@ -46,6 +46,8 @@ struct Tracer<'s, 'o, T: Sink> {
     fault: Option<WriteFault>,
     text: Text,
     sections: &'o Sections<'s>,
+    scene: Scene,
+    after: After,
 }
 
 // Adds bytes in hexadecimal, `-` if there are none.
@@ -132,21 +134,27 @@ impl<'s, 'o, T: Sink> Tracer<'s, 'o, T> {
             fault: None,
             text: ArrayVec::new(),
             sections,
+            scene: Scene::blank(),
+            after: After::blank(),
         }
     }
 
-    // Writes a text, unless the sink failed before.
+    // Writes a text, unless the sink failed before. What is shown of a turn stays.
     fn write(&mut self, text: &[u8])
-        ensures { Adds T.Sink self.old text.now self.new }
+        ensures adds { Adds T.Sink self.old text.now self.new }
+        ensures operand { self.new.after.operand.items ≡ self.old.after.operand.items }
+        ensures stack { self.new.after.stack.items ≡ self.old.after.stack.items }
     {
         if self.fault.is_none() {
             self.fault = put(self.out, text).err();
         }
     }
 
-    // Writes what was gathered.
+    // Writes what was gathered. What is shown of a turn stays.
     fn write_gathered(&mut self)
-        ensures { Adds T.Sink self.old self.old.text.items self.new }
+        ensures adds { Adds T.Sink self.old self.old.text.items self.new }
+        ensures operand { self.new.after.operand.items ≡ self.old.after.operand.items }
+        ensures stack { self.new.after.stack.items ≡ self.old.after.stack.items }
     {
         if self.fault.is_none() {
             self.fault = put(self.out, self.text.as_slice()).err();
@@ -154,17 +162,17 @@ impl<'s, 'o, T: Sink> Tracer<'s, 'o, T> {
     }
 
     // Writes the line of a turn with its source line, its operand and its stack.
-    fn put_turn(&mut self, turn: &Turn, line: &CodeLine<'s>, after: &After)
+    fn put_turn(&mut self, turn: &Turn, line: &CodeLine<'s>)
         requires shaped { IfSome turn.now.ins Shaped }
         requires low { 1 ≤ turn.now.depth }
         requires high { turn.now.depth ≤ 4 }
         ensures { (wrote : Option ℕ) → Adds T.Sink self.old (turn_text (turn_value turn.now wrote)
-            (line_value line.now) after.now.operand.items after.now.stack.items) self.new }
+            (line_value line.now) self.old.after.operand.items self.old.after.stack.items) self.new }
     {
         gather_front(&mut self.text, turn, line.number);
         self.write_gathered();
         self.write(line.text);
-        gather_state(&mut self.text, after);
+        gather_state(&mut self.text, &self.after);
         self.write_gathered();
     }
 
@@ -191,29 +199,35 @@ impl<'s, 'o, T: Sink> Tracer<'s, 'o, T> {
     }
 }
 
-impl<'s, 'o, T: Sink> Watcher for Tracer<'s, 'o, T> {
+impl<'s, 'o, T: Sink> Follower for Tracer<'s, 'o, T> {
     ghost Seen = { FullTurn };
 
     ghost seen = { full_turn_of };
 
     ghost watched = { Traced T.Sink };
 
+    ghost sources = { λ q. q.sections.now };
+
     ghost silent = { traced_none T.Sink };
 
     ghost onward = { traced_on T.Sink };
 
+    ghost stays = { λ q r ts h. h.sections };
+
     fn turn<N: Nvm, L: Ledger>(
         &mut self,
         card: &mut Card<N>,
+        known: &Known,
         steps: &mut Steps<L>,
     ) -> Result<Turn, Stop> {
-        let section = running_section(card, self.sections);
-        let scene = scene_of(card, code_of(self.sections, section));
+        let section = known.section();
+        self.scene
+            .take(card, known.name(), code_of(self.sections, section));
         let turn = card.turn(steps)?;
         match line_at(self.sections, section, turn.at) {
             Some(line) => {
-                let after = after_turn(card, &scene, turn.dt);
-                self.put_turn(&turn, &line, &after);
+                self.after.take(card, &self.scene, turn.dt);
+                self.put_turn(&turn, &line);
             }
             None => self.write(line_of(&turn).as_slice()),
         }
@@ -236,7 +250,8 @@ impl<'s, 'o, T: Sink> Runner for Tracer<'s, 'o, T> {
         into: &mut Outcome,
         steps: &mut Steps<L>,
     ) -> Result<(), Stop> {
-        run_watched(self, card, bytes, budget, into, steps)
+        let sections = self.sections;
+        run_followed(self, sections, card, bytes, budget, into, steps)
     }
 }
 

@@ -17,7 +17,7 @@ loop-i-preserved c =
     let f = line_by c.args.section c.args.at c.args.flags.now.c c.args.flags.now.z in
     record {
       size = search (rules, arith);
-      rest = subst (λ (x : LineCount). map_rest f (c.loop-i.i + 1) (slice_set c.loop-i.lines c.loop-i.i x) ≡ map_rest f c.loop-i.i c.loop-i.lines) (sym c.line_by.ensures) (rest_step f no_line c.loop-i.lines c.loop-i.i (search (rules, arith))) ∙ c.loop-i.invariant.rest;
+      rest = subst (λ (x : LineCount). map_rest f (c.loop-i.i + 1) (slice_set c.loop-i.lines c.loop-i.i x) ≡ map_rest f c.loop-i.i c.loop-i.lines) (sym c.count_at.ensures) (rest_step f no_line c.loop-i.lines c.loop-i.i (search (rules, arith))) ∙ c.loop-i.invariant.rest;
     }
 
 pub returns : goal.returns

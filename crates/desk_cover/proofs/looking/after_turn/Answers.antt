@@ -1,6 +1,0 @@
-use Rattle.desk_cover.proofs.LookLemmas.{operand_seen}
-use Rattle.desk_cover.proofs.looking.after_turn.Goals as goal
-
-pub returns-in-Some-clause-operand : goal.returns-in-Some-clause-operand
-returns-in-Some-clause-operand g c f code next scene shows lies =
-    operand_seen g.N.Nvm.state c.args.scene.now c.args.card.now c.in-Some.chain.now f code c.after_in.result.operand.items next c.in-Some.ensures scene shows lies c.after_in.ensures.operand
