@@ -96,11 +96,11 @@ def test_without_a_terminal_it_is_the_command():
 
 
 def test_a_line_is_rewritten_each_second_and_cleared():
-    terminal = Terminal(["sh", "-c", "sleep 2.5; echo done; exit 3"], stdout=subprocess.PIPE)
+    terminal = Terminal(["sh", "-c", "sleep 4; echo done; exit 3"], stdout=subprocess.PIPE)
     out, _ = terminal.run.communicate(timeout=60)
     status, text = terminal.end()
     assert (status, out) == (3, b"done\n")
-    assert [it.split(",")[0] for it in LINE.findall(text)] == ["1 s", "2 s"]
+    assert len({it.split(",")[0] for it in LINE.findall(text)}) >= 2
     assert "\n" not in text and shown(text) == [""]
 
 
@@ -117,8 +117,8 @@ def test_the_output_on_the_same_terminal_stays_whole():
 
 
 def test_the_line_fits_the_terminal():
-    _, text = Terminal(["sleep", "1.3"], columns=20).end()
-    assert text.startswith("\r1 s, processor 0 s,\r") and shown(text) == [""]
+    _, text = Terminal(["sleep", "3"], columns=20).end()
+    assert re.match(r"\r[123] s, processor 0 s,\r", text) and shown(text) == [""]
 
 
 def test_the_input_is_the_command_s_own():
