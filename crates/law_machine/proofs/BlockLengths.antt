@@ -1,5 +1,5 @@
 -- Results are no longer than what they are made of.
-use Rattle.std.proofs.Common.{◌≡◌, ℕ, zero, suc, ◌+◌, ◌-◌, ◌*◌, ◌/◌, ◌≤◌, Bool, true, false, cond, List, [], ◌∷◌, ◌++◌, take, drop, map, length, Option, Some, None, refl, ap, ◌∙◌, arith}
+use Rattle.std.proofs.Common.{◌≡◌, ℕ, zero, suc, ◌+◌, ◌-◌, ◌*◌, ◌/◌, ◌≤◌, Bool, true, false, cond, List, [], ◌∷◌, ◌++◌, take, drop, map, length, Option, Some, None, refl, arith}
 use Rattle.std.specs.Prelude.{◌==◌, reverse, slice_index}
 use Rattle.std.specs.Int.{w32, to_be_bytes}
 use Rattle.sha1.specs.Sha1.{sha1, hash_after, padded_message, digest_bytes}
@@ -7,14 +7,14 @@ use Rattle.std.proofs.lemmas.List.{length-append, length-take, length-map}
 use Rattle.model_card.specs.model_device.specs.Bytes.{bytes}
 use Rattle.model_card.specs.model_machine.specs.Blocks.{each_byte}
 use Rattle.model_card.specs.model_machine.specs.Modes.{bit_sum, blocks_of, each, last_of_chain, ecb}
-use Rattle.model_card.specs.model_machine.specs.Des.{bits_of, bytes_of, with_keys, des_block, des_encipher, des_decipher, tdes_encipher, tdes_decipher, des_signature, tdes_signature}
+use Rattle.model_card.specs.model_machine.specs.Des.{des_encipher, tdes_encipher, des_signature, tdes_signature}
 use Rattle.model_card.specs.model_machine.specs.Aes.{shift_rows, sub, mix_columns, columns_times_matrix, round, last_round, round_back, last_round_back, rounds, rounds_back, round_keys, aes_encipher, aes_decipher, aes_signature}
 use Rattle.model_card.specs.model_machine.specs.Aes as aes
-use Rattle.model_card.specs.model_machine.specs.Des as des
 use Rattle.model_card.specs.model_machine.specs.Frame.{Frame, Place, Static, Dynamic, Public, dynamic_base, where_is, static_bytes, bytes_in, bytes_at, stack_bytes}
 use Rattle.model_card.specs.model_machine.specs.Primitives.{Cipher, Des, TripleDes, Aes, block_len, encipherment, decipherment, signature}
 use Rattle.model_card.specs.model_device.proofs.ListLemmas.{length_bytes}
 use Rattle.model_card.specs.model_machine.proofs.ModesLemmas.{length_added}
+use Rattle.law_machine.proofs.CipherBlocks.{length_des, length_des_back, length_tdes, length_tdes_back, last_16, round_16, back_16, last_back_16}
 
 -- ---- lists
 
@@ -50,48 +50,6 @@ at_short f public a n = none_or (n == 0) (bytes_in f public n (where_is f a n)) 
 
 -- ---- ciphers
 
-length_bytes_of : (n : ℕ) (l : List ℕ) → length (bytes_of n l) ≡ n
-unfolding bytes_of
-length_bytes_of zero l = refl
-length_bytes_of (suc n) l = ap suc (length_bytes_of n (drop 8 l))
-
-length_ciphered : (ks : List (List ℕ)) (block : List ℕ) → length (des_block ks block) ≡ 8
-unfolding des_block
-length_ciphered ks block = length_bytes_of 8 (with_keys ks (bits_of block))
-
-length_des : (key block : List ℕ) → length (des_encipher key block) ≡ 8
-unfolding des_encipher
-length_des key block = length_ciphered (des.round_keys key) block
-
-length_des_back : (key block : List ℕ) → length (des_decipher key block) ≡ 8
-unfolding des_decipher
-length_des_back key block = length_ciphered (reverse (des.round_keys key)) block
-
-length_tdes : (key block : List ℕ) → length (tdes_encipher key block) ≡ 8
-unfolding tdes_encipher
-length_tdes key block = length_des (take 8 key) (des_decipher (drop 8 key) (des_encipher (take 8 key) block))
-
-length_tdes_back : (key block : List ℕ) → length (tdes_decipher key block) ≡ 8
-unfolding tdes_decipher
-length_tdes_back key block = length_des_back (take 8 key) (des_encipher (drop 8 key) (des_decipher (take 8 key) block))
-
-last_16 : (k s : List ℕ) → length (last_round k s) ≡ 16
-unfolding last_round
-last_16 k s = length_added (shift_rows (map sub s)) k
-
-length_mixed : (n p q r t : ℕ) (s : List ℕ) → length (columns_times_matrix n p q r t s) ≡ 4 * n
-unfolding columns_times_matrix
-length_mixed zero p q r t s = refl
-length_mixed (suc n) p q r t s = let rest : length (columns_times_matrix n p q r t (drop 4 s)) ≡ 4 * n = length_mixed n p q r t (drop 4 s) in omega arith
-
-length_columns : (s : List ℕ) → length (mix_columns s) ≡ 16
-unfolding mix_columns
-length_columns s = length_mixed 4 2 3 1 1 s
-
-round_16 : (k s : List ℕ) → length (round k s) ≡ 16
-unfolding round
-round_16 k s = length_added (mix_columns (shift_rows (map sub s))) k ∙ length_columns (shift_rows (map sub s))
-
 rounds_16 : (ks : List (List ℕ)) (s : List ℕ) → length s ≤ 16 → length (rounds ks s) ≤ 16
 unfolding rounds
 rounds_16 [] s h = h
@@ -102,14 +60,6 @@ aes_16 : (ks : List (List ℕ)) (s : List ℕ) → length s ≤ 16 → length (a
 unfolding aes.cipher_block
 aes_16 [] s h = h
 aes_16 (k ∷ ks) s h = rounds_16 ks (bit_sum s k) (omega (arith, length_added s k))
-
-back_16 : (k s : List ℕ) → length (round_back k s) ≡ 16
-unfolding round_back
-back_16 k s = refl
-
-last_back_16 : (k s : List ℕ) → length (last_round_back k s) ≡ 16
-unfolding last_round_back
-last_back_16 k s = refl
 
 rounds_back_16 : (ks : List (List ℕ)) (s : List ℕ) → length s ≤ 16 → length (rounds_back ks s) ≤ 16
 unfolding rounds_back

@@ -1,4 +1,5 @@
 pub mod TouchedWords
+pub mod CipherBlocks
 pub mod BlockLengths
 pub mod BlockSizes
 pub mod ActWords

@@ -1,6 +1,6 @@
 -- The words that each row's change touches, from the causes that do not hold and the ranges of its operands.
-use Rattle.std.proofs.Common.{◌≡◌, ℕ, ◌+◌, ◌-◌, ◌*◌, ◌<◌, ◌≤◌, ℤ, Bool, true, false, cond, List, [], ◌∷◌, ◌++◌, length, Option, Some, None, refl, sym, subst, inl, inr, arith}
-use Rattle.std.specs.Prelude.{◌==◌, ◌&&◌, ◌||◌, ◌⊎◌, ⊤, nat_le, slice_index, IfSome}
+use Rattle.std.proofs.Common.{◌≡◌, ℕ, ◌+◌, ◌*◌, ◌<◌, ◌≤◌, ℤ, Bool, true, false, cond, List, [], ◌∷◌, length, Option, Some, None, refl, sym, subst, inl, inr, arith}
+use Rattle.std.specs.Prelude.{◌&&◌, ◌||◌, ◌⊎◌, ⊤, nat_le, slice_index, IfSome}
 use Rattle.std.specs.List.{AllByRecursion}
 use Rattle.std.proofs.lemmas.Bool.{and_parts, or_parts, not-false, leb-true}
 use Rattle.sha1.specs.Sha1.{sha1}
@@ -13,7 +13,7 @@ use Rattle.model_card.specs.model_machine.specs.Modes.{ecb}
 use Rattle.model_card.specs.model_device.specs.Pieces.{touched_words}
 use Rattle.model_card.specs.model_machine.specs.Frame.{Frame, Effect, bytes_at, address_at, is_outside, no_access, frame_after_pop, top}
 use Rattle.model_card.specs.model_machine.specs.Primitives.{Around, Then, Done, Goes, Exits, Delegates, Cipher, Des, TripleDes, Aes, block_len, key_len, Primitive, MemoryCopy, DelegateTo, DelegatorAid, Digest, CopyFixed, SetProtection, Encipher, Decipher, Sign, primitive, in_range, number_below_top, count_at, reported_causes, cipher_causes, later_causes, prim_causes, prim_effect, prim_done, encipherment, decipherment}
-use Rattle.model_card.specs.model_machine.specs.Row.{holds, operand, address_or_zero, writes, immediate_writes, pair_writes, place_of, causes, effect, first_cause, row_end, row}
+use Rattle.model_card.specs.model_machine.specs.Row.{operand, address_or_zero, writes, immediate_writes, pair_writes, place_of, causes, effect, first_cause, row_end, row}
 use Rattle.model_card.specs.model_device.proofs.ListLemmas.{zeros_short}
 use Rattle.law_rows.specs.Shapes.{Shape, meaning, delegator_shape, prim_shape, pair_shape, shape}
 use Rattle.law_rows.specs.Keeping.{PiecesWithin, Leaves, OnLeave}

@@ -24,7 +24,7 @@ use Rattle.law_prove.specs.Laws.{LeadLaw}
 use Rattle.law_prove.proofs.Moments.{byte_of}
 use Rattle.law_prove.proofs.Turns.{NoCause, nobody}
 use Rattle.law_prove_reach.proofs.Scenes.{with_bytes, same_outside}
-use Rattle.law_prove_reach.proofs.Lengths.{KeepsBlock, enciphered_whole, deciphered_whole, ecb_whole}
+use Rattle.law_prove.specs.law_machine.proofs.BlockSizes.{IsOfBlocks, enciphered_blocks, deciphered_blocks, ecb_length}
 use Rattle.law_prove_reach.proofs.Choices.{fetched_frame, few_or_many, ChoiceCase, law_by}
 use Rattle.law_prove_reach.proofs.Tops.{Numbers, Agree, Top, IsTop, cs}
 use Rattle.law_prove_reach.proofs.Accesses.{anybody, inside_of, not_true, not_zero, fits_low, read_length, turn_length}
@@ -63,14 +63,14 @@ three_same h fixed dyn most v w n k size a high =
 
 -- a cipher that keeps the length of blocks, and makes bytes of bytes
 record IsCipher (c : Cipher) (cipher : List ℕ → List ℕ → List ℕ) : Type 0 where
-  keeps : (key : List ℕ) → KeepsBlock (block_len c) (cipher key)
+  keeps : (key : List ℕ) → IsOfBlocks (block_len c) (cipher key)
   bytes : (key block : List ℕ) → AreBytes key → AreBytes block → AreBytes (cipher key block)
 
 enciphers : (c : Cipher) → IsCipher c (encipherment c)
-enciphers c = record { keeps = enciphered_whole c; bytes = enciphered c }
+enciphers c = record { keeps = enciphered_blocks c; bytes = enciphered c }
 
 deciphers : (c : Cipher) → IsCipher c (decipherment c)
-deciphers c = record { keeps = deciphered_whole c; bytes = deciphered c }
+deciphers c = record { keeps = deciphered_blocks c; bytes = deciphered c }
 
 message_blocks : (c : Cipher) (n : ℕ) → not (is_message c n) ≡ false → (block_len c ≤ n) × (n % block_len c ≡ 0)
 message_blocks c n e =
@@ -177,7 +177,7 @@ module _ (set number : ℕ) (args : List ℕ) where
       let pair : NoCause none_cs → (is_outside h from n ≡ false) × (is_outside h to n ≡ false) = λ none. or_parts (is_outside h from n) (is_outside h to n) (missed none).0 in
       let inside : NoCause none_cs → is_none (where_is h from n) ≡ false = λ none. inside_of (n == 0) (is_none (where_is h from n)) (filled none) (pair none).0 in
       let whole : (l : List ℕ) (k : List ℕ) → NoCause none_cs → length l ≡ n → length (ecb (cipher k) (block_len c) l) ≡ n = λ l k none size.
-      ecb_whole c (cipher k) l (good.keeps k) (ap (λ (j : ℕ). j % block_len c) size ∙ (message_blocks c n none.0).1) ∙ size
+      ecb_length c (cipher k) l (good.keeps k) (ap (λ (j : ℕ). j % block_len c) size ∙ (message_blocks c n none.0).1) ∙ size
       in
       let real_length : NoCause none_cs → length message ≡ n = λ none. turn_length s u t g loadable leads i turn 6 from n (filled none) (inside none) in
       result_covered i o is s u t g loadable leads turn (λ v. refl) (λ h v. refl)

@@ -4,7 +4,6 @@ pub mod Ciphers
 pub mod Copies
 pub mod Delegators
 pub mod FixedCopies
-pub mod Lengths
 pub mod Reached
 pub mod Results
 pub mod Rows

@@ -22,7 +22,7 @@ use Rattle.law_prove.specs.model_prove.proofs.SetLemmas.{is_first}
 use Rattle.law_prove.specs.Laws.{LeadLaw}
 use Rattle.law_prove.proofs.Turns.{NoCause, nobody}
 use Rattle.law_prove_reach.proofs.Scenes.{with_bytes, same_outside}
-use Rattle.law_prove_reach.proofs.Lengths.{signature_whole}
+use Rattle.law_prove.specs.law_machine.proofs.BlockSizes.{signature_length}
 use Rattle.law_prove_reach.proofs.Choices.{fetched_frame, few_or_many, ChoiceCase, law_by}
 use Rattle.law_prove_reach.proofs.Tops.{Numbers, Agree, Top, IsTop, cs}
 use Rattle.law_prove_reach.proofs.Accesses.{anybody, inside_of, not_zero, fits_low, read_length, turn_length}
@@ -135,7 +135,7 @@ module _ (set number : ℕ) (args : List ℕ) (c : Cipher) (e : primitive set nu
         few = block_few c;
         some = block_positive c;
         inside = inside_of (size == 0) (is_none (where_is h to size)) filled (apart none).1;
-        long = signature_whole c key start message (turn_length s u t g loadable leads i turn 8 from size filled (inside none));
+        long = signature_length c key start message (turn_length s u t g loadable leads i turn 8 from size filled (inside none));
         bytes = signed c key start message (all (number_below_top f 2) (key_len c)) (all from size) (all (number_below_top f 6) n);
         length_in = is_first size [];
         stands = block_few c;
@@ -143,7 +143,7 @@ module _ (set number : ℕ) (args : List ℕ) (c : Cipher) (e : primitive set nu
       (λ fixed dyn public fits a none.
       let e : Frame = with_bytes f fixed dyn in
       let l : Frame = frame_after_pop e 8 in
-      signature_whole c (bytes_at l public (number_below_top e 2) (key_len c)) (bytes_at l public (number_below_top e 8) size) (bytes_at l public (number_below_top e 6) n)
+      signature_length c (bytes_at l public (number_below_top e 2) (key_len c)) (bytes_at l public (number_below_top e 8) size) (bytes_at l public (number_below_top e 6) n)
       (ap (λ (x : ℕ). length (bytes_at l public x size)) (a 8 (omega arith) (omega arith)) ∙ read_length h fixed dyn public from size (fits_low f 8 fixed dyn public fits) filled (inside none)))
       (few_or_many s u t g loadable leads i turn nobody (λ f. ap (λ (z : Option Primitive). count_deciders z f) e) (sign_alone turn.place.start) includes)
 

@@ -25,7 +25,7 @@ use Rattle.law_prove_reach.specs.law_prove.proofs.Plain.{above}
 use Rattle.law_prove_reach.specs.law_prove.proofs.Turns.{NoCause}
 use Rattle.law_prove_reach.proofs.Scenes.{with_bytes, Fits, pair_is, below_is}
 use Rattle.law_prove_reach.proofs.Accesses.{inside_of, not_true, not_zero, fits_low, read_length}
-use Rattle.law_prove_reach.proofs.Lengths.{ecb_whole, signature_whole, KeepsBlock}
+use Rattle.law_sums.specs.law_machine.proofs.BlockSizes.{ecb_length, signature_length, IsOfBlocks}
 use Rattle.law_prove_reach.proofs.Tops.{Agree}
 use Rattle.law_sums.specs.model_sums.specs.Sums.{SumsTable}
 use Rattle.law_sum_rows.proofs.Scenes.{Step, fetched, memory, sized}
@@ -266,7 +266,7 @@ ciphered cipher c n f public =
     let g = frame_after_pop f 6 in
     ecb (cipher (bytes_at g public (number_below_top f 2) (key_len c))) (block_len c) (bytes_at g public (number_below_top f 6) n)
 
-pub cipher_row : (i : Ins) (c : Cipher) (cipher : List ℕ → List ℕ → List ℕ) (n : ℕ) → ((key : List ℕ) → KeepsBlock (block_len c) (cipher key)) → IsWriting i 6 4 (λ f. n) (ciphered cipher c n) (λ k dt. n ∷ []) (λ f. NoFact)
+pub cipher_row : (i : Ins) (c : Cipher) (cipher : List ℕ → List ℕ → List ℕ) (n : ℕ) → ((key : List ℕ) → IsOfBlocks (block_len c) (cipher key)) → IsWriting i 6 4 (λ f. n) (ciphered cipher c n) (λ k dt. n ∷ []) (λ f. NoFact)
     → ((f : Frame) (public : List ℕ) (x : Around) → NoCause (causes i f public x)
     → (not (is_message c n) ≡ false) × (is_under f 6 ≡ false) × ((is_outside (frame_after_pop f 6) (number_below_top f 6) n || is_outside (frame_after_pop f 6) (number_below_top f 4) n || is_outside (frame_after_pop f 6) (number_below_top f 2) (key_len c)) ≡ false)) → StepCase i
 cipher_row i c cipher n keeps is free =
@@ -282,7 +282,7 @@ cipher_row i c cipher n keeps is free =
     let some : (n == 0) ≡ false = not_zero n (omega (arith, one, least)) in
     let first = or_parts (is_outside g from n || is_outside g (number_below_top f 4) n) (is_outside g (number_below_top f 2) (key_len c)) clear.2 in
     let pair = or_parts (is_outside g from n) (is_outside g (number_below_top f 4) n) first.0 in
-    let whole : (l k : List ℕ) → length l ≡ n → length (ecb (cipher k) (block_len c) l) ≡ n = λ l k size. ecb_whole c (cipher k) l (keeps k) (ap (λ (j : ℕ). j % block_len c) size ∙ blocks.1) ∙ size in (
+    let whole : (l k : List ℕ) → length l ≡ n → length (ecb (cipher k) (block_len c) l) ≡ n = λ l k size. ecb_length c (cipher k) l (keeps k) (ap (λ (j : ℕ). j % block_len c) size ∙ blocks.1) ∙ size in (
       some,
       record {
         under = clear.1;
@@ -323,11 +323,11 @@ sign_row i c n is free =
       record {
         under = clear.0;
         at = two.1;
-        long = signature_whole c (bytes_at g step.public (number_below_top f 2) (key_len c)) (bytes_at g step.public (number_below_top f 8) size) (bytes_at g step.public (number_below_top f 6) n) (low_count s t u i step 8 (number_below_top f 8) size some one.0);
+        long = signature_length c (bytes_at g step.public (number_below_top f 2) (key_len c)) (bytes_at g step.public (number_below_top f 8) size) (bytes_at g step.public (number_below_top f 6) n) (low_count s t u i step 8 (number_below_top f 8) size some one.0);
         stands = λ fixed dyn public fits agree.
             let e : Frame = with_bytes f fixed dyn in
             let h : Frame = frame_after_pop e 8 in
-            signature_whole c (bytes_at h public (number_below_top e 2) (key_len c)) (bytes_at h public (number_below_top e 8) size) (bytes_at h public (number_below_top e 6) n)
+            signature_length c (bytes_at h public (number_below_top e 2) (key_len c)) (bytes_at h public (number_below_top e 8) size) (bytes_at h public (number_below_top e 6) n)
             (ap (λ (x : ℕ). length (bytes_at h public x size)) (agree 8 (omega arith) (omega arith)) ∙ scene_count f fixed dyn public 8 (number_below_top f 8) size fits some one.0);
       },
     ))

@@ -13,7 +13,7 @@ use Rattle.law_sums.specs.model_prove.specs.Reach.{pair_coarse}
 use Rattle.law_sums.specs.model_prove.specs.Work.{pair_work}
 use Rattle.law_sums.specs.model_prove.specs.Steps.{arounds}
 use Rattle.law_prove_reach.specs.law_prove.proofs.Turns.{NoCause, nobody}
-use Rattle.law_prove_reach.proofs.Lengths.{enciphered_whole, deciphered_whole}
+use Rattle.law_sums.specs.law_machine.proofs.BlockSizes.{enciphered_blocks, deciphered_blocks}
 use Rattle.law_sum_rows.proofs.Rows.{StepCase}
 use Rattle.law_sum_rows.proofs.Prims.{alone}
 use Rattle.law_sum_rows.proofs.Blocks.{cipher_row, sign_row}
@@ -22,7 +22,7 @@ pub encipher_case : (number : ℕ) (c : Cipher) → primitive 1 number ≡ Some 
 unfolding causes shape later_causes prim_shape
 encipher_case number c e args =
     let n = slice_index args 0 in
-    cipher_row (ins.Prim 1 number args) c (encipherment c) n (enciphered_whole c)
+    cipher_row (ins.Prim 1 number args) c (encipherment c) n (enciphered_blocks c)
     (record {
       form = λ f public x. ap (λ (z : Option Primitive). pair_shape z args f public x) e;
       works = λ f public. ap (λ (z : Option Primitive). pair_work z args f public) e;
@@ -42,7 +42,7 @@ pub decipher_case : (number : ℕ) (c : Cipher) → primitive 1 number ≡ Some 
 unfolding causes shape later_causes prim_shape
 decipher_case number c e args =
     let n = slice_index args 0 in
-    cipher_row (ins.Prim 1 number args) c (decipherment c) n (deciphered_whole c)
+    cipher_row (ins.Prim 1 number args) c (decipherment c) n (deciphered_blocks c)
     (record {
       form = λ f public x. ap (λ (z : Option Primitive). pair_shape z args f public x) e;
       works = λ f public. ap (λ (z : Option Primitive). pair_work z args f public) e;
