@@ -10,6 +10,8 @@ mod exploring;
 mod job;
 mod program;
 mod proving;
+#[cfg(test)]
+mod reports;
 mod running;
 #[cfg(test)]
 mod tests;

@@ -1,6 +1,7 @@
 ghost use Rattle.std.specs.Prelude.{◌≡◌, ◌<◌};
 
 use crate::examples::EXAMPLES;
+use crate::reports::{REPORTS, Report};
 use crate::running::mellab;
 use mc_base::{NoMemory, Steps};
 use mc_streams::{MemSink, MemSource, read_all};
@@ -101,6 +102,24 @@ fn examples(rt: HostRuntime) -> Result<(), Fail> {
     for example in &EXAMPLES {
         let end = ended(alloc, words.as_slice(), example.deck.as_bytes(), 400, &[])?;
         assert!(rt; end.is(0, example.reported.as_bytes()), "{}", example.name);
+    }
+    Ok(())
+}
+
+// Whether a job over memory writes a report of the examples, to its last byte.
+fn is_written(alloc: Global, report: &Report) -> Result<bool, NoMemory> {
+    let words = words(alloc, report.words)?;
+    let room = report.text.len() + 1;
+    let end = ended(alloc, words.as_slice(), report.deck.as_bytes(), room, &[])?;
+    Ok(end.text.as_slice() == report.text.as_bytes())
+}
+
+// The reports of the examples: explorations, and a sweep.
+#[test]
+fn reports(rt: HostRuntime) -> Result<(), Fail> {
+    for report in REPORTS {
+        let written = is_written(rt.alloc(), report)?;
+        assert!(rt; written, "{}", report.name);
     }
     Ok(())
 }
