@@ -1,5 +1,5 @@
 // Drafts, line by line.
-ghost use Rattle.std.specs.Prelude.{◌≡◌, ◌<◌, length, slice_get, ◌+◌, ◌++◌, ◌∷◌, ◌&&◌, [], ℕ, Bool, List, true, option_map, codes, cond, IfErr, IfOk, IfSome, MatchResult, Ok, OnOk, Some, None};
+ghost use Rattle.std.specs.Prelude.{◌≡◌, ◌<◌, ◌≤◌, ◌^◌, length, slice_get, ◌+◌, ◌++◌, ◌∷◌, ◌&&◌, [], ℕ, Bool, List, true, option_map, codes, cond, IfErr, IfOk, IfSome, MatchResult, Ok, OnOk, Some, None};
 ghost use Rattle.mc_text.specs.model_device.specs.Bytes.{zeros};
 ghost use Rattle.mc_text.specs.model_text.specs.Text.{fields};
 ghost use Rattle.mc_text.specs.model_text.specs.Listing.{hex_text};
@@ -511,10 +511,11 @@ fn refused(number: u32, fault: Fault) -> DeckRefusal
 }
 
 // The number of the line at an index, from 1 on. One that does not fit in four bytes, for which a draft has to be over
-// four thousand million bytes long, counts as out of memory.
+// four thousand million bytes long, counts as out of memory, and no other one.
 fn number_of(index: usize) -> Result<u32, DeckRefusal>
     ensures value { IfOk result (λ n. n ≡ index + 1) }
     ensures memory { IfErr result (λ e. e ≡ NoMemory) }
+    ensures high { IfErr result (λ e. 2 ^ 32 ≤ index + 1) }
 {
     if index >= u32::MAX as usize {
         return Err(DeckRefusal::NoMemory);
@@ -540,9 +541,9 @@ fn later_at(later: &Vec<bool>, i: usize) -> bool
 
 /// Reads a draft: its deck, whose line N is that of line N of the draft, and its sections. In the sections of a draft
 /// `STATIC NAME SIZE [HEX]`, `SESSION NAME SIZE`, `PUBLIC NAME AT SIZE` and `CONST NAME NUMBER` declare names, which
-/// may stand in place of operands; between them sections are named by their names, the fields of a command may be apart,
-/// and rules have names in braces. Every deck is a draft, and is its own deck. A draft is read in time that grows with
-/// its length alone.
+/// may stand in place of operands; between them sections are named by their names, the fields of a command may be
+/// apart, and rules have names in braces. Every deck is a draft, and is its own deck. A draft is read in time that
+/// grows with its length alone.
 ///
 /// # Errors
 ///

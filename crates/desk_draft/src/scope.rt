@@ -1,11 +1,12 @@
 // What a section declares.
-ghost use Rattle.std.specs.Prelude.{◌≡◌, pos, ◌+◌, ◌-◌, ◌<◌, ◌≤◌, ℕ, List, ◌∷◌, length, nat_le, is_none, option_map, IfOk};
+ghost use Rattle.std.specs.Prelude.{◌≡◌, pos, ◌+◌, ◌-◌, ◌<◌, ◌≤◌, ◌^◌, ℕ, List, ◌∷◌, length, nat_le, is_none, option_map, unwrap_or, Err, IfErr, IfOk};
 ghost use Rattle.mc_text.specs.model_device.specs.Bytes.{has_name, lookup};
 ghost use Rattle.mc_text.specs.model_text.specs.Text.{ok_as};
 ghost use Rattle.mc_text.specs.model_text.specs.Listing.{condition_names, register_names};
 ghost use Rattle.mc_deck.specs.model_play.specs.DeckGrammar.{number_field};
 ghost use Rattle.mc_text.specs.Reading.{capped_number};
 ghost use Rattle.mc_asm.specs.Items.{texts};
+ghost use Rattle.mc_deck.specs.declared.refusal.Fault.TheVariants.{NoMemory};
 ghost use Rattle.desk_draft.specs.Declarations.{const_scope, constant, data_count, data_scope, decimal_field, empty_scope, header_names, label_name, most_session, optional_hex, public_scope, public_span, session_scope, static_count, static_scope, Bytes, NameMeaning};
 ghost use Rattle.desk_draft.specs.Views.{is_count_of, meaning_of, only_within, register_tag, scope_by, scope_of, AreNames, NamesOne, TakesScope};
 
@@ -307,26 +308,34 @@ fn data_count(fields: &[&[u8]]) -> usize
     }
 }
 
+// The sum of two numbers of bytes. One that does not fit in eight bytes counts as out of memory, and no other one.
+fn count_sum(before: usize, more: usize) -> Result<usize, Fault>
+    ensures value { IfOk result (λ sum. sum ≡ before + more) }
+    ensures memory { IfErr result (λ e. e ≡ NoMemory) }
+    ensures high { IfErr result (λ e. 2 ^ 64 ≤ before + more) }
+{
+    match before.checked_add(more) {
+        Some(sum) => Ok(sum),
+        None => Err(Fault::NoMemory),
+    }
+}
+
 /// Takes the number of bytes of a DATA line with these fields. A number that does not fit in eight bytes counts as out
-/// of memory.
+/// of memory, and nothing else does.
 ///
 /// # Errors
 ///
 /// `BadLine` if the section has a STATIC line.
 pub fn take_data(scope: &mut Scope<'_>, fields: &[&[u8]]) -> Result<(), Fault>
-    ensures { (l : List (List ℕ × NameMeaning)) → AreNames scope.old.names l
+    ensures takes { (l : List (List ℕ × NameMeaning)) → AreNames scope.old.names l
         → TakesScope scope.new result (data_scope (scope_of scope.old l) (texts fields.now)) }
+    ensures memory { result ≡ Err NoMemory
+        → 2 ^ 64 ≤ unwrap_or scope.old.data_bytes 0 + data_count (texts fields.now) }
 {
     if scope.fixed > 0 {
         return Err(Fault::Cause(DeckCause::BadLine));
     }
-    let Some(sum) = scope
-        .data_bytes
-        .unwrap_or(0)
-        .checked_add(data_count(fields))
-    else {
-        return Err(Fault::NoMemory);
-    };
+    let sum = count_sum(scope.data_bytes.unwrap_or(0), data_count(fields))?;
     scope.data_bytes = Some(sum);
     Ok(())
 }
