@@ -58,7 +58,8 @@ covered_line ts l = record { line = l; turns = filter (is_decoded_at l.place) ts
 abbrev pub covered_lines : List Source → List FullTurn → List CoveredLine
 covered_lines [] ts = []
 covered_lines (s ∷ ss) ts =
-    map (covered_line (filter (λ t. is_turn_of t s) ts)) s.lines ++ covered_lines ss (filter (λ t. not (is_turn_of t s)) ts)
+    map (covered_line (filter (λ t. is_turn_of t s) ts)) s.lines
+    ++ covered_lines ss (filter (λ t. not (is_turn_of t s)) ts)
 
 -- how many of some turns found the condition of their branch to hold, which leaves the flags as they are
 abbrev pub count_taken : ℕ → List FullTurn → ℕ
@@ -96,7 +97,8 @@ count_text b = cond b.ran (decimal b.count) (codes "-")
 
 -- the line of a branch
 abbrev pub branch_record : CoveredBranch → List ℕ
-branch_record b = codes "BRDA:" ++ decimal b.number ++ codes ",0," ++ decimal b.way ++ codes "," ++ count_text b ++ codes "\n"
+branch_record b =
+    codes "BRDA:" ++ decimal b.number ++ codes ",0," ++ decimal b.way ++ codes "," ++ count_text b ++ codes "\n"
 
 -- a line with a count
 abbrev pub count_record : List ℕ → ℕ → List ℕ
@@ -106,8 +108,10 @@ count_record word n = word ++ decimal n ++ codes "\n"
 abbrev pub record_of : List ℕ → List CoveredLine → List CoveredBranch → List ℕ
 record_of name ls bs =
     codes "TN:\nSF:" ++ name ++ codes "\n" ++ flat_map line_record ls ++ flat_map branch_record bs
-    ++ count_record (codes "BRF:") (length bs) ++ count_record (codes "BRH:") (length (filter (λ b. nat_lt 0 b.count) bs))
-    ++ count_record (codes "LF:") (length ls) ++ count_record (codes "LH:") (length (filter (λ c. nat_lt 0 (length c.turns)) ls))
+    ++ count_record (codes "BRF:") (length bs)
+    ++ count_record (codes "BRH:") (length (filter (λ b. nat_lt 0 b.count) bs))
+    ++ count_record (codes "LF:") (length ls)
+    ++ count_record (codes "LH:") (length (filter (λ c. nat_lt 0 (length c.turns)) ls))
     ++ codes "end_of_record\n"
 
 -- the record of a play of a draft's deck, under the name of its file

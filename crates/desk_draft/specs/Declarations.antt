@@ -113,7 +113,8 @@ is_labelled (t ∷ ts) = begins 58 t
 -- the declaration of a line with these fields: its word, and the fields after it
 abbrev pub declaration_of : List (List ℕ) → Option (DeclarationWord × List (List ℕ))
 declaration_of [] = None
-declaration_of (word ∷ rest) = cond (is_labelled rest) None (option_map (λ w. (w, rest)) (lookup declaration_words word))
+declaration_of (word ∷ rest) =
+    cond (is_labelled rest) None (option_map (λ w. (w, rest)) (lookup declaration_words word))
 
 -- the declaration of a line, which a comment may follow
 abbrev pub declaration_in : List ℕ → Option (DeclarationWord × List (List ℕ))
@@ -187,7 +188,8 @@ data_count fields = 0
 -- a section after a DATA line with these fields, of which it may have one where it has no STATIC line; the deck's
 -- reader judges the rest
 abbrev pub data_scope : Scope → List (List ℕ) → Result Scope DeckCause
-data_scope d fields = only_if (d.fixed == 0) BadLine (record d { data_bytes = Some (unwrap_or d.data_bytes 0 + data_count fields) })
+data_scope d fields =
+    only_if (d.fixed == 0) BadLine (record d { data_bytes = Some (unwrap_or d.data_bytes 0 + data_count fields) })
 
 -- ---- the deck's line
 

@@ -34,8 +34,8 @@ pub data Mode : Type 0 where
   Between : Mode
   Within : OpenSection → Mode
 
--- what rules may name: what the sections that have ended declare, by the sections' names, the last first; the application
--- of which the rules speak; and whether a line became another one, which no line of a deck does
+-- what rules may name: what the sections that have ended declare, by the sections' names, the last first; the
+-- application of which the rules speak; and whether a line became another one, which no line of a deck does
 pub record Rules : Type 0 where
   pub scopes : List (List ℕ × List (List ℕ × NameMeaning))
   pub app : List ℕ
@@ -96,7 +96,15 @@ scope_turn false d l later = coded_turn d l later (declaration_in l)
 -- a line that a section keeps
 abbrev pub kept_line : Before → OpenSection → ℕ → List ℕ → ScopeTurn → DraftTurn
 kept_line b s n l t =
-    record { text = t.text; before = record b { mode = Within (record s { scope = t.scope; lines = s.lines ++ record { number = n; draft = l; deck = t.text } ∷ [] }) } }
+    record {
+      text = t.text;
+      before = record b {
+        mode = Within (record s {
+          scope = t.scope;
+          lines = s.lines ++ record { number = n; draft = l; deck = t.text } ∷ [];
+        });
+      };
+    }
 
 -- what rules may name after the end of a section
 abbrev pub ended_rules : OpenSection → Rules → Rules
@@ -104,7 +112,8 @@ ended_rules s r = record r { scopes = (s.name, s.scope.names) ∷ r.scopes }
 
 -- what stands before the line after the end of a section
 abbrev pub ended_before : OpenSection → Before → Before
-ended_before s b = record { sections = b.sections ++ closed_section s ∷ []; rules = ended_rules s b.rules; mode = Between }
+ended_before s b =
+    record { sections = b.sections ++ closed_section s ∷ []; rules = ended_rules s b.rules; mode = Between }
 
 -- a line of a section, which ends it or goes on
 abbrev pub section_line : Bool → Before → OpenSection → ℕ → List ℕ → Bool → Result DraftTurn DeckCause
@@ -115,10 +124,12 @@ section_line false b s n l later = ok_as (kept_line b s n l) (scope_turn (is_dat
 
 -- the section that a line with these fields opens
 abbrev pub new_section : List (List ℕ) → Option OpenSection
-new_section (word ∷ name ∷ aid ∷ []) = cond (bytes_eq word (codes "app")) (Some (record { name = name; aid = aid; scope = empty_scope; lines = [] })) None
+new_section (word ∷ name ∷ aid ∷ []) =
+    cond (bytes_eq word (codes "app")) (Some (record { name = name; aid = aid; scope = empty_scope; lines = [] })) None
 new_section fields = None
 
--- the names in the braces of rules: those of the section of which they speak, or of the command's header if none is there
+-- the names in the braces of rules: those of the section of which they speak, or of the command's header if none is
+-- there
 abbrev pub rule_names : Rules → List (List ℕ × NameMeaning)
 rule_names r = unwrap_or (lookup r.scopes r.app) header_names
 
@@ -132,7 +143,10 @@ rules_after r l = record r { app = app_after r.app l }
 
 -- the deck's line of a rule of a draft, or of a statement; the rules of a deck stay, as its other comments
 abbrev pub spoken_text : Before → List ℕ → Result (List ℕ) DeckCause
-spoken_text b l = cond (b.rules.is_draft && is_rule l) (rule_text (by_name b.sections) (rule_names b.rules) l) (statement_text (by_name b.sections) l)
+spoken_text b l =
+    cond (b.rules.is_draft && is_rule l)
+    (rule_text (by_name b.sections) (rule_names b.rules) l)
+    (statement_text (by_name b.sections) l)
 
 -- after a line that opens no section
 abbrev pub spoken_turn : Before → List ℕ → List ℕ → DraftTurn

@@ -71,15 +71,18 @@ span_of i = None
 -- the bytes of a span that the frame before an instruction places, as they are after it
 abbrev pub operand_after : Frame → Effect → Option Span → List ℕ
 operand_after before e None = []
-operand_after before e (Some s) = bytes_in e.frame e.public s.size (option_and_then (λ a. where_is before a s.size) (resolve before s.tag s.offset))
+operand_after before e (Some s) =
+    bytes_in e.frame e.public s.size (option_and_then (λ a. where_is before a s.size) (resolve before s.tag s.offset))
 
 -- ---- one turn
 
 -- the frame and the operand after an instruction, by the end of its row
 abbrev pub after_row : Chain → Ins → RowEnd → Frame × List ℕ
 after_row ch i (Abends cause) = (ch.frame, [])
-after_row ch i (Does d) =
-    (reported_frame ch.frame d.effect.frame (follows (chain_after_effect ch d.effect) d.next), operand_after ch.frame d.effect (span_of i))
+after_row ch i (Does d) = (
+  reported_frame ch.frame d.effect.frame (follows (chain_after_effect ch d.effect) d.next),
+  operand_after ch.frame d.effect (span_of i),
+)
 
 -- the frame and the operand after a fetch
 abbrev pub after_fetch : Chain → Result (Ins × ℕ) DecodeFault → Frame × List ℕ
@@ -147,10 +150,13 @@ turns_of_commands c session_state budget (b ∷ bs) =
 
 -- the turns of a line of a running card
 abbrev pub turns_of_line : Card → SessionState → ℕ → DeckLine → List FullTurn
-turns_of_line c session_state budget (line.Sent (line.Select n)) = turns_of_command c session_state (select_bytes n) budget
-turns_of_line c session_state budget (line.Sent (line.Delete n)) = turns_of_command c session_state (delete_bytes n) budget
+turns_of_line c session_state budget (line.Sent (line.Select n)) =
+    turns_of_command c session_state (select_bytes n) budget
+turns_of_line c session_state budget (line.Sent (line.Delete n)) =
+    turns_of_command c session_state (delete_bytes n) budget
 turns_of_line c session_state budget (line.Sent (line.Apdu b)) = turns_of_command c session_state b budget
-turns_of_line c session_state budget (line.Sent (line.Load u fixed session)) = turns_of_commands c session_state budget (load_commands u fixed session)
+turns_of_line c session_state budget (line.Sent (line.Load u fixed session)) =
+    turns_of_commands c session_state budget (load_commands u fixed session)
 turns_of_line c session_state budget _ = []
 
 -- the turns of a line where a card runs

@@ -14,12 +14,18 @@ DeckMakesItself = (text : List ℕ) (lines : List (ℕ × DeckLine)) → deck_re
 
 -- a draft and its deck have as many lines
 abbrev pub LinesStay : Type 0
-LinesStay = (draft deck : List ℕ) → deck_of draft ≡ Ok deck → length (pieces (λ c. c == 10) deck) ≡ length (pieces (λ c. c == 10) draft)
+LinesStay =
+    (draft deck : List ℕ)
+    → deck_of draft ≡ Ok deck → length (pieces (λ c. c == 10) deck) ≡ length (pieces (λ c. c == 10) draft)
 
 -- the code of a section is that of its lines, one after the other
 abbrev pub CodeIsOfLines : Type 0
-CodeIsOfLines = (s : Section) (code : List ℕ) → assembled_lines (program_of s) ≡ Ok code → flat_map (λ l. l.bytes) (source_of s).lines ≡ code
+CodeIsOfLines =
+    (s : Section) (code : List ℕ)
+    → assembled_lines (program_of s) ≡ Ok code → flat_map (λ l. l.bytes) (source_of s).lines ≡ code
 
 -- without what surrounds them, the turns of a line are those of its step
 abbrev pub TurnsAreOfSteps : Type 0
-TurnsAreOfSteps = (s : State) (l : ℕ × DeckLine) (w : Option FailedWrite) → map (λ t. t.turn) (turns_of_line_in s l.1) ≡ (step s l w).turns
+TurnsAreOfSteps =
+    (s : State) (l : ℕ × DeckLine) (w : Option FailedWrite)
+    → map (λ t. t.turn) (turns_of_line_in s l.1) ≡ (step s l w).turns

@@ -45,7 +45,12 @@ program_of s = section_program (map (λ l. (l.number, l.deck)) s.lines)
 -- a line in its place with its code, and its text without its comment and without blanks at both ends
 abbrev pub code_line : List (List ℕ × ℕ) → SourceLine → Placed → CodeLine
 code_line labels l p =
-    record { number = l.number; place = p.place; bytes = value_or_nothing (bytes_of_item labels p.place p.item); text = trim (without_comment l.draft) }
+    record {
+      number = l.number;
+      place = p.place;
+      bytes = value_or_nothing (bytes_of_item labels p.place p.item);
+      text = trim (without_comment l.draft);
+    }
 
 -- lines in their places with their code
 abbrev pub lines_in_place : List (List ℕ × ℕ) → List SourceLine → List Placed → List CodeLine
@@ -64,7 +69,8 @@ laid_code ls = laid_lines [] 0 ls >>= λ laid. ok_as (λ code. (laid, code)) (jo
 
 -- a section with its code, none where the assembler refuses it
 abbrev pub source_with : Section → Result (Laid × List ℕ) (ℕ × AsmCause) → Source
-source_with s (Ok (laid, code)) = record { name = s.name; sizes = s.sizes; code = code; lines = code_lines s.lines laid }
+source_with s (Ok (laid, code)) =
+    record { name = s.name; sizes = s.sizes; code = code; lines = code_lines s.lines laid }
 source_with s (Err e) = record { name = s.name; sizes = s.sizes; code = []; lines = [] }
 
 -- a section with its code, which is what the assembler makes of its lines
@@ -89,7 +95,9 @@ line_at (l ∷ ls) at = cond (has_byte_at l at) (Some l) (line_at ls at)
 
 -- a line in the listing: its place, its code, its number and its text
 abbrev pub listing_line : CodeLine → List ℕ
-listing_line l = hex_text (bytes2 l.place) ++ codes " " ++ hex_text l.bytes ++ codes " " ++ decimal l.number ++ codes " " ++ l.text ++ codes "\n"
+listing_line l =
+    hex_text (bytes2 l.place) ++ codes " " ++ hex_text l.bytes ++ codes " " ++ decimal l.number ++ codes " " ++ l.text
+    ++ codes "\n"
 
 -- the first line of a section in the listing
 abbrev pub listing_head : Source → List ℕ

@@ -49,7 +49,8 @@ size_text t meaning = t
 
 -- an operand that is a name, `+` and K: the place K bytes further, and the size less K
 abbrev pub shifted_text : Bool → List ℕ → Option NameMeaning → Option ℕ → Result (List ℕ) DeckCause
-shifted_text sized t (Some (Bytes tag at size)) (Some k) = only_if (nat_lt k size) OutOfRange (bytes_text sized tag (at +ℤ pos k) (size - k))
+shifted_text sized t (Some (Bytes tag at size)) (Some k) =
+    only_if (nat_lt k size) OutOfRange (bytes_text sized tag (at +ℤ pos k) (size - k))
 shifted_text sized t meaning k = Ok t
 
 -- an operand without `+`
@@ -58,7 +59,8 @@ plain_operand names sized t (name, None) = named_text sized t (lookup names t)
 plain_operand names sized t (name, Some part) = cond (bytes_eq part (codes "size")) (size_text t (lookup names name)) t
 
 -- an operand by what stands before its first `+`, and after it
-abbrev pub operand_by_parts : List (List ℕ × NameMeaning) → Bool → List ℕ → List ℕ × Option (List ℕ) → Result (List ℕ) DeckCause
+abbrev pub operand_by_parts :
+    List (List ℕ × NameMeaning) → Bool → List ℕ → List ℕ × Option (List ℕ) → Result (List ℕ) DeckCause
 operand_by_parts names sized t (name, None) = Ok (plain_operand names sized t (first_cut (λ c. c == 46) t))
 operand_by_parts names sized t (name, Some k) = shifted_text sized t (lookup names name) (decimal_number k)
 
@@ -75,12 +77,14 @@ piece_text names sized p = let f = part_of p in ok_as (with_core f) (operand_tex
 -- what the pieces after commas become, each with its comma
 abbrev pub later_text : List (List ℕ × NameMeaning) → Bool → List (List ℕ) → Result (List ℕ) DeckCause
 later_text names sized [] = Ok []
-later_text names sized (p ∷ ps) = piece_text names sized p >>= λ t. ok_as (λ rest. 44 ∷ (t ++ rest)) (later_text names sized ps)
+later_text names sized (p ∷ ps) =
+    piece_text names sized p >>= λ t. ok_as (λ rest. 44 ∷ (t ++ rest)) (later_text names sized ps)
 
 -- what the pieces between the commas of operands become
 abbrev pub pieces_text : List (List ℕ × NameMeaning) → Bool → List (List ℕ) → Result (List ℕ) DeckCause
 pieces_text names sized [] = Ok []
-pieces_text names sized (p ∷ ps) = piece_text names sized p >>= λ t. ok_as (λ rest. t ++ rest) (later_text names sized ps)
+pieces_text names sized (p ∷ ps) =
+    piece_text names sized p >>= λ t. ok_as (λ rest. t ++ rest) (later_text names sized ps)
 
 -- what the operands of a word become; the size is added where there is one
 abbrev pub operands_text : List (List ℕ × NameMeaning) → List ℕ → List (List ℕ) → Result (List ℕ) DeckCause
@@ -88,11 +92,14 @@ operands_text names word ps = pieces_text names (has_name word sized_words && (l
 
 -- what stands after a word becomes
 abbrev pub after_text : List (List ℕ × NameMeaning) → List ℕ → List ℕ → Result (List ℕ) DeckCause
-after_text names word after = cond (has_name word jump_words) (Ok after) (operands_text names word (pieces (λ c. c == 44) after))
+after_text names word after =
+    cond (has_name word jump_words) (Ok after) (operands_text names word (pieces (λ c. c == 44) after))
 
 -- what the part of a line after its label becomes
 abbrev pub body_text : List (List ℕ × NameMeaning) → List ℕ → Result (List ℕ) DeckCause
-body_text names body = let after = after_word body in ok_as (λ t. before_rest body after ++ t) (after_text names (first_word body) after)
+body_text names body =
+    let after = after_word body in
+    ok_as (λ t. before_rest body after ++ t) (after_text names (first_word body) after)
 
 -- what a line without its comment becomes, by what stands before its first colon, and after it
 abbrev pub labelled_text : List (List ℕ × NameMeaning) → List ℕ × Option (List ℕ) → Result (List ℕ) DeckCause

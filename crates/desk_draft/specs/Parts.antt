@@ -35,7 +35,12 @@ before_rest t rest = take (length t - length rest) t
 
 -- the part of a text that its rest is without the blanks around it
 abbrev pub part_in : List ℕ → List ℕ → Part
-part_in t rest = record { before = before_rest t (trim_front rest); core = trim rest; after = drop (length (trim rest)) (trim_front rest) }
+part_in t rest =
+    record {
+      before = before_rest t (trim_front rest);
+      core = trim rest;
+      after = drop (length (trim rest)) (trim_front rest);
+    }
 
 -- a text without the blanks around it, between them
 abbrev pub part_of : List ℕ → Part

@@ -35,7 +35,8 @@ opened_text names (t, Some rest) = ok_as (λ made. made ++ rest) (brace_text nam
 -- what the texts after opening braces become
 abbrev pub opened_texts : List (List ℕ × NameMeaning) → List (List ℕ) → Result (List ℕ) DeckCause
 opened_texts names [] = Ok []
-opened_texts names (p ∷ ps) = opened_text names (first_cut (λ c. c == 125) p) >>= λ t. ok_as (λ rest. t ++ rest) (opened_texts names ps)
+opened_texts names (p ∷ ps) =
+    opened_text names (first_cut (λ c. c == 125) p) >>= λ t. ok_as (λ rest. t ++ rest) (opened_texts names ps)
 
 -- what the pieces of a text between its opening braces become
 abbrev pub braces_of : List (List ℕ × NameMeaning) → List (List ℕ) → Result (List ℕ) DeckCause
@@ -69,4 +70,6 @@ moved_text sections s = cond (is_unknown sections (fields s)) (Err BadHex) (stat
 -- the deck's line of a rule, where these sections and names stand before it
 abbrev pub rule_text : List (List ℕ × Loadable) → List (List ℕ × NameMeaning) → List ℕ → Result (List ℕ) DeckCause
 rule_text sections names l =
-    cond (has_second l (codes "move")) (ok_as (λ t. before_rest l (after_two l) ++ t) (moved_text sections (after_two l))) (braces_text names l)
+    cond (has_second l (codes "move"))
+    (ok_as (λ t. before_rest l (after_two l) ++ t) (moved_text sections (after_two l)))
+    (braces_text names l)

@@ -16,12 +16,18 @@ use Rattle.desk_draft.specs.Views.{loadable_of}
 
 -- a line that has code, which is some bytes of this code
 abbrev pub code_line_value : List ℕ → CodeLine → Listings.CodeLine
-code_line_value code l = record { number = l.number; place = l.place; bytes = take l.size (drop l.place code); text = l.text.now }
+code_line_value code l =
+    record { number = l.number; place = l.place; bytes = take l.size (drop l.place code); text = l.text.now }
 
 -- a section with its code
 abbrev pub source_value : Source → Listings.Source
 source_value s =
-    record { name = s.name.now; sizes = loadable_of s.sizes; code = s.code.items; lines = map (code_line_value s.code.items) s.lines.items }
+    record {
+      name = s.name.now;
+      sizes = loadable_of s.sizes;
+      code = s.code.items;
+      lines = map (code_line_value s.code.items) s.lines.items;
+    }
 
 -- sections with their code
 abbrev pub sources_value : List Source → List Listings.Source
@@ -59,7 +65,8 @@ size_in_section t = cond (is_data (fields t)) 0 (line_size t)
 
 -- where the bytes of a line are, if it has some
 abbrev pub one_span : ℕ → ℕ → List ℕ → ℕ → List Span
-one_span number place draft n = cond (n == 0) [] (record { number = number; place = place; size = n; text = trim (without_comment draft) } ∷ [])
+one_span number place draft n =
+    cond (n == 0) [] (record { number = number; place = place; size = n; text = trim (without_comment draft) } ∷ [])
 
 -- the place after some bytes, at most the greatest number of two bytes
 abbrev pub place_after : ℕ → ℕ → ℕ

@@ -98,8 +98,11 @@ named_text sections word fields rest = only_text sections word rest (only_of fie
 -- what stands after the word of a statement becomes, by its fields
 abbrev pub stated_text : List (List ℕ × Loadable) → List (List ℕ) → List ℕ → Result (List ℕ) DeckCause
 stated_text sections [] rest = Ok rest
-stated_text sections (word ∷ fs) rest = cond (bytes_eq word (codes "apdu")) (command_text (fields rest)) (named_text sections word fs rest)
+stated_text sections (word ∷ fs) rest =
+    cond (bytes_eq word (codes "apdu")) (command_text (fields rest)) (named_text sections word fs rest)
 
 -- the deck's line of a statement, where these sections stand before it
 unfoldable pub statement_text : List (List ℕ × Loadable) → List ℕ → Result (List ℕ) DeckCause
-statement_text sections l = let f = part_in l (after_word l) in ok_as (with_core f) (stated_text sections (fields l) f.core)
+statement_text sections l =
+    let f = part_in l (after_word l) in
+    ok_as (with_core f) (stated_text sections (fields l) f.core)

@@ -46,7 +46,8 @@ CodeVerdict = Result ℕ (ℕ × CheckCause)
 abbrev pub verdict_text : Desk → ℕ → CodeVerdict → List ℕ
 verdict_text d n (Ok deepest) = codes "accept " ++ decimal deepest
 verdict_text d n (Err (place, cause)) =
-    codes "refuse " ++ decimal place ++ codes " " ++ check_word cause ++ source_part (source_line (loaded_source d n) place)
+    codes "refuse " ++ decimal place ++ codes " " ++ check_word cause
+    ++ source_part (source_line (loaded_source d n) place)
 
 -- the line of a verdict
 abbrev pub verdict_line : Desk → ℕ × CodeVerdict → List ℕ

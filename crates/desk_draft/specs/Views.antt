@@ -57,7 +57,10 @@ meaning_of (meaning.Number text) = Declarations.Number text.now
 
 -- the map has the names of a section but those of the command's header
 abbrev pub AreNames : BTreeMap (Bor (List ℕ)) Meaning → List (List ℕ × Declarations.NameMeaning) → Type 0
-AreNames m l = (q : Bor (List ℕ)) → or_else (option_map meaning_of (BTreeMap.get (λ x y. slice_cmp nat_cmp x.now y.now) m q)) (lookup header_names q.now) ≡ lookup l q.now
+AreNames m l =
+    (q : Bor (List ℕ))
+    → or_else (option_map meaning_of (BTreeMap.get (λ x y. slice_cmp nat_cmp x.now y.now) m q))
+    (lookup header_names q.now) ≡ lookup l q.now
 
 -- ---- lines
 
@@ -139,7 +142,9 @@ only_within high None = Err BadNumber
 only_within high (Some n) = only_if (nat_le n high) OutOfRange tt
 
 -- a name was given its meaning, or the section has it
-abbrev pub NamesOne : BTreeMap (Bor (List ℕ)) Meaning → List (List ℕ × Declarations.NameMeaning) → List ℕ → Declarations.NameMeaning → Result (Unit {0}) Fault → Type 0
+abbrev pub NamesOne :
+    BTreeMap (Bor (List ℕ)) Meaning → List (List ℕ × Declarations.NameMeaning) → List ℕ → Declarations.NameMeaning
+    → Result (Unit {0}) Fault → Type 0
 NamesOne m l n x (Ok u) = (is_none (lookup l n) ≡ true) × AreNames m ((n, x) ∷ l)
 NamesOne m l n x (Err e) = Faulty (only_if (is_none (lookup l n)) NameTwice n) e
 
@@ -150,7 +155,9 @@ TakesScope s (Err e) r = Faulty r e
 
 -- the section took a line, whose text in the deck is added, or the line was refused
 abbrev pub ScopeTurned : List ℕ → List ℕ → Scope → Result (Unit {0}) Fault → Result Drafts.ScopeTurn DeckCause → Type 0
-ScopeTurned old new s (Ok u) r = (t : List ℕ) × (l : List (List ℕ × Declarations.NameMeaning)) × AreNames s.names l × (r ≡ Ok (record { text = t; scope = scope_of s l })) × (new ≡ old ++ t)
+ScopeTurned old new s (Ok u) r =
+    (t : List ℕ) × (l : List (List ℕ × Declarations.NameMeaning)) × AreNames s.names l
+    × (r ≡ Ok (record { text = t; scope = scope_of s l })) × (new ≡ old ++ t)
 ScopeTurned old new s (Err e) r = Faulty r e
 
 -- ---- operands
@@ -188,18 +195,25 @@ loadable_of s = record { aid = s.aid.now; fixed = s.fixed; session = s.session }
 
 -- the map has the sections by their names
 abbrev pub AreSections : BTreeMap (Bor (List ℕ)) Sizes → List (List ℕ × Loadable) → Type 0
-AreSections m l = (q : Bor (List ℕ)) → option_map loadable_of (BTreeMap.get (λ x y. slice_cmp nat_cmp x.now y.now) m q) ≡ lookup l q.now
+AreSections m l =
+    (q : Bor (List ℕ))
+    → option_map loadable_of (BTreeMap.get (λ x y. slice_cmp nat_cmp x.now y.now) m q) ≡ lookup l q.now
 
 -- the names that a section declares, if there is one
-abbrev pub AreNamesMaybe : Option (BTreeMap (Bor (List ℕ)) Meaning) → Option (List (List ℕ × Declarations.NameMeaning)) → Type 0
+abbrev pub AreNamesMaybe :
+    Option (BTreeMap (Bor (List ℕ)) Meaning) → Option (List (List ℕ × Declarations.NameMeaning)) → Type 0
 AreNamesMaybe None None = ⊤
 AreNamesMaybe None (Some l) = ⊥
 AreNamesMaybe (Some m) None = ⊥
 AreNamesMaybe (Some m) (Some l) = AreNames m l
 
 -- the map has what sections declare, by their names
-abbrev pub AreScopes : BTreeMap (Bor (List ℕ)) (BTreeMap (Bor (List ℕ)) Meaning) → List (List ℕ × List (List ℕ × Declarations.NameMeaning)) → Type 0
-AreScopes m l = (q : Bor (List ℕ)) → AreNamesMaybe (BTreeMap.get (λ x y. slice_cmp nat_cmp x.now y.now) m q) (lookup l q.now)
+abbrev pub AreScopes :
+    BTreeMap (Bor (List ℕ)) (BTreeMap (Bor (List ℕ)) Meaning) → List (List ℕ × List (List ℕ × Declarations.NameMeaning))
+    → Type 0
+AreScopes m l =
+    (q : Bor (List ℕ))
+    → AreNamesMaybe (BTreeMap.get (λ x y. slice_cmp nat_cmp x.now y.now) m q) (lookup l q.now)
 
 -- the sections that have ended, and what rules may name
 pub record Knows (k : Known) (ss : List Drafts.Section) (r : Drafts.Rules) : Type 0 where
@@ -235,14 +249,16 @@ pub record Stands (m : Known) (s : Option OpenSection) (b : Drafts.Before) : Typ
   pub mode : StandsMode s b.mode
 
 -- a line was taken: its text was added, and what stands before the next line is there
-pub record LineTurned (old new : List ℕ) (m : Known) (s : Option OpenSection) (r : Result Drafts.DraftTurn DeckCause) : Type 0 where
+pub record LineTurned (old new : List ℕ) (m : Known) (s : Option OpenSection)
+    (r : Result Drafts.DraftTurn DeckCause) : Type 0 where
   pub turn : Drafts.DraftTurn
   pub is : r ≡ Ok turn
   pub text : new ≡ old ++ turn.text
   pub stands : Stands m s turn.before
 
 -- a line was taken, with what ends it
-pub record EndedLineTurned (old new ending : List ℕ) (m : Known) (s : Option OpenSection) (r : Result Drafts.DraftTurn DeckCause) : Type 0 where
+pub record EndedLineTurned (old new ending : List ℕ) (m : Known) (s : Option OpenSection)
+    (r : Result Drafts.DraftTurn DeckCause) : Type 0 where
   pub turn : Drafts.DraftTurn
   pub is : r ≡ Ok turn
   pub text : new ≡ old ++ turn.text ++ ending

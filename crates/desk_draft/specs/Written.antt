@@ -15,7 +15,8 @@ line_value deck l = record { number = l.number; draft = l.draft.now; deck = take
 
 -- a section of a draft with this deck
 abbrev pub section_value : List ℕ → Section → Drafts.Section
-section_value deck s = record { name = s.name.now; sizes = loadable_of s.sizes; lines = map (line_value deck) s.lines.items }
+section_value deck s =
+    record { name = s.name.now; sizes = loadable_of s.sizes; lines = map (line_value deck) s.lines.items }
 
 -- a draft that was read
 abbrev pub draft_value : Draft → Drafts.Draft

@@ -18,8 +18,8 @@ use std::collections::BTreeMap;
 /// What sections declare, by the sections' names.
 pub type Scopes<'a> = BTreeMap<&'a [u8], Names<'a>>;
 
-/// What is known before a line: the sections that have ended, by their names; what each of them declares; the application
-/// of which rules speak; and whether a line became another one, which no line of a deck does.
+/// What is known before a line: the sections that have ended, by their names; what each of them declares; the
+/// application of which rules speak; and whether a line became another one, which no line of a deck does.
 #[derive(Drop)]
 pub struct Known<'a> {
     pub sections: Sections<'a>,

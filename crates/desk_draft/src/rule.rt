@@ -153,8 +153,8 @@ fn push_move<'a>(
 ) -> Result<(), Fault>
     requires { length statement.now ≤ length line.now }
     ensures { (l : List (List ℕ × Loadable)) → AreSections sections.now l
-        → Pushes deck.old.items (ok_as (λ t. before_rest line.now statement.now ++ t) (moved_text l statement.now)) result
-        deck.new.items }
+        → Pushes deck.old.items
+        (ok_as (λ t. before_rest line.now statement.now ++ t) (moved_text l statement.now)) result deck.new.items }
 {
     push(deck, before_rest(line, statement))?;
     push_moved(deck, sections, statement)
@@ -164,8 +164,9 @@ fn push_move<'a>(
 ///
 /// # Errors
 ///
-/// `UnknownName` for braces without a name, `BadLine` for an opening brace without a closing one, `OutOfRange` if a place is
-/// not among the bytes of its name; of a move, the refusals of its statement, and `BadHex` for a name that no section has.
+/// `UnknownName` for braces without a name, `BadLine` for an opening brace without a closing one, `OutOfRange` if a
+/// place is not among the bytes of its name; of a move, the refusals of its statement, and `BadHex` for a name that no
+/// section has.
 pub fn push_rule<'a>(
     alloc: Global,
     deck: &mut Vec<u8>,

@@ -36,6 +36,7 @@ pub fn names()
 
 /// The rules of a deck stay, whatever stands in their braces, and whatever their moves select.
 pub fn rules()
-    ensures { let t = codes "app a A000000100\n EXIT\nend\nload a 0 0\n#@ app a\n#@ move select a\n#@ always {INS} 0 {y\n" in
+    ensures { let t = codes "app a A000000100\n EXIT\nend\nload a 0 0\n#@ app a\n" ++
+        codes "#@ move select a\n#@ always {INS} 0 {y\n" in
         deck t ≡ Ok t }
 {}
