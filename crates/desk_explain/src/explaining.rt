@@ -138,8 +138,8 @@ fn warn_of_sections<'a>(
     Ok(())
 }
 
-// Adds what is said of a draft that is read: its refused code, and what it is warned of. Returns whether all its code is
-// accepted.
+// Adds what is said of a draft that is read: its refused code, and what it is warned of. Returns whether all its code
+// is accepted.
 fn judge_desk<'a>(
     alloc: Global,
     entries: &mut Vec<Entry>,

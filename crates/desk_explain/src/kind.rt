@@ -3,8 +3,8 @@
 use crate::part::{first_field, without_comment};
 use mc_deck::{ends_section, fields, has_data};
 
-/// What a line of a draft is: a statement or a rule between sections, the `app` of a section, its `end`, or a declaration,
-/// bytes or an instruction in it.
+/// What a line of a draft is: a statement or a rule between sections, the `app` of a section, its `end`, or a
+/// declaration, bytes or an instruction in it.
 #[derive(Clone, Copy, Debug, PartialEq, Eq)]
 pub enum Kind {
     Statement,

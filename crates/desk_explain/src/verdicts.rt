@@ -94,8 +94,8 @@ fn push_from(
     }
 }
 
-// Adds one way to a place: the line that leads there, and the height of the stack with which it does; and the routine if
-// it is named.
+// Adds one way to a place: the line that leads there, and the height of the stack with which it does; and the routine
+// if it is named.
 fn push_way(
     text: &mut Vec<u8>,
     source: Option<&Source<'_>>,

@@ -13,8 +13,8 @@ use std::alloc::{AllocError, Global};
 // From a height above this one no fact follows.
 const HIGHEST: u16 = 512;
 
-/// A way to a place: the place of the instruction that leads there, or none if the code begins there, and the routine and
-/// the height of the stack with which it does.
+/// A way to a place: the place of the instruction that leads there, or none if the code begins there, and the routine
+/// and the height of the stack with which it does.
 #[derive(Clone, Copy, Debug, PartialEq, Eq)]
 pub struct Way {
     pub from: Option<u16>,
