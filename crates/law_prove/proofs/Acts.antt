@@ -76,17 +76,17 @@ lies_by : (f : Frame) (a n : ℕ) (x y z : Bool) (p : Place) → nat_le (a + n) 
     → cond x (Some (Static a)) (cond y (Some (Dynamic (a - dynamic_base))) (cond z (Some (Public (a - public_base))) None)) ≡ Some p → LiesIn f a n p
 lies_by f a n true y z p e d b is =
     let same : Static a ≡ p = cc is in
-    subst (λ (q : Place). LiesIn f a n q) same (refl, leb-true (a + n) (length f.fixed) e)
+    rw (← same) (refl, leb-true (a + n) (length f.fixed) e)
 lies_by f a n false true z p e d b is =
     let low = leb-true dynamic_base a (first_of (nat_le dynamic_base a) (nat_le (a + n) f.dt) d) in
     let high = leb-true (a + n) f.dt (second_of (nat_le dynamic_base a) (nat_le (a + n) f.dt) d) in
     let same : Dynamic (a - dynamic_base) ≡ p = cc is in
-    subst (λ (q : Place). LiesIn f a n q) same (omega (arith, low), high)
+    rw (← same) (omega (arith, low), high)
 lies_by f a n false false true p e d b is =
     let low = leb-true public_base a (first_of (nat_le public_base a) (nat_le (a + n) public_end) b) in
     let high = leb-true (a + n) public_end (second_of (nat_le public_base a) (nat_le (a + n) public_end) b) in
     let same : Public (a - public_base) ≡ p = cc is in
-    subst (λ (q : Place). LiesIn f a n q) same (omega (arith, low), high)
+    rw (← same) (omega (arith, low), high)
 lies_by f a n false false false p e d b is = absurd (cc is)
 
 pub lies_in : (f : Frame) (a n : ℕ) (p : Place) → where_is f a n ≡ Some p → LiesIn f a n p
@@ -116,12 +116,12 @@ kept_one : (fixed : List ℕ) (m : Memory) (a : ℕ) (x : Set) (b : Bool) → na
     → ((session : List ℕ) → AreBytes session → is_in (moment_memory fixed session a) x ≡ true) → is_in (m a) x ≡ true
 kept_one fixed m a x true e same byte h =
     let is : moment_memory fixed [] a ≡ m a = ap (λ (b : Bool). cond b (slice_index fixed a) (slice_index [] (a - dynamic_base))) e ∙ sym (same (ltb-true a (length fixed) e)) in
-    subst (λ (v : ℕ). is_in v x ≡ true) is (h [] tt)
+    rw (← is) (h [] tt)
 kept_one fixed m a x false e same byte h =
     let i = a - dynamic_base in
     let session : List ℕ = padded i (m a) in
     let is : moment_memory fixed session a ≡ m a = ap (λ (b : Bool). cond b (slice_index fixed a) (slice_index session i)) e ∙ padded_at i (m a) in
-    subst (λ (v : ℕ). is_in v x ≡ true) is (h session (padded_bytes i (m a) byte))
+    rw (← is) (h session (padded_bytes i (m a) byte))
   where
     padded : ℕ → ℕ → List ℕ
     padded zero v = v ∷ []
@@ -267,7 +267,7 @@ module _ (s : Setting) (small : static_size s ≤ dynamic_base) (st : Start) (al
             refl,
             ap (λ (i : ℕ). take 4 (drop i (splice f.dyn j b))) place ∙ there,
             (framed.base, placed),
-            subst (λ (t : ℕ). AreOpen (dynamic_base + f.session) t f.lb (splice f.dyn j b) (calls_after_write f.dt 4 calls)) (sym same) pushed.open_calls,
+            rw same pushed.open_calls,
           );
           holds = pushed.holds;
           compares = pushed.compares;
@@ -301,7 +301,7 @@ module _ (s : Setting) (small : static_size s ≤ dynamic_base) (st : Start) (al
           session = framed.session;
           size = size ∙ all;
           room = framed.room;
-          inside = subst (λ (ps : List (ℕ × List ℕ)). PiecesWithin (length (splice f.fixed a b)) ps) (sym none) tt;
+          inside = rw none tt;
           settled = λ off. none;
           low = framed.low;
           high = framed.high;
@@ -333,8 +333,7 @@ module _ (s : Setting) (small : static_size s ≤ dynamic_base) (st : Start) (al
   written_led f public calls k a n b ss None is there fit some whole framed seen = absurd (cc there)
   written_led f public calls k a n b ss (Some (Static i)) is there fit some whole framed seen =
       let lies : LiesIn f a (length b) (Static i) = lies_in f a (length b) (Static i) is in
-      subst (λ (x : ℕ). Led s st al (acted s (Writes a n b) ss (spot_of st al f calls k)) (makes_write s f.protected (Writes a n b)) (static_written f.protected f public x b)) lies.0
-      (static_led f.protected f public calls k a n b ss refl fit some lies.1 framed seen)
+      rw (← lies.0) (static_led f.protected f public calls k a n b ss refl fit some lies.1 framed seen)
   written_led f public calls k a n b ss (Some (Dynamic i)) is there fit some whole framed seen =
       let lies : LiesIn f a (length b) (Dynamic i) = lies_in f a (length b) (Dynamic i) is in
       let at : a ≡ dynamic_base + i = lies.0 in
@@ -383,7 +382,7 @@ led_covers s st al r w e led =
     let protected : e.frame.protected ≡ r.key.protected = sym (ap (λ (k : PlaceKey). k.protected) led.key) in
     let start : st ≡ r.key.start = sym (ap (λ (k : PlaceKey). k.start) led.key) in
     let known : IsKnown (settled s r.key.protected r.known) e.frame e.public =
-    subst (λ (b : Bool). IsKnown (settled s b r.known) e.frame e.public) protected (settled_seen s r.key.calls r.known e.frame e.public led.framed.size led.framed.settled led.seen)
+    rw (← protected) (settled_seen s r.key.calls r.known e.frame e.public led.framed.size led.framed.settled led.seen)
     in
     record {
       key = λ a. ap (λ (k : PlaceKey). record k { allowances = a }) led.key ∙ ap (λ (z : Start). place_key z a e.frame r.key.calls) start;

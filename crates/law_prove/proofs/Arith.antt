@@ -49,7 +49,7 @@ abbrev pub RunsAs : Operation → Bool → ℕ → List ℕ → List ℕ → Typ
 RunsAs op written n xs ys = ordered op written ≡ true → IsRun op n (num xs) (num ys) (num (worked op xs ys).0) (worked op xs ys).1
 
 below : (n : ℕ) (l : List ℕ) → AreBytes l → length l ≡ n → num l < 256 ^ n
-below n l h is = subst (λ (k : ℕ). num l < 256 ^ k) is (num_below l h)
+below n l h is = rw (← is) (num_below l h)
 
 -- the first operand is in the span of the flags
 in_span : (op : Operation) (written : Bool) (n : ℕ) (xs ys : List ℕ) → ordered op written ≡ true → length xs ≡ n → length ys ≡ n → AreBytes xs → AreBytes ys → RunsAs op written n xs ys → InSpan (num xs) (span_of op n (num ys) (worked op xs ys).1)

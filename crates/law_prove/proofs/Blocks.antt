@@ -40,7 +40,7 @@ pub included_of : {A : Type 0} (t : Tables) (f : A → List Arrival) (xs : List 
 included_of t f [] x h e = absurd h
 included_of t f (y ∷ xs) x h e =
     elim h [
-      | inl same ↦ subst (λ (z : _). includes_all t (f z) ≡ true) same (included_first t (f y) (flat_map f xs) e)
+      | inl same ↦ rw (← same) (included_first t (f y) (flat_map f xs) e)
       | inr more ↦ included_of t f xs x more (included_second t (f y) (flat_map f xs) e)
     ]
 
@@ -68,7 +68,7 @@ among_each : {A B : Type 0} (g : A → List B) (a : A) (x : B) (list : List A) �
 among_each g a x [] h k = absurd h
 among_each g a x (b ∷ list) h k =
     elim h [
-      | inl e ↦ among_left x (g b) (flat_map g list) (subst (λ (z : _). Among x (g z)) (sym e) k)
+      | inl e ↦ among_left x (g b) (flat_map g list) (rw e k)
       | inr e ↦ among_right x (g b) (flat_map g list) (among_each g a x list e k)
     ]
 
@@ -89,9 +89,7 @@ among_works d q x f ds clear allowed is there =
     let lists = map (arcs d.op) (reverse (pairs_of (values_from q.known.bytes d.at d.n) (operand_sets q.known.bytes d.operand d.n))) in
     let g : Flags → List Spot = λ f. cond (allows q.known.compare d d.operand f) (map (flagged d.carries f) (steps.worked d f (digits_to f lists) q)) [] in
     among_each g f (flagged d.carries f x) (final_flags d.carries) (final_there d.carries f.c f.z clear)
-    (subst (λ (b : Bool). Among (flagged d.carries f x) (cond b (map (flagged d.carries f) (steps.worked d f (digits_to f lists) q)) [])) (sym allowed)
-    (subst (λ (o : Option (List Digits)). Among (flagged d.carries f x) (map (flagged d.carries f) (steps.worked d f o q))) (sym is)
-    (among_mapped (flagged d.carries f) x (steps.worked d f (Some ds) q) there)))
+    (rw (allowed, is) (among_mapped (flagged d.carries f) x (steps.worked d f (Some ds) q) there))
 
 -- ---- what is led to
 

@@ -60,7 +60,7 @@ closed_by : (s : Setting) (cs : List Class) (t : Tables) (n k : MomentKey) (g f 
 closed_by s cs t n k g f true rest is e outcomes ranges again =
     let key : n ≡ k = moments_are n k is in
     let facts : g ≡ f = ap (λ (z : Option Facts). unwrap_or z []) e in
-    subst (λ (z : MomentKey). MomentClosed s cs t z f) key (subst (λ (z : Facts). MomentClosed s cs t n z) facts (record { outcomes = outcomes; ranges = ranges }))
+    rw (← key, ← facts) (record { outcomes = outcomes; ranges = ranges })
 closed_by s cs t n k g f false rest is e outcomes ranges again = again e
 
 closed_in : (s : Setting) (cs : List Class) (t : Tables) (ms : List (MomentKey × Facts)) (k : MomentKey) (f : Facts) → moments_closed s cs t ms ≡ true → moment_at ms k ≡ Some f → MomentClosed s cs t k f

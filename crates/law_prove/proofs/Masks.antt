@@ -63,8 +63,7 @@ module _ (s : Setting) (u t : Tables) (g : Target) (loadable : IsLoadable s.app)
 
   replaced : (b c : List ℕ) (fl gl : Bool × Bool) → b ≡ c → fl ≡ gl → Outcome s u t g loadable leads i turn (going turn.frame.dt (Replaces b) (Some fl)) → Outcome s u t g loadable leads i turn (going turn.frame.dt (Replaces c) (Some gl))
   replaced b c fl gl same alike o =
-      subst (λ (z : List ℕ). Outcome s u t g loadable leads i turn (going turn.frame.dt (Replaces z) (Some gl))) same
-      (subst (λ (z : Bool × Bool). Outcome s u t g loadable leads i turn (going turn.frame.dt (Replaces b) (Some z))) alike o)
+      rw (← same, ← alike) o
 
   bytes : AreBytes block
   bytes = memory_bytes_from (frame_memory turn.frame turn.public) (turn.frame.dt - n) n turn.place.bytes

@@ -56,7 +56,7 @@ pub within_holds : (low high : ℕ) (f : Facts) (m k : Memory) → ((a : ℕ) �
 within_holds low high [] m k same h = tt
 within_holds low high (e ∷ f) m k same h =
     filtered_by (nat_le low e.0 && nat_lt e.0 high) e (within low high f) k
-    (λ is. let p = and_parts (nat_le low e.0) (nat_lt e.0 high) is in subst (λ (v : ℕ). is_in v e.1 ≡ true) (same e.0 (leb-true low e.0 p.0) (ltb-true e.0 high p.1)) h.0)
+    (λ is. let p = and_parts (nat_le low e.0) (nat_lt e.0 high) is in rw (← same e.0 (leb-true low e.0 p.0) (ltb-true e.0 high p.1)) h.0)
     (within_holds low high f m k same h.1)
 
 -- ---- static facts
@@ -70,7 +70,7 @@ static_same fixed one other a h =
 
 static_holds : (s : Setting) (f : Facts) (fixed one other : List ℕ) → length fixed ≡ static_size s → Holds f (moment_memory fixed one) → Holds (static_facts s f) (moment_memory fixed other)
 static_holds s f fixed one other size h =
-    within_holds 0 (static_size s) f (moment_memory fixed one) (moment_memory fixed other) (λ a low high. static_same fixed one other a (subst (λ (n : ℕ). a < n) (sym size) high)) h
+    within_holds 0 (static_size s) f (moment_memory fixed one) (moment_memory fixed other) (λ a low high. static_same fixed one other a (rw size high)) h
 
 -- ---- zero session bytes
 
@@ -81,14 +81,14 @@ zero_memory fixed n a h =
 
 zeros_in : (fixed : List ℕ) (n i a : ℕ) → length fixed ≤ a → AreIn (moment_memory fixed (zeros n)) a (map (λ v. v ∷ []) (zeros i))
 zeros_in fixed n zero a h = tt
-zeros_in fixed n (suc i) a h = (subst (λ (v : ℕ). is_in v (0 ∷ []) ≡ true) (sym (zero_memory fixed n a h)) refl, zeros_in fixed n i (suc a) (omega (arith, h)))
+zeros_in fixed n (suc i) a h = (rw (zero_memory fixed n a h), zeros_in fixed n i (suc a) (omega (arith, h)))
 
 zero_session_holds : (s : Setting) (f : Facts) (fixed session : List ℕ) → length fixed ≡ static_size s → static_size s ≤ dynamic_base → Holds f (moment_memory fixed session)
     → Holds (with_zero_session s f) (moment_memory fixed (zeros s.app.session))
 zero_session_holds s f fixed session size low h =
     let k : Memory = moment_memory fixed (zeros s.app.session) in
     written_holds dynamic_base (map (λ v. v ∷ []) (zeros s.app.session)) (static_facts s f) k k (λ b outside. refl)
-    (zeros_in fixed s.app.session s.app.session dynamic_base (subst (λ (n : ℕ). n ≤ dynamic_base) (sym size) low))
+    (zeros_in fixed s.app.session s.app.session dynamic_base (rw size low))
     (static_holds s f fixed session (zeros s.app.session) size h)
 
 -- ---- the bytes of a new application
@@ -98,7 +98,7 @@ bytes_in [] a k same = tt
 bytes_in (b ∷ bs) a k same =
     let first : a + 0 ≡ a = omega arith in
     let is : k a ≡ b = ap k (sym first) ∙ same 0 (omega arith) in (
-      subst (λ (v : ℕ). is_in v (b ∷ []) ≡ true) (sym is) (is_first b []),
+      rw is (is_first b []),
       bytes_in bs (suc a) k (λ j low. let next : suc a + j ≡ a + suc j = omega arith in ap k next ∙ same (suc j) (omega (arith, low))),
     )
 
@@ -133,7 +133,7 @@ in_range : (fixed : List ℕ) (f : Facts) (m : Memory) (r : Range) → Holds f m
 in_range fixed f m r holds bytes same e =
     let among : is_in (m r.at) (values_between r.low r.high) ≡ true = in_larger (m r.at) (values_at f r.at) (values_between r.low r.high) e (value_holds f m r.at holds (bytes r.at)) in
     let v = slice_index fixed r.at in
-    let p = between_is v r.low (r.high + 1 - r.low) (subst (λ (z : ℕ). is_in z (values_between r.low r.high) ≡ true) same among) in
+    let p = between_is v r.low (r.high + 1 - r.low) (rw (← same) among) in
     let low = p.0 in
     let high = p.1 in
     and_from (nat_le r.low v) (nat_le v r.high) (le-leb r.low v low) (le-leb v r.high (omega (arith, low, high)))

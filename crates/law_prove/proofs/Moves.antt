@@ -58,7 +58,7 @@ turn_sized s u loadable i turn =
 -- bytes that were copied have values of the sets of those that are read
 pub copied_fit : (f : Facts) (m : Memory) (from n k : ℕ) (b : List ℕ) → b ≡ bytes_from m from n → k ≡ n → FitSets (bytes_from m from n) (values_from f from n) → FitSets b (values_from f from k)
 copied_fit f m from n k b is same fit =
-    subst (λ (j : ℕ). FitSets b (values_from f from j)) (sym same) (subst (λ (l : List ℕ). FitSets l (values_from f from n)) (sym is) fit)
+    rw (same, is) fit
 
 -- ---- LOAD
 
@@ -180,7 +180,7 @@ store_case tag off n s u t g loadable leads turn includes =
     let long : length b1 ≡ n = ap (λ (z : List ℕ). length z) read ∙ from_length m d n in
     let fit : FitSets b1 ss = copied_fit turn.place.known.bytes m d n (length b0) b1 read count (fit_values turn.place.known.bytes m d n turn.place.holds turn.place.bytes) in
     let high : turn.frame.dt ≤ dynamic_end = turn.place.frame.high in
-    led_writes s u t g loadable leads i turn d a n b1 ss (subst (λ (k : ℕ). is_none (where_is low a k) ≡ false) (sym long) within) fit (subst (λ (k : ℕ). 0 < k) (sym long) (positive n some)) (omega (arith, over)) (omega (arith, high)))
+    led_writes s u t g loadable leads i turn d a n b1 ss (rw long within) fit (rw long (positive n some)) (omega (arith, over)) (omega (arith, high)))
 
 -- ---- the laws
 

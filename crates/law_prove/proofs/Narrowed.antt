@@ -53,11 +53,11 @@ OperandIs m n (AtAddress a) b = b ≡ bytes_from m a n
 OperandIs m n (These c) b = (b ≡ c) × (length c ≡ n)
 
 pub operand_fits : (f : Facts) (m : Memory) (n : ℕ) (o : Operand) (b : List ℕ) → Holds f m → HoldsBytes m → OperandIs m n o b → FitSets b (operand_sets f o n)
-operand_fits f m n (AtAddress a) b h k is = subst (λ (l : List ℕ). FitSets l (values_from f a n)) (sym is) (fit_values f m a n h k)
-operand_fits f m n (These c) b h k is = subst (λ (l : List ℕ). FitSets l (operand_sets f (These c) n)) (sym is.0) (fit_sets c)
+operand_fits f m n (AtAddress a) b h k is = rw is (fit_values f m a n h k)
+operand_fits f m n (These c) b h k is = rw is.0 (fit_sets c)
 
 pub operand_holds : (f : Facts) (m : Memory) (n : ℕ) (o : Operand) (b : List ℕ) (ss : List Set) → Holds f m → HoldsBytes m → OperandIs m n o b → FitSets b ss → Narrowed (operand_narrowed o ss (Some f)) m
-operand_holds f m n (AtAddress a) b ss h k is fit = narrow_holds a ss f m h k (fit_are m a n ss (subst (λ (l : List ℕ). FitSets l ss) is fit))
+operand_holds f m n (AtAddress a) b ss h k is fit = narrow_holds a ss f m h k (fit_are m a n ss (rw (← is) fit))
 operand_holds f m n (These c) b ss h k is fit = record { facts = f; is = refl; holds = h }
 
 -- ---- the last compare
@@ -130,8 +130,7 @@ span_allowed (Bounds b k l h) m a n s so i =
     span_by (a == b && n == k) l h (num (bytes_from m a n)) s
     (λ e.
     let p = and_parts (a == b) (n == k) e in
-    subst (λ (z : ℕ). (nat_le l (num (bytes_from m z n)) && nat_le (num (bytes_from m z n)) h) ≡ true) (sym (eqb-true a b p.0))
-    (subst (λ (z : ℕ). (nat_le l (num (bytes_from m b z)) && nat_le (num (bytes_from m b z)) h) ≡ true) (sym (eqb-true n k p.1)) so)) i
+    rw (eqb-true a b p.0, eqb-true n k p.1) so) i
 
 -- the order of two numbers is that of their subtraction's flags
 pub order_is : (n x y r : ℕ) (f : Flags) → x < 256 ^ n → y < 256 ^ n → r < 256 ^ n → IsRun Minus n x y r f → f.z ≡ (r == 0) → has_order (orders_of f.c f.z) x y ≡ true
@@ -169,6 +168,4 @@ orders_allowed (Ordered b k e o) m a n d p so i =
     (λ t.
     let u = and_parts (a == b && n == k) (d == e) t in
     let v = and_parts (a == b) (n == k) u.0 in
-    subst (λ (z : ℕ). has_order o (num (bytes_from m z n)) (num (bytes_from m d n)) ≡ true) (sym (eqb-true a b v.0))
-    (subst (λ (z : ℕ). has_order o (num (bytes_from m b z)) (num (bytes_from m d z)) ≡ true) (sym (eqb-true n k v.1))
-    (subst (λ (z : ℕ). has_order o (num (bytes_from m b k)) (num (bytes_from m z k)) ≡ true) (sym (eqb-true d e u.1)) so))) i
+    rw (eqb-true a b v.0, eqb-true n k v.1, eqb-true d e u.1) so) i

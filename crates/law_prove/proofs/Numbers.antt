@@ -45,10 +45,10 @@ difference_left xs ys l h k =
     (worked_difference xs ys l h k ∙ ap (λ (n : ℕ). num xs + n * 256 ^ length xs) (sym (carry_same (r.1).c))) (worked_zero Minus xs ys l))
 
 runs_plus : (written : Bool) (n : ℕ) (xs ys : List ℕ) → length xs ≡ n → length ys ≡ n → AreBytes xs → AreBytes ys → RunsAs Plus written n xs ys
-runs_plus written n xs ys a b h k e = subst (λ (j : ℕ). num (worked Plus xs ys).0 + carried ((worked Plus xs ys).1).c * 256 ^ j ≡ num xs + num ys) a (worked_sum xs ys (a ∙ sym b) h k)
+runs_plus written n xs ys a b h k e = rw (← a) (worked_sum xs ys (a ∙ sym b) h k)
 
 runs_minus : (written : Bool) (n : ℕ) (xs ys : List ℕ) → length xs ≡ n → length ys ≡ n → AreBytes xs → AreBytes ys → RunsAs Minus written n xs ys
-runs_minus written n xs ys a b h k e = subst (λ (j : ℕ). num (worked Minus xs ys).0 + num ys ≡ num xs + carried ((worked Minus xs ys).1).c * 256 ^ j) a (worked_difference xs ys (a ∙ sym b) h k)
+runs_minus written n xs ys a b h k e = rw (← a) (worked_difference xs ys (a ∙ sym b) h k)
 
 -- the flags of a result
 abbrev both_flags : Worked → Bool × Bool
@@ -195,7 +195,7 @@ all_below zero test = true
 all_below (suc n) test = test n && all_below n test
 
 passes_by : (b : Bool) (test : ℕ → Bool) (n x : ℕ) → (x == n) ≡ b → test n ≡ true → x < suc n → (x < n → test x ≡ true) → test x ≡ true
-passes_by true test n x is e h rest = subst (λ (y : ℕ). test y ≡ true) (sym (eqb-true x n is)) e
+passes_by true test n x is e h rest = rw (eqb-true x n is) e
 passes_by false test n x is e h rest = let other = eqb-false x n is in rest (omega (arith, h, other))
 
 below_passes : (n : ℕ) (test : ℕ → Bool) → all_below n test ≡ true → (x : ℕ) → x < n → test x ≡ true
@@ -234,13 +234,13 @@ bit_flags : (op : Operation) (c : Bool) (v xs ys : List ℕ) → length xs ≡ l
 bit_flags op c v xs ys l is = ap (λ (b : Bool). (c, b)) (ap is_zero is ∙ sym (worked_zero op xs ys l))
 
 cleared : (n : ℕ) (xs : List ℕ) → length xs ≡ n → AreBytes xs → zeros n ≡ and_blocks xs (zeros n)
-cleared n xs long h = subst (λ (k : ℕ). zeros k ≡ and_blocks xs (zeros k)) long (sym (cleared_block xs h))
+cleared n xs long h = rw (← long) (sym (cleared_block xs h))
 
 inverted : (n : ℕ) (xs : List ℕ) → length xs ≡ n → AreBytes xs → not_block xs ≡ xor_blocks xs (replicate n 255)
-inverted n xs long h = subst (λ (k : ℕ). not_block xs ≡ xor_blocks xs (replicate k 255)) long (inverted_block xs h)
+inverted n xs long h = rw (← long) (inverted_block xs h)
 
 kept_block : (n : ℕ) (xs : List ℕ) → length xs ≡ n → AreBytes xs → xs ≡ or_blocks xs (zeros n)
-kept_block n xs long h = subst (λ (k : ℕ). xs ≡ or_blocks xs (zeros k)) long (sym (same_block xs h))
+kept_block n xs long h = rw (← long) (sym (same_block xs h))
 
 clearn_case : (tag : ℕ) (off : ℤ) (n : ℕ) → RowCase (ins.Clearn tag off n)
 unfolding causes shape

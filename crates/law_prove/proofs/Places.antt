@@ -62,7 +62,7 @@ places_by : (s : Setting) (t : Tables) (n k : PlaceKey) (g f : Known) (b : Bool)
 places_by s t n k g f true rest is e outcomes again =
     let key : n ≡ k = places_are n k is in
     let facts : g ≡ f = ap (λ (z : Option Known). unwrap_or z g) e in
-    subst (λ (z : PlaceKey). includes_all t (place_arrivals s z f) ≡ true) key (subst (λ (z : Known). includes_all t (place_arrivals s n z) ≡ true) facts outcomes)
+    rw (← key, ← facts) outcomes
 places_by s t n k g f false rest is e outcomes again = again e
 
 pub places_in : (s : Setting) (t : Tables) (ps : List (PlaceKey × Known)) (k : PlaceKey) (f : Known) → places_closed s t ps ≡ true → place_at ps k ≡ Some f → includes_all t (place_arrivals s k f) ≡ true
@@ -171,7 +171,7 @@ module _ (s : Setting) (u t : Tables) (g : Target) (loadable : IsLoadable s.app)
   fails_by e h f public p cause None k start allowances is includes =
       let known = p.known in
       let there : includes_all t (abended s p.start p.standing.allowances known cause) ≡ true =
-      subst (λ (z : Start). includes_all t (abended s z p.standing.allowances known cause) ≡ true) start (subst (λ (z : Amounts). includes_all t (abended s k.start z known cause) ≡ true) allowances includes)
+      rw (← start, ← allowances) includes
       in
       record {
         ends = abend_arrives s t g loadable e (Failed f.at cause ∷ h) f public p.start p.standing known cause p.starts (failed_stands h f.at cause p.standing is p.stands) p.keeps p.holds p.frame p.dynamic there;
@@ -226,7 +226,7 @@ module _ (s : Setting) (t : Tables) (g : Target) (loadable : IsLoadable s.app) (
       let count : length (zeros n) ≡ n = length-replicate {A = ℕ} n 0 in
       written_holds dynamic_base (map (λ v. v ∷ []) (zeros n)) (static_facts s f) k k (λ b outside. refl)
       (bytes_in (zeros n) dynamic_base k (λ j low. begun_zero fixed public (dynamic_base + j) size (omega arith) (omega (arith, low, count)) ∙ sym (zero_at n j)))
-      (within_holds 0 (static_size s) f (moment_memory fixed []) k (λ a low high. begun_static fixed [] public a (subst (λ (z : ℕ). a < z) (sym size) high)) h)
+      (within_holds 0 (static_size s) f (moment_memory fixed []) k (λ a low high. begun_static fixed [] public a (rw size high)) h)
 
   begun_bytes : (fixed public : List ℕ) → AreBytes fixed → AreBytes public → HoldsBytes (frame_memory (begun_frame s g fixed) public)
   begun_bytes fixed public static others a =
@@ -284,11 +284,11 @@ module _ (s : Setting) (t : Tables) (g : Target) (loadable : IsLoadable s.app) (
         calls = [];
         open_calls = tt;
         known = l;
-        there = subst (λ (d : ℕ). place_at t.places (record { at = 0; start = Delegated; allowances = a; c = false; z = false; dt = dynamic_base + d; lb = dynamic_base + d; protected = false; calls = [] }) ≡ Some l) count has.there;
+        there = rw (← count) has.there;
         holds = follow_holds f l.bytes k q.0 holds bytes;
         compares = compares_so NoCompare l.compare k p.1 refl;
         keeps = λ session d. follow_holds (static_facts s f) l.kept (moment_memory fixed session) q.1
-            (within_holds 0 (static_size s) f k (moment_memory fixed session) (λ b low high. sym (begun_static fixed session public b (subst (λ (z : ℕ). b < z) (sym m.size) high))) holds)
+            (within_holds 0 (static_size s) f k (moment_memory fixed session) (λ b low high. sym (begun_static fixed session public b (rw m.size high))) holds)
             (memory_bytes fixed session m.static d);
         frame = begun_fits fixed m.size m.static;
         bytes = bytes;

@@ -89,11 +89,11 @@ module _ (s : Setting) (st : Start) (al : Amounts) (f : Frame) (public : List �
         key = refl;
         seen = record {
           open_calls = seen.open_calls;
-          holds = subst (λ (n : ℕ). Holds k.bytes (parts_memory n (static_bytes f) f.dyn public)) (sym kept_size) seen.holds;
-          compares = subst (λ (n : ℕ). IsSo k.compare (parts_memory n (static_bytes f) f.dyn public)) (sym kept_size) seen.compares;
+          holds = rw kept_size seen.holds;
+          compares = rw kept_size seen.compares;
           keeps = λ up session d. within_holds 0 (static_size s) k.bytes (frame_memory f public) (moment_memory (static_bytes f) session)
               (λ a low high.
-              let inside : a < length f.fixed = subst (λ (n : ℕ). a < n) (sym size) high in
+              let inside : a < length f.fixed = rw size high in
               memory_static (length f.fixed) (static_bytes f) f.dyn public a inside
               ∙ sym (ap (λ (b : Bool). cond b (slice_index (static_bytes f) a) (slice_index session (a - dynamic_base))) (lt-ltb a (length (static_bytes f)) (omega (arith, inside, kept_size))))) seen.holds;
         };
@@ -117,7 +117,7 @@ module _ (s : Setting) (st : Start) (al : Amounts) (f : Frame) (public : List �
             | inl h ↦ absurd (omega (arith, h))
             | inr h ↦ omega (arith, h, size)
           ]
-  dropped_compare false e = subst (λ (m : Memory). IsSo k.compare m) (same_memory (framed.settled e)) seen.compares
+  dropped_compare false e = rw (← same_memory (framed.settled e)) seen.compares
 
   dropped_led : Led s st al (record { key = record (place_key st al f calls) { protected = on }; known = record k { bytes = k.kept ++ within (static_size s) 65536 k.bytes; compare = cond f.protected (touched 0 (static_size s) k.compare) k.compare } }) (f.protected && false)
       (record { frame = dropped f on; public = public; changes = None })

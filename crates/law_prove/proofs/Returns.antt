@@ -94,7 +94,7 @@ module _ (s : Setting) (small : static_size s ≤ dynamic_base) (st : Start) (al
       let o : AreOpen (dynamic_base + f.session) f.dt f.lb f.dyn (c ∷ cs) = seen.open_calls in
       let under : c.dt ≤ f.dt = o.0 in
       let is : c.dt ≡ f.lb = o.2 in
-      let words : take 4 (drop (f.lb - 4 - dynamic_base) f.dyn) ≡ bytes2 c.lb ++ bytes2 c.at = subst (λ (n : ℕ). take 4 (drop (n - 4 - dynamic_base) f.dyn) ≡ bytes2 c.lb ++ bytes2 c.at) is o.3 in
+      let words : take 4 (drop (f.lb - 4 - dynamic_base) f.dyn) ≡ bytes2 c.lb ++ bytes2 c.at = rw (← is) o.3 in
       let saved = saved_are f.dyn f.lb c.lb c.at room (omega (arith, low)) (omega (arith, high, end)) words o.4.0 o.4.1 in
       let back : Frame = record f { lb = c.lb; at = c.at } in
       let before : Seen cs k back public =
@@ -125,9 +125,7 @@ module _ (s : Setting) (small : static_size s ≤ dynamic_base) (st : Start) (al
       let r : Spot = acted s (Returns less more) ss (spot_of st al f (c ∷ cs) k) in
       let first : Led s st al r false (record { frame = last; public = public; changes = None }) = record { key = refl; seen = down; framed = frame; writes = tt } in
       let dt_is : d ≡ to + more = ap (λ (m : ℕ). to + m) n in
-      subst (λ (m : ℕ). Led s st al r false (record { frame = record last { dt = m; lb = saved_address f 4; at = saved_address f 2 }; public = public; changes = None })) dt_is
-      (subst (λ (m : ℕ). Led s st al r false (record { frame = record last { lb = m; at = saved_address f 2 }; public = public; changes = None })) (sym saved.0)
-      (subst (λ (m : ℕ). Led s st al r false (record { frame = record last { at = m }; public = public; changes = None })) (sym saved.1) first))
+      rw (← dt_is, saved.0, saved.1) first
 
   returned_any : (f : Frame) (public : List ℕ) (cs : List Call) (k : Known) (less more : ℕ) (ss : List Set) → no_calls cs ≡ false → Framed s.app f → Seen cs k f public → FitSets (top f more) ss → length (top f more) ≡ more
       → dynamic_base + f.session + 4 + less ≤ f.lb → f.lb + more ≤ f.dt
@@ -154,9 +152,9 @@ saved_same floor top lb dyn (c ∷ cs) some low high room other o =
     let is : c.dt ≡ lb = o.2 in
     let b = bytes2 c.lb ++ bytes2 c.at in
     let zero_room : length (zeros 512) ≡ 512 = length-replicate {A = ℕ} 512 0 in
-    let real : take 4 (drop (lb - 4 - dynamic_base) dyn) ≡ b = subst (λ (n : ℕ). take 4 (drop (n - 4 - dynamic_base) dyn) ≡ b) is o.3 in
+    let real : take 4 (drop (lb - 4 - dynamic_base) dyn) ≡ b = rw (← is) o.3 in
     let stood : take 4 (drop (lb - 4 - dynamic_base) (stand_in_stack (c ∷ cs))) ≡ b =
-    subst (λ (n : ℕ). take 4 (drop (n - 4 - dynamic_base) (stand_in_stack (c ∷ cs))) ≡ b) is (written_there (zeros 512) (c.dt - 4 - dynamic_base) b (omega (arith, zero_room, under, over, low, high)))
+    rw (← is) (written_there (zeros 512) (c.dt - 4 - dynamic_base) b (omega (arith, zero_room, under, over, low, high)))
     in
     (saved_are (stand_in_stack (c ∷ cs)) lb c.lb c.at other (omega (arith, low, over, is)) (omega (arith, under, high, is)) stood o.4.0 o.4.1).1
     ∙ sym (saved_are dyn lb c.lb c.at room (omega (arith, low, over, is)) (omega (arith, under, high, is)) real o.4.0 o.4.1).1

@@ -60,7 +60,7 @@ fit_in (b ∷ bs) [] m a h new = absurd h
 fit_in (b ∷ bs) (s ∷ ss) m a h new =
     let here : a ≡ a + 0 = omega arith in
     let is : m a ≡ b = ap m here ∙ new 0 (omega arith) in (
-      subst (λ (v : ℕ). is_in v s ≡ true) (sym is) h.0,
+      rw is h.0,
       fit_in bs ss m (suc a) h.1 (λ k low. let next : suc a + k ≡ a + suc k = omega arith in ap m next ∙ new (suc k) (omega (arith, low))),
     )
 
@@ -81,7 +81,7 @@ settled_by s false calls k f public e size none seen =
       holds = seen.holds;
       compares = seen.compares;
       keeps = λ session d. within_holds 0 (static_size s) k.bytes (frame_memory f public) (moment_memory f.fixed session)
-          (λ a low high. static_read f public session a (none e) (subst (λ (n : ℕ). a < n) (sym size) high)) seen.holds;
+          (λ a low high. static_read f public session a (none e) (rw size high)) seen.holds;
     }
 
 -- without protection what power leaves is what is read
@@ -99,7 +99,7 @@ pub seen_changed : (a : ℕ) (b : List ℕ) (ss : List Set) (calls more : List C
     → Seen calls k f public → Seen more (known_written a ss k) g segment
 seen_changed a b ss calls more k f g public segment fit same new open_calls keeps seen =
     let n : length ss ≡ length b = fit_length b ss fit in
-    let but : SameBut a (length ss) (frame_memory f public) (frame_memory g segment) = subst (λ (m : ℕ). SameBut a m (frame_memory f public) (frame_memory g segment)) (sym n) same in
+    let but : SameBut a (length ss) (frame_memory f public) (frame_memory g segment) = rw n same in
     record {
       open_calls = open_calls;
       holds = written_holds a ss k.bytes (frame_memory f public) (frame_memory g segment) but (fit_in b ss (frame_memory g segment) a fit new) seen.holds;
@@ -167,8 +167,7 @@ stack_seen a j d b ss calls k f public at low room high fits more fit seen =
     seen_changed a b ss calls (calls_after_write a (length ss) calls) k f g public public fit
     (λ x o. dynamic_same (length f.fixed) (static_bytes f) f.dyn public b a j at there x o)
     (λ i less. dynamic_new (length f.fixed) (static_bytes f) f.dyn public b a j i at low there fits less)
-    (subst (λ (m : ℕ). AreOpen (dynamic_base + f.session) d f.lb (splice f.dyn j b) (calls_after_write a m calls)) (sym n)
-    (open_written (dynamic_base + f.session) f.dt d f.lb a j f.dyn b calls at (omega arith) high more room fits seen.open_calls))
+    (rw n (open_written (dynamic_base + f.session) f.dt d f.lb a j f.dyn b calls at (omega arith) high more room fits seen.open_calls))
     seen.keeps seen
 
 -- ---- the public segment

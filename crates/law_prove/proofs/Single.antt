@@ -100,10 +100,7 @@ module _ (s : Setting) (u t : Tables) (g : Target) (loadable : IsLoadable s.app)
   -- in the frame that stands for the place
   pub stood : (cs : List (Abend × Bool)) (m : Shape) (w : Work) → IsOnly → causes i scene blank nobody ≡ cs → shape i scene blank nobody ≡ m → work i scene blank ≡ w → includes_all t (caused (first_cause cs) s i m w here there) ≡ true
   stood cs m w includes cause is works =
-      subst (λ (c : List (Abend × Bool)). includes_all t (caused (first_cause c) s i m w here there) ≡ true) cause
-      (subst (λ (z : Shape). includes_all t (caused (first_cause (causes i scene blank nobody)) s i z w here there) ≡ true) is
-      (subst (λ (z : Work). includes_all t (caused (first_cause (causes i scene blank nobody)) s i (shape i scene blank nobody) z here there) ≡ true) works
-      (only_one s u t g loadable leads turn.entry turn.history turn.frame turn.public i turn.next turn.place includes)))
+      rw (← cause, ← is, ← works) (only_one s u t g loadable leads turn.entry turn.history turn.frame turn.public i turn.next turn.place includes)
 
   pub row_is : (cs : List (Abend × Bool)) (m : Shape) → causes i (frame_at turn.frame turn.next) turn.public turn.around ≡ cs → shape i (frame_at turn.frame turn.next) turn.public turn.around ≡ m → row_end (first_cause cs) (meaning m (frame_at turn.frame turn.next) turn.public) ≡ row i (frame_at turn.frame turn.next) turn.public turn.around
   unfolding row

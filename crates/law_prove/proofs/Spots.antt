@@ -64,8 +64,7 @@ compare_so (Bounds a n l h) (Bounds b k low high) m e x =
     let p0 = and_parts (a == b) (n == k) p1.0 in
     let at : a ≡ b = eqb-true a b p0.0 in
     let count : n ≡ k = eqb-true n k p0.1 in
-    subst (λ (z : ℕ). IsSo (Bounds z k low high) m) at
-    (subst (λ (z : ℕ). IsSo (Bounds a z low high) m) count (wider_bounds l h low high (num (bytes_from m a n)) p1.1 p2.1 x))
+    rw (← at, ← count) (wider_bounds l h low high (num (bytes_from m a n)) p1.1 p2.1 x)
 compare_so (Ordered a n b o) (Ordered c k d p) m e x =
     let p4 = and_parts (a == c && n == k && b == d && (not o.less || p.less) && (not o.equal || p.equal)) (not o.greater || p.greater) e in
     let p3 = and_parts (a == c && n == k && b == d && (not o.less || p.less)) (not o.equal || p.equal) p4.0 in
@@ -75,9 +74,7 @@ compare_so (Ordered a n b o) (Ordered c k d p) m e x =
     let at : a ≡ c = eqb-true a c p0.0 in
     let count : n ≡ k = eqb-true n k p0.1 in
     let other : b ≡ d = eqb-true b d p1.1 in
-    subst (λ (z : ℕ). IsSo (Ordered z k d p) m) at
-    (subst (λ (z : ℕ). IsSo (Ordered a z d p) m) count
-    (subst (λ (z : ℕ). IsSo (Ordered a n z p) m) other (wider_orders o p (num (bytes_from m a n)) (num (bytes_from m b n)) p2.1 p3.1 p4.1 x)))
+    rw (← at, ← count, ← other) (wider_orders o p (num (bytes_from m a n)) (num (bytes_from m b n)) p2.1 p3.1 p4.1 x)
 
 -- ---- the event of an instruction that was done
 
@@ -99,7 +96,7 @@ three t f e (suc (suc (suc (suc (suc n))))) low high = absurd (omega (arith, hig
 
 -- so are those of the depth that a frame has
 at_depth : (s : Setting) (t : Tables) (f : ℕ → List Arrival) (e : Entry Event) (start : Start) (depth : ℕ) → StartsAs s.rules e start → FitsDepth e depth → includes_all t (flat_map f (depths start)) ≡ true → includes_all t (f depth) ≡ true
-at_depth s t f (BySelection bytes apdu before) (OfClass class) depth starts fits e = subst (λ (d : ℕ). includes_all t (f d) ≡ true) (sym fits) (included_first t (f 1) [] e)
+at_depth s t f (BySelection bytes apdu before) (OfClass class) depth starts fits e = rw fits (included_first t (f 1) [] e)
 at_depth s t f ByDelegation Delegated depth starts fits e = three t f e depth fits.0 fits.1
 at_depth s t f (BySelection bytes apdu before) Delegated depth starts fits e = absurd starts
 at_depth s t f ByDelegation (OfClass class) depth starts fits e = absurd starts
@@ -141,7 +138,7 @@ spot_arrives s t e h f public p x covers starts stands frame bytes dyn includes 
       calls = p.key.calls;
       open_calls = covers.open_calls;
       known = l;
-      there = subst (λ (k : PlaceKey). place_at t.places k ≡ Some l) (covers.key x.allowances) has.there;
+      there = rw (← covers.key x.allowances) has.there;
       holds = follow_holds p.known.bytes l.bytes (frame_memory f public) b.0 covers.holds bytes;
       compares = compare_so p.known.compare l.compare (frame_memory f public) a.1 covers.compares;
       keeps = λ session d. follow_holds p.known.kept l.kept (moment_memory f.fixed session) b.1 (covers.keeps session d) (memory_bytes f.fixed session frame.static d);

@@ -254,7 +254,7 @@ module _ (s : Setting) (u t : Tables) (g : Target) (loadable : IsLoadable s.app)
       let one : includes_all t (instruction s i (record { frame = scene; public = blank }) p0 q0 nobody) ≡ true =
       around_none t (instruction s i (record { frame = scene; public = blank }) p0 q0) p.start (included_first t all [] (included_first t (all ++ []) [] includes))
       in
-      subst (λ (z : Frame). includes_all t (instruction s i (record { frame = z; public = blank }) p0 q0 nobody) ≡ true) (stand_in_like s.app f p.start p.standing.allowances p.calls next (framed_of s.app f p.frame)) one
+      rw (← stand_in_like s.app f p.start p.standing.allowances p.calls next (framed_of s.app f p.frame)) one
 
   -- ---- bytes
 

@@ -9,10 +9,6 @@ abbrev pub window : List ℕ → ℕ → ℕ → List ℕ
 window l i zero = []
 window l i (suc n) = slice_index l i ∷ window l (suc i) n
 
-pub window_length : (l : List ℕ) (i n : ℕ) → length (window l i n) ≡ n
-window_length l i zero = refl
-window_length l i (suc n) = ap suc (window_length l (suc i) n)
-
 pub window_at : (l : List ℕ) (i n k : ℕ) → k < n → slice_index (window l i n) k ≡ slice_index l (i + k)
 window_at l i zero k h = absurd (omega (arith, h))
 window_at l i (suc n) zero h = let e : i ≡ i + 0 = omega arith in ap (λ (j : ℕ). slice_index l j) e

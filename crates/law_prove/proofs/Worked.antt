@@ -75,8 +75,7 @@ fit_flipped [] [] h = tt
 fit_flipped [] (s ∷ ss) h = absurd h
 fit_flipped (x ∷ b) [] h = absurd h
 fit_flipped (x ∷ b) (s ∷ ss) h =
-    subst (λ (l : List ℕ). FitSets l (reverse (s ∷ ss))) (sym (flipped x b))
-    (subst (λ (l : List Set). FitSets (reverse b ++ x ∷ []) l) (sym (flipped s ss)) (fit_last (reverse b) (reverse ss) x s (fit_flipped b ss h.1) h.0))
+    rw (flipped x b, flipped s ss) (fit_last (reverse b) (reverse ss) x s (fit_flipped b ss h.1) h.0)
 
 of_last : (ps : List (ℕ × ℕ)) (ss : List (Set × Set)) (p : ℕ × ℕ) (s : Set × Set) → AreOf ps ss → is_in p.0 s.0 ≡ true → is_in p.1 s.1 ≡ true → AreOf (ps ++ p ∷ []) (ss ++ s ∷ [])
 of_last [] [] p s h a b = (a, b, tt)
@@ -92,9 +91,7 @@ pairs_fit (x ∷ xs) [] ss ts l a b = absurd (omega (arith, l))
 pairs_fit (x ∷ xs) (y ∷ ys) [] ts l a b = absurd a
 pairs_fit (x ∷ xs) (y ∷ ys) (s ∷ ss) [] l a b = absurd b
 pairs_fit (x ∷ xs) (y ∷ ys) (s ∷ ss) (t ∷ ts) l a b =
-    subst (λ (ps : List (ℕ × ℕ)). AreOf ps (reverse ((s, t) ∷ pairs_of ss ts))) (sym (flipped (x, y) (byte_pairs xs ys)))
-    (subst (λ (qs : List (Set × Set)). AreOf (reverse (byte_pairs xs ys) ++ (x, y) ∷ []) qs) (sym (flipped (s, t) (pairs_of ss ts)))
-    (of_last (reverse (byte_pairs xs ys)) (reverse (pairs_of ss ts)) (x, y) (s, t) (pairs_fit xs ys ss ts (omega (arith, l)) a.1 b.1) a.0 b.0))
+    rw (flipped (x, y) (byte_pairs xs ys), flipped (s, t) (pairs_of ss ts)) (of_last (reverse (byte_pairs xs ys)) (reverse (pairs_of ss ts)) (x, y) (s, t) (pairs_fit xs ys ss ts (omega (arith, l)) a.1 b.1) a.0 b.0)
 
 -- ---- the number of digits
 
@@ -189,8 +186,7 @@ pub record OnDigits (op : Operation) (xs ys : List ℕ) (ss ts : List Set) : Typ
 
 turned : (b : List ℕ) (l : List ℕ) (g : Digits → Set) (ds : List Digits) → l ≡ reverse b → FitSets l (map g ds) → FitSets b (map g (reverse ds))
 turned b l g ds is h =
-    subst (λ (z : List Set). FitSets b z) (sym (map_flipped g ds))
-    (subst (λ (z : List ℕ). FitSets z (reverse (map g ds))) (ap (λ (k : List ℕ). reverse k) is ∙ reverse-reverse b) (fit_flipped l (map g ds) h))
+    rw (map_flipped g ds, ← (ap (λ (k : List ℕ). reverse k) is ∙ reverse-reverse b)) (fit_flipped l (map g ds) h)
 
 pairs_count : (ss ts : List Set) → length ss ≡ length ts → length (pairs_of ss ts) ≡ length ss
 pairs_count [] ts l = refl
@@ -215,8 +211,8 @@ on_digits op xs ys ss ts l a b =
     let qs = reverse (pairs_of ss ts) in
     let law = digits_law op ps qs (pairs_fit xs ys ss ts l a b) in
     let ds : List Digits = law.0 in
-    let lie : LieOn ps (reverse (worked op xs ys).0) ds = subst (λ (rs : List ℕ). LieOn ps rs ds) (run_digits op xs ys) law.2 in
-    let to : digits_to (worked op xs ys).1 (map (arcs op) qs) ≡ Some ds = subst (λ (f : Flags). digits_to f (map (arcs op) qs) ≡ Some ds) (run_flags op xs ys) law.1 in
+    let lie : LieOn ps (reverse (worked op xs ys).0) ds = rw (← run_digits op xs ys) law.2 in
+    let to : digits_to (worked op xs ys).1 (map (arcs op) qs) ≡ Some ds = rw (← run_flags op xs ys) law.1 in
     let count : length ds ≡ length ps =
     way_digits (length (map (arcs op) qs)) (ways (worked op xs ys).1 (map (arcs op) qs)) first_flags ds (ways_digits (worked op xs ys).1 (map (arcs op) qs)) to
     ∙ (length_map (arcs op) qs ∙ (flipped_length (pairs_of ss ts) ∙ (pairs_count ss ts (fit_length xs ss a ∙ (l ∙ sym (fit_length ys ts b)))
@@ -370,6 +366,6 @@ carried_bytes op (x ∷ xs) (y ∷ ys) e = digit_bytes op x y ((worked op xs ys)
 pub worked_bytes : (op : Operation) (xs ys : List ℕ) → length xs ≡ length ys → AreBytes xs → AreBytes ys → AreBytes (worked op xs ys).0
 worked_bytes Plus xs ys l h k = carried_bytes Plus xs ys refl
 worked_bytes Minus xs ys l h k = carried_bytes Minus xs ys refl
-worked_bytes And xs ys l h k = subst AreBytes (sym (worked_and xs ys)) (anded xs ys h)
-worked_bytes Or xs ys l h k = subst AreBytes (sym (worked_or xs ys)) (ored xs ys h k)
-worked_bytes Xor xs ys l h k = subst AreBytes (sym (worked_xor xs ys)) (xored xs ys h k)
+worked_bytes And xs ys l h k = rw (worked_and xs ys) (anded xs ys h)
+worked_bytes Or xs ys l h k = rw (worked_or xs ys) (ored xs ys h k)
+worked_bytes Xor xs ys l h k = rw (worked_xor xs ys) (xored xs ys h k)

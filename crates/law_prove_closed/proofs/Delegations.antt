@@ -130,10 +130,6 @@ number_by e f segment public dt over x y first second =
 
 -- ---- the row
 
--- an instruction that abends by the first cause that is known
-under_first : (denied : Bool) (size dt a n : ℕ) → first_cause (delegate_causes denied true size dt a n) ≡ cond denied (Some A0A) (Some A04)
-under_first denied size dt a n = refl
-
 module _ (s : Setting) (u t : Tables) (g : Target) (loadable : IsLoadable s.app) (leads : LeadsInto s u t) (args : List ℕ) (turn : Turn s u (ins.Prim 0 7 args)) where
   abbrev delegation : Ins
   delegation = ins.Prim 0 7 args

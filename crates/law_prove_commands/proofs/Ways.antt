@@ -80,29 +80,6 @@ module _ (test : List ℕ → Bool) where
 
 -- ---- openings match what their pattern does
 
-first_of_rests : (test : List ℕ → Bool) (t : List ℕ) → (some_rest test t || test t) ≡ some_rest test t
-first_of_rests test [] = by (test [])
-  where
-    by : (b : Bool) → (b || b) ≡ b
-    by true = refl
-    by false = refl
-first_of_rests test (c ∷ t) = or_turned (test (c ∷ t) || some_rest test t) (test (c ∷ t)) ∙ or_twice (test (c ∷ t)) (some_rest test t)
-
-openings_match : (t p : List ℕ) → some_way (λ q. matches q t) (openings p) ≡ matches p t
-unfolding matches
-openings_match t [] = or_none (is_empty t)
-openings_match t (p ∷ ps) = by (is_star p) refl (openings_match t ps)
-  where
-    by : (b : Bool) → is_star p ≡ b → some_way (λ q. matches q t) (openings ps) ≡ matches ps t
-        → some_way (λ q. matches q t) (cond b (with_way (p ∷ ps) (openings ps)) ((p ∷ ps) ∷ [])) ≡ cond b (some_rest (matches ps) t) (first_and_rest p (matches ps) t)
-    by true e again =
-        let here : matches (p ∷ ps) t ≡ some_rest (matches ps) t = ap (λ (b : Bool). cond b (some_rest (matches ps) t) (first_and_rest p (matches ps) t)) e in
-        one_more (λ q. matches q t) (p ∷ ps) (openings ps)
-        ∙ (ap (λ (b : Bool). b || some_way (λ q. matches q t) (openings ps)) here ∙ (ap (λ (b : Bool). some_rest (matches ps) t || b) again ∙ first_of_rests (matches ps) t))
-    by false e again =
-        let here : matches (p ∷ ps) t ≡ first_and_rest p (matches ps) t = ap (λ (b : Bool). cond b (some_rest (matches ps) t) (first_and_rest p (matches ps) t)) e in
-        ap (λ (b : Bool). b || false) here ∙ or_none (first_and_rest p (matches ps) t)
-
 -- ---- a character more
 
 -- whether a way matches a character and a text, by what is left of it after the character

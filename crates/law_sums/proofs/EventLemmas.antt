@@ -60,13 +60,6 @@ amount_is o first public (PublicBytes at n) h i =
 
 -- ---- one sum
 
--- what a line adds to the sums of its name, and what it takes from them
-abbrev added_of : Bool → ℕ → ℕ
-added_of adds k = cond adds k 0
-
-abbrev taken_of : Bool → ℕ → ℕ
-taken_of adds k = cond adds 0 k
-
 moved_added : (adds : Bool) (k : ℕ) (s : Sum) → (moved_sum adds k s).added ≡ s.added + cond adds k 0
 moved_added true k s = refl
 moved_added false k s = omega arith

@@ -19,18 +19,6 @@ one_less_more m k h =
     let same : (m - 1 + 1) * k ≡ m * k = ap (λ (x : ℕ). x * k) whole in
     omega (arith, parts, same, mul_comm m k)
 
--- congruent numbers stay so with a number that cancels one
-pub cancel_same : (m a b c d : ℕ) → (a + c) % m ≡ (b + c) % m → (c + d) % m ≡ 0 % m → a % m ≡ b % m
-cancel_same m a b c d h k =
-    let left : (a + (c + d)) % m ≡ (a + 0) % m = add_same m a a (c + d) 0 refl k in
-    let right : (b + (c + d)) % m ≡ (b + 0) % m = add_same m b b (c + d) 0 refl k in
-    let both : (a + c + d) % m ≡ (b + c + d) % m = add_same m (a + c) (b + c) d d h refl in
-    let one : a + (c + d) ≡ a + c + d = omega arith in
-    let two : b + (c + d) ≡ b + c + d = omega arith in
-    let three : a + 0 ≡ a = omega arith in
-    let four : b + 0 ≡ b = omega arith in
-    ap (λ (x : ℕ). x % m) (sym three) ∙ sym left ∙ ap (λ (x : ℕ). x % m) one ∙ both ∙ ap (λ (x : ℕ). x % m) (sym two) ∙ right ∙ ap (λ (x : ℕ). x % m) four
-
 pub power_positive : (n : ℕ) → 0 < 256 ^ n
 power_positive zero = omega arith
 power_positive (suc n) = rw (pow-succ' 256 n) (let h = power_positive n in omega (arith, h))

@@ -8,10 +8,6 @@ use Rattle.model_sums.specs.model_prove.specs.Compares.{bytes_from}
 use Rattle.model_sums.specs.Origins.{Origin, Unknown, ConstantByte, PublicByte, Origins, unlisted, listed_or, origin_at, with_origins, kept_origins, origins_below, origin_follows, listed_follow, origins_follow}
 use Rattle.model_sums.specs.Says.{IsFrom, AreFrom, OriginsHold}
 
--- the origin of a byte whose test for static bytes gave this
-abbrev dynamic_or : Bool → Origin → Origin
-dynamic_or b g = cond b Unknown g
-
 pub from_dynamic : (b : Bool) (first : List ℕ) (g : Origin) (v : ℕ) → (b ≡ false → IsFrom first g v) → IsFrom first (cond b Unknown g) v
 from_dynamic true first g v h = tt
 from_dynamic false first g v h = h refl
