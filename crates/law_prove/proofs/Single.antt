@@ -14,7 +14,7 @@ use Rattle.model_prove.specs.law_rows.specs.Shapes.{Act, Stays, Answers, Jumps, 
 use Rattle.model_prove.specs.law_rows.proofs.RowShapes.{shapes}
 use Rattle.model_prove.specs.law_bytes.specs.OfBytes.{IsByteEffect}
 use Rattle.model_prove.specs.law_promise.specs.Outline.{Entry, FitsEntry}
-use Rattle.model_prove.specs.law_promise.specs.Domain.{RowCovered, FitsDepth}
+use Rattle.model_prove.specs.law_promise.specs.Domain.{RowCovered, FitsDepth, IsDelegator}
 use Rattle.model_prove.specs.model_rules.specs.Law.{domain_of_rules}
 use Rattle.model_prove.specs.model_rules.specs.Rules.{Target}
 use Rattle.model_prove.specs.model_rules.specs.Happenings.{Event, History}
@@ -198,9 +198,15 @@ IsFetchedOnce i =
     (s : Setting) (u t : Tables) (g : Target) (loadable : IsLoadable s.app) (leads : LeadsInto s u t) (turn : Turn s u i)
     → includes_all t (fetched s (spot_of turn.place.start turn.place.standing.allowances turn.frame turn.place.calls turn.place.known) (Ok (i, turn.next))) ≡ true → IsOnly s u t g loadable leads i turn
 
--- such a row is covered
-pub law_of : (i : Ins) → IsFetchedOnce i → RowCase i → LeadLaw i
-law_of i once case r g u t loadable leads e h f public depth x next p entry deep names segment at =
+-- A row is covered in each of its turns, if what was fetched is included. It may ask which frame delegated.
+abbrev pub FetchedCase : Ins → Type 0
+FetchedCase i =
+    (s : Setting) (u t : Tables) (g : Target) (loadable : IsLoadable s.app) (leads : LeadsInto s u t) (turn : Turn s u i) → IsDelegator turn.around.delegator
+    → includes_all t (fetched s (here s u t g loadable leads i turn) (Ok (i, turn.next))) ≡ true → IsRowCovered s u t g loadable leads i turn (row i (frame_at turn.frame turn.next) turn.public turn.around)
+
+-- so its law holds
+pub law_from : (i : Ins) → FetchedCase i → LeadLaw i
+law_from i case r g u t loadable leads e h f public depth x next p entry deep names segment at =
     let s : Setting = record { rules = r; app = g.app } in
     let decoded : Decodes s.app.code f.at i next = decoded_at s u t g loadable leads f i next at in
     let turn : Turn s u i = record {
@@ -222,4 +228,8 @@ law_of i once case r g u t loadable leads e h f public depth x next p entry deep
       after = leaves_bytes s u t g loadable leads f public i next x at p.frame p.dynamic (segment.1 tt) names;
     }
     in
-    case s u t g loadable leads turn (once s u t g loadable leads turn (included_at s u t g loadable leads e h f public i next p at))
+    case s u t g loadable leads turn names (included_at s u t g loadable leads e h f public i next p at)
+
+-- a row of one outcome is covered
+pub law_of : (i : Ins) → IsFetchedOnce i → RowCase i → LeadLaw i
+law_of i once case = law_from i (λ s u t g loadable leads turn names e. case s u t g loadable leads turn (once s u t g loadable leads turn e))

@@ -36,7 +36,7 @@ use Rattle.law_prove_commands.specs.law_prove.proofs.Alike.{Sized, read_is, top_
 use Rattle.law_prove_commands.specs.law_prove.proofs.Closed.{included_first, included_second}
 use Rattle.law_prove_commands.specs.law_prove.proofs.Places.{of_closed, fails_by}
 use Rattle.law_prove_commands.specs.law_prove.proofs.Seen.{Seen}
-use Rattle.law_prove_commands.specs.law_prove.proofs.Single.{Turn, here, there, IsRowCovered, row_is, shape_bytes}
+use Rattle.law_prove_commands.specs.law_prove.proofs.Single.{Turn, here, there, IsRowCovered, row_is, shape_bytes, law_from}
 use Rattle.law_prove_commands.specs.law_prove.proofs.Turns.{frame_of, nobody, walked, included_at, decoded_at, leaves_bytes}
 use Rattle.law_prove_targets.proofs.Scenes.{both_inside, among_first, among_second}
 use Rattle.law_prove_closed.specs.Laws.{DelegateLaw}
@@ -433,30 +433,9 @@ module _ (s : Setting) (u t : Tables) (g : Target) (loadable : IsLoadable s.app)
   covered_by None e includes = coarse_covered includes
 
 pub delegate_lead : (args : List ℕ) → LeadLaw (ins.Prim 0 7 args)
-delegate_lead args r g u t loadable leads e h f public depth x next p entry deep names segment at =
-    let i : Ins = ins.Prim 0 7 args in
-    let s : Setting = record { rules = r; app = g.app } in
-    let decoded : Decodes s.app.code f.at i next = decoded_at s u t g loadable leads f i next at in
-    let turn : Turn s u i = record {
-      entry = e;
-      history = h;
-      frame = f;
-      public = public;
-      depth = depth;
-      place = p;
-      deep = deep;
-      next = next;
-      around = x;
-      fits = entry;
-      whole = segment.0;
-      bytes = segment.1 tt;
-      shaped = decoded.shaped;
-      after_it = decoded.place;
-      inside = decoded.inside;
-      after = leaves_bytes s u t g loadable leads f public i next x at p.frame p.dynamic (segment.1 tt) names;
-    }
-    in
-    covered_by s u t g loadable leads args turn (few_combinations p.known.bytes (first_places s u t g loadable leads args turn)) refl (included_at s u t g loadable leads e h f public i next p at)
+delegate_lead args =
+    law_from (ins.Prim 0 7 args) (λ s u t g loadable leads turn names e.
+    covered_by s u t g loadable leads args turn (few_combinations turn.place.known.bytes (first_places s u t g loadable leads args turn)) refl e)
 
 pub delegate_law : DelegateLaw
 delegate_law args = of_closed (ins.Prim 0 7 args) (delegate_lead args)

@@ -32,7 +32,7 @@ use Rattle.law_prove.proofs.Spots.{place_key}
 use Rattle.law_prove.proofs.Seen.{Seen}
 use Rattle.law_prove.proofs.Acts.{spot_of}
 use Rattle.law_prove.proofs.Turns.{blank, framed_of, stand_in_like, included_at, decoded_at, leaves_bytes}
-use Rattle.law_prove.proofs.Single.{Turn, here, there, IsRowCovered}
+use Rattle.law_prove.proofs.Single.{Turn, here, there, IsRowCovered, law_from}
 use Rattle.law_prove_reach.proofs.Scenes.{scene_of, Fits, Standing, values_stand, same_outside, all_inside_of, among_inside}
 
 -- ---- choices
@@ -210,29 +210,7 @@ DelegatedCase i =
 
 -- so its law holds
 pub law_with : (i : Ins) → DelegatedCase i → LeadLaw i
-law_with i case r g u t loadable leads e h f public depth x next p entry deep names segment at =
-    let s : Setting = record { rules = r; app = g.app } in
-    let decoded : Decodes s.app.code f.at i next = decoded_at s u t g loadable leads f i next at in
-    let turn : Turn s u i = record {
-      entry = e;
-      history = h;
-      frame = f;
-      public = public;
-      depth = depth;
-      place = p;
-      deep = deep;
-      next = next;
-      around = x;
-      fits = entry;
-      whole = segment.0;
-      bytes = segment.1 tt;
-      shaped = decoded.shaped;
-      after_it = decoded.place;
-      inside = decoded.inside;
-      after = leaves_bytes s u t g loadable leads f public i next x at p.frame p.dynamic (segment.1 tt) names;
-    }
-    in
-    case s u t g loadable leads turn names (by_base s u t g loadable leads i turn (included_at s u t g loadable leads e h f public i next p at))
+law_with i case = law_from i (λ s u t g loadable leads turn names e. case s u t g loadable leads turn names (by_base s u t g loadable leads i turn e))
 
 -- a row that does not ask who that was
 abbrev pub ChoiceCase : Ins → Type 0

@@ -35,7 +35,7 @@ use Rattle.law_prove.proofs.Seen.{FitSets, Seen}
 use Rattle.law_prove.proofs.Acts.{spot_of, Led, stays_led, pushes_led, replaces_led, led_covers, lowered_seen}
 use Rattle.law_prove.proofs.Turns.{NoCause, like, blank, nobody, stand_in_like, framed_of, frame_of, memory_of_bytes, walked, goes_covered, included_at, decoded_at, leaves_bytes}
 use Rattle.law_prove.proofs.Alike.{Sized, stack_length}
-use Rattle.law_prove.proofs.Single.{going, Turn, here, there, scene, IsRowCovered, shape_bytes, low_framed}
+use Rattle.law_prove.proofs.Single.{going, Turn, here, there, scene, IsRowCovered, shape_bytes, low_framed, law_from}
 use Rattle.law_prove.proofs.Moves.{turn_sized}
 use Rattle.law_prove.proofs.Blocks.{Outcome, included_of}
 use Rattle.law_prove_reads.proofs.Scenes.{drawn, scene_of, scene_memory, IsScene, Agrees, agreeing, all_inside, all_both, among_inside, among_left, among_right, values_both, Choosing, choosing}
@@ -323,29 +323,9 @@ IsSplit i =
 
 -- such an instruction is covered in each of its turns
 pub law_of : (i : Ins) → IsSplit i → IsDecided i → LeadLaw i
-law_of i split decided r g u t loadable leads e h f public depth x next p entry deep names segment at =
-    let s : Setting = record { rules = r; app = g.app } in
-    let decoded : Decodes s.app.code f.at i next = decoded_at s u t g loadable leads f i next at in
-    let turn : Turn s u i = record {
-      entry = e;
-      history = h;
-      frame = f;
-      public = public;
-      depth = depth;
-      place = p;
-      deep = deep;
-      next = next;
-      around = x;
-      fits = entry;
-      whole = segment.0;
-      bytes = segment.1 tt;
-      shaped = decoded.shaped;
-      after_it = decoded.place;
-      inside = decoded.inside;
-      after = leaves_bytes s u t g loadable leads f public i next x at p.frame p.dynamic (segment.1 tt) names;
-    }
-    in
-    elim (split_by s u t g loadable leads i turn (few_combinations turn.place.known.bytes (places s u t g loadable leads i turn)) decided.asks refl (split s u t g loadable leads turn (included_at s u t g loadable leads e h f public i next p at))) [
+law_of i split decided =
+    law_from i (λ s u t g loadable leads turn names e.
+    elim (split_by s u t g loadable leads i turn (few_combinations turn.place.known.bytes (places s u t g loadable leads i turn)) decided.asks refl (split s u t g loadable leads turn e)) [
       | inl chosen ↦ decided.few s u t g loadable leads turn chosen
       | inr coarse ↦ decided.many s u t g loadable leads turn coarse.0 coarse.1
-    ]
+    ])

@@ -40,7 +40,7 @@ use Rattle.law_prove.proofs.Places.{fails_by}
 use Rattle.law_prove.proofs.Seen.{Seen}
 use Rattle.law_prove.proofs.Acts.{spot_of, Framed, Led, jumps_led, calls_led, led_covers, lowered_seen}
 use Rattle.law_prove.proofs.Turns.{frame_of, memory_of_bytes, NoCause, nobody, goes_covered, walked, included_at, decoded_at, leaves_bytes}
-use Rattle.law_prove.proofs.Single.{going, one_shaped, Turn, here, there, IsRowCovered, row_is, shape_bytes}
+use Rattle.law_prove.proofs.Single.{going, one_shaped, Turn, here, there, IsRowCovered, row_is, shape_bytes, law_from}
 use Rattle.law_prove_targets.specs.Laws.{TargetLaw}
 use Rattle.law_prove_targets.proofs.Scenes.{SameRegisters, values_same, two_values, two_bytes, top_number, scene_number, both_inside, target_inside, target_outside}
 
@@ -400,37 +400,9 @@ call_form : (o : Option (List Choice)) (t : Tables) (s : Setting) (to : ℕ) (z 
 call_form (Some cs) t s to z p q e = e
 call_form None t s to z p q e = e
 
--- a row is covered if what was fetched is covered in each of its turns
-law_from : (i : Ins)
-    → ((s : Setting) (u t : Tables) (g : Target) (loadable : IsLoadable s.app) (leads : LeadsInto s u t) (turn : Turn s u i) → includes_all t (fetched s (here s u t g loadable leads i turn) (Ok (i, turn.next))) ≡ true
-    → IsRowCovered s u t g loadable leads i turn (row i (frame_at turn.frame turn.next) turn.public turn.around)) → LeadLaw i
-law_from i case r g u t loadable leads e h f public depth x next p entry deep names segment at =
-    let s : Setting = record { rules = r; app = g.app } in
-    let decoded : Decodes s.app.code f.at i next = decoded_at s u t g loadable leads f i next at in
-    let turn : Turn s u i = record {
-      entry = e;
-      history = h;
-      frame = f;
-      public = public;
-      depth = depth;
-      place = p;
-      deep = deep;
-      next = next;
-      around = x;
-      fits = entry;
-      whole = segment.0;
-      bytes = segment.1 tt;
-      shaped = decoded.shaped;
-      after_it = decoded.place;
-      inside = decoded.inside;
-      after = leaves_bytes s u t g loadable leads f public i next x at p.frame p.dynamic (segment.1 tt) names;
-    }
-    in
-    case s u t g loadable leads turn (included_at s u t g loadable leads e h f public i next p at)
-
 jump_law : (to : ℕ) → LeadLaw (ins.Jump 0 to)
 jump_law to =
-    law_from (ins.Jump 0 to) (λ s u t g loadable leads turn includes.
+    law_from (ins.Jump 0 to) (λ s u t g loadable leads turn names includes.
     let z : Scene = scene s u t g loadable leads (ins.Jump 0 to) (Jumps true) (λ dt. []) (jump_is to) turn in
     let p : Spot = here s u t g loadable leads (ins.Jump 0 to) turn in
     covered_by s u t g loadable leads (ins.Jump 0 to) (Jumps true) (λ dt. []) (jump_is to) turn (is_under (frame_at turn.frame turn.next) 2) refl
@@ -438,7 +410,7 @@ jump_law to =
 
 call_law : (to : ℕ) → LeadLaw (ins.Call 0 to)
 call_law to =
-    law_from (ins.Call 0 to) (λ s u t g loadable leads turn includes.
+    law_from (ins.Call 0 to) (λ s u t g loadable leads turn names includes.
     let more : ℕ → List (Abend × Bool) = λ dt. (A05, nat_lt dynamic_end (dt + 4)) ∷ [] in
     let z : Scene = scene s u t g loadable leads (ins.Call 0 to) (Calls true) more (call_is to) turn in
     let p : Spot = here s u t g loadable leads (ins.Call 0 to) turn in
