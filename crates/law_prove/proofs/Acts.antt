@@ -1,6 +1,6 @@
 -- Each act of a row leads from a place that is seen to one that is seen: its key is that of the frame after the act, and
 -- what is known is so.
-use Rattle.std.proofs.Common.{◌≡◌, ℕ, zero, suc, ◌+◌, ◌-◌, ◌<◌, ◌≤◌, Bool, true, false, cond, List, [], ◌∷◌, ◌++◌, length, take, drop, Option, Some, None, refl, sym, ap, subst, ◌∙◌, arith}
+use Rattle.std.proofs.Common.{◌≡◌, ℕ, zero, suc, ◌+◌, ◌-◌, ◌<◌, ◌≤◌, Bool, true, false, cond, List, [], ◌∷◌, ◌++◌, length, take, drop, Option, Some, None, refl, sym, ap, ◌∙◌, arith}
 use Rattle.std.specs.Prelude.{not, ◌&&◌, nat_lt, nat_le, is_none, slice_index, ⊤}
 use Rattle.std.proofs.lemmas.Bool.{lt-ltb, ltb-true, leb-true}
 use Rattle.model_prove.specs.model_device.specs.Bytes.{AreBytes, bytes2, splice}
@@ -21,7 +21,7 @@ use Rattle.model_prove.specs.Laws.{HoldsBytes}
 use Rattle.model_prove.specs.Arrivals.{Setting, static_size, settled, la_at}
 use Rattle.model_prove.specs.Steps.{Spot, sets, lowered, acted, with_flags, settled_spot, makes_write}
 use Rattle.model_prove.proofs.CompareLemmas.{touched_holds}
-use Rattle.law_prove.specs.Coverings.{moment_memory, frame_memory, AreOpen, IsKnown}
+use Rattle.law_prove.specs.Coverings.{moment_memory, frame_memory, IsKnown}
 use Rattle.law_prove.proofs.Windows.{window, windows_same, taken_is, index_within}
 use Rattle.law_prove.proofs.Spots.{place_key, Covers}
 use Rattle.law_prove.proofs.Known.{filter_holds, open_below}

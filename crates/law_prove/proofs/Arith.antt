@@ -27,7 +27,7 @@ use Rattle.law_prove.proofs.Single.{going, RowCase}
 use Rattle.law_prove.proofs.Moves.{inside_of, positive, above_by, turn_sized}
 use Rattle.law_prove.proofs.Worked.{worked, worked_length, worked_zero, worked_bytes, worked_difference, carries_of}
 use Rattle.law_prove.proofs.Narrowed.{InSpan, IsRun, Speaks, span_is, span_allowed, order_is, orders_allowed}
-use Rattle.law_prove.proofs.Blocks.{set_flags, outcome_row, outcome_limited, compared_outcome, written_outcome, operation}
+use Rattle.law_prove.proofs.Blocks.{set_flags, outcome_row, outcome_limited, compared_outcome, written_outcome}
 
 -- ---- flags and the last compare
 
@@ -162,11 +162,15 @@ module _ (i : Ins) (tag : ℕ) (off : ℤ) (n : ℕ) (op : Operation) (b : List 
       (immediate_so op a n b turn.place.known.compare m turn.place.compares size bytes are (is.runs xs (from_length m a n) bytes)) all)
 
   -- the row writes its result
-  pub record Results (val : List ℕ → List ℕ) (fl : Frame → List ℕ → Bool × Bool) : Type 0 where
+  pub record ResultRow (val : List ℕ → List ℕ) (fl : Frame → List ℕ → Bool × Bool) : Type 0 where
     pub cause : (f : Frame) (public : List ℕ) (x : Around) → causes i f public x ≡ pre ++ (A04, tag == 0 && is_under f n) ∷ (A03, no_access f (operand f tag off n) n) ∷ (A08, too_many f (address_or_zero (operand f tag off n)) n) ∷ []
     pub form : (f : Frame) (public : List ℕ) (x : Around)
         → shape i f public x ≡ (let v = bytes_at f public (address_or_zero (operand f tag off n)) n in going f.dt (Writes (address_or_zero (operand f tag off n)) n (val v)) (Some (fl f v)))
     pub task : (f : Frame) (public : List ℕ) → work i f public ≡ Works (immediate op (address_or_zero (operand f tag off n)) n b true)
+
+  -- and that is the result of the operation
+  pub record Results (val : List ℕ → List ℕ) (fl : Frame → List ℕ → Bool × Bool) : Type 0 where
+    pub row : ResultRow val fl
     pub value : (n == 0) ≡ false → (xs : List ℕ) → length xs ≡ n → AreBytes xs → val xs ≡ (worked op xs b).0
     pub flags : (n == 0) ≡ false → (f : Frame) (xs : List ℕ) → length xs ≡ n → AreBytes xs → fl f xs ≡ set_flags (carries_of op) (worked op xs b).1 f
     pub runs : (xs : List ℕ) → length xs ≡ n → AreBytes xs → RunsAs op true n xs b
@@ -190,20 +194,20 @@ module _ (i : Ins) (tag : ℕ) (off : ℤ) (n : ℕ) (op : Operation) (b : List 
       let v0 = bytes_at l blank a n in
       let r = worked op xs b in
       outcome_limited s u t g loadable leads i turn cs was (too_many f a n) turn.frame.dt (Writes a n (val v0)) (Writes a n r.0) (Some (fl l v0)) (Some (set_flags (carries_of op) r.1 turn.frame)) (Works (immediate op a n b true)) includes
-      (is.cause l blank nobody
+      (is.row.cause l blank nobody
       ∙ (ap (λ (z : Option ℕ). pre ++ (A04, tag == 0 && is_under f n) ∷ (A03, no_access l z n) ∷ (A08, too_many l (address_or_zero z) n) ∷ []) same
       ∙ (ap (λ (z : Bool). pre ++ (A04, tag == 0 && is_under f n) ∷ (A03, z) ∷ (A08, was) ∷ []) (same_access f dyn o n) ∙ sym (append_assoc pre later ((A08, was) ∷ [])))))
-      (is.cause f turn.public turn.around ∙ sym (append_assoc pre later ((A08, too_many f a n) ∷ [])))
-      (is.form l blank nobody ∙ ap (λ (z : Option ℕ). let v = bytes_at l blank (address_or_zero z) n in going f.dt (Writes (address_or_zero z) n (val v)) (Some (fl l v))) same)
+      (is.row.cause f turn.public turn.around ∙ sym (append_assoc pre later ((A08, too_many f a n) ∷ [])))
+      (is.row.form l blank nobody ∙ ap (λ (z : Option ℕ). let v = bytes_at l blank (address_or_zero z) n in going f.dt (Writes (address_or_zero z) n (val v)) (Some (fl l v))) same)
       (λ none.
       let parts = none_before later none in
       let within : is_none (where_is f a n) ≡ false = inside_of f o n (some parts.0) parts.1.1.0 in
       let read : bytes_at f turn.public a n ≡ xs = read_is f turn.public a n sized (some parts.0) within in
-      is.form f turn.public turn.around
+      is.row.form f turn.public turn.around
       ∙ (ap (λ (v : List ℕ). going f.dt (Writes a n (val v)) (Some (fl f v))) read
       ∙ (ap (λ (v : List ℕ). going f.dt (Writes a n v) (Some (fl f xs))) (is.value (some parts.0) xs (from_length m a n) bytes)
       ∙ ap (λ (z : Bool × Bool). going f.dt (Writes a n r.0) (Some z)) (is.flags (some parts.0) f xs (from_length m a n) bytes))))
-      (is.task l blank ∙ ap (λ (z : Option ℕ). Works (immediate op (address_or_zero z) n b true)) same) refl
+      (is.row.task l blank ∙ ap (λ (z : Option ℕ). Works (immediate op (address_or_zero z) n b true)) same) refl
       (λ none many less. many_wait s f a n n (val v0) (positive n (some (none_before later none).0)) turn.place.frame.size turn.place.frame.inside many)
       (λ none many. absurd (cc (sym unmet ∙ many)))
       (λ none all.
@@ -260,11 +264,15 @@ module _ (i : Ins) (tag : ℕ) (off : ℤ) (n : ℕ) (op : Operation) (few : n �
       (order_left n xs ys (from_length m a n) (from_length m (d - n) n) first second runs) all)
 
   -- the row writes its result
-  pub record PairResults (val : List ℕ → List ℕ → List ℕ) (fl : Frame → List ℕ → List ℕ → Bool × Bool) : Type 0 where
+  pub record PairResultRow (val : List ℕ → List ℕ → List ℕ) (fl : Frame → List ℕ → List ℕ → Bool × Bool) : Type 0 where
     pub cause : (f : Frame) (public : List ℕ) (x : Around) → causes i f public x ≡ pre ∷ (A04, is_under f (on_stack tag (2 * n) n)) ∷ (A03, no_access f (operand f tag off (2 * n)) n) ∷ (A08, too_many f (address_or_zero (operand f tag off (2 * n))) n) ∷ []
     pub form : (f : Frame) (public : List ℕ) (x : Around)
         → shape i f public x ≡ (let v = bytes_at f public (address_or_zero (operand f tag off (2 * n))) n in going f.dt (Writes (address_or_zero (operand f tag off (2 * n))) n (val v (top f n))) (Some (fl f v (top f n))))
     pub task : (f : Frame) (public : List ℕ) → work i f public ≡ Works (with_bytes op (address_or_zero (operand f tag off (2 * n))) n (f.dt - n) true)
+
+  -- and that is the result of the operation
+  pub record PairResults (val : List ℕ → List ℕ → List ℕ) (fl : Frame → List ℕ → List ℕ → Bool × Bool) : Type 0 where
+    pub row : PairResultRow val fl
     pub value : (xs ys : List ℕ) → length xs ≡ n → length ys ≡ n → AreBytes xs → AreBytes ys → val xs ys ≡ (worked op xs ys).0
     pub flags : (f : Frame) (xs ys : List ℕ) → length xs ≡ n → length ys ≡ n → AreBytes xs → AreBytes ys → fl f xs ys ≡ set_flags (carries_of op) (worked op xs ys).1 f
     pub runs : (xs ys : List ℕ) → length xs ≡ n → length ys ≡ n → AreBytes xs → AreBytes ys → RunsAs op true n xs ys
@@ -291,22 +299,22 @@ module _ (i : Ins) (tag : ℕ) (off : ℤ) (n : ℕ) (op : Operation) (few : n �
       let w0 = top l n in
       let r = worked op xs ys in
       outcome_limited s u t g loadable leads i turn cs was (too_many f a n) d (Writes a n (val v0 w0)) (Writes a n r.0) (Some (fl l v0 w0)) (Some (set_flags (carries_of op) r.1 turn.frame)) (Works (with_bytes op a n (d - n) true)) includes
-      (is.cause l blank nobody
+      (is.row.cause l blank nobody
       ∙ (ap (λ (z : Option ℕ). pre ∷ (A04, is_under f (on_stack tag (2 * n) n)) ∷ (A03, no_access l z n) ∷ (A08, too_many l (address_or_zero z) n) ∷ []) same
       ∙ ap (λ (z : Bool). pre ∷ (A04, is_under f (on_stack tag (2 * n) n)) ∷ (A03, z) ∷ (A08, was) ∷ []) (same_access f dyn o n)))
-      (is.cause f turn.public turn.around)
-      (is.form l blank nobody ∙ ap (λ (z : Option ℕ). let v = bytes_at l blank (address_or_zero z) n in going f.dt (Writes (address_or_zero z) n (val v w0)) (Some (fl l v w0))) same)
+      (is.row.cause f turn.public turn.around)
+      (is.row.form l blank nobody ∙ ap (λ (z : Option ℕ). let v = bytes_at l blank (address_or_zero z) n in going f.dt (Writes (address_or_zero z) n (val v w0)) (Some (fl l v w0))) same)
       (λ none.
       let within : is_none (where_is f a n) ≡ false = inside_of f o n (some none.0) none.1.1.0 in
       let over : dynamic_base + turn.frame.session + n ≤ d = above_by f (tag == 0) n none.1.0 in
       let read : bytes_at f turn.public a n ≡ xs = read_is f turn.public a n sized (some none.0) within in
       let tops : top f n ≡ ys = top_is f turn.public n sized (omega (arith, over)) in
-      is.form f turn.public turn.around
+      is.row.form f turn.public turn.around
       ∙ (ap (λ (v : List ℕ). going f.dt (Writes a n (val v (top f n))) (Some (fl f v (top f n)))) read
       ∙ (ap (λ (v : List ℕ). going f.dt (Writes a n (val xs v)) (Some (fl f xs v))) tops
       ∙ (ap (λ (v : List ℕ). going f.dt (Writes a n v) (Some (fl f xs ys))) (is.value xs ys (from_length m a n) (from_length m (d - n) n) first second)
       ∙ ap (λ (z : Bool × Bool). going f.dt (Writes a n r.0) (Some z)) (is.flags f xs ys (from_length m a n) (from_length m (d - n) n) first second)))))
-      (is.task l blank ∙ ap (λ (z : Option ℕ). Works (with_bytes op (address_or_zero z) n (d - n) true)) same) refl
+      (is.row.task l blank ∙ ap (λ (z : Option ℕ). Works (with_bytes op (address_or_zero z) n (d - n) true)) same) refl
       (λ none many less. many_wait s f a n n (val v0 w0) (positive n (some none.0)) turn.place.frame.size turn.place.frame.inside many)
       (λ none many. absurd (cc (sym unmet ∙ many)))
       (λ none all.

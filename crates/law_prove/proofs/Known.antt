@@ -1,12 +1,10 @@
 -- What is known of a frame, and what of it stays if less is known: static bytes without protection, open calls.
 use Rattle.std.proofs.Common.{◌≡◌, ℕ, None, ◌-◌, ◌<◌, Bool, true, false, cond, List, [], ◌∷◌, length, refl, sym, ap, ◌∙◌}
-use Rattle.std.specs.Prelude.{not, nat_lt, filter, flat_map, slice_index}
+use Rattle.std.specs.Prelude.{nat_lt, filter, flat_map, slice_index}
 use Rattle.std.proofs.lemmas.Bool.{ltb-false, lt-ltb}
 use Rattle.model_prove.specs.model_device.specs.Pieces.{laid_pieces}
-use Rattle.model_prove.specs.model_machine.specs.declared.instruction.Ins.TheVariants as ins
 use Rattle.model_prove.specs.model_machine.specs.Frame.{Frame, dynamic_base, floor, static_bytes}
 use Rattle.model_prove.specs.model_machine.specs.Primitives.{Around}
-use Rattle.model_prove.specs.model_machine.specs.Row.{row}
 use Rattle.model_prove.specs.Sets.{Set, is_in}
 use Rattle.model_prove.specs.Facts.{Facts, Memory, Holds}
 use Rattle.model_prove.specs.Keys.{Start, Delegated, OfClass, Call, Tables, calls_before, calls_below}

@@ -1,15 +1,15 @@
 -- The facts of operands narrowed to the digits of a way hold, and the last compare allows the flags of the machine.
-use Rattle.std.proofs.Common.{◌≡◌, ℕ, zero, suc, ◌+◌, ◌-◌, ◌*◌, ◌^◌, ◌<◌, ◌≤◌, Bool, true, false, cond, not, List, [], ◌∷◌, length, Option, Some, refl, sym, ap, subst, ◌∙◌, arith}
+use Rattle.std.proofs.Common.{◌≡◌, ℕ, zero, suc, ◌+◌, ◌-◌, ◌*◌, ◌^◌, ◌<◌, ◌≤◌, Bool, true, false, cond, not, List, [], ◌∷◌, length, Option, Some, refl, sym, ap, ◌∙◌, arith}
 use Rattle.std.specs.Prelude.{◌&&◌, ◌||◌, ◌==◌, nat_lt, nat_le, min, max, ⊤}
 use Rattle.std.proofs.lemmas.Bool.{and_parts, le-leb, leb-true, lt-ltb, ltb-true, eq-eqb, eqb-true, or_left}
 use Rattle.model_prove.specs.model_device.specs.Bytes.{num}
 use Rattle.model_prove.specs.Sets.{Set, is_in, common}
-use Rattle.model_prove.specs.Facts.{Facts, Memory, Holds, values_at, values_from, know, narrowed_to, narrow_all}
+use Rattle.model_prove.specs.Facts.{Facts, Memory, Holds, values_at, know, narrowed_to, narrow_all}
 use Rattle.model_prove.specs.Compares.{Compare, NoCompare, Bounds, Ordered, Orders, Span, bytes_from, has_order, IsSo, greatest, orders_of, have_common, span_added, span_subtracted, spans_meet, allows_span, allows_orders}
 use Rattle.model_prove.specs.Digits.{Operation, Plus, Minus, And, Or, Xor, Flags, carried}
 use Rattle.model_prove.specs.Work.{Operand, AtAddress, These}
 use Rattle.model_prove.specs.Laws.{AreIn, HoldsBytes}
-use Rattle.model_prove.specs.Steps.{operand_sets, operand_narrowed, span_of, allows}
+use Rattle.model_prove.specs.Steps.{operand_sets, operand_narrowed, span_of}
 use Rattle.model_prove.proofs.ChangeLemmas.{written_holds}
 use Rattle.model_prove.proofs.FactLemmas.{value_holds}
 use Rattle.model_prove.proofs.SetLemmas.{in_common}

@@ -1,13 +1,15 @@
 -- The rows that compare, test and compute: each is one of the operations on digits.
 use native.Mathlib.Nat.{mod-eq_of_lt}
-use Rattle.std.proofs.Common.{◌≡◌, ℕ, zero, suc, ◌+◌, ◌-◌, ◌*◌, ◌%◌, ◌^◌, ◌<◌, Bool, true, false, List, [], ◌∷◌, length, replicate, ℤ, refl, sym, ap, subst, ◌∙◌, arith}
+use Rattle.std.proofs.Common.{◌≡◌, ℕ, zero, suc, ◌+◌, ◌-◌, ◌*◌, ◌%◌, ◌^◌, ◌<◌, ◌≤◌, Bool, true, false, List, [], ◌∷◌, length, replicate, ℤ, refl, sym, ap, ◌∙◌, arith}
 use Rattle.std.specs.Prelude.{not, ◌&&◌, ◌==◌, bit_and, bit_or, bit_xor}
 use Rattle.std.proofs.lemmas.Bool.{and_parts, eqb-true, eqb-false}
 use Rattle.std.proofs.lemmas.List.{length-replicate}
 use Rattle.model_prove.specs.model_device.specs.Bytes.{AreBytes, num, bytes, bytes2, zeros}
 use Rattle.model_prove.specs.model_device.proofs.ListLemmas.{pair_bytes, length_bytes}
 use Rattle.model_prove.specs.model_machine.specs.declared.instruction.Ins.TheVariants as ins
+use Rattle.model_prove.specs.model_machine.specs.declared.instruction.Ins.{Ins}
 use Rattle.model_prove.specs.model_machine.specs.declared.machine.Abend.TheVariants.{A06}
+use Rattle.model_prove.specs.model_machine.specs.declared.machine.Abend.{Abend}
 use Rattle.model_prove.specs.model_machine.specs.Blocks.{Worked, add_blocks, sub_blocks, inc_block, dec_block, is_zero, and_blocks, or_blocks, xor_blocks, not_block}
 use Rattle.model_prove.specs.model_machine.specs.Primitives.{in_range}
 use Rattle.model_prove.specs.model_machine.specs.Row.{causes}
@@ -18,9 +20,10 @@ use Rattle.mc_arith.proofs.ResultLemmas.{sum_is, difference_is, inc_is, dec_is}
 use Rattle.model_prove.specs.law_bytes.proofs.ByteLists.{zero_bytes, number_bytes}
 use Rattle.model_prove.specs.Digits.{Operation, Plus, Minus, And, Or, Xor, carried}
 use Rattle.law_prove.specs.Laws.{CompareLaw, SumLaw, BitLaw}
+use Rattle.law_prove.proofs.Turns.{NoCause}
 use Rattle.law_prove.proofs.Single.{RowCase, law_of}
-use Rattle.law_prove.proofs.Worked.{worked, worked_length, worked_zero, worked_bytes, worked_sum, worked_difference, worked_and, worked_or, worked_xor, not_zero}
-use Rattle.law_prove.proofs.Arith.{RunsAs, compare_case, result_case, pair_compare_case, pair_result_case}
+use Rattle.law_prove.proofs.Worked.{carries_of, worked, worked_length, worked_zero, worked_bytes, worked_sum, worked_difference, worked_and, worked_or, worked_xor, not_zero}
+use Rattle.law_prove.proofs.Arith.{RunsAs, ordered, ResultRow, PairResultRow, compare_case, result_case, pair_compare_case, pair_result_case}
 
 -- ---- the machine's numbers
 
@@ -96,6 +99,62 @@ cmpn_case tag off n s u t g loadable leads turn includes =
       flags = λ f xs ys a b h k. ap both_flags (difference_left xs ys (a ∙ sym b) h k);
     }) s u t g loadable leads turn includes
 
+-- the flags of a result of bits
+bit_flags : (op : Operation) (c : Bool) (v xs ys : List ℕ) → length xs ≡ length ys → v ≡ (worked op xs ys).0 → ◌≡◌ {A = Bool × Bool} (c, is_zero v) (c, ((worked op xs ys).1).z)
+bit_flags op c v xs ys l is = ap (λ (b : Bool). (c, b)) (ap is_zero is ∙ sym (worked_zero op xs ys l))
+
+-- ---- sums and differences
+
+module _ (i : Ins) (tag : ℕ) (off : ℤ) (n : ℕ) (op : Operation) (b : List ℕ) (size : length b ≡ n) (are : AreBytes b) (few : n ≤ 256) (pre : List (Abend × Bool)) (some : NoCause pre → (n == 0) ≡ false) where
+  -- with an immediate
+  sum_case : (by : List ℕ → Worked) → ((n == 0) ≡ false → (xs : List ℕ) → length xs ≡ n → AreBytes xs → by xs ≡ left_by op xs b) → carries_of op ≡ true
+      → ((xs : List ℕ) → length xs ≡ n → AreBytes xs → RunsAs op true n xs b) → ResultRow i tag off n op b size are few pre some (λ xs. (by xs).value) (λ f xs. both_flags (by xs)) → RowCase i
+  sum_case by left both runs row =
+      result_case i tag off n op b size are few pre some (λ xs. (by xs).value) (λ f xs. both_flags (by xs))
+      (record {
+        row = row;
+        value = λ some xs long bytes. ap (λ (w : Worked). w.value) (left some xs long bytes);
+        flags = λ some f xs long bytes. rw both (ap both_flags (left some xs long bytes));
+        runs = runs;
+      })
+
+  -- the bits of a block and of an immediate
+  bits_case : (val : List ℕ → List ℕ) → ((xs : List ℕ) → length xs ≡ n → AreBytes xs → val xs ≡ (worked op xs b).0) → carries_of op ≡ false → ordered op true ≡ false
+      → ResultRow i tag off n op b size are few pre some val (λ f xs. (f.c, is_zero (val xs))) → RowCase i
+  bits_case val left none plain row =
+      result_case i tag off n op b size are few pre some val (λ f xs. (f.c, is_zero (val xs)))
+      (record {
+        row = row;
+        value = λ some xs long bytes. left xs long bytes;
+        flags = λ some f xs long bytes. rw none (bit_flags op f.c (val xs) xs b (long ∙ sym size) (left xs long bytes));
+        runs = λ xs long bytes e. absurd (cc (e, plain));
+      })
+
+module _ (i : Ins) (tag : ℕ) (off : ℤ) (n : ℕ) (op : Operation) (few : n ≤ 256) (pre : Abend × Bool) (some : pre.1 ≡ false → (n == 0) ≡ false) where
+  -- of a block and the top of the stack
+  pair_sum_case : (by : List ℕ → List ℕ → Worked) → ((xs ys : List ℕ) → length xs ≡ length ys → AreBytes xs → AreBytes ys → by xs ys ≡ left_by op xs ys) → carries_of op ≡ true
+      → ((xs ys : List ℕ) → length xs ≡ n → length ys ≡ n → AreBytes xs → AreBytes ys → RunsAs op true n xs ys) → PairResultRow i tag off n op few pre some (λ xs ys. (by xs ys).value) (λ f xs ys. both_flags (by xs ys)) → RowCase i
+  pair_sum_case by left both runs row =
+      pair_result_case i tag off n op few pre some (λ xs ys. (by xs ys).value) (λ f xs ys. both_flags (by xs ys))
+      (record {
+        row = row;
+        value = λ xs ys a b h k. ap (λ (w : Worked). w.value) (left xs ys (a ∙ sym b) h k);
+        flags = λ f xs ys a b h k. rw both (ap both_flags (left xs ys (a ∙ sym b) h k));
+        runs = runs;
+      })
+
+  -- the bits of a block and of the top of the stack
+  pair_bits_case : (val : List ℕ → List ℕ → List ℕ) → ((xs ys : List ℕ) → (worked op xs ys).0 ≡ val xs ys) → carries_of op ≡ false → ordered op true ≡ false
+      → PairResultRow i tag off n op few pre some val (λ f xs ys. (f.c, is_zero (val xs ys))) → RowCase i
+  pair_bits_case val left none plain row =
+      pair_result_case i tag off n op few pre some val (λ f xs ys. (f.c, is_zero (val xs ys)))
+      (record {
+        row = row;
+        value = λ xs ys a b h k. sym (left xs ys);
+        flags = λ f xs ys a b h k. rw none (bit_flags op f.c (val xs ys) xs ys (a ∙ sym b) (sym (left xs ys)));
+        runs = λ xs ys a b h k e. absurd (cc (e, plain));
+      })
+
 -- ---- sums and differences with an immediate
 
 addb_case : (tag : ℕ) (off : ℤ) (v : ℕ) → RowCase (ins.Addb tag off v)
@@ -103,60 +162,32 @@ unfolding causes shape
 addb_case tag off v s u t g loadable leads turn includes =
     let b = v ∷ [] in
     let are : AreBytes b = (turn.shaped.1, tt) in
-    result_case (ins.Addb tag off v) tag off 1 Plus b refl are (omega arith) [] (λ none. refl) (λ xs. (add_blocks xs b).value) (λ f xs. both_flags (add_blocks xs b))
-    (record {
-      cause = λ f public x. refl;
-      form = λ f public x. refl;
-      task = λ f public. refl;
-      value = λ some xs size bytes. ap (λ (w : Worked). w.value) (sum_left xs b size bytes are);
-      flags = λ some f xs size bytes. ap both_flags (sum_left xs b size bytes are);
-      runs = λ xs size bytes. runs_plus true 1 xs b size refl bytes are;
-    }) s u t g loadable leads turn includes
+    sum_case (ins.Addb tag off v) tag off 1 Plus b refl are (omega arith) [] (λ none. refl) (λ xs. add_blocks xs b) (λ some xs long bytes. sum_left xs b long bytes are) refl
+    (λ xs long bytes. runs_plus true 1 xs b long refl bytes are) (record { cause = λ f public x. refl; form = λ f public x. refl; task = λ f public. refl }) s u t g loadable leads turn includes
 
 addw_case : (tag : ℕ) (off : ℤ) (v : ℕ) → RowCase (ins.Addw tag off v)
 unfolding causes shape
 addw_case tag off v s u t g loadable leads turn includes =
     let b = bytes2 v in
     let are : AreBytes b = pair_bytes v in
-    result_case (ins.Addw tag off v) tag off 2 Plus b refl are (omega arith) [] (λ none. refl) (λ xs. (add_blocks xs b).value) (λ f xs. both_flags (add_blocks xs b))
-    (record {
-      cause = λ f public x. refl;
-      form = λ f public x. refl;
-      task = λ f public. refl;
-      value = λ some xs size bytes. ap (λ (w : Worked). w.value) (sum_left xs b size bytes are);
-      flags = λ some f xs size bytes. ap both_flags (sum_left xs b size bytes are);
-      runs = λ xs size bytes. runs_plus true 2 xs b size refl bytes are;
-    }) s u t g loadable leads turn includes
+    sum_case (ins.Addw tag off v) tag off 2 Plus b refl are (omega arith) [] (λ none. refl) (λ xs. add_blocks xs b) (λ some xs long bytes. sum_left xs b long bytes are) refl
+    (λ xs long bytes. runs_plus true 2 xs b long refl bytes are) (record { cause = λ f public x. refl; form = λ f public x. refl; task = λ f public. refl }) s u t g loadable leads turn includes
 
 subb_case : (tag : ℕ) (off : ℤ) (v : ℕ) → RowCase (ins.Subb tag off v)
 unfolding causes shape
 subb_case tag off v s u t g loadable leads turn includes =
     let b = v ∷ [] in
     let are : AreBytes b = (turn.shaped.1, tt) in
-    result_case (ins.Subb tag off v) tag off 1 Minus b refl are (omega arith) [] (λ none. refl) (λ xs. (sub_blocks xs b).value) (λ f xs. both_flags (sub_blocks xs b))
-    (record {
-      cause = λ f public x. refl;
-      form = λ f public x. refl;
-      task = λ f public. refl;
-      value = λ some xs size bytes. ap (λ (w : Worked). w.value) (difference_left xs b size bytes are);
-      flags = λ some f xs size bytes. ap both_flags (difference_left xs b size bytes are);
-      runs = λ xs size bytes. runs_minus true 1 xs b size refl bytes are;
-    }) s u t g loadable leads turn includes
+    sum_case (ins.Subb tag off v) tag off 1 Minus b refl are (omega arith) [] (λ none. refl) (λ xs. sub_blocks xs b) (λ some xs long bytes. difference_left xs b long bytes are) refl
+    (λ xs long bytes. runs_minus true 1 xs b long refl bytes are) (record { cause = λ f public x. refl; form = λ f public x. refl; task = λ f public. refl }) s u t g loadable leads turn includes
 
 subw_case : (tag : ℕ) (off : ℤ) (v : ℕ) → RowCase (ins.Subw tag off v)
 unfolding causes shape
 subw_case tag off v s u t g loadable leads turn includes =
     let b = bytes2 v in
     let are : AreBytes b = pair_bytes v in
-    result_case (ins.Subw tag off v) tag off 2 Minus b refl are (omega arith) [] (λ none. refl) (λ xs. (sub_blocks xs b).value) (λ f xs. both_flags (sub_blocks xs b))
-    (record {
-      cause = λ f public x. refl;
-      form = λ f public x. refl;
-      task = λ f public. refl;
-      value = λ some xs size bytes. ap (λ (w : Worked). w.value) (difference_left xs b size bytes are);
-      flags = λ some f xs size bytes. ap both_flags (difference_left xs b size bytes are);
-      runs = λ xs size bytes. runs_minus true 2 xs b size refl bytes are;
-    }) s u t g loadable leads turn includes
+    sum_case (ins.Subw tag off v) tag off 2 Minus b refl are (omega arith) [] (λ none. refl) (λ xs. sub_blocks xs b) (λ some xs long bytes. difference_left xs b long bytes are) refl
+    (λ xs long bytes. runs_minus true 2 xs b long refl bytes are) (record { cause = λ f public x. refl; form = λ f public x. refl; task = λ f public. refl }) s u t g loadable leads turn includes
 
 -- ---- INCN and DECN
 
@@ -229,10 +260,6 @@ all_ones : (n : ℕ) → AreBytes (replicate n 255)
 all_ones zero = tt
 all_ones (suc n) = (omega arith, all_ones n)
 
--- the flags of a result of bits
-bit_flags : (op : Operation) (c : Bool) (v xs ys : List ℕ) → length xs ≡ length ys → v ≡ (worked op xs ys).0 → ◌≡◌ {A = Bool × Bool} (c, is_zero v) (c, ((worked op xs ys).1).z)
-bit_flags op c v xs ys l is = ap (λ (b : Bool). (c, b)) (ap is_zero is ∙ sym (worked_zero op xs ys l))
-
 cleared : (n : ℕ) (xs : List ℕ) → length xs ≡ n → AreBytes xs → zeros n ≡ and_blocks xs (zeros n)
 cleared n xs long h = rw (← long) (sym (cleared_block xs h))
 
@@ -246,35 +273,15 @@ clearn_case : (tag : ℕ) (off : ℤ) (n : ℕ) → RowCase (ins.Clearn tag off 
 unfolding causes shape
 clearn_case tag off n s u t g loadable leads turn includes =
     let byte : n < 256 = turn.shaped.1 in
-    let b = zeros n in
-    let size : length b ≡ n = length-replicate {A = ℕ} n 0 in
-    let are : AreBytes b = zero_bytes n in
-    result_case (ins.Clearn tag off n) tag off n And b size are (omega (arith, byte)) ((A06, n == 0) ∷ []) (λ none. none.0) (λ xs. zeros n) (λ f xs. (f.c, is_zero (zeros n)))
-    (record {
-      cause = λ f public x. refl;
-      form = λ f public x. refl;
-      task = λ f public. refl;
-      value = λ some xs long bytes. cleared n xs long bytes ∙ sym (worked_and xs b);
-      flags = λ some f xs long bytes. bit_flags And f.c (zeros n) xs b (long ∙ sym size) (cleared n xs long bytes ∙ sym (worked_and xs b));
-      runs = λ xs long bytes. λ e. absurd (cc e);
-    }) s u t g loadable leads turn includes
+    bits_case (ins.Clearn tag off n) tag off n And (zeros n) (length-replicate {A = ℕ} n 0) (zero_bytes n) (omega (arith, byte)) ((A06, n == 0) ∷ []) (λ none. none.0) (λ xs. zeros n)
+    (λ xs long bytes. cleared n xs long bytes ∙ sym (worked_and xs (zeros n))) refl refl (record { cause = λ f public x. refl; form = λ f public x. refl; task = λ f public. refl }) s u t g loadable leads turn includes
 
 notn_case : (tag : ℕ) (off : ℤ) (n : ℕ) → RowCase (ins.Notn tag off n)
 unfolding causes shape
 notn_case tag off n s u t g loadable leads turn includes =
     let byte : n < 256 = turn.shaped.1 in
-    let b = replicate n 255 in
-    let size : length b ≡ n = length-replicate {A = ℕ} n 255 in
-    let are : AreBytes b = all_ones n in
-    result_case (ins.Notn tag off n) tag off n Xor b size are (omega (arith, byte)) ((A06, n == 0) ∷ []) (λ none. none.0) (λ xs. not_block xs) (λ f xs. (f.c, is_zero (not_block xs)))
-    (record {
-      cause = λ f public x. refl;
-      form = λ f public x. refl;
-      task = λ f public. refl;
-      value = λ some xs long bytes. inverted n xs long bytes ∙ sym (worked_xor xs b);
-      flags = λ some f xs long bytes. bit_flags Xor f.c (not_block xs) xs b (long ∙ sym size) (inverted n xs long bytes ∙ sym (worked_xor xs b));
-      runs = λ xs long bytes. λ e. absurd (cc e);
-    }) s u t g loadable leads turn includes
+    bits_case (ins.Notn tag off n) tag off n Xor (replicate n 255) (length-replicate {A = ℕ} n 255) (all_ones n) (omega (arith, byte)) ((A06, n == 0) ∷ []) (λ none. none.0) not_block
+    (λ xs long bytes. inverted n xs long bytes ∙ sym (worked_xor xs (replicate n 255))) refl refl (record { cause = λ f public x. refl; form = λ f public x. refl; task = λ f public. refl }) s u t g loadable leads turn includes
 
 testn_case : (tag : ℕ) (off : ℤ) (n : ℕ) → RowCase (ins.Testn tag off n)
 unfolding causes shape
@@ -298,33 +305,17 @@ incn_case : (tag : ℕ) (off : ℤ) (n : ℕ) → RowCase (ins.Incn tag off n)
 unfolding causes shape
 incn_case tag off n s u t g loadable leads turn includes =
     let byte : n < 256 = turn.shaped.1 in
-    let b = bytes n 1 in
-    let are : AreBytes b = number_bytes n 1 in
-    result_case (ins.Incn tag off n) tag off n Plus b (length_bytes n 1) are (omega (arith, byte)) ((A06, not (in_range 1 16 n)) ∷ []) (λ none. ranged n none.0) (λ xs. (inc_block xs).value) (λ f xs. both_flags (inc_block xs))
-    (record {
-      cause = λ f public x. refl;
-      form = λ f public x. refl;
-      task = λ f public. refl;
-      value = λ some xs long bytes. ap (λ (w : Worked). w.value) (inc_left n xs some long bytes);
-      flags = λ some f xs long bytes. ap both_flags (inc_left n xs some long bytes);
-      runs = λ xs long bytes. runs_plus true n xs b long (length_bytes n 1) bytes are;
-    }) s u t g loadable leads turn includes
+    let are : AreBytes (bytes n 1) = number_bytes n 1 in
+    sum_case (ins.Incn tag off n) tag off n Plus (bytes n 1) (length_bytes n 1) are (omega (arith, byte)) ((A06, not (in_range 1 16 n)) ∷ []) (λ none. ranged n none.0) inc_block (λ some xs. inc_left n xs some) refl
+    (λ xs long all. runs_plus true n xs (bytes n 1) long (length_bytes n 1) all are) (record { cause = λ f public x. refl; form = λ f public x. refl; task = λ f public. refl }) s u t g loadable leads turn includes
 
 decn_case : (tag : ℕ) (off : ℤ) (n : ℕ) → RowCase (ins.Decn tag off n)
 unfolding causes shape
 decn_case tag off n s u t g loadable leads turn includes =
     let byte : n < 256 = turn.shaped.1 in
-    let b = bytes n 1 in
-    let are : AreBytes b = number_bytes n 1 in
-    result_case (ins.Decn tag off n) tag off n Minus b (length_bytes n 1) are (omega (arith, byte)) ((A06, not (in_range 1 16 n)) ∷ []) (λ none. ranged n none.0) (λ xs. (dec_block xs).value) (λ f xs. both_flags (dec_block xs))
-    (record {
-      cause = λ f public x. refl;
-      form = λ f public x. refl;
-      task = λ f public. refl;
-      value = λ some xs long bytes. ap (λ (w : Worked). w.value) (dec_left n xs some long bytes);
-      flags = λ some f xs long bytes. ap both_flags (dec_left n xs some long bytes);
-      runs = λ xs long bytes. runs_minus true n xs b long (length_bytes n 1) bytes are;
-    }) s u t g loadable leads turn includes
+    let are : AreBytes (bytes n 1) = number_bytes n 1 in
+    sum_case (ins.Decn tag off n) tag off n Minus (bytes n 1) (length_bytes n 1) are (omega (arith, byte)) ((A06, not (in_range 1 16 n)) ∷ []) (λ none. ranged n none.0) dec_block (λ some xs. dec_left n xs some) refl
+    (λ xs long all. runs_minus true n xs (bytes n 1) long (length_bytes n 1) all are) (record { cause = λ f public x. refl; form = λ f public x. refl; task = λ f public. refl }) s u t g loadable leads turn includes
 
 -- ---- blocks against the top of the stack
 
@@ -332,71 +323,33 @@ addn_case : (tag : ℕ) (off : ℤ) (n : ℕ) → RowCase (ins.Addn tag off n)
 unfolding causes shape
 addn_case tag off n s u t g loadable leads turn includes =
     let byte : n < 256 = turn.shaped.1 in
-    pair_result_case (ins.Addn tag off n) tag off n Plus (omega (arith, byte)) (A06, not (in_range 1 16 n)) (λ none. ranged n none) (λ xs ys. (add_blocks xs ys).value) (λ f xs ys. both_flags (add_blocks xs ys))
-    (record {
-      cause = λ f public x. refl;
-      form = λ f public x. refl;
-      task = λ f public. refl;
-      value = λ xs ys a b h k. ap (λ (w : Worked). w.value) (sum_left xs ys (a ∙ sym b) h k);
-      flags = λ f xs ys a b h k. ap both_flags (sum_left xs ys (a ∙ sym b) h k);
-      runs = λ xs ys a b h k. runs_plus true n xs ys a b h k;
-    }) s u t g loadable leads turn includes
+    pair_sum_case (ins.Addn tag off n) tag off n Plus (omega (arith, byte)) (A06, not (in_range 1 16 n)) (λ none. ranged n none) add_blocks sum_left refl (runs_plus true n)
+    (record { cause = λ f public x. refl; form = λ f public x. refl; task = λ f public. refl }) s u t g loadable leads turn includes
 
 subn_case : (tag : ℕ) (off : ℤ) (n : ℕ) → RowCase (ins.Subn tag off n)
 unfolding causes shape
 subn_case tag off n s u t g loadable leads turn includes =
     let byte : n < 256 = turn.shaped.1 in
-    pair_result_case (ins.Subn tag off n) tag off n Minus (omega (arith, byte)) (A06, not (in_range 1 16 n)) (λ none. ranged n none) (λ xs ys. (sub_blocks xs ys).value) (λ f xs ys. both_flags (sub_blocks xs ys))
-    (record {
-      cause = λ f public x. refl;
-      form = λ f public x. refl;
-      task = λ f public. refl;
-      value = λ xs ys a b h k. ap (λ (w : Worked). w.value) (difference_left xs ys (a ∙ sym b) h k);
-      flags = λ f xs ys a b h k. ap both_flags (difference_left xs ys (a ∙ sym b) h k);
-      runs = λ xs ys a b h k. runs_minus true n xs ys a b h k;
-    }) s u t g loadable leads turn includes
+    pair_sum_case (ins.Subn tag off n) tag off n Minus (omega (arith, byte)) (A06, not (in_range 1 16 n)) (λ none. ranged n none) sub_blocks difference_left refl (runs_minus true n)
+    (record { cause = λ f public x. refl; form = λ f public x. refl; task = λ f public. refl }) s u t g loadable leads turn includes
 
 andn_case : (tag : ℕ) (off : ℤ) (n : ℕ) → RowCase (ins.Andn tag off n)
 unfolding causes shape
 andn_case tag off n s u t g loadable leads turn includes =
     let byte : n < 256 = turn.shaped.1 in
-    pair_result_case (ins.Andn tag off n) tag off n And (omega (arith, byte)) (A06, n == 0) (λ none. none) (λ xs ys. and_blocks xs ys) (λ f xs ys. (f.c, is_zero (and_blocks xs ys)))
-    (record {
-      cause = λ f public x. refl;
-      form = λ f public x. refl;
-      task = λ f public. refl;
-      value = λ xs ys a b h k. sym (worked_and xs ys);
-      flags = λ f xs ys a b h k. bit_flags And f.c (and_blocks xs ys) xs ys (a ∙ sym b) (sym (worked_and xs ys));
-      runs = λ xs ys a b h k. λ e. absurd (cc e);
-    }) s u t g loadable leads turn includes
+    pair_bits_case (ins.Andn tag off n) tag off n And (omega (arith, byte)) (A06, n == 0) (λ none. none) and_blocks worked_and refl refl (record { cause = λ f public x. refl; form = λ f public x. refl; task = λ f public. refl }) s u t g loadable leads turn includes
 
 orn_case : (tag : ℕ) (off : ℤ) (n : ℕ) → RowCase (ins.Orn tag off n)
 unfolding causes shape
 orn_case tag off n s u t g loadable leads turn includes =
     let byte : n < 256 = turn.shaped.1 in
-    pair_result_case (ins.Orn tag off n) tag off n Or (omega (arith, byte)) (A06, n == 0) (λ none. none) (λ xs ys. or_blocks xs ys) (λ f xs ys. (f.c, is_zero (or_blocks xs ys)))
-    (record {
-      cause = λ f public x. refl;
-      form = λ f public x. refl;
-      task = λ f public. refl;
-      value = λ xs ys a b h k. sym (worked_or xs ys);
-      flags = λ f xs ys a b h k. bit_flags Or f.c (or_blocks xs ys) xs ys (a ∙ sym b) (sym (worked_or xs ys));
-      runs = λ xs ys a b h k. λ e. absurd (cc e);
-    }) s u t g loadable leads turn includes
+    pair_bits_case (ins.Orn tag off n) tag off n Or (omega (arith, byte)) (A06, n == 0) (λ none. none) or_blocks worked_or refl refl (record { cause = λ f public x. refl; form = λ f public x. refl; task = λ f public. refl }) s u t g loadable leads turn includes
 
 xorn_case : (tag : ℕ) (off : ℤ) (n : ℕ) → RowCase (ins.Xorn tag off n)
 unfolding causes shape
 xorn_case tag off n s u t g loadable leads turn includes =
     let byte : n < 256 = turn.shaped.1 in
-    pair_result_case (ins.Xorn tag off n) tag off n Xor (omega (arith, byte)) (A06, n == 0) (λ none. none) (λ xs ys. xor_blocks xs ys) (λ f xs ys. (f.c, is_zero (xor_blocks xs ys)))
-    (record {
-      cause = λ f public x. refl;
-      form = λ f public x. refl;
-      task = λ f public. refl;
-      value = λ xs ys a b h k. sym (worked_xor xs ys);
-      flags = λ f xs ys a b h k. bit_flags Xor f.c (xor_blocks xs ys) xs ys (a ∙ sym b) (sym (worked_xor xs ys));
-      runs = λ xs ys a b h k. λ e. absurd (cc e);
-    }) s u t g loadable leads turn includes
+    pair_bits_case (ins.Xorn tag off n) tag off n Xor (omega (arith, byte)) (A06, n == 0) (λ none. none) xor_blocks worked_xor refl refl (record { cause = λ f public x. refl; form = λ f public x. refl; task = λ f public. refl }) s u t g loadable leads turn includes
 
 -- ---- the laws
 

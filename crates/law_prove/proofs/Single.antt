@@ -24,7 +24,7 @@ use Rattle.model_prove.specs.Keys.{Call, Known, Tables, calls_below}
 use Rattle.model_prove.specs.Splits.{stand_in, stand_in_stack}
 use Rattle.model_prove.specs.Work.{Work, AsShaped, Copies, work}
 use Rattle.model_prove.specs.Arrivals.{Setting, Arrival, fails}
-use Rattle.model_prove.specs.Steps.{Spot, lowered, acted, with_flags, settled_spot, makes_write, may_wait_too_long, follows, row_arrivals, caused, instruction, fetched, is_return, no_calls, returned_sets, shaped_bytes}
+use Rattle.model_prove.specs.Steps.{Spot, lowered, acted, with_flags, settled_spot, makes_write, may_wait_too_long, follows, row_arrivals, caused, fetched, is_return, no_calls, returned_sets, shaped_bytes}
 use Rattle.model_prove.specs.Tables.{IsLoadable, includes_all}
 use Rattle.law_prove.specs.Coverings.{IsFrameOf, IsPlace, covering_of}
 use Rattle.law_prove.specs.Laws.{LeadsInto, LeadLaw}

@@ -1,6 +1,6 @@
 -- A spot that covers the frame after an instruction, and is among the outcomes that closed tables include, is one of their
 -- places; and the event of an instruction that was done breaks nothing.
-use Rattle.std.proofs.Common.{◌≡◌, ℕ, ◌+◌, zero, suc, ◌≤◌, Bool, true, false, List, [], ◌∷◌, Some, Result, Ok, refl, sym, ap, subst, ◌∙◌, arith}
+use Rattle.std.proofs.Common.{◌≡◌, ℕ, ◌+◌, zero, suc, ◌≤◌, Bool, true, false, List, [], ◌∷◌, Some, Result, Ok, refl, ap, ◌∙◌, arith}
 use Rattle.std.specs.Prelude.{◌&&◌, ◌||◌, ◌==◌, not, nat_le, nat_lt, flat_map}
 use Rattle.std.proofs.lemmas.Bool.{and_parts, and_from, eqb-true, leb-true, le-leb}
 use Rattle.model_prove.specs.model_device.specs.Bytes.{AreBytes, num}
@@ -17,7 +17,7 @@ use Rattle.model_prove.specs.Compares.{Compare, NoCompare, Bounds, Ordered, Orde
 use Rattle.model_prove.specs.Keys.{Start, Delegated, OfClass, Call, PlaceKey, Known, Tables, compare_follows}
 use Rattle.model_prove.specs.Arrivals.{Setting, Arrival, AtPlace, arrive, depths, after_turn}
 use Rattle.model_prove.specs.Steps.{Spot}
-use Rattle.model_prove.specs.Tables.{place_at, includes_all}
+use Rattle.model_prove.specs.Tables.{includes_all}
 use Rattle.model_prove.specs.Laws.{HoldsBytes}
 use Rattle.model_prove.proofs.FactLemmas.{follow_holds}
 use Rattle.law_prove.specs.Coverings.{moment_memory, frame_memory, StartsAs, AreOpen, IsFrameOf, IsPlace}

@@ -1,6 +1,6 @@
 -- From an instruction at a place of tables to what follows it in those that they lead into: the first cause that holds,
 -- the event, the next place, and the stops of its write.
-use Rattle.std.proofs.Common.{◌≡◌, ℕ, ◌+◌, ◌-◌, ◌≤◌, Bool, true, false, cond, List, [], ◌∷◌, ◌++◌, length, Option, Some, None, Result, Ok, refl, sym, ap, subst, ◌∙◌, arith}
+use Rattle.std.proofs.Common.{◌≡◌, ℕ, ◌-◌, ◌≤◌, Bool, true, false, cond, List, [], ◌∷◌, ◌++◌, length, Option, Some, None, Result, Ok, refl, sym, ap, subst, ◌∙◌, arith}
 use Rattle.std.specs.Prelude.{◌&&◌, nat_lt, flat_map, slice_index}
 use Rattle.std.specs.List.{AllByRecursion}
 use Rattle.std.proofs.lemmas.Bool.{and_parts}
@@ -13,10 +13,9 @@ use Rattle.model_prove.specs.model_machine.specs.declared.instruction.DecodeFaul
 use Rattle.model_prove.specs.model_machine.specs.Code.{Decodes, DecodesTo, instruction_at}
 use Rattle.model_prove.specs.model_machine.specs.Frame.{Frame, Effect, dynamic_base, public_base, public_end, static_bytes}
 use Rattle.model_prove.specs.model_machine.specs.Primitives.{Around, Done, Goes, effect_and_next}
-use Rattle.model_prove.specs.model_machine.specs.Row.{causes, effect, row, first_cause, Does, row_end}
+use Rattle.model_prove.specs.model_machine.specs.Row.{effect, first_cause, Does, row_end}
 use Rattle.model_prove.specs.model_machine.specs.Chain.{frame_at}
-use Rattle.model_prove.specs.law_rows.specs.Shapes.{Shape, act_effect, shape_effect, shape}
-use Rattle.model_prove.specs.law_rows.specs.Shapes as shapes
+use Rattle.model_prove.specs.law_rows.specs.Shapes.{Shape, act_effect, shape_effect}
 use Rattle.mc_isa.proofs.PlaceLemmas.{decoded_stands}
 use Rattle.model_prove.specs.law_bytes.specs.OfBytes.{IsByteFrame, IsByteEffect, IsCaller}
 use Rattle.model_prove.specs.law_bytes.proofs.ByteLists.{laid}
