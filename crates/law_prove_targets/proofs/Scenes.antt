@@ -1,5 +1,5 @@
 -- Scenes with values: registers stay, and the top two bytes of the stack are those of a choice.
-use Rattle.std.proofs.Common.{◌≡◌, ◌⊎◌, inl, inr, ℕ, suc, ◌+◌, ◌-◌, ◌*◌, ◌/◌, ◌%◌, ◌<◌, ◌≤◌, Bool, true, false, cond, List, [], ◌∷◌, ◌++◌, length, take, drop, Option, Some, None, refl, sym, ap, subst, ◌∙◌, arith}
+use Rattle.std.proofs.Common.{◌≡◌, ◌⊎◌, inl, inr, ℕ, suc, ◌+◌, ◌-◌, ◌*◌, ◌/◌, ◌%◌, ◌<◌, ◌≤◌, Bool, true, false, cond, List, [], ◌∷◌, ◌++◌, length, take, drop, Option, Some, None, refl, sym, ap, ◌∙◌, arith}
 use Rattle.std.specs.Prelude.{◌&&◌, ◌==◌, not, is_none, nat_lt, nat_le, filter, map, slice_index}
 use Rattle.std.proofs.lemmas.Bool.{or_cases, eqb-true, le-leb, lt-ltb, ltb-true, ltb-false, and_from}
 use Rattle.law_prove.specs.model_device.specs.Bytes.{num, splice}
@@ -162,11 +162,11 @@ target_inside f a limit x y small below first second less =
     let high : v / 256 ≡ x = omega (arith, small, below) in
     let low : v % 256 ≡ y = omega (arith, small, below) in
     let test : ℕ → Bool = λ v. is_in (v / 256) (values_at f a) && is_in (v % 256) (values_at f (suc a)) in
-    let passes : test v ≡ true = and_from (is_in (v / 256) (values_at f a)) (is_in (v % 256) (values_at f (suc a))) (subst (λ (z : ℕ). is_in z (values_at f a) ≡ true) (sym high) first) (subst (λ (z : ℕ). is_in z (values_at f (suc a)) ≡ true) (sym low) second) in
+    let passes : test v ≡ true = and_from (is_in (v / 256) (values_at f a)) (is_in (v % 256) (values_at f (suc a))) (rw high first) (rw low second) in
     let there : is_in v (filter test (numbers_from 0 limit)) ≡ true = is_kept test v (numbers_from 0 limit) (is_between v 0 limit (omega arith) (omega (arith, less))) passes in
     let is : address_choice a v ≡ (a, x) ∷ (suc a, y) ∷ [] = ap (λ (z : ℕ). (a, z) ∷ (suc a, v % 256) ∷ []) high ∙ ap (λ (z : ℕ). (a, x) ∷ (suc a, z) ∷ []) low in
     let most = greatest_value (values_at f a) * 256 + greatest_value (values_at f (suc a)) in
-    subst (λ (c : Choice). Among c (target_choices f a limit)) is
+    rw (← is)
     (among_first (address_choice a v) (map (address_choice a) (filter test (numbers_from 0 limit))) (cond (nat_le limit most) (address_choice a most ∷ []) []) (among_map a v (filter test (numbers_from 0 limit)) there))
 
 -- if it is none, one that is not in the code is followed
@@ -179,4 +179,4 @@ target_outside f a limit x y first second more =
     let reach : limit ≤ most = omega (arith, high, low, more) in
     let e : nat_le limit most ≡ true = le-leb limit most reach in
     let front = map (address_choice a) (filter (λ v. is_in (v / 256) (values_at f a) && is_in (v % 256) (values_at f (suc a))) (numbers_from 0 limit)) in
-    (reach, subst (λ (b : Bool). Among (address_choice a most) (front ++ (cond b (address_choice a most ∷ []) []))) (sym e) (among_second (address_choice a most) front (address_choice a most ∷ []) (inl refl)))
+    (reach, rw e (among_second (address_choice a most) front (address_choice a most ∷ []) (inl refl)))

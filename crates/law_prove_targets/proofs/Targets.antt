@@ -1,5 +1,5 @@
 -- JUMP and CALL to a place that the stack has: the two bytes on its top are one of the choices that are followed.
-use Rattle.std.proofs.Common.{◌≡◌, ◌⊎◌, inl, inr, ℕ, suc, ◌+◌, ◌-◌, ◌*◌, ◌/◌, ◌%◌, ◌<◌, ◌≤◌, Bool, true, false, cond, List, [], ◌∷◌, ◌++◌, length, Option, Some, None, Ok, refl, sym, ap, subst, ◌∙◌, arith}
+use Rattle.std.proofs.Common.{◌≡◌, ◌⊎◌, inl, inr, ℕ, suc, ◌+◌, ◌-◌, ◌*◌, ◌/◌, ◌%◌, ◌<◌, ◌≤◌, Bool, true, false, cond, List, [], ◌∷◌, ◌++◌, length, Option, Some, None, refl, sym, ap, subst, ◌∙◌, arith}
 use Rattle.std.specs.Prelude.{◌&&◌, not, nat_lt, nat_le, flat_map, slice_index}
 use Rattle.std.proofs.lemmas.Bool.{ltb-true, ltb-false, false_from_ne_true}
 use Rattle.std.proofs.lemmas.List.{length-replicate}
@@ -8,10 +8,9 @@ use Rattle.law_prove.specs.model_machine.specs.declared.instruction.Ins.{Ins}
 use Rattle.law_prove.specs.model_machine.specs.declared.instruction.Ins.TheVariants as ins
 use Rattle.law_prove.specs.model_machine.specs.declared.machine.Abend.{Abend}
 use Rattle.law_prove.specs.model_machine.specs.declared.machine.Abend.TheVariants.{A02, A04, A05}
-use Rattle.law_prove.specs.model_machine.specs.Code.{Decodes}
 use Rattle.law_prove.specs.model_machine.specs.Frame.{Frame, Effect, dynamic_base, dynamic_end, public_base, floor, is_under, top, static_bytes}
 use Rattle.law_prove.specs.model_machine.specs.Primitives.{Around}
-use Rattle.law_prove.specs.model_machine.specs.Row.{causes, row, first_cause, row_end, Does}
+use Rattle.law_prove.specs.model_machine.specs.Row.{causes, row, first_cause, Does}
 use Rattle.law_prove.specs.model_machine.specs.Chain.{frame_at}
 use Rattle.law_prove.specs.law_rows.specs.Shapes.{Act, Jumps, Calls, Shape, act_effect, shape_effect, meaning, shape}
 use Rattle.law_prove.specs.law_bytes.specs.OfBytes.{IsByteEffect}
@@ -25,7 +24,7 @@ use Rattle.law_prove.specs.model_prove.specs.Splits.{Scene, Choice, stand_in, wi
 use Rattle.law_prove.specs.model_prove.specs.Reach.{target_choices, greatest_value, address_choice}
 use Rattle.law_prove.specs.model_prove.specs.Work.{Work, AsShaped, work}
 use Rattle.law_prove.specs.model_prove.specs.Arrivals.{Setting, Arrival, static_size, fails}
-use Rattle.law_prove.specs.model_prove.specs.Steps.{Spot, lowered, acted, settled_spot, makes_write, row_arrivals, caused, instruction, arounds, chosen, inside, by_choices, fetched, is_return, no_calls, returned_sets}
+use Rattle.law_prove.specs.model_prove.specs.Steps.{Spot, lowered, acted, settled_spot, makes_write, row_arrivals, caused, instruction, arounds, chosen, inside, by_choices, is_return, no_calls, returned_sets}
 use Rattle.law_prove.specs.model_prove.specs.Tables.{IsLoadable, includes_all}
 use Rattle.law_prove.specs.model_prove.proofs.ChangeLemmas.{written_holds, choice_is_there}
 use Rattle.law_prove.specs.model_prove.proofs.FactLemmas.{value_holds}
@@ -39,7 +38,7 @@ use Rattle.law_prove.proofs.Parts.{memory_dynamic}
 use Rattle.law_prove.proofs.Places.{fails_by}
 use Rattle.law_prove.proofs.Seen.{Seen}
 use Rattle.law_prove.proofs.Acts.{spot_of, Framed, Led, jumps_led, calls_led, led_covers, lowered_seen}
-use Rattle.law_prove.proofs.Turns.{frame_of, memory_of_bytes, NoCause, nobody, goes_covered, walked, included_at, decoded_at, leaves_bytes}
+use Rattle.law_prove.proofs.Turns.{frame_of, memory_of_bytes, NoCause, nobody, goes_covered, walked}
 use Rattle.law_prove.proofs.Single.{going, one_shaped, Turn, here, there, IsRowCovered, row_is, shape_bytes, law_from}
 use Rattle.law_prove_targets.specs.Laws.{TargetLaw}
 use Rattle.law_prove_targets.proofs.Scenes.{SameRegisters, values_same, two_values, two_bytes, top_number, scene_number, both_inside, target_inside, target_outside}
@@ -69,7 +68,7 @@ one_of : (t : Tables) (f : Choice → List Arrival) (c : Choice) (cs : List Choi
 one_of t f c [] a e = absurd a
 one_of t f c (d ∷ cs) a e =
     elim a [
-      | inl is ↦ subst (λ (z : Choice). includes_all t (f z) ≡ true) is (included_first t (f d) (flat_map f cs) e)
+      | inl is ↦ rw (← is) (included_first t (f d) (flat_map f cs) e)
       | inr more ↦ one_of t f c cs more (included_second t (f d) (flat_map f cs) e)
     ]
 
@@ -140,7 +139,7 @@ module _ (s : Setting) (u t : Tables) (g : Target) (loadable : IsLoadable s.app)
   few_followed places cs e includes =
       let c : Choice = values_in memory places in
       let is : combinations turn.place.known.bytes places ≡ cs = few_is (nat_le (count_of_combinations turn.place.known.bytes places) most_combinations) (combinations turn.place.known.bytes places) cs e in
-      let among : Among c cs = subst (λ (l : List Choice). Among c l) is (choice_is_there turn.place.known.bytes places memory holds bytes) in
+      let among : Among c cs = rw (← is) (choice_is_there turn.place.known.bytes places memory holds bytes) in
       let one = one_of t (λ c. flat_map (instruction s i (with_values scene (c ++ [])) before (chosen (c ++ []) fetched_spot)) (arounds before.key.start None) ++ []) c cs among includes in
       let all = flat_map (instruction s i (with_values scene (c ++ [])) before (chosen (c ++ []) fetched_spot)) (arounds before.key.start None) in
       around_none t (instruction s i (with_values scene (c ++ [])) before (chosen (c ++ []) fetched_spot)) before.key.start (included_first t all [] one)
@@ -196,9 +195,8 @@ module _ (s : Setting) (u t : Tables) (g : Target) (loadable : IsLoadable s.app)
       → IsRowCovered s u t g loadable leads i turn (row i fetched_frame turn.public turn.around)
   abends_by c first includes =
       let p = turn.place in
-      subst (IsRowCovered s u t g loadable leads i turn) (row_is s u t g loadable leads i turn (target_causes rest fetched_frame number) real_shape (targeted.cause fetched_frame turn.public turn.around) (targeted.shaped fetched_frame turn.public turn.around))
-      (subst (λ (z : Option Abend). IsRowCovered s u t g loadable leads i turn (row_end z (meaning real_shape fetched_frame turn.public))) (sym first)
-      (fails_by s u t g loadable leads turn.entry turn.history turn.frame turn.public p c s.rules.abends before.key refl refl refl includes))
+      rw (← row_is s u t g loadable leads i turn (target_causes rest fetched_frame number) real_shape (targeted.cause fetched_frame turn.public turn.around) (targeted.shaped fetched_frame turn.public turn.around), first)
+      (fails_by s u t g loadable leads turn.entry turn.history turn.frame turn.public p c s.rules.abends before.key refl refl refl includes)
 
   -- an outcome by the first cause in a scene
   failed_in : (z : Scene) (q : Spot) (c : Abend) → first_cause (target_causes rest z.frame (num (top z.frame 2))) ≡ Some c → includes_all t (instruction s i z before q nobody) ≡ true → includes_all t (fails s before.key before.known c) ≡ true
