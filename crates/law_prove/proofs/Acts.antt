@@ -26,6 +26,7 @@ use Rattle.law_prove.proofs.Windows.{window, windows_same, taken_is, index_withi
 use Rattle.law_prove.proofs.Spots.{place_key, Covers}
 use Rattle.law_prove.proofs.Known.{filter_holds, open_below}
 use Rattle.law_prove.proofs.Seen.{FitSets, fit_length, fit_sets, Seen, settled_seen, known_written, stack_seen, public_seen, static_seen, laid_more}
+use Rattle.model_prove.specs.model_device.proofs.BoolLemmas.{and_first, and_second}
 
 -- a spot of a frame
 abbrev pub spot_of : Start → Amounts → Frame → List Call → Known → Spot
@@ -64,27 +65,19 @@ LiesIn f a n (Static i) = (a ≡ i) × (a + n ≤ length f.fixed)
 LiesIn f a n (Dynamic i) = (a ≡ dynamic_base + i) × (a + n ≤ f.dt)
 LiesIn f a n (Public i) = (a ≡ public_base + i) × (a + n ≤ public_end)
 
-first_of : (p q : Bool) → (p && q) ≡ true → p ≡ true
-first_of true q e = refl
-first_of false q e = absurd (cc e)
-
-second_of : (p q : Bool) → (p && q) ≡ true → q ≡ true
-second_of true q e = e
-second_of false q e = absurd (cc e)
-
 lies_by : (f : Frame) (a n : ℕ) (x y z : Bool) (p : Place) → nat_le (a + n) (length f.fixed) ≡ x → (nat_le dynamic_base a && nat_le (a + n) f.dt) ≡ y → (nat_le public_base a && nat_le (a + n) public_end) ≡ z
     → cond x (Some (Static a)) (cond y (Some (Dynamic (a - dynamic_base))) (cond z (Some (Public (a - public_base))) None)) ≡ Some p → LiesIn f a n p
 lies_by f a n true y z p e d b is =
     let same : Static a ≡ p = cc is in
     rw (← same) (refl, leb-true (a + n) (length f.fixed) e)
 lies_by f a n false true z p e d b is =
-    let low = leb-true dynamic_base a (first_of (nat_le dynamic_base a) (nat_le (a + n) f.dt) d) in
-    let high = leb-true (a + n) f.dt (second_of (nat_le dynamic_base a) (nat_le (a + n) f.dt) d) in
+    let low = leb-true dynamic_base a (and_first (nat_le dynamic_base a) (nat_le (a + n) f.dt) d) in
+    let high = leb-true (a + n) f.dt (and_second (nat_le dynamic_base a) (nat_le (a + n) f.dt) d) in
     let same : Dynamic (a - dynamic_base) ≡ p = cc is in
     rw (← same) (omega (arith, low), high)
 lies_by f a n false false true p e d b is =
-    let low = leb-true public_base a (first_of (nat_le public_base a) (nat_le (a + n) public_end) b) in
-    let high = leb-true (a + n) public_end (second_of (nat_le public_base a) (nat_le (a + n) public_end) b) in
+    let low = leb-true public_base a (and_first (nat_le public_base a) (nat_le (a + n) public_end) b) in
+    let high = leb-true (a + n) public_end (and_second (nat_le public_base a) (nat_le (a + n) public_end) b) in
     let same : Public (a - public_base) ≡ p = cc is in
     rw (← same) (omega (arith, low), high)
 lies_by f a n false false false p e d b is = absurd (cc is)

@@ -101,7 +101,7 @@ many_wait s f a n k bytes some size inside h = many_by f.protected s f a n k byt
 
 -- ---- what is read
 
-bytes_window : (m : Memory) (l : List ℕ) (a i n : ℕ) → ((k : ℕ) → k < n → m (a + k) ≡ slice_index l (i + k)) → bytes_from m a n ≡ window l i n
+pub bytes_window : (m : Memory) (l : List ℕ) (a i n : ℕ) → ((k : ℕ) → k < n → m (a + k) ≡ slice_index l (i + k)) → bytes_from m a n ≡ window l i n
 bytes_window m l a i zero same = refl
 bytes_window m l a i (suc n) same =
     let x : a ≡ a + 0 = omega arith in

@@ -44,7 +44,7 @@ included_of t f (y ∷ xs) x h e =
       | inr more ↦ included_of t f xs x more (included_second t (f y) (flat_map f xs) e)
     ]
 
-among_mapped : {A B : Type 0} (g : A → B) (x : A) (xs : List A) → Among x xs → Among (g x) (map g xs)
+pub among_mapped : {A B : Type 0} (g : A → B) (x : A) (xs : List A) → Among x xs → Among (g x) (map g xs)
 among_mapped g x [] h = absurd h
 among_mapped g x (y ∷ xs) h =
     elim h [
@@ -52,7 +52,7 @@ among_mapped g x (y ∷ xs) h =
       | inr e ↦ inr (among_mapped g x xs e)
     ]
 
-among_left : {A : Type 0} (x : A) (xs ys : List A) → Among x xs → Among x (xs ++ ys)
+pub among_left : {A : Type 0} (x : A) (xs ys : List A) → Among x xs → Among x (xs ++ ys)
 among_left x [] ys h = absurd h
 among_left x (y ∷ xs) ys h =
     elim h [
@@ -60,11 +60,11 @@ among_left x (y ∷ xs) ys h =
       | inr e ↦ inr (among_left x xs ys e)
     ]
 
-among_right : {A : Type 0} (x : A) (xs ys : List A) → Among x ys → Among x (xs ++ ys)
+pub among_right : {A : Type 0} (x : A) (xs ys : List A) → Among x ys → Among x (xs ++ ys)
 among_right x [] ys h = h
 among_right x (y ∷ xs) ys h = inr (among_right x xs ys h)
 
-among_each : {A B : Type 0} (g : A → List B) (a : A) (x : B) (list : List A) → Among a list → Among x (g a) → Among x (flat_map g list)
+pub among_each : {A B : Type 0} (g : A → List B) (a : A) (x : B) (list : List A) → Among a list → Among x (g a) → Among x (flat_map g list)
 among_each g a x [] h k = absurd h
 among_each g a x (b ∷ list) h k =
     elim h [

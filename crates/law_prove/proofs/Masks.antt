@@ -39,6 +39,7 @@ use Rattle.law_prove.proofs.Worked.{worked, worked_zero, worked_and, worked_or, 
 use Rattle.law_prove.proofs.Arith.{ordered, immediate_allowed, immediate_so, memory_bytes_from}
 use Rattle.law_prove.proofs.Blocks.{Outcome, outcome_row, compared_outcome, replaced_outcome}
 use Rattle.law_prove.proofs.Prims.{asks_nobody}
+use Rattle.law_prove.proofs.Numbers.{bit_flags}
 
 -- a stack whose top is written over itself is as it was
 splice_self : (l : List ℕ) (k n : ℕ) → length (take n (drop k l)) ≡ n → splice l k (take n (drop k l)) ≡ l
@@ -46,10 +47,6 @@ splice_self l k n is =
     ap (λ (m : ℕ). (take k l ++ take n (drop k l)) ++ drop (k + m) l) is
     ∙ (ap (λ (r : List ℕ). (take k l ++ take n (drop k l)) ++ r) (sym (drop-drop n k l))
     ∙ (append_assoc (take k l) (take n (drop k l)) (drop n (drop k l)) ∙ (ap (λ (r : List ℕ). take k l ++ r) (take-append-drop n (drop k l)) ∙ take-append-drop k l)))
-
--- the flags of bits
-bits_zero : (op : Operation) (c : Bool) (v xs ys : List ℕ) → length xs ≡ length ys → v ≡ (worked op xs ys).0 → ◌≡◌ {A = Bool × Bool} (c, is_zero v) (c, ((worked op xs ys).1).z)
-bits_zero op c v xs ys l is = ap (λ (b : Bool). (c, b)) (ap is_zero is ∙ sym (worked_zero op xs ys l))
 
 -- ---- the operations
 
@@ -78,7 +75,7 @@ module _ (s : Setting) (u t : Tables) (g : Target) (loadable : IsLoadable s.app)
   laid_over op ys v b0 f0 plain count others is all =
       let m : Memory = frame_memory turn.frame turn.public in
       let r = worked op block ys in
-      replaced r.0 v (turn.frame.c, (r.1).z) (turn.frame.c, is_zero v) (sym is) (sym (bits_zero op turn.frame.c v block ys (long ∙ sym count) is))
+      replaced r.0 v (turn.frame.c, (r.1).z) (turn.frame.c, is_zero v) (sym is) (sym (bit_flags op turn.frame.c v block ys (long ∙ sym count) is))
       (replaced_outcome s u t g loadable leads i turn op (turn.frame.dt - n) n (These ys) ys (refl, count) count false plain b0 f0 refl over
       (subst (λ (c : Bool). allows turn.place.known.compare (record { op = op; at = turn.frame.dt - n; n = n; operand = These ys; written = true; carries = c }) (These ys) r.1 ≡ true) plain
       (immediate_allowed op true (turn.frame.dt - n) n ys turn.place.known.compare m turn.place.compares count bytes others (λ e. absurd (cc (sym (unordered op plain) ∙ e))))) all)
@@ -109,7 +106,7 @@ module _ (s : Setting) (u t : Tables) (g : Target) (loadable : IsLoadable s.app)
       in
       let st = turn.place.start in
       let al = turn.place.standing.allowances in
-      let flags : ◌≡◌ {A = Bool × Bool} (turn.frame.c, (r.1).z) (turn.frame.c, is_zero (and_blocks block mask)) = sym (bits_zero And turn.frame.c (and_blocks block mask) block mask (long ∙ sym size) (sym (worked_and block mask))) in
+      let flags : ◌≡◌ {A = Bool × Bool} (turn.frame.c, (r.1).z) (turn.frame.c, is_zero (and_blocks block mask)) = sym (bit_flags And turn.frame.c (and_blocks block mask) block mask (long ∙ sym size) (sym (worked_and block mask))) in
       replaced block block (turn.frame.c, (r.1).z) (turn.frame.c, is_zero (and_blocks block mask)) refl flags
       (record {
         spot = o.spot;

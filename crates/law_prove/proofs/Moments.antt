@@ -21,17 +21,9 @@ use Rattle.model_prove.proofs.SetLemmas.{is_first, in_larger}
 use Rattle.law_prove.specs.Coverings.{moment_memory, IsMoment, IsUnbroken}
 use Rattle.law_prove.specs.Laws.{MomentsCovered, MomentLaw}
 use Rattle.law_prove.proofs.Closed.{included_first, included_second, Arrives, arrives, HasMoment, moment_included, moment_closed, created_included}
+use Rattle.model_prove.specs.law_bytes.proofs.ByteLists.{indexed, zero_bytes}
 
 -- ---- bytes
-
-pub byte_of : (l : List ℕ) (i : ℕ) → AreBytes l → slice_index l i < 256
-byte_of [] i h = omega arith
-byte_of (x ∷ xs) zero h = h.0
-byte_of (x ∷ xs) (suc i) h = byte_of xs i h.1
-
-pub zeros_are : (n : ℕ) → AreBytes (zeros n)
-zeros_are zero = tt
-zeros_are (suc n) = (omega arith, zeros_are n)
 
 pub zero_at : (n i : ℕ) → slice_index (zeros n) i ≡ 0
 zero_at zero i = refl
@@ -43,7 +35,7 @@ cond_small true x y p q = p
 cond_small false x y p q = q
 
 pub memory_bytes : (fixed session : List ℕ) → AreBytes fixed → AreBytes session → HoldsBytes (moment_memory fixed session)
-memory_bytes fixed session f d a = cond_small (nat_lt a (length fixed)) (slice_index fixed a) (slice_index session (a - dynamic_base)) (byte_of fixed a f) (byte_of session (a - dynamic_base) d)
+memory_bytes fixed session f d a = cond_small (nat_lt a (length fixed)) (slice_index fixed a) (slice_index session (a - dynamic_base)) (indexed fixed a f) (indexed session (a - dynamic_base) d)
 
 -- ---- facts of some addresses
 
@@ -179,9 +171,9 @@ module _ (s : Setting) (t : Tables) (loadable : IsLoadable s.app) (closed : is_c
       let next : Arrives t (after_session s a) (λ b. AtMoment (record { selected = true; allowances = b }) (with_zero_session s m.facts) ∷ []) =
       arrives t None (after_session s a) (λ b. AtMoment (record { selected = true; allowances = b }) (with_zero_session s m.facts) ∷ []) sel
       in
-      from_memory s t true (Session ∷ h) fixed (zeros s.app.session) (record m.standing { allowances = next.allowances }) (session_stands s h m.standing next.allowances m.stands next.is) m.size m.static (zeros_are s.app.session)
+      from_memory s t true (Session ∷ h) fixed (zeros s.app.session) (record m.standing { allowances = next.allowances }) (session_stands s h m.standing next.allowances m.stands next.is) m.size m.static (zero_bytes s.app.session)
       (moment_included t (record { selected = true; allowances = next.allowances }) (with_zero_session s m.facts) (moment_memory fixed (zeros s.app.session)) next.rest
-      (zero_session_holds s m.facts fixed session m.size loadable.static m.holds) (memory_bytes fixed (zeros s.app.session) m.static (zeros_are s.app.session)))
+      (zero_session_holds s m.facts fixed session m.size loadable.static m.holds) (memory_bytes fixed (zeros s.app.session) m.static (zero_bytes s.app.session)))
 
   is_ended : (h : History) (fixed session : List ℕ) → IsMoment s t true h fixed session → IsMoment s t false (Session ∷ h) fixed []
   is_ended h fixed session m =

@@ -27,7 +27,7 @@ use Rattle.law_prove.proofs.Arith.{RunsAs, ordered, ResultRow, PairResultRow, co
 
 -- ---- the machine's numbers
 
-carry_same : (c : Bool) → carry_of c ≡ carried c
+pub carry_same : (c : Bool) → carry_of c ≡ carried c
 carry_same true = refl
 carry_same false = refl
 
@@ -100,7 +100,7 @@ cmpn_case tag off n s u t g loadable leads turn includes =
     }) s u t g loadable leads turn includes
 
 -- the flags of a result of bits
-bit_flags : (op : Operation) (c : Bool) (v xs ys : List ℕ) → length xs ≡ length ys → v ≡ (worked op xs ys).0 → ◌≡◌ {A = Bool × Bool} (c, is_zero v) (c, ((worked op xs ys).1).z)
+pub bit_flags : (op : Operation) (c : Bool) (v xs ys : List ℕ) → length xs ≡ length ys → v ≡ (worked op xs ys).0 → ◌≡◌ {A = Bool × Bool} (c, is_zero v) (c, ((worked op xs ys).1).z)
 bit_flags op c v xs ys l is = ap (λ (b : Bool). (c, b)) (ap is_zero is ∙ sym (worked_zero op xs ys l))
 
 -- ---- sums and differences

@@ -37,9 +37,10 @@ use Rattle.law_prove.specs.Coverings.{moment_memory, IsMoment, frame_memory, cla
 use Rattle.law_prove.specs.Laws.{LeadsInto, LeadLaw, RowLaw, PlaceLaw}
 use Rattle.law_prove.proofs.Keys.{places_are}
 use Rattle.law_prove.proofs.Closed.{included_first, included_second, Arrives, arrives, moment_included, moment_closed}
-use Rattle.law_prove.proofs.Moments.{byte_of, cond_small, zeros_are, memory_bytes, within_holds, zero_at, bytes_in, from_memory}
+use Rattle.law_prove.proofs.Moments.{cond_small, memory_bytes, within_holds, zero_at, bytes_in, from_memory}
 use Rattle.law_prove.proofs.Parts.{memory_static, memory_dynamic}
 use Rattle.law_prove.proofs.Picks.{answered_is}
+use Rattle.model_prove.specs.law_bytes.proofs.ByteLists.{indexed, zero_bytes}
 
 -- ---- places of the tables
 
@@ -200,7 +201,7 @@ module _ (s : Setting) (t : Tables) (g : Target) (loadable : IsLoadable s.app) (
   append_zero (suc n) m (suc i) = append_zero n m i
 
   zeros_append : (n m : ℕ) → AreBytes (zeros n ++ zeros m)
-  zeros_append zero m = zeros_are m
+  zeros_append zero m = zero_bytes m
   zeros_append (suc n) m = (omega arith, zeros_append n m)
 
   -- its static bytes are those of the moment
@@ -233,9 +234,9 @@ module _ (s : Setting) (t : Tables) (g : Target) (loadable : IsLoadable s.app) (
       let f = begun_frame s g fixed in
       let y = slice_index f.dyn (a - dynamic_base) in
       let z = slice_index public (a - public_base) in
-      cond_small (nat_lt a (length fixed)) (slice_index fixed a) (cond (nat_lt a dynamic_base) 0 (cond (nat_lt a public_base) y z)) (byte_of fixed a static)
+      cond_small (nat_lt a (length fixed)) (slice_index fixed a) (cond (nat_lt a dynamic_base) 0 (cond (nat_lt a public_base) y z)) (indexed fixed a static)
       (cond_small (nat_lt a dynamic_base) 0 (cond (nat_lt a public_base) y z) (omega arith)
-      (cond_small (nat_lt a public_base) y z (byte_of f.dyn (a - dynamic_base) (zeros_append s.app.session (512 - length (zeros s.app.session)))) (byte_of public (a - public_base) others)))
+      (cond_small (nat_lt a public_base) y z (indexed f.dyn (a - dynamic_base) (zeros_append s.app.session (512 - length (zeros s.app.session)))) (indexed public (a - public_base) others)))
 
   begun_fits : (fixed : List ℕ) → length fixed ≡ static_size s → AreBytes fixed → IsFrameOf s.app (begun_frame s g fixed)
   begun_fits fixed size static =

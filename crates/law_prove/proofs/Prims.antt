@@ -26,7 +26,7 @@ use Rattle.model_prove.proofs.CompareLemmas.{touched_holds}
 use Rattle.law_prove.specs.Coverings.{parts_memory, moment_memory, frame_memory, IsFrameOf}
 use Rattle.law_prove.specs.Laws.{LeadLaw, PrimitiveLaw}
 use Rattle.law_prove.proofs.Parts.{not_lt, memory_static}
-use Rattle.law_prove.proofs.Moments.{within_holds, cond_small, byte_of}
+use Rattle.law_prove.proofs.Moments.{within_holds, cond_small}
 use Rattle.law_prove.proofs.Places.{holds_both}
 use Rattle.law_prove.proofs.Spots.{place_key}
 use Rattle.law_prove.proofs.Seen.{Seen, fit_sets}
@@ -34,6 +34,7 @@ use Rattle.law_prove.proofs.Acts.{spot_of, Framed, WritesIf, Led, kept_holds}
 use Rattle.law_prove.proofs.Turns.{blank}
 use Rattle.law_prove.proofs.Single.{RowCase, IsFetchedOnce, law_of, shaped_row, led_pushes, low_frame, low_calls, low_known, low_seen, same_framed}
 use Rattle.law_prove.proofs.Plain.{over_is}
+use Rattle.model_prove.specs.law_bytes.proofs.ByteLists.{indexed}
 
 -- ---- who delegated does not matter
 
@@ -164,9 +165,9 @@ protection_case args s u t g loadable leads turn includes =
     let bytes : HoldsBytes m = λ a.
     let y = slice_index f.dyn (a - dynamic_base) in
     let z = slice_index turn.public (a - public_base) in
-    cond_small (nat_lt a (length f.fixed)) (slice_index f.fixed a) (cond (nat_lt a dynamic_base) 0 (cond (nat_lt a public_base) y z)) (byte_of f.fixed a frame.static)
+    cond_small (nat_lt a (length f.fixed)) (slice_index f.fixed a) (cond (nat_lt a dynamic_base) 0 (cond (nat_lt a public_base) y z)) (indexed f.fixed a frame.static)
     (cond_small (nat_lt a dynamic_base) 0 (cond (nat_lt a public_base) y z) (omega arith)
-    (cond_small (nat_lt a public_base) y z (byte_of f.dyn (a - dynamic_base) turn.place.dynamic) (byte_of turn.public (a - public_base) turn.bytes)))
+    (cond_small (nat_lt a public_base) y z (indexed f.dyn (a - dynamic_base) turn.place.dynamic) (indexed turn.public (a - public_base) turn.bytes)))
     in
     shaped_row s u t g loadable leads i turn ((A06, nat_lt 3 mode) ∷ (A0A, is_denied f.deny SetProtection) ∷ []) d (Protects mode) None includes refl refl refl refl refl refl
     (λ none. protects_by (mode == 1 || mode == 3) s turn.place.start turn.place.standing.allowances (low_frame s u t g loadable leads i turn d) turn.public (low_calls s u t g loadable leads i turn d) (low_known s u t g loadable leads i turn d)

@@ -18,7 +18,7 @@ use Rattle.model_prove.specs.model_machine.specs.Chain.{frame_at}
 use Rattle.model_prove.specs.law_rows.specs.Shapes.{Shape, act_effect, shape_effect}
 use Rattle.mc_isa.proofs.PlaceLemmas.{decoded_stands}
 use Rattle.model_prove.specs.law_bytes.specs.OfBytes.{IsByteFrame, IsByteEffect, IsCaller}
-use Rattle.model_prove.specs.law_bytes.proofs.ByteLists.{laid}
+use Rattle.model_prove.specs.law_bytes.proofs.ByteLists.{laid, indexed}
 use Rattle.model_prove.specs.law_bytes.proofs.RowBytes.{effect_bytes}
 use Rattle.model_prove.specs.law_promise.specs.History.{Deed}
 use Rattle.model_prove.specs.law_promise.specs.Outline.{Entry, BySelection, ByDelegation, is_direct}
@@ -39,7 +39,7 @@ use Rattle.model_prove.specs.Tables.{IsLoadable, includes, includes_all}
 use Rattle.law_prove.specs.Coverings.{moment_memory, frame_memory, StartsAs, IsFrameOf, IsPlace, covering_of}
 use Rattle.law_prove.specs.Laws.{LeadsInto}
 use Rattle.law_prove.proofs.Closed.{included_first, included_second, Arrives, arrives, moment_included}
-use Rattle.law_prove.proofs.Moments.{byte_of, cond_small, memory_bytes, session_stands, from_memory}
+use Rattle.law_prove.proofs.Moments.{cond_small, memory_bytes, session_stands, from_memory}
 use Rattle.law_prove.proofs.Places.{fails_by}
 use Rattle.law_prove.proofs.Spots.{did_stands, turn_arrives, place_key, Covers, spot_arrives}
 use Rattle.law_prove.proofs.Known.{around_none}
@@ -85,9 +85,9 @@ memory_of_bytes f public bytes others a =
     let x = slice_index (static_bytes f) a in
     let y = slice_index f.dyn (a - dynamic_base) in
     let z = slice_index public (a - public_base) in
-    cond_small (nat_lt a (length f.fixed)) x (cond (nat_lt a dynamic_base) 0 (cond (nat_lt a public_base) y z)) (byte_of (static_bytes f) a (laid f.pieces f.fixed bytes.pieces bytes.static))
+    cond_small (nat_lt a (length f.fixed)) x (cond (nat_lt a dynamic_base) 0 (cond (nat_lt a public_base) y z)) (indexed (static_bytes f) a (laid f.pieces f.fixed bytes.pieces bytes.static))
     (cond_small (nat_lt a dynamic_base) 0 (cond (nat_lt a public_base) y z) (omega arith)
-    (cond_small (nat_lt a public_base) y z (byte_of f.dyn (a - dynamic_base) bytes.stack) (byte_of public (a - public_base) others)))
+    (cond_small (nat_lt a public_base) y z (indexed f.dyn (a - dynamic_base) bytes.stack) (indexed public (a - public_base) others)))
 
 caller_of : (o : Option (List ℕ)) → IsDelegator o → IsCaller o
 caller_of None h = tt

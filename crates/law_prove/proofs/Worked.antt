@@ -64,7 +64,7 @@ run_digits op (x ∷ xs) (y ∷ ys) =
 
 -- ---- lists turned around
 
-fit_last : (b : List ℕ) (ss : List Set) (x : ℕ) (s : Set) → FitSets b ss → is_in x s ≡ true → FitSets (b ++ x ∷ []) (ss ++ s ∷ [])
+pub fit_last : (b : List ℕ) (ss : List Set) (x : ℕ) (s : Set) → FitSets b ss → is_in x s ≡ true → FitSets (b ++ x ∷ []) (ss ++ s ∷ [])
 fit_last [] [] x s h e = (e, tt)
 fit_last [] (t ∷ ss) x s h e = absurd h
 fit_last (y ∷ b) [] x s h e = absurd h

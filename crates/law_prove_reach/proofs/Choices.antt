@@ -42,7 +42,7 @@ pub one_of : {A : Type 0} (t : Tables) (f : A → List Arrival) (x : A) (xs : Li
 one_of t f x [] a e = absurd a
 one_of {A} t f x (y ∷ xs) a e =
     elim a [
-      | inl is ↦ subst (λ (z : A). includes_all t (f z) ≡ true) is (included_first t (f y) (flat_map f xs) e)
+      | inl is ↦ rw (← is) (included_first t (f y) (flat_map f xs) e)
       | inr more ↦ one_of t f x xs more (included_second t (f y) (flat_map f xs) e)
     ]
 
@@ -69,8 +69,7 @@ few_is false all cs e = absurd (cc e)
 -- the values that the deciding bytes have are one of the choices that are followed
 pub choice_among : (f : Facts) (places : List ℕ) (m : Memory) (cs : List Choice) → few_combinations f places ≡ Some cs → Holds f m → HoldsBytes m → Among (values_in m places) cs
 choice_among f places m cs e h bytes =
-    subst (λ (l : List Choice). Among (values_in m places) l) (few_is (nat_le (count_of_combinations f places) most_combinations) (combinations f places) cs e)
-    (choice_is_there f places m h bytes)
+    rw (← few_is (nat_le (count_of_combinations f places) most_combinations) (combinations f places) cs e) (choice_is_there f places m h bytes)
 
 nothing_after : (c : Choice) → c ++ [] ≡ c
 nothing_after [] = refl

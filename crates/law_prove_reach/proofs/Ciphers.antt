@@ -21,7 +21,7 @@ use Rattle.law_prove.specs.model_prove.specs.Reach.{may_have_bad_length, known_c
 use Rattle.law_prove.specs.model_prove.specs.Steps.{arounds}
 use Rattle.law_prove.specs.model_prove.proofs.SetLemmas.{is_first}
 use Rattle.law_prove.specs.Laws.{LeadLaw}
-use Rattle.law_prove.proofs.Moments.{byte_of}
+use Rattle.law_prove.specs.law_bytes.proofs.ByteLists.{indexed}
 use Rattle.law_prove.proofs.Turns.{NoCause, nobody}
 use Rattle.law_prove_reach.proofs.Scenes.{with_bytes, same_outside}
 use Rattle.law_prove.specs.law_machine.proofs.BlockSizes.{IsOfBlocks, enciphered_blocks, deciphered_blocks, ecb_length}
@@ -72,7 +72,7 @@ enciphers c = record { keeps = enciphered_blocks c; bytes = enciphered c }
 deciphers : (c : Cipher) → IsCipher c (decipherment c)
 deciphers c = record { keeps = deciphered_blocks c; bytes = deciphered c }
 
-message_blocks : (c : Cipher) (n : ℕ) → not (is_message c n) ≡ false → (block_len c ≤ n) × (n % block_len c ≡ 0)
+pub message_blocks : (c : Cipher) (n : ℕ) → not (is_message c n) ≡ false → (block_len c ≤ n) × (n % block_len c ≡ 0)
 message_blocks c n e =
     let p = and_parts (nat_le (block_len c) n) (n % block_len c == 0) (not_true (is_message c n) e) in
     (leb-true (block_len c) n p.0, eqb-true (n % block_len c) 0 p.1)
@@ -128,11 +128,11 @@ module _ (set number : ℕ) (args : List ℕ) where
       }
 
   encipher_alone : (c : Cipher) (st : Start) → primitive set number ≡ Some (Encipher c) → Among nobody (arounds st (primitive set number))
-  encipher_alone c Delegated e = subst (λ (z : Option Primitive). Among nobody (arounds Delegated z)) (sym e) (inl refl)
+  encipher_alone c Delegated e = rw e (inl refl)
   encipher_alone c (OfClass class) e = inl refl
 
   decipher_alone : (c : Cipher) (st : Start) → primitive set number ≡ Some (Decipher c) → Among nobody (arounds st (primitive set number))
-  decipher_alone c Delegated e = subst (λ (z : Option Primitive). Among nobody (arounds Delegated z)) (sym e) (inl refl)
+  decipher_alone c Delegated e = rw e (inl refl)
   decipher_alone c (OfClass class) e = inl refl
 
   encipher_result : (c : Cipher) → primitive set number ≡ Some (Encipher c) → IsResult i (ciphered (encipherment c) c n)
@@ -166,7 +166,7 @@ module _ (set number : ℕ) (args : List ℕ) where
       let to = number_below_top f 4 in
       let message = bytes_at h turn.public from n in
       let none_cs : List (Abend × Bool) = cs s u t g loadable leads i turn o anybody is.top tt in
-      let byte : n < 256 = byte_of args 0 turn.shaped.bytes in
+      let byte : n < 256 = indexed args 0 turn.shaped.bytes in
       let key_bytes : AreBytes key = read_bytes h turn.public (number_below_top f 2) (key_len c) (record { static = turn.place.frame.static; pieces = turn.place.frame.pieces; stack = turn.place.dynamic }) turn.bytes in
       let message_are : AreBytes message = read_bytes h turn.public from n (record { static = turn.place.frame.static; pieces = turn.place.frame.pieces; stack = turn.place.dynamic }) turn.bytes in
       let some : NoCause none_cs → 1 ≤ n = λ none. let one = block_positive c in let least : block_len c ≤ n = (message_blocks c n none.0).0 in omega (arith, one, least) in

@@ -35,11 +35,11 @@ use Rattle.law_prove.proofs.Turns.{NoCause, nobody, walked}
 use Rattle.law_prove.proofs.Single.{going, Turn, here, there, IsRowCovered, row_is, low_frame, low_framed}
 use Rattle.law_prove_reach.specs.Laws.{DelegatorLaw}
 use Rattle.law_prove_reach.proofs.Scenes.{with_bytes, same_outside}
-use Rattle.law_prove_reach.proofs.Reached.{among_made}
 use Rattle.law_prove_reach.proofs.Choices.{fetched_frame, base, Followed, IsCoarse, IsBy, few_or_many, law_with}
 use Rattle.law_prove_reach.proofs.Rows.{chosen_there, led_row}
 use Rattle.law_prove_reach.proofs.Tops.{Top, IsTop, Ready, cs, among_numbers, counted_row, coarse_top}
 use Rattle.law_prove_reach.proofs.Accesses.{inside_of, not_zero}
+use Rattle.law_prove.proofs.Blocks.{among_mapped}
 
 -- ---- names
 
@@ -73,8 +73,8 @@ report_fits : (o : Option (List ℕ)) → IsNamed o → IsDelegator o → FitSet
 report_fits None h names = absurd h
 report_fits (Some name) h names =
     let n : length (zeros (length name)) ≡ length name = length-replicate {A = ℕ} (length name) 0 in (
-      subst (λ (k : ℕ). is_in (length name) (k ∷ []) ≡ true) (sym n) (is_first (length name) []),
-      subst (λ (k : ℕ). FitSets name (any_bytes k)) (sym n) (fit_any name names.bytes),
+      rw n (is_first (length name) []),
+      rw n (fit_any name names.bytes),
     )
 
 size_least : (o : Option (List ℕ)) → IsNamed o → IsDelegator o → 5 ≤ size_of o
@@ -142,7 +142,7 @@ abbrev named : ℕ → Around
 named n = record { case = 1; delegator = Some (zeros n) }
 
 named_among : (n : ℕ) → 5 ≤ n → n ≤ 16 → Among (named n) (arounds Delegated (Some DelegatorAid))
-named_among n least most = among_made named n (numbers_from 5 12) (among_numbers n 5 12 least (omega (arith, most)))
+named_among n least most = among_mapped named n (numbers_from 5 12) (among_numbers n 5 12 least (omega (arith, most)))
 
 -- ---- who delegated
 
@@ -298,9 +298,9 @@ module _ (args : List ℕ) (s : Setting) (u t : Tables) (g : Target) (loadable :
       let least = size_least turn.around.delegator has names in
       let most = size_most turn.around.delegator names in
       named_covered has (few_or_many s u t g loadable leads i turn (named (size_of turn.around.delegator)) (λ f. refl)
-      (subst (λ (z : Start). Among (named (size_of turn.around.delegator)) (arounds z (Some DelegatorAid))) (sym e) (named_among (size_of turn.around.delegator) least most)) includes) e
+      (rw e (named_among (size_of turn.around.delegator) least most)) includes) e
   by_start (OfClass class) e none includes =
-      quiet_covered none class e (few_or_many s u t g loadable leads i turn nobody (λ f. refl) (subst (λ (z : Start). Among nobody (arounds z (Some DelegatorAid))) (sym e) (inl refl)) includes)
+      quiet_covered none class e (few_or_many s u t g loadable leads i turn nobody (λ f. refl) (rw e (inl refl)) includes)
 
   pub delegator_covered : IsBy s u t g loadable leads i turn false → Covered
   delegator_covered includes = by_start turn.place.start refl (delegates s.rules turn.entry turn.place.start turn.around turn.place.starts turn.fits) includes

@@ -22,7 +22,7 @@ use Rattle.law_prove.specs.model_prove.specs.Steps.{arounds}
 use Rattle.law_prove.specs.model_prove.specs.Tables.{IsLoadable}
 use Rattle.law_prove.specs.Laws.{LeadsInto}
 use Rattle.law_prove.specs.model_prove.proofs.SetLemmas.{is_first}
-use Rattle.law_prove.proofs.Moments.{byte_of}
+use Rattle.law_prove.specs.law_bytes.proofs.ByteLists.{indexed}
 use Rattle.law_prove.proofs.Moves.{positive}
 use Rattle.law_prove.proofs.Turns.{NoCause, nobody}
 use Rattle.law_prove.proofs.Single.{Turn, IsRowCovered}
@@ -106,13 +106,13 @@ module _ (args : List ℕ) (s : Setting) (u t : Tables) (g : Target) (loadable :
 
   ready : NoCause causes_here → Ready s u t g loadable leads i turn o anybody (fixed_top args) tt
   ready none =
-      let byte : n < 256 = byte_of args 0 turn.shaped.bytes in
+      let byte : n < 256 = indexed args 0 turn.shaped.bytes in
       record {
         few = omega (arith, byte);
         some = positive n none.0;
         inside = inside_of (n == 0) (is_none (where_is low (number_below_top f 4) n)) none.0 (or_parts (is_outside low (number_below_top f 4) n) (is_outside low from n) none.1.1.1.0).0;
         long = turn_length s u t g loadable leads i turn 4 from n none.0 (inside none);
-        bytes = subst (λ (z : List ℕ). AreBytes z) (sym (read none)) (bytes_of m from n turn.place.bytes);
+        bytes = rw (read none) (bytes_of m from n turn.place.bytes);
         length_in = is_first n [];
         stands = omega (arith, byte);
       }

@@ -20,6 +20,7 @@ use Rattle.law_prove.specs.Coverings.{frame_memory, AreOpen}
 use Rattle.law_prove.proofs.Spots.{place_key}
 use Rattle.law_prove.proofs.Seen.{Seen, fit_any, fit_length}
 use Rattle.law_prove.proofs.Acts.{spot_of, Framed, WritesIf, Led, writes_led}
+use Rattle.law_prove.proofs.Blocks.{among_mapped, among_right}
 
 -- ---- what is reached
 
@@ -34,7 +35,7 @@ within_by f r n a i d true e high low inside less rest =
     and_from (nat_le d x && is_in (a / 256) r.high && is_in (a % 256) r.low) (not (is_outside f a n))
     (and_from (nat_le d x && is_in (a / 256) r.high) (is_in (a % 256) r.low) (and_from (nat_le d x) (is_in (a / 256) r.high) (le-leb d x (omega (arith, is))) high) low) (ap not inside)
     in
-    or_left (test (x - d)) (is_reached_within f r n x d) (subst (λ (y : ℕ). test y ≡ true) (sym start) holds)
+    or_left (test (x - d)) (is_reached_within f r n x d) (rw start holds)
 within_by f r n a i d false e high low inside less rest =
     let other = eqb-false i d e in
     let x = a + i in
@@ -48,7 +49,7 @@ reached_by : (f : Frame) (r : Reach) (ns : List ℕ) (n a i : ℕ) → is_in n n
 reached_by f r [] n a i some high low inside less = absurd (cc some)
 reached_by f r (m ∷ ns) n a i some high low inside less =
     elim (or_cases (m == n) (is_in n ns) some) [
-      | inl e ↦ or_left (is_reached_within f r m (a + i) m) (is_reached_by f r ns (a + i)) (subst (λ (k : ℕ). is_reached_within f r k (a + i) k ≡ true) (sym (eqb-true m n e)) (within f r n a i n high low inside less))
+      | inl e ↦ or_left (is_reached_within f r m (a + i) m) (is_reached_by f r ns (a + i)) (rw (eqb-true m n e) (within f r n a i n high low inside less))
       | inr more ↦ or_right (is_reached_within f r m (a + i) m) (is_reached_by f r ns (a + i)) (reached_by f r ns n a i more high low inside less)
     ]
 
@@ -61,7 +62,7 @@ pub is_within : (f : Frame) (r : Reach) (a n : ℕ) → is_in n r.lengths ≡ tr
 is_within f r a n some high low inside x from less =
     let i = x - a in
     let at : a + i ≡ x = omega (arith, from) in
-    subst (λ (y : ℕ). is_reached f r y ≡ true) at (reached_by f r r.lengths n a i some high low inside (omega (arith, from, less)))
+    rw (← at) (reached_by f r r.lengths n a i some high low inside (omega (arith, from, less)))
 
 -- a byte that is not reached is not written
 pub not_within : (f : Frame) (r : Reach) (a n x : ℕ) → IsWithin f r a n → is_reached f r x ≡ false → (x < a) ⊎ (a + n ≤ x)
@@ -73,7 +74,7 @@ not_within f r a n x all none = by (nat_lt x a) (nat_lt x (a + n)) refl refl
     by false true e d = absurd (cc (sym none ∙ all x (ltb-false x a e) (ltb-true x (a + n) d)))
 
 some_by : (f : Frame) (r : Reach) (x a n : ℕ) (b : Bool) → (x == a) ≡ b → is_reached f r x ≡ true → a ≤ x → (suc a ≤ x → some_reached f r (suc a) n ≡ true) → some_reached f r a (suc n) ≡ true
-some_by f r x a n true e is low rest = or_left (is_reached f r a) (some_reached f r (suc a) n) (subst (λ (y : ℕ). is_reached f r y ≡ true) (eqb-true x a e) is)
+some_by f r x a n true e is low rest = or_left (is_reached f r a) (some_reached f r (suc a) n) (rw (← eqb-true x a e) is)
 some_by f r x a n false e is low rest = let other = eqb-false x a e in or_right (is_reached f r a) (some_reached f r (suc a) n) (rest (omega (arith, low, other)))
 
 -- one of n bytes is reached if it is
@@ -95,7 +96,7 @@ kept_fact false e rest m is h = (is refl, h)
 pub unreached_holds : (f : Frame) (r : Reach) (facts : Facts) (m k : Memory) → ((x : ℕ) → is_reached f r x ≡ false → m x ≡ k x) → Holds facts m → Holds (facts_not_reached f r facts) k
 unreached_holds f r [] m k same h = tt
 unreached_holds f r (e ∷ facts) m k same h =
-    kept_fact (is_reached f r e.0) e (facts_not_reached f r facts) k (λ none. subst (λ (v : ℕ). is_in v e.1 ≡ true) (same e.0 none) h.0) (unreached_holds f r facts m k same h.1)
+    kept_fact (is_reached f r e.0) e (facts_not_reached f r facts) k (λ none. rw (← same e.0 none) h.0) (unreached_holds f r facts m k same h.1)
 
 -- ---- the last compare
 
@@ -115,27 +116,13 @@ pub unreached_so : (f : Frame) (r : Reach) (c : Compare) (m k : Memory) → ((x 
 unreached_so f r NoCompare m k same h = tt
 unreached_so f r (Bounds a n l i) m k same h =
     so_unless (some_reached f r a n) (Bounds a n l i) k (λ none.
-    subst (λ (t : List ℕ). nat_le l (num t) && nat_le (num t) i ≡ true) (same_from m k a n (λ x low high. same x (none_is f r a n x none low high))) h)
+    rw (← same_from m k a n (λ x low high. same x (none_is f r a n x none low high))) h)
 unreached_so f r (Ordered a n c o) m k same h =
     so_unless (some_reached f r a n || some_reached f r c n) (Ordered a n c o) k (λ none.
     let p = or_parts (some_reached f r a n) (some_reached f r c n) none in
-    subst (λ (t : List ℕ). has_order o (num (bytes_from k a n)) (num t) ≡ true) (same_from m k c n (λ x low high. same x (none_is f r c n x p.1 low high)))
-    (subst (λ (t : List ℕ). has_order o (num t) (num (bytes_from m c n)) ≡ true) (same_from m k a n (λ x low high. same x (none_is f r a n x p.0 low high))) h))
+    rw (← same_from m k c n (λ x low high. same x (none_is f r c n x p.1 low high)), ← same_from m k a n (λ x low high. same x (none_is f r a n x p.0 low high))) h)
 
 -- ---- open calls
-
--- what a function makes of an element is among what it makes of them
-pub among_made : {A B : Type 0} (g : A → B) (x : A) (xs : List A) → Among x xs → Among (g x) (map g xs)
-among_made g x [] h = absurd h
-among_made g x (y ∷ xs) h =
-    elim h [
-      | inl e ↦ inl (ap g e)
-      | inr more ↦ inr (among_made g x xs more)
-    ]
-
-among_second : {A : Type 0} (x : A) (xs ys : List A) → Among x ys → Among x (xs ++ ys)
-among_second x [] ys h = h
-among_second x (y ∷ xs) ys h = inr (among_second x xs ys h)
 
 -- four bytes of a call and n bytes that meet have one in common, which is reached
 met_reached : (f : Frame) (r : Reach) (a n x : ℕ) → IsWithin f r a n → 0 < n → meet x 4 a n ≡ true → some_reached f r x 4 ≡ true
@@ -157,7 +144,7 @@ met_reached f r a n x all some h = by (nat_lt x a) refl
 cut_by : (b : Bool) (hit : Bool) (c : Call) (rest : List Call) (lists : List (List Call)) → (b ≡ true → hit ≡ true) → Among rest lists → Among (cond b [] (c ∷ rest)) ((cond hit ([] ∷ []) []) ++ map (λ rest. c ∷ rest) lists)
 cut_by true true c rest lists h among = inl refl
 cut_by true false c rest lists h among = absurd (cc (h refl))
-cut_by false hit c rest lists h among = among_second (c ∷ rest) (cond hit ([] ∷ []) []) (map (λ rest. c ∷ rest) lists) (among_made (λ (rest : List Call). c ∷ rest) rest lists among)
+cut_by false hit c rest lists h among = among_right (c ∷ rest) (cond hit ([] ∷ []) []) (map (λ rest. c ∷ rest) lists) (among_mapped (λ (rest : List Call). c ∷ rest) rest lists among)
 
 -- the calls that a write spares are one of the lists of those within reach
 pub spared_among : (f : Frame) (r : Reach) (a n : ℕ) (cs : List Call) → IsWithin f r a n → 0 < n → Among (calls_after_write a n cs) (calls_hit f r cs)
@@ -216,9 +203,9 @@ module _ (s : Setting) (small : static_size s ≤ dynamic_base) (st : Start) (al
       let led = written_over calls k seen in
       let same : (x : ℕ) → is_reached e r x ≡ false → m x ≡ l x = λ x none. beside_stays calls k seen x (not_within e r a (length b) x all none) in
       record {
-        key = subst (λ (j : ℕ). record (place_key st al f calls) { calls = calls_after_write a j calls } ≡ place_key st al after.frame (calls_after_write a j calls)) count led.key;
+        key = rw (← count) led.key;
         seen = record {
-          open_calls = subst (λ (j : ℕ). AreOpen (dynamic_base + after.frame.session) after.frame.dt after.frame.lb after.frame.dyn (calls_after_write a j calls)) count led.seen.open_calls;
+          open_calls = rw (← count) led.seen.open_calls;
           holds = unreached_holds e r k.bytes m l same seen.holds;
           compares = unreached_so e r k.compare m l same seen.compares;
           keeps = led.seen.keeps;

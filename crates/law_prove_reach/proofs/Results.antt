@@ -61,7 +61,7 @@ module _ (i : Ins) (o : Top) (is : IsResult i o) (s : Setting) (u t : Tables) (g
       → IsRowCovered s u t g loadable leads i turn (row i f turn.public turn.around)
   result_covered counted alike ready size o2 =
       elim o2 [
-        | inl w ↦ few (subst (λ (l : List ℕ). Followed s u t g loadable leads i turn l nobody) (is.places (base s u t g loadable leads i turn).frame) w)
+        | inl w ↦ few (rw (← is.places (base s u t g loadable leads i turn).frame) w)
         | inr includes ↦ coarse_top s u t g loadable leads i turn o anybody is.top tt includes tt ready
       ]
     where

@@ -31,8 +31,9 @@ use Rattle.law_prove.proofs.Seen.{FitSets, Seen, fit_values}
 use Rattle.law_prove.proofs.Acts.{spot_of, Led, flags_led, led_covers, lowered_seen, writes_led}
 use Rattle.law_prove.proofs.Turns.{NoCause, frame_of, memory_of_bytes, goes_covered, walked_limit}
 use Rattle.law_prove.proofs.Single.{going, one_copied, Turn, here, there, IsRowCovered, row_is, shape_bytes, low_frame, low_calls, low_known, low_seen, low_framed}
-use Rattle.law_prove_reach.proofs.Reached.{IsWithin, some_is, among_made, spared_among, reached_led}
+use Rattle.law_prove_reach.proofs.Reached.{IsWithin, some_is, spared_among, reached_led}
 use Rattle.law_prove_reach.proofs.Choices.{one_of, fetched_frame, memory, base}
+use Rattle.law_prove.proofs.Blocks.{among_mapped}
 
 -- the only outcome of a row whose work leads to one place, with values of these sets of the bytes that it writes
 pub one_led : (s : Setting) (t : Tables) (i : Ins) (d : ℕ) (a : Act) (fl : Option (Bool × Bool)) (w : Work) (ss : List Set) (p q : Spot) → spots s (going d a fl) w q ≡ with_flags fl (acted s a ss (lowered d q)) ∷ []
@@ -241,12 +242,12 @@ module _ (s : Setting) (u t : Tables) (g : Target) (loadable : IsLoadable s.app)
       let w = static d r && not turn.frame.protected in
       let cs : List Call = calls_after_write to (length b) calls in
       let made : List Call → Spot = λ cs. with_flags fl (reached_spot e r q cs) in
-      let within : IsWithin e r to (length b) = subst (λ (j : ℕ). IsWithin e r to j) (sym is.long) is.within in
-      let some : 0 < length b = subst (λ (j : ℕ). 0 < j) (sym is.long) is.some in
-      let among : Among (made cs) (map made (calls_hit e r calls)) = among_made made cs (calls_hit e r calls) (spared_among e r to (length b) calls within some) in
+      let within : IsWithin e r to (length b) = rw is.long is.within in
+      let some : 0 < length b = rw is.long is.some in
+      let among : Among (made cs) (map made (calls_hit e r calls)) = among_mapped made cs (calls_hit e r calls) (spared_among e r to (length b) calls within some) in
       let one : includes_all t (follows s i w Goes before (settled_spot s (made cs))) ≡ true = one_of t (λ q. follows s i w Goes before (settled_spot s q)) (made cs) (map made (calls_hit e r calls)) among includes in
       led_row d (Writes to n b) fl (reached_spot e r q cs) w shaped
-      (reached_led s loadable.static st al (low d) turn.public to n b is.bytes some (subst (λ (j : ℕ). is_none (where_is (low d) to j) ≡ false) (sym is.long) is.inside) turn.whole
+      (reached_led s loadable.static st al (low d) turn.public to n b is.bytes some (rw is.long is.inside) turn.whole
       (low_framed s u t g loadable leads i turn d is.low is.high) e r w calls k within (reached_makes r was d to n b is) (low_seen s u t g loadable leads i turn d))
       one
 
@@ -293,7 +294,6 @@ module _ (s : Setting) (u t : Tables) (g : Target) (loadable : IsLoadable s.app)
       let miss = fails s before.key before.known A03 in
       let short = cond bad (fails s before.key before.known A06) [] in
       let rest = decided (known_of arg den under was) d a0 fl r in
-      subst (IsRowCovered s u t g loadable leads i turn) (row_is s u t g loadable leads i turn (causes i f turn.public turn.around) (going d (Writes to n b) fl) refl shaped)
-      (subst (λ (c : Option Abend). IsRowCovered s u t g loadable leads i turn (row_end c m)) (sym first)
+      rw (← row_is s u t g loadable leads i turn (causes i f turn.public turn.around) (going d (Writes to n b) fl) refl shaped, first)
       (coarse_by bad arg den under missed range r was d to n a0 b fl (included_first t miss short (included_first t (miss ++ short) rest includes)) (included_second t miss short (included_first t (miss ++ short) rest includes))
-      (included_second t (miss ++ short) rest includes) shaped lengths reached))
+      (included_second t (miss ++ short) rest includes) shaped lengths reached)

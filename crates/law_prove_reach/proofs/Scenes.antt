@@ -195,7 +195,7 @@ pub record Standing (f : Frame) (z : Scene) (m old : Memory) (places : List ℕ)
   pub agrees : (b : ℕ) → (old b ≡ m b) ⊎ Among b places → parts_memory (length f.fixed) fixed dyn public b ≡ m b
 
 kept_by : (p : Bool) (new old m : Memory) (a b : ℕ) → (b == a) ≡ p → new a ≡ m a → ((c : ℕ) → (c ≡ a → ⊥) → new c ≡ old c) → old b ≡ m b → new b ≡ m b
-kept_by true new old m a b e there others is = let same : a ≡ b = sym (eqb-true b a e) in subst (λ (c : ℕ). new c ≡ m c) same there
+kept_by true new old m a b e there others is = let same : a ≡ b = sym (eqb-true b a e) in rw (← same) there
 kept_by false new old m a b e there others is = others b (eqb-false b a e) ∙ is
 
 one_less : (new old m : Memory) (a b : ℕ) (places : List ℕ) → new a ≡ m a → ((c : ℕ) → (c ≡ a → ⊥) → new c ≡ old c) → (old b ≡ m b) ⊎ Among b (a ∷ places) → (new b ≡ m b) ⊎ Among b places
@@ -204,7 +204,7 @@ one_less new old m a b places there others o =
       | inl is ↦ inl (kept_by (b == a) new old m a b refl there others is)
       | inr among ↦
           elim among [
-            | inl same ↦ inl (subst (λ (c : ℕ). new c ≡ m c) same there)
+            | inl same ↦ inl (rw (← same) there)
             | inr more ↦ inr more
           ]
     ]

@@ -97,7 +97,7 @@ module _ (set number : ℕ) (args : List ℕ) (c : Cipher) (e : primitive set nu
       }
 
   sign_alone : (st : Start) → Among nobody (arounds st (primitive set number))
-  sign_alone Delegated = subst (λ (z : Option Primitive). Among nobody (arounds Delegated z)) (sym e) (inl refl)
+  sign_alone Delegated = rw e (inl refl)
   sign_alone (OfClass class) = inl refl
 
   sign_result : IsResult i (signing c n)

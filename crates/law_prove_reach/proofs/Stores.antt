@@ -48,7 +48,7 @@ above_by f true n e = let h = above f (n + 2) e in omega (arith, h)
 above_by f false n e = above f n e
 
 -- an access of two bytes has an address
-access_of : (f : Frame) (o : Option ℕ) → no_access f o 2 ≡ false → (o ≡ Some (address_or_zero o)) × (is_outside f (address_or_zero o) 2 ≡ false)
+pub access_of : (f : Frame) (o : Option ℕ) → no_access f o 2 ≡ false → (o ≡ Some (address_or_zero o)) × (is_outside f (address_or_zero o) 2 ≡ false)
 access_of f None e = absurd (cc e)
 access_of f (Some a) e = (refl, e)
 
@@ -196,12 +196,12 @@ module _ (tag : ℕ) (off : ℤ) (n : ℕ) (s : Setting) (u t : Tables) (g : Tar
       record {
         free = few_wait (frame_after_pop f n) fixed dyn (address_at l blank at) n (omega (arith, byte));
         long = ap (λ (z : List ℕ). length z) (stored_is over) ∙ from_length m d n;
-        bytes = subst (λ (z : List ℕ). AreBytes z) (sym (stored_is over)) (bytes_of m d n turn.place.bytes);
+        bytes = rw (stored_is over) (bytes_of m d n turn.place.bytes);
         some = positive n some;
         inside = inside_of (n == 0) (is_none (where_is (frame_after_pop f n) to n)) some p.1;
         within = is_within (record l { dt = d }) r to n (is_first n [])
-            (subst (λ (v : ℕ). is_in v (values_at turn.place.known.bytes at) ≡ true) (high_of is first second) (value_holds turn.place.known.bytes m at turn.place.holds first))
-            (subst (λ (v : ℕ). is_in v (values_at turn.place.known.bytes (suc at)) ≡ true) (low_of is first second) (value_holds turn.place.known.bytes m (suc at) turn.place.holds second))
+            (rw (← high_of is first second) (value_holds turn.place.known.bytes m at turn.place.holds first))
+            (rw (← low_of is first second) (value_holds turn.place.known.bytes m (suc at) turn.place.holds second))
             (same_outside (frame_after_pop f n) fixed dyn to n size ∙ p.1);
         low = omega (arith, over);
         high = omega (arith, high);
@@ -219,8 +219,7 @@ module _ (tag : ℕ) (off : ℤ) (n : ℕ) (s : Setting) (u t : Tables) (g : Tar
       let under = is_under f (on_stack tag (n + 2) n) in
       let low0 : Frame = frame_after_pop l n in
       coarse_row s u t g loadable leads i turn false (n == 0) false under (no_access f o 2 || is_outside (frame_after_pop f n) to n) false r was d to n (Writes (address_at l blank at) n (top l n)) (top f n) None
-      (subst (λ (z : Option ℕ). let a = address_at l blank (address_or_zero z) in
-      includes_all t (Outcomes s u t g loadable leads i turn false (known_of (n == 0) false under (too_many low0 a n)) d (Writes a n (top l n)) None (reach_at turn.place.known.bytes (address_or_zero z) (n ∷ []))) ≡ true) base_operand includes)
+      (rw (← base_operand) includes)
       refl refl (λ e. absurd (cc e)) (λ some allowed under missed range. reached some under missed)
 
   -- both ways to follow it

@@ -300,8 +300,8 @@ module _ (s : Setting) (u t : Tables) (g : Target) (loadable : IsLoadable s.app)
         some = is.some;
         inside = is.inside;
         within = is_within (record l { dt = d }) r to count is.length_in
-            (subst (λ (v : ℕ). is_in v (values_at turn.place.known.bytes a) ≡ true) (high_of (m a) (m (suc a)) number first second) (value_holds turn.place.known.bytes m a turn.place.holds first))
-            (subst (λ (v : ℕ). is_in v (values_at turn.place.known.bytes (suc a)) ≡ true) (low_of (m a) (m (suc a)) number first second) (value_holds turn.place.known.bytes m (suc a) turn.place.holds second))
+            (rw (← high_of (m a) (m (suc a)) number first second) (value_holds turn.place.known.bytes m a turn.place.holds first))
+            (rw (← low_of (m a) (m (suc a)) number first second) (value_holds turn.place.known.bytes m (suc a) turn.place.holds second))
             (same_outside popped fixed dyn to count size ∙ outside_by (count == 0) (is_none (where_is popped to count)) is.inside);
         low = omega (arith, enough);
         high = omega (arith, highest);
@@ -327,8 +327,8 @@ module _ (s : Setting) (u t : Tables) (g : Target) (loadable : IsLoadable s.app)
       (cond (may_miss (primitive_of i) (coarse_for h.act c)) (fails s p.key p.known A03) []) ++ (cond bad (fails s p.key p.known A06) []) ++ coarse_done first s i (record l { dt = h.dt }) h (coarse_for h.act c) p q
       in
       let shaped : Shape = going d a0 (o.flags f.c) in
-      let one = subst (λ (b : Bool). includes_all t (arrivals (shape i l blank far) (coarse i l turn.place.known.bytes) b (first_cause (known_causes b (causes i l blank far)))) ≡ true) top.lasts includes in
-      let two = subst (λ (c : Option Abend). includes_all t (arrivals (shape i l blank far) (coarse i l turn.place.known.bytes) o.bad c) ≡ true) (top.known l blank far good) one in
+      let one = rw top.lasts at includes in
+      let two = rw (top.known l blank far good) at one in
       let first = first_cause (known_of o.arg (o.denied f.deny) (is_under f o.pops) stands) in
       let three = subst (λ (h : Shape). includes_all t (arrivals h (coarse i l turn.place.known.bytes) o.bad first) ≡ true) (top.shaped l blank far good) two in
       let four : includes_all t (arrivals shaped (WritesWithin r) o.bad first) ≡ true = subst (λ (c : Coarse). includes_all t (arrivals shaped c o.bad first) ≡ true) (top.reaches l turn.place.known.bytes) three in

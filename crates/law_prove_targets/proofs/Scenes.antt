@@ -13,6 +13,7 @@ use Rattle.law_prove.specs.model_prove.specs.Reach.{greatest_value, address_choi
 use Rattle.law_prove.specs.model_prove.proofs.SetLemmas.{is_kept, is_between}
 use Rattle.law_prove.proofs.Parts.{not_lt}
 use Rattle.law_prove.proofs.Windows.{taken_is, index_within, index_before}
+use Rattle.law_prove.proofs.Blocks.{among_left, among_right}
 
 -- ---- registers
 
@@ -143,18 +144,6 @@ among_map a v (w ∷ vs) h =
       | inr more ↦ inr (among_map a v vs more)
     ]
 
-pub among_first : {A : Type 0} (x : A) (xs ys : List A) → Among x xs → Among x (xs ++ ys)
-among_first x [] ys h = absurd h
-among_first x (y ∷ xs) ys h =
-    elim h [
-      | inl e ↦ inl e
-      | inr more ↦ inr (among_first x xs ys more)
-    ]
-
-pub among_second : {A : Type 0} (x : A) (xs ys : List A) → Among x ys → Among x (xs ++ ys)
-among_second x [] ys h = h
-among_second x (y ∷ xs) ys h = inr (among_second x xs ys h)
-
 -- the address of two bytes, if it is a place of the code, is one that is followed
 pub target_inside : (f : Facts) (a limit x y : ℕ) → x < 256 → y < 256 → is_in x (values_at f a) ≡ true → is_in y (values_at f (suc a)) ≡ true → x * 256 + y < limit → Among ((a, x) ∷ (suc a, y) ∷ []) (target_choices f a limit)
 target_inside f a limit x y small below first second less =
@@ -167,7 +156,7 @@ target_inside f a limit x y small below first second less =
     let is : address_choice a v ≡ (a, x) ∷ (suc a, y) ∷ [] = ap (λ (z : ℕ). (a, z) ∷ (suc a, v % 256) ∷ []) high ∙ ap (λ (z : ℕ). (a, x) ∷ (suc a, z) ∷ []) low in
     let most = greatest_value (values_at f a) * 256 + greatest_value (values_at f (suc a)) in
     rw (← is)
-    (among_first (address_choice a v) (map (address_choice a) (filter test (numbers_from 0 limit))) (cond (nat_le limit most) (address_choice a most ∷ []) []) (among_map a v (filter test (numbers_from 0 limit)) there))
+    (among_left (address_choice a v) (map (address_choice a) (filter test (numbers_from 0 limit))) (cond (nat_le limit most) (address_choice a most ∷ []) []) (among_map a v (filter test (numbers_from 0 limit)) there))
 
 -- if it is none, one that is not in the code is followed
 pub target_outside : (f : Facts) (a limit x y : ℕ) → is_in x (values_at f a) ≡ true → is_in y (values_at f (suc a)) ≡ true → limit ≤ x * 256 + y
@@ -179,4 +168,4 @@ target_outside f a limit x y first second more =
     let reach : limit ≤ most = omega (arith, high, low, more) in
     let e : nat_le limit most ≡ true = le-leb limit most reach in
     let front = map (address_choice a) (filter (λ v. is_in (v / 256) (values_at f a) && is_in (v % 256) (values_at f (suc a))) (numbers_from 0 limit)) in
-    (reach, rw e (among_second (address_choice a most) front (address_choice a most ∷ []) (inl refl)))
+    (reach, rw e (among_right (address_choice a most) front (address_choice a most ∷ []) (inl refl)))
