@@ -17,6 +17,7 @@ use Rattle.law_prove.proofs.Seen.{FitSets, fit_length}
 use Rattle.law_prove_commands.specs.Laws.{HasClass, ClassLaw}
 use Rattle.law_prove_commands.proofs.Routes.{Reaches, reached, IsRead, read_of}
 use Rattle.law_prove_commands.proofs.Opens.{opens_are, hex_first, any_after, matches_are}
+use Rattle.law_prove.proofs.Worked.{fit_last}
 
 -- ---- the values of a byte, by what they leave
 
@@ -59,12 +60,6 @@ left_of o v (x ∷ s) h =
 
 -- ---- headers
 
-of_append : (bs : List ℕ) (ss : List Set) (v : ℕ) (s : Set) → FitSets bs ss → is_in v s ≡ true → FitSets (bs ++ v ∷ []) (ss ++ s ∷ [])
-of_append [] [] v s h e = (e, tt)
-of_append [] (x ∷ ss) v s h e = absurd h
-of_append (b ∷ bs) [] v s h e = absurd h
-of_append (b ∷ bs) (x ∷ ss) v s h e = (h.0, of_append bs ss v s h.1 e)
-
 -- among headers is one with these bytes, which leave this of the patterns
 abbrev HasHeader : Opens → List ℕ → List Header → Type 0
 HasHeader o bs [] = ⊥
@@ -86,7 +81,7 @@ each_left : (o : Opens) (bs : List ℕ) (v : ℕ) (ss : List Set) (gs : List (Op
 each_left o bs v ss [] are h = absurd h
 each_left o bs v ss (g ∷ gs) are h =
     elim h [
-      | inl e ↦ inl (e.0, of_append bs ss v g.1 are e.1)
+      | inl e ↦ inl (e.0, fit_last bs ss v g.1 are e.1)
       | inr more ↦ inr (each_left o bs v ss gs are more)
     ]
 

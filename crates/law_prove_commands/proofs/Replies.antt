@@ -13,20 +13,9 @@ use Rattle.law_prove.specs.model_prove.specs.Laws.{Among}
 use Rattle.law_prove.specs.model_prove.specs.Arrivals.{Setting, Lengths, some_value, lengths_of, la_at, bodies, has_combination, distinct, result_patterns, replies}
 use Rattle.law_prove.proofs.Keys.{same_is, lists_are}
 use Rattle.law_prove_commands.proofs.Opens.{all_append, all_none, with_first, with_later, any_after, matches_are}
+use Rattle.law_prove.proofs.Blocks.{among_left, among_right}
 
 -- ---- lists
-
-among_first : {A : Type 0} (x : A) (xs ys : List A) → Among x xs → Among x (xs ++ ys)
-among_first x [] ys h = absurd h
-among_first x (y ∷ xs) ys h =
-    elim h [
-      | inl e ↦ inl e
-      | inr more ↦ inr (among_first x xs ys more)
-    ]
-
-among_second : {A : Type 0} (x : A) (xs ys : List A) → Among x ys → Among x (xs ++ ys)
-among_second x [] ys h = h
-among_second x (y ∷ xs) ys h = inr (among_second x xs ys h)
 
 -- ---- bytes of a reply
 
@@ -44,8 +33,8 @@ each_left v vs o [] h a = absurd a
 each_left v vs o (p ∷ os) h a =
     let left = all_after (hex_text (v ∷ [])) o in
     elim a [
-      | inl e ↦ among_first left (after_bytes vs p) (flat_map (after_bytes vs) os) (subst (λ (z : Opens). Among (all_after (hex_text (v ∷ [])) z) (after_bytes vs p)) e (byte_left v vs p h))
-      | inr more ↦ among_second left (after_bytes vs p) (flat_map (after_bytes vs) os) (each_left v vs o os h more)
+      | inl e ↦ among_left left (after_bytes vs p) (flat_map (after_bytes vs) os) (subst (λ (z : Opens). Among (all_after (hex_text (v ∷ [])) z) (after_bytes vs p)) e (byte_left v vs p h))
+      | inr more ↦ among_right left (after_bytes vs p) (flat_map (after_bytes vs) os) (each_left v vs o os h more)
     ]
 
 body_left : (b : Bool) (body : List ℕ) (o : Opens) → (b ≡ false → body ≡ []) → length body ≤ any_count → Among (all_after (hex_text body) o) (bodies b o)

@@ -37,8 +37,8 @@ use Rattle.law_prove.proofs.Turns.{NoCause, like, blank, nobody, stand_in_like, 
 use Rattle.law_prove.proofs.Alike.{Sized, stack_length}
 use Rattle.law_prove.proofs.Single.{going, Turn, here, there, scene, IsRowCovered, shape_bytes, low_framed, law_from}
 use Rattle.law_prove.proofs.Moves.{turn_sized}
-use Rattle.law_prove.proofs.Blocks.{Outcome, included_of}
-use Rattle.law_prove_reads.proofs.Scenes.{drawn, scene_of, scene_memory, IsScene, Agrees, agreeing, all_inside, all_both, among_inside, among_left, among_right, values_both, Choosing, choosing}
+use Rattle.law_prove.proofs.Blocks.{Outcome, included_of, among_left, among_right}
+use Rattle.law_prove_reads.proofs.Scenes.{drawn, scene_of, scene_memory, IsScene, Agrees, agreeing, all_inside, all_both, among_inside, values_both, Choosing, choosing}
 
 -- a scene with a public segment of zeros
 abbrev pub blank_scene : Frame → Scene

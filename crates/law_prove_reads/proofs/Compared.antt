@@ -42,19 +42,16 @@ use Rattle.law_prove.proofs.Plain.{above}
 use Rattle.law_prove.proofs.Worked.{worked, worked_length, worked_zero, worked_bytes, worked_difference, OnDigits, on_digits}
 use Rattle.law_prove.proofs.Narrowed.{Narrowed, narrow_holds, fit_are, operand_holds, order_is}
 use Rattle.law_prove.proofs.Arith.{RunsAs, with_bytes, bytes_allowed, memory_bytes_from}
-use Rattle.law_prove.proofs.Blocks.{Outcome, included_of}
+use Rattle.law_prove.proofs.Blocks.{Outcome, included_of, among_left, among_right, among_mapped, among_each}
 use Rattle.law_prove_reads.specs.Laws.{BlockLaw}
-use Rattle.law_prove_reads.proofs.Scenes.{drawn, scene_of, drawn_outside, among_left, among_right}
+use Rattle.law_prove_reads.proofs.Scenes.{drawn, scene_of, drawn_outside}
 use Rattle.law_prove_reads.proofs.Reading.{read_any, number_alike, top_alike, part_alike, first_same}
-use Rattle.law_prove_reads.proofs.Shifts.{among_mapped, flags_there}
+use Rattle.law_prove_reads.proofs.Shifts.{flags_there}
 use Rattle.law_prove_reads.proofs.Address.{neither}
 use Rattle.law_prove_reads.proofs.Chosen.{Chosen, IsCoarse, coarse_list, stand, real, memory, sized, before, after_fetch, knowing_spot, outcome_done, chosen_row, coarse_row, rough_is, law_of}
+use Rattle.law_prove.proofs.Numbers.{carry_same}
 
 -- ---- numbers
-
-carry_same : (c : Bool) → carry_of c ≡ carried c
-carry_same true = refl
-carry_same false = refl
 
 -- the flags of a result
 abbrev pub both_flags : Worked → Bool × Bool
@@ -88,14 +85,6 @@ order_there false true h = inr (inl refl)
 order_there false false h = inr (inr (inl refl))
 
 -- ---- lists of outcomes
-
-among_each : {A B : Type 0} (g : A → List B) (a : A) (x : B) (list : List A) → Among a list → Among x (g a) → Among x (flat_map g list)
-among_each g a x [] h k = absurd h
-among_each g a x (b ∷ list) h k =
-    elim h [
-      | inl e ↦ among_left x (g b) (flat_map g list) (subst (λ (z : _). Among x (g z)) (sym e) k)
-      | inr e ↦ among_right x (g b) (flat_map g list) (among_each g a x list e k)
-    ]
 
 module _ (at n other : ℕ) where
   -- the subtraction of the bytes at two addresses

@@ -18,7 +18,7 @@ use Rattle.law_prove.specs.Coverings.{parts_memory, frame_memory}
 use Rattle.law_prove.proofs.Parts.{not_lt, memory_dynamic, static_same, static_new, dynamic_same, dynamic_new, public_same, public_new}
 use Rattle.law_prove.proofs.Windows.{window, taken_is}
 use Rattle.law_prove.proofs.Acts.{LiesIn, lies_in}
-use Rattle.law_prove.proofs.Alike.{Sized}
+use Rattle.law_prove.proofs.Alike.{Sized, bytes_window}
 
 -- a frame with these segments, where nothing waits
 abbrev pub drawn : Frame → List ℕ → List ℕ → Frame
@@ -220,18 +220,6 @@ among_numbers a (suc n) (suc j) h =
     let is : suc a + j ≡ a + suc j = omega arith in
     inr (subst (λ (x : ℕ). Among x (numbers_from (suc a) n)) is (among_numbers (suc a) n j (omega (arith, h))))
 
-pub among_left : {A : Type 0} (x : A) (xs ys : List A) → Among x xs → Among x (xs ++ ys)
-among_left x [] ys h = absurd h
-among_left x (y ∷ xs) ys h =
-    elim h [
-      | inl e ↦ inl e
-      | inr more ↦ inr (among_left x xs ys more)
-    ]
-
-pub among_right : {A : Type 0} (x : A) (xs ys : List A) → Among x ys → Among x (xs ++ ys)
-among_right x [] ys h = h
-among_right x (y ∷ xs) ys h = inr (among_right x xs ys h)
-
 pub all_both : (f : Frame) (xs ys : List ℕ) → AllInside f xs → AllInside f ys → AllInside f (xs ++ ys)
 all_both f [] ys h k = k
 all_both f (x ∷ xs) ys h k = (h.0, all_both f xs ys h.1 k)
@@ -269,19 +257,6 @@ from_same m k a (suc n) same =
     in
     ap (λ (b : ℕ). b ∷ bytes_from m (suc a) n) is ∙ ap (λ (l : List ℕ). k a ∷ l) rest
 
-window_from : (m : Memory) (l : List ℕ) (a i n : ℕ) → ((k : ℕ) → k < n → m (a + k) ≡ slice_index l (i + k)) → bytes_from m a n ≡ window l i n
-window_from m l a i zero same = refl
-window_from m l a i (suc n) same =
-    let x : a ≡ a + 0 = omega arith in
-    let y : i + 0 ≡ i = omega arith in
-    let first : m a ≡ slice_index l i = ap m x ∙ (same 0 (omega arith) ∙ ap (λ (j : ℕ). slice_index l j) y) in
-    let rest : bytes_from m (suc a) n ≡ window l (suc i) n = window_from m l (suc a) (suc i) n (λ k low.
-    let u : suc a + k ≡ a + suc k = omega arith in
-    let v : i + suc k ≡ suc i + k = omega arith in
-    ap m u ∙ (same (suc k) (omega (arith, low)) ∙ ap (λ (j : ℕ). slice_index l j) v))
-    in
-    ap (λ (b : ℕ). b ∷ bytes_from m (suc a) n) first ∙ ap (λ (t : List ℕ). slice_index l i ∷ t) rest
-
 -- bytes of the stack are those of the memory
 pub stack_is : (f : Frame) (public : List ℕ) (k n : ℕ) → Sized f public → dynamic_base + k ≤ f.dt → n ≤ k → stack_bytes f k n ≡ bytes_from (frame_memory f public) (f.dt - k) n
 stack_is f public k n z over less =
@@ -290,6 +265,6 @@ stack_is f public k n z over less =
     let high : f.dt ≤ dynamic_end = z.high in
     let i = f.dt - k - dynamic_base in
     taken_is f.dyn i n (omega (arith, over, room, high, less))
-    ∙ sym (window_from (frame_memory f public) f.dyn (f.dt - k) i n (λ j low.
+    ∙ sym (bytes_window (frame_memory f public) f.dyn (f.dt - k) i n (λ j low.
     let place : f.dt - k + j - dynamic_base ≡ i + j = omega (arith, over) in
     memory_dynamic (length f.fixed) (static_bytes f) f.dyn public (f.dt - k + j) small (omega (arith, over)) (omega (arith, over, low, less, high)) ∙ ap (λ (x : ℕ). slice_index f.dyn x) place))

@@ -37,12 +37,11 @@ use Rattle.law_prove.proofs.Turns.{nobody, blank}
 use Rattle.law_prove.proofs.Alike.{Sized}
 use Rattle.law_prove.proofs.Single.{Turn, IsRowCovered, scene}
 use Rattle.law_prove.proofs.Plain.{above}
-use Rattle.law_prove.proofs.Blocks.{included_of}
+use Rattle.law_prove.proofs.Blocks.{included_of, among_left, among_right, among_mapped}
 use Rattle.law_prove_reads.specs.Laws.{SearchLaw}
-use Rattle.law_prove_reads.proofs.Scenes.{drawn, scene_of, scene_memory, drawn_outside, among_left, among_right}
+use Rattle.law_prove_reads.proofs.Scenes.{drawn, scene_of, scene_memory, drawn_outside}
 use Rattle.law_prove_reads.proofs.Reading.{Alike, deeper_inside, read_any, read_alike, number_alike, top_alike, first_same}
 use Rattle.law_prove_reads.proofs.Scenes.{stack_is}
-use Rattle.law_prove_reads.proofs.Shifts.{among_mapped}
 use Rattle.law_prove_reads.proofs.Address.{neither}
 use Rattle.law_prove_reads.proofs.Chosen.{Chosen, IsCoarse, real, memory, sized, before, after_fetch, knowing_spot, knowing_pushes, outcome_done, chosen_row, coarse_row, rough_is, law_of}
 

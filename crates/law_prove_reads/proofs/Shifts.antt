@@ -35,21 +35,13 @@ use Rattle.law_prove.proofs.Turns.{NoCause, nobody, blank}
 use Rattle.law_prove.proofs.Alike.{from_length, top_is}
 use Rattle.law_prove.proofs.Single.{going, Turn, IsRowCovered, one_shaped, scene}
 use Rattle.law_prove.proofs.Plain.{above}
-use Rattle.law_prove.proofs.Blocks.{included_of}
+use Rattle.law_prove.proofs.Blocks.{included_of, among_mapped}
 use Rattle.law_prove_reads.specs.Laws.{ShiftLaw}
 use Rattle.law_prove_reads.proofs.Scenes.{drawn, scene_of}
 use Rattle.law_prove_reads.proofs.Reading.{Alike, stack_alike, top_alike}
 use Rattle.law_prove_reads.proofs.Chosen.{Chosen, IsCoarse, stand, real, memory, sized, before, after_fetch, knowing_spot, knowing_replaces, outcome_done, chosen_row, coarse_row, rough_is, law_of}
 
 -- ---- lists of outcomes
-
-pub among_mapped : {A B : Type 0} (g : A → B) (x : A) (xs : List A) → Among x xs → Among (g x) (map g xs)
-among_mapped g x [] h = absurd h
-among_mapped g x (y ∷ xs) h =
-    elim h [
-      | inl e ↦ inl (ap g e)
-      | inr e ↦ inr (among_mapped g x xs e)
-    ]
 
 -- any flags are among all
 pub flags_there : (c z : Bool) → Among (record { c = c; z = z }) (final_flags true)

@@ -160,7 +160,7 @@ taken_stays l public (s ∷ ss) name e =
     (taken_from ss name) (λ h. other_name s.name name l.name e h) (taken_stays l public ss name e)
 
 -- sums have the same names after a line
-names_stay : (l : SumLine) (public : List ℕ) (ss : List Sum) (name : List ℕ) → has_sum (after_sum_line l public ss) name ≡ has_sum ss name
+pub names_stay : (l : SumLine) (public : List ℕ) (ss : List Sum) (name : List ℕ) → has_sum (after_sum_line l public ss) name ≡ has_sum ss name
 names_stay l public [] name = refl
 names_stay l public (s ∷ ss) name =
     let named : (one_after l public s).name ≡ s.name = one_name (bytes_eq s.name l.name) l.adds (amount_in public l.amount) s in

@@ -18,11 +18,9 @@ use Rattle.law_sums.proofs.Bytes.{same_bytes}
 use Rattle.law_sums.proofs.OriginMoves.{from_dynamic, dynamic_from, listed_kept}
 use Rattle.law_sums.proofs.MoveLemmas.{off_same, more_same}
 use Rattle.law_sums.proofs.KnownLemmas.{totals_even}
+use Rattle.law_sums.proofs.ReachLemmas.{above_base}
 
 -- ---- what waits is dropped
-
-not_below : (c : ℕ) → nat_lt c dynamic_base ≡ false → dynamic_base ≤ c
-not_below c e = grind (arith, e)
 
 pub dropped_holds : (ts : List Total) (u : Sums) (first : List ℕ) (m k : Memory) (sums kept : List Sum) → ((b : ℕ) → dynamic_base ≤ b → m b ≡ k b)
     → TotalsHold k kept ts → Holds ts u first m sums → Holds ts (dropped true ts u) first k kept
@@ -31,7 +29,7 @@ dropped_holds ts u first m k sums kept s t h =
       origins = λ c.
           from_dynamic (nat_lt c dynamic_base) first (listed_or (unlisted u.origins.own c) u.origins.listed c) (k c)
           (λ d.
-          subst (λ (v : ℕ). IsFrom first (listed_or (unlisted u.origins.own c) u.origins.listed c) v) (s c (not_below c d))
+          subst (λ (v : ℕ). IsFrom first (listed_or (unlisted u.origins.own c) u.origins.listed c) v) (s c (above_base c d))
           (dynamic_from (nat_lt c dynamic_base) first (listed_or (unlisted u.origins.own c) u.origins.listed c) (m c) (h.origins c) d));
       mores = tt;
       offs = totals_even first k kept ts t;

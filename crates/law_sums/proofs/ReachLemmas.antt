@@ -212,7 +212,7 @@ among_places x (inr h) =
     among_second x (numbers_from dynamic_base (dynamic_end - dynamic_base)) (numbers_from public_base (public_end - public_base))
     (among_numbers x public_base (public_end - public_base) h.0 (omega (arith, h.1)))
 
-above_base : (c : ℕ) → nat_lt c dynamic_base ≡ false → dynamic_base ≤ c
+pub above_base : (c : ℕ) → nat_lt c dynamic_base ≡ false → dynamic_base ≤ c
 above_base c e = grind (arith, e)
 
 reached_from : (f : Frame) (r : Reach) (first : List ℕ) (m k : Memory) (o : Origins) (c : ℕ) → length f.fixed ≤ dynamic_base → f.dt ≤ dynamic_end
