@@ -26,6 +26,10 @@ use Rattle.law_closed.proofs.OneRow.{row_delegates}
 
 -- ---- what a run leaves of an application
 
+-- the code and the access list of an application
+abbrev Facts : Type 0
+Facts = Option (List ℕ × ℕ)
+
 abbrev facts : Option App → Option (List ℕ × ℕ)
 facts None = None
 facts (Some a) = Some (a.code, a.deny)

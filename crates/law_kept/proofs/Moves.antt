@@ -80,6 +80,14 @@ pub record IsSent (l : DeckLine) : Type 0 where
   pub card : is_card_line l ≡ true
   pub bytes : IsLine l
 
+abbrev SaysSent : Stated → Type 0
+SaysSent (Says l c) = IsSent l
+SaysSent (Opens s c) = ⊤
+
+stated_sent : (s : Stated) → SaysSent s → IfOk (line_stated s) IsSent
+stated_sent (Says l c) h = h
+stated_sent (Opens s c) h = tt
+
 abbrev powered : Context
 powered = record { units = []; powered = true }
 

@@ -101,6 +101,10 @@ blank_holds r g kept = record { goes = λ ls ws are. kept ls (blank_words device
 
 -- ---- stops of a deck come at device writes
 
+no_stop : (l : DeckLine) (is : List Item) → LineStopsInWrite l is None
+no_stop (line.Sent k) is = tt
+no_stop _ is = tt
+
 armed_counts : (l : DeckLine) (a : Armed) → Counts l → CountsFromOne a → CountsFromOne (armed_after l a)
 armed_counts (line.Cut k x) a is h = is
 armed_counts (line.Fail k) a is h = is

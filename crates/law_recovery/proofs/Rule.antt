@@ -10,6 +10,10 @@ use Rattle.law_recovery.specs.Laws.{in_flight_whole, RuleLaw}
 
 -- ---- a stop in the first item, and one after it
 
+whole_cond : (b : Bool) (s t : Stopped) (w v : List Item) → (b ≡ true → s.whole ≡ w) → (b ≡ false → t.whole ≡ v) → (cond b s t).whole ≡ cond b w v
+whole_cond true s t w v h k = h refl
+whole_cond false s t w v h k = k refl
+
 -- the item in flight is the first
 first_plain : (is : List Item) (x : List ℕ) (k : ℕ) → k ≡ 1 → (at_stop (Plain ∷ is) k x).whole ≡ []
 first_plain is x k e = ap (λ (j : ℕ). (at_stop (Plain ∷ is) j x).whole) e

@@ -97,6 +97,9 @@ same_or_counts t f a b old =
     ]
 
 module _ (t : Pair → Bool) (last : ℕ) where
+  -- the headers of gaps
+  heads : ℕ → List Span → List Pair
+  heads p ss = gap_headers (gaps_from p ss last)
 
   first : ℕ → List Span → ℕ
   first p ss = first_place (gaps_from p ss last)

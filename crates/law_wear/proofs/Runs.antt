@@ -202,6 +202,10 @@ ran_few (suc n) ch fits h =
     let t : ActPays ch (turn_of_chain ch) = acted_pays ch h in
     ran_on_few n ch (turn_of_chain ch) _ (turn_of_chain ch).follows (λ c. run_of_chain n c) (turn_count ch) t.paid t.one t.same (acted_fits ch fits).next (acted_few ch fits h).next (λ c k l. ran_few n c k l)
 
+-- a run begins with nothing pending
+start_paid : (m : List (List ℕ × App)) (first session : List ℕ) (apdu : ApduParts) (a : App) → paid_next (Continues (start_app m first session apdu a)) ≡ 0
+start_paid m first session apdu a = refl
+
 -- the device writes of a command to an application, and the instructions that it runs
 pub run_few : (m : List (List ℕ × App)) (first session : List ℕ) (apdu : ApduParts) (budget : ℕ) → AreCoded m → length first ≤ 16 → RanFew budget 0 (run m first session apdu budget)
 run_few m first session apdu budget good short =
