@@ -31,17 +31,9 @@ use Rattle.law_prove_commands.specs.law_prove.proofs.Moments.{within_holds}
 use Rattle.law_prove_commands.specs.law_prove.proofs.Places.{abend_arrives}
 use Rattle.law_prove_commands.specs.law_prove.proofs.Spots.{place_key, did_stands, turn_arrives, Covers, spot_arrives}
 use Rattle.law_prove_commands.specs.law_prove.proofs.Turns.{memory_of_bytes, stopped_arrives, before_it}
+use Rattle.law_prove_reach.proofs.Choices.{one_of}
 
 -- ---- lists of outcomes
-
--- the outcome of one of some elements
-pub one_of : {A : Type 0} (t : Tables) (f : A → List Arrival) (x : A) (xs : List A) → Among x xs → includes_all t (flat_map f xs) ≡ true → includes_all t (f x) ≡ true
-one_of {A} t f x [] a e = absurd a
-one_of {A} t f x (y ∷ xs) a e =
-    elim a [
-      | inl is ↦ subst (λ (z : A). includes_all t (f z) ≡ true) is (included_first t (f y) (flat_map f xs) e)
-      | inr more ↦ one_of t f x xs more (included_second t (f y) (flat_map f xs) e)
-    ]
 
 -- each abend but 09 is one of a delegate
 among_abends : (cause : Abend) → IsRowCause cause → Among cause delegate_abends
@@ -80,7 +72,7 @@ below_holds limit (Ordered a n c o) m k same i =
     (subst (λ (t : List ℕ). has_order o (num t) (num (bytes_from m c n)) ≡ true) (same_below m k limit a n same (leb-true (a + n) limit p.0)) i))
 
 -- bytes below the public segment are not those of it
-other_public : (f : Frame) (public other : List ℕ) (a : ℕ) → a < public_base → frame_memory f public a ≡ frame_memory f other a
+pub other_public : (f : Frame) (public other : List ℕ) (a : ℕ) → a < public_base → frame_memory f public a ≡ frame_memory f other a
 other_public f public other a low =
     let e = lt-ltb a public_base low in
     let x = slice_index (static_bytes f) a in

@@ -38,10 +38,13 @@ use Rattle.law_prove_commands.specs.law_prove.proofs.Places.{of_closed, fails_by
 use Rattle.law_prove_commands.specs.law_prove.proofs.Seen.{Seen}
 use Rattle.law_prove_commands.specs.law_prove.proofs.Single.{Turn, here, there, IsRowCovered, row_is, shape_bytes, law_from}
 use Rattle.law_prove_commands.specs.law_prove.proofs.Turns.{frame_of, nobody, walked, included_at, decoded_at, leaves_bytes}
-use Rattle.law_prove_targets.proofs.Scenes.{both_inside, among_first, among_second}
+use Rattle.law_prove_targets.proofs.Scenes.{both_inside}
 use Rattle.law_prove_closed.specs.Laws.{DelegateLaw}
-use Rattle.law_prove_closed.proofs.Stands.{Stands, place_in, same_outside, stands_sized, scene_memory, memory_is, HasValues, values_set, values_append, all_inside, filtered_inside, chosen_facts, chosen_is, chosen_holds}
-use Rattle.law_prove_closed.proofs.Delegated.{one_of, delegates_covered}
+use Rattle.law_prove_closed.proofs.Stands.{Stands, place_in, same_outside, stands_sized, scene_memory, memory_is, HasValues, values_set, all_inside, filtered_inside, chosen_facts, chosen_holds}
+use Rattle.law_prove_closed.proofs.Delegated.{delegates_covered}
+use Rattle.law_prove_commands.specs.law_prove.proofs.Blocks.{among_left, among_right}
+use Rattle.law_prove_reads.proofs.Scenes.{values_both}
+use Rattle.law_prove_reach.proofs.Choices.{one_of, chosen_is}
 
 -- ---- causes and shape
 
@@ -293,7 +296,7 @@ module _ (s : Setting) (u t : Tables) (g : Target) (loadable : IsLoadable s.app)
       let same : number_below_top first_scene.frame 2 ≡ name_at = number_in first_scene first_places first_set over (λ a among. among) in
       let inside_it : is_outside first_scene.frame name_at 1 ≡ false = same_outside first_scene fetched_frame name_at 1 first_set.stands ∙ in_more fetched_frame name_at there in
       let one : inside first_scene (name_at ∷ []) ≡ name_at ∷ [] = ap (λ (b : Bool). cond (not b) (name_at ∷ []) []) inside_it in
-      among_second name_at first_places last_places (subst (λ (l : List ℕ). Among name_at l) (sym (ap (λ (a : ℕ). inside first_scene (a ∷ [])) same ∙ one)) (inl refl))
+      among_right name_at first_places last_places (subst (λ (l : List ℕ). Among name_at l) (sym (ap (λ (a : ℕ). inside first_scene (a ∷ [])) same ∙ one)) (inl refl))
 
   same_pop : (z : Scene) (a n : ℕ) → Stands z fetched_frame → where_is (frame_after_pop z.frame 2) a n ≡ where_is (frame_after_pop fetched_frame 2) a n
   same_pop z a n stood = ap (λ (k : ℕ). place_in k (z.frame.dt - 2) a n) stood.size ∙ ap (λ (k : ℕ). place_in (length turn.frame.fixed) (k - 2) a n) stood.dt
@@ -306,7 +309,7 @@ module _ (s : Setting) (u t : Tables) (g : Target) (loadable : IsLoadable s.app)
       let z : Scene = last_scene in
       let stood : Stands z fetched_frame = last_set.stands in
       let f : Frame = fetched_frame in
-      let number : number_below_top z.frame 2 ≡ name_at = number_in z places last_set over (λ a among. among_first a first_places last_places among) in
+      let number : number_below_top z.frame 2 ≡ name_at = number_in z places last_set over (λ a among. among_left a first_places last_places among) in
       let count : count_at (frame_after_pop z.frame 2) z.public name_at ≡ count_at (frame_after_pop f 2) turn.public name_at =
       count_by z.frame f z.public turn.public name_at (where_is (frame_after_pop f 2) name_at 1) (same_pop z name_at 1 stood) refl (stands_sized z f static_low top_low stood) real_sized
       (λ there. agrees z name_at stood (last_set.has name_at (count_among over there)))
@@ -368,7 +371,7 @@ module _ (s : Setting) (u t : Tables) (g : Target) (loadable : IsLoadable s.app)
       one_of t (λ d. with_choice s delegation scene before fetched_spot (c ++ d)) d (combinations known last_places) (choice_is_there known last_places memory turn.place.holds turn.place.bytes) one
       in
       let three : includes_all t (with_choice s delegation scene before fetched_spot (values_in memory places)) ≡ true =
-      subst (λ (z : Choice). includes_all t (with_choice s delegation scene before fetched_spot z) ≡ true) (values_append memory first_places last_places) two
+      subst (λ (z : Choice). includes_all t (with_choice s delegation scene before fetched_spot z) ≡ true) (values_both memory first_places last_places) two
       in
       chosen_covered (around_delegate t (instruction s delegation last_scene before (chosen (values_in memory places) fetched_spot)) turn.place.start three)
 

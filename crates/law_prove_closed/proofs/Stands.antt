@@ -197,10 +197,6 @@ module _ (f : Frame) (small : length f.fixed ≤ dynamic_base) (high : f.dt ≤ 
 
 -- ---- lists of places
 
-pub values_append : (m : Memory) (l k : List ℕ) → values_in m l ++ values_in m k ≡ values_in m (l ++ k)
-values_append m [] k = refl
-values_append m (a ∷ l) k = ap (λ (c : Choice). (a, m a) ∷ c) (values_append m l k)
-
 pub all_inside : (f : Frame) (l k : List ℕ) → AllByRecursion {X = ℕ} (λ a. is_outside f a 1 ≡ false) l → AllByRecursion {X = ℕ} (λ a. is_outside f a 1 ≡ false) k → AllByRecursion {X = ℕ} (λ a. is_outside f a 1 ≡ false) (l ++ k)
 all_inside f [] k x y = y
 all_inside f (a ∷ l) k x y = (x.0, all_inside f l k x.1 y)
@@ -223,10 +219,6 @@ filtered_inside z f (a ∷ l) stands =
 abbrev pub chosen_facts : Choice → Facts → Facts
 chosen_facts [] f = f
 chosen_facts (e ∷ es) f = chosen_facts es (know e.0 (e.1 ∷ []) f)
-
-pub chosen_is : (c : Choice) (p : Spot) → chosen c p ≡ with_facts p (chosen_facts c p.known.bytes)
-chosen_is [] p = refl
-chosen_is (e ∷ es) p = chosen_is es (with_facts p (know e.0 (e.1 ∷ []) p.known.bytes))
 
 -- they hold of the memory that the values are from
 pub chosen_holds : (m : Memory) (l : List ℕ) (f : Facts) → Holds f m → Holds (chosen_facts (values_in m l) f) m

@@ -32,11 +32,7 @@ use Rattle.law_sum_rows.proofs.Scenes.{Step, fetched, memory, base, sized, base_
 use Rattle.law_sum_rows.proofs.Rows.{unprotected, row_done, few_compared, coarse_compared, StepCase}
 use Rattle.law_sum_rows.proofs.Plain.{dt_low, dt_high, pop_low, pop_high}
 use Rattle.law_sum_rows.proofs.Copied.{loads, stores}
-
--- an access of two bytes has an address
-access_of : (f : Frame) (o : Option ℕ) → no_access f o 2 ≡ false → (o ≡ Some (address_or_zero o)) × (is_outside f (address_or_zero o) 2 ≡ false)
-access_of f None e = absurd (cc e)
-access_of f (Some a) e = (refl, e)
+use Rattle.law_prove_reach.proofs.Stores.{access_of}
 
 module _ (i : Ins) (s : Setting) (t : Tables) (u : SumsTable) (step : Step s t u i) where
   abbrev f : Frame

@@ -32,6 +32,8 @@ use Rattle.law_sum_rows.proofs.Scenes.{Step, fetched, memory, sized}
 use Rattle.law_sum_rows.proofs.Rows.{StepCase}
 use Rattle.law_sum_rows.proofs.Written.{IsWriting, writing_case}
 use Rattle.law_sum_rows.proofs.Prims.{alone}
+use Rattle.law_prove_reach.proofs.Copies.{range_of, second_if, length_by}
+use Rattle.law_prove_reach.proofs.Ciphers.{message_blocks, block_positive}
 
 -- the segments of a frame with fewer bytes of the stack
 low_sized : (f : Frame) (public : List ℕ) (k : ℕ) → Sized f public → Sized (frame_after_pop f k) public
@@ -100,19 +102,6 @@ module _ (i : Ins) (pops : ℕ) (count : Frame → ℕ) (lengths : Facts → ℕ
       })
 
 -- of a length that the stack has
-
-range_of : (n : ℕ) → not (in_range 1 255 n) ≡ false → (1 ≤ n) × (n ≤ 255)
-range_of n e =
-    let p = and_parts (nat_le 1 n) (nat_le n 255) (not_true (in_range 1 255 n) e) in
-    (leb-true 1 n p.0, leb-true n 255 p.1)
-
-second_if : (x y : Bool) → x ≡ true → (x && y) ≡ false → y ≡ false
-second_if true y e h = h
-second_if false y e h = absurd (cc e)
-
-length_by : (b : Bool) (n : ℕ) (s : Set) → b ≡ true → is_in n (filter (λ v. nat_lt 0 v) s) ≡ true → is_in n (cond b (filter (λ v. nat_lt 0 v) s) []) ≡ true
-length_by true n s e h = h
-length_by false n s e h = absurd (cc e)
 
 -- a length on the stack is one of those that its bytes allow
 length_there : (s : Setting) (t : Tables) (u : SumsTable) (i : Ins) (step : Step s t u i) → dynamic_base + 6 ≤ step.frame.dt → 1 ≤ number_below_top (fetched s t u i step) 6 → number_below_top (fetched s t u i step) 6 ≤ 255
@@ -250,16 +239,6 @@ digest_case args =
 
 -- ---- ciphers
 
-message_blocks : (c : Cipher) (n : ℕ) → not (is_message c n) ≡ false → (block_len c ≤ n) × (n % block_len c ≡ 0)
-message_blocks c n e =
-    let p = and_parts (nat_le (block_len c) n) (n % block_len c == 0) (not_true (is_message c n) e) in
-    (leb-true (block_len c) n p.0, eqb-true (n % block_len c) 0 p.1)
-
-block_some : (c : Cipher) → 1 ≤ block_len c
-block_some Des = omega arith
-block_some TripleDes = omega arith
-block_some Aes = omega arith
-
 -- what a message becomes under a cipher
 abbrev pub ciphered : (List ℕ → List ℕ → List ℕ) → Cipher → ℕ → Frame → List ℕ → List ℕ
 ciphered cipher c n f public =
@@ -277,7 +256,7 @@ cipher_row i c cipher n keeps is free =
     let from = number_below_top f 6 in
     let clear = free f step.public step.around none in
     let blocks = message_blocks c n clear.0 in
-    let one = block_some c in
+    let one = block_positive c in
     let least : block_len c ≤ n = blocks.0 in
     let some : (n == 0) ≡ false = not_zero n (omega (arith, one, least)) in
     let first = or_parts (is_outside g from n || is_outside g (number_below_top f 4) n) (is_outside g (number_below_top f 2) (key_len c)) clear.2 in
@@ -312,7 +291,7 @@ sign_row i c n is free =
     let g : Frame = frame_after_pop f 8 in
     let size = block_len c in
     let clear = free f step.public step.around none in
-    let some : (size == 0) ≡ false = not_zero size (block_some c) in
+    let some : (size == 0) ≡ false = not_zero size (block_positive c) in
     let first : Bool = is_outside g (number_below_top f 8) size in
     let second : Bool = is_outside g (number_below_top f 6) n in
     let third : Bool = is_outside g (number_below_top f 4) size in

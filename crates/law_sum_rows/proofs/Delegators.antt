@@ -28,7 +28,6 @@ use Rattle.law_sums.specs.model_prove.proofs.SetLemmas.{is_between}
 use Rattle.law_prove_reach.specs.law_prove.specs.Coverings.{StartsAs}
 use Rattle.law_prove_reach.specs.law_prove.proofs.Plain.{above}
 use Rattle.law_prove_reach.specs.law_prove.proofs.Turns.{NoCause, nobody}
-use Rattle.law_prove_reads.proofs.Shifts.{among_mapped}
 use Rattle.law_prove_reach.proofs.Scenes.{with_bytes, pair_is, below_is}
 use Rattle.law_prove_reach.proofs.Reached.{IsWithin}
 use Rattle.law_prove_reach.proofs.Accesses.{inside_of, not_zero}
@@ -40,6 +39,7 @@ use Rattle.law_sum_rows.proofs.Scenes.{Step, fetched, memory, base, sized, Found
 use Rattle.law_sum_rows.proofs.Rows.{unprotected, Moves, IsCoarsely, Compared, row_done, few_compared, stood, stood_shape, coarse_compared, StepCase}
 use Rattle.law_sum_rows.proofs.Plain.{dt_high, pop_low, pop_high}
 use Rattle.law_sum_rows.proofs.Addresses.{numbers_agree, pair_within}
+use Rattle.law_prove_reach.specs.law_prove.proofs.Blocks.{among_mapped}
 
 -- ---- who is around
 

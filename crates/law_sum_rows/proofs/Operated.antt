@@ -78,19 +78,17 @@ ranged (suc n) e = not_zero (suc n) (omega arith)
 -- What a row works on and writes: n bytes at an operand that begins k bytes below the top if it lies there, and a second
 -- one; its value by both.
 pub record IsOperation (i : Ins) (tag : ℕ) (off : ℤ) (k n : ℕ) (op : Operation) (second : Frame → Operand) (carries : Bool) (value : List ℕ → List ℕ → List ℕ) (ys : Frame → List ℕ) (flags : Frame → List ℕ → Option (Bool × Bool)) : Type 0 where
-  pub some : (f : Frame) (public : List ℕ) (x : Around) → NoCause (causes i f public x) → (n == 0) ≡ false
-  pub access : (f : Frame) (public : List ℕ) (x : Around) → NoCause (causes i f public x) → no_access f (operand f tag off k) n ≡ false
   pub form : (f : Frame) (public : List ℕ) (x : Around) → shape i f public x ≡ shape_of f.dt (Writes (place_of f tag off k) n (value (bytes_at f public (place_of f tag off k) n) (ys f))) (flags f public) Goes
   pub task : (f : Frame) (public : List ℕ) → work i f public ≡ works op (place_of f tag off k) n (second f) true carries
   pub steady : (f : Frame) (fixed dyn : List ℕ) → second (with_bytes f fixed dyn) ≡ second f
-  pub short : (xs zs : List ℕ) → length xs ≡ n → length (value xs zs) ≤ n
   pub takes : takes_target i ≡ false
   pub none : (f : Frame) → deciders i f ≡ []
   pub prim : primitive_of i ≡ None
   pub mode : mode_of i ≡ None
 
 module _ (i : Ins) (tag : ℕ) (off : ℤ) (k n : ℕ) (op : Operation) (second : Frame → Operand) (carries : Bool) (value : List ℕ → List ℕ → List ℕ) (ys : Frame → List ℕ) (flags : Frame → List ℕ → Option (Bool × Bool))
-    (is : IsOperation i tag off k n op second carries value ys flags) where
+    (is : IsOperation i tag off k n op second carries value ys flags) (some_bytes : (f : Frame) (public : List ℕ) (x : Around) → NoCause (causes i f public x) → (n == 0) ≡ false) (access : (f : Frame) (public : List ℕ) (x : Around) → NoCause (causes i f public x) → no_access f (operand f tag off k) n ≡ false)
+    (no_more : (xs zs : List ℕ) → length xs ≡ n → length (value xs zs) ≤ n) where
   -- its row moves its first operand, if the result is that of the operation
   pub operation_case : ((s : Setting) (t : Tables) (u : SumsTable) (step : Step s t u i) → NoCause (causes i (fetched s t u i step) step.public step.around) → (xs : List ℕ) → length xs ≡ n → (r : ℕ) → (length (value xs (ys (fetched s t u i step))) ≡ n → r ≡ num (value xs (ys (fetched s t u i step))))
       → IsResult op n (num xs) (num (operand_bytes (memory s t u i step) n (second (fetched s t u i step)))) r) → StepCase i
@@ -109,11 +107,11 @@ module _ (i : Ins) (tag : ℕ) (off : ℤ) (k n : ℕ) (op : Operation) (second 
       let e : Frame = with_bytes f fixed dyn in
       let b0 = value (bytes_at e public at n) (ys e) in
       let same : operand e tag off k ≡ o = same_operand f fixed dyn tag off k fits.size in
-      let some : (n == 0) ≡ false = is.some f step.public step.around free in
-      let within : is_none (where_is f at n) ≡ false = inside_of f o n some (is.access f step.public step.around free) in
+      let some : (n == 0) ≡ false = some_bytes f step.public step.around free in
+      let within : is_none (where_is f at n) ≡ false = inside_of f o n some (access f step.public step.around free) in
       let read : xs ≡ bytes_from m at n = read_is f step.public at n (sized s t u i step) some within in
       let long : length xs ≡ n = ap (λ (l : List ℕ). length l) read ∙ from_length m at n in
-      let short : length b ≤ n = is.short xs (ys f) long in
+      let short : length b ≤ n = no_more xs (ys f) long in
       let inside : is_none (where_is f at (length b)) ≡ false = part_inside f at n at (length b) within (omega arith) (omega (arith, short)) in
       let w : Whole (low s t u i step static d) step.public = whole_at s t u i step static d (dt_low s t u step) (dt_high s t u step) in
       let c : Changed m (left s t u i step static d a) at b = write_changed (low s t u i step static d) step.public b at inside w in

@@ -59,12 +59,8 @@ IsRest c = ⊥
 -- A row that pops bytes and sets flags at most, or delegates.
 pub record IsStill (i : Ins) (k : ℕ) (flags : Frame → List ℕ → Around → Option (Bool × Bool)) (later : Frame → List ℕ → Around → Then) : Type 0 where
   pub form : (f : Frame) (public : List ℕ) (x : Around) → shape i f public x ≡ shape_of (f.dt - k) Stays (flags f public x) (later f public x)
-  pub under : (f : Frame) (public : List ℕ) (x : Around) → NoCause (causes i f public x) → is_under f k ≡ false
-  pub alone : (st : Start) → Among nobody (arounds st (primitive_of i))
   pub takes : takes_target i ≡ false
   pub mode : mode_of i ≡ None
-  pub nexts : (f g : Frame) (p q : List ℕ) (x y : Around) (fr : Frame) (e : Effect) → ComesNext (later f p x) (shape_of (g.dt - k) Stays (flags g q y) (later g q y)) fr e
-  pub works : (s : Setting) (t : Tables) (u : SumsTable) (step : Step s t u i) (static : AreStatic s s.rules.totals) (e : Frame) (public : List ℕ) → IsWork s t u i step static (step.frame.dt - k) (work i e public) Stays
   pub same : (e : Frame) (public : List ℕ) → SameIf (work i e public) i Stays []
   pub rough : (f : Frame) (facts : Facts) → IsRest (coarse i f facts)
 
@@ -76,16 +72,19 @@ rest_fits s t u i step static d e reach.Searches h = absurd h
 rest_fits s t u i step static d e (WritesWithin r) h = absurd h
 rest_fits s t u i step static d e Leads h = refl
 
-still_row : (i : Ins) (k : ℕ) (flags : Frame → List ℕ → Around → Option (Bool × Bool)) (later : Frame → List ℕ → Around → Then) → IsStill i k flags later → StepCase i
-still_row i k flags later is s t u step static =
+still_row : (i : Ins) (k : ℕ) (flags : Frame → List ℕ → Around → Option (Bool × Bool)) (later : Frame → List ℕ → Around → Then) → IsStill i k flags later
+    → ((f : Frame) (public : List ℕ) (x : Around) → NoCause (causes i f public x) → is_under f k ≡ false) → ((st : Start) → Among nobody (arounds st (primitive_of i)))
+    → ((f g : Frame) (p q : List ℕ) (x y : Around) (fr : Frame) (e : Effect) → ComesNext (later f p x) (shape_of (g.dt - k) Stays (flags g q y) (later g q y)) fr e)
+    → ((s : Setting) (t : Tables) (u : SumsTable) (step : Step s t u i) (static : AreStatic s s.rules.totals) (e : Frame) (public : List ℕ) → IsWork s t u i step static (step.frame.dt - k) (work i e public) Stays) → StepCase i
+still_row i k flags later is under_it alone_at nexts works s t u step static =
     let f : Frame = fetched s t u i step in
     let d = step.frame.dt - k in
     let fl = flags f step.public step.around in
     let n = later f step.public step.around in
     row_done s t u i step static d Stays fl n (is.form f step.public step.around)
     (sym (ap (λ (m : Option ℕ). row_sums step.frame.protected m step.place.standing) is.mode ∙ unprotected step.frame.protected step.place.standing)) (λ free.
-    let under : is_under f k ≡ false = is.under f step.public step.around free in
-    elim (few_or_many s t u i step nobody (is.alone step.place.start) is.takes) [
+    let under : is_under f k ≡ false = under_it f step.public step.around free in
+    elim (few_or_many s t u i step nobody (alone_at step.place.start) is.takes) [
       | inl z ↦
           let e : Frame = with_bytes f z.fixed z.dyn in
           few_compared s t u i step static (deciders i (base s t u i step).frame) nobody z d Stays fl n
@@ -98,8 +97,8 @@ still_row i k flags later is s t u step static =
             same = is.same e z.public;
             low = pop_low step.frame k under;
             high = pop_high step.frame.dt k (dt_high s t u step);
-            fits = is.works s t u step static e z.public;
-            next = subst (λ (h : Shape). ComesNext n h step.frame (shape_effect (shape_of d Stays fl n) f step.public)) (sym (is.form e z.public nobody)) (is.nexts f e step.public z.public step.around nobody step.frame (shape_effect (shape_of d Stays fl n) f step.public));
+            fits = works s t u step static e z.public;
+            next = subst (λ (h : Shape). ComesNext n h step.frame (shape_effect (shape_of d Stays fl n) f step.public)) (sym (is.form e z.public nobody)) (nexts f e step.public z.public step.around nobody step.frame (shape_effect (shape_of d Stays fl n) f step.public));
           })
       | inr many ↦
           let e : Frame = stood s t u i step static in
@@ -110,7 +109,7 @@ still_row i k flags later is s t u step static =
             low = pop_low step.frame k under;
             high = pop_high step.frame.dt k (dt_high s t u step);
             fits = subst (λ (h : Shape). IsCoarsely s t u i step static d e (coarse_for h.act (coarse i e step.place.known.bytes)) Stays) (sym shaped) (rest_fits s t u i step static d e (coarse i e step.place.known.bytes) (is.rough e step.place.known.bytes));
-            next = subst (λ (h : Shape). ComesNext n h step.frame (shape_effect (shape_of d Stays fl n) f step.public)) (sym shaped) (is.nexts f e step.public (base s t u i step).public step.around (coarse_around step.place.start) step.frame (shape_effect (shape_of d Stays fl n) f step.public));
+            next = subst (λ (h : Shape). ComesNext n h step.frame (shape_effect (shape_of d Stays fl n) f step.public)) (sym shaped) (nexts f e step.public (base s t u i step).public step.around (coarse_around step.place.start) step.frame (shape_effect (shape_of d Stays fl n) f step.public));
           })
     ])
 
@@ -118,33 +117,15 @@ pub check_case : (args : List ℕ) → StepCase (ins.Prim 0 1 args)
 unfolding causes shape later_causes prim_shape
 check_case args =
     still_row (ins.Prim 0 1 args) 1 (λ f public x. Some (f.c, num (top f 1) == x.case)) (λ f public x. Goes)
-    (record {
-      form = λ f public x. refl;
-      under = λ f public x none. none.1.1.0;
-      alone = alone (Some CheckCase) refl;
-      takes = refl;
-      mode = refl;
-      nexts = λ f g p q x y fr e. refl;
-      works = λ s t u step static e public. refl;
-      same = λ e public. tt;
-      rough = λ f facts. tt;
-    })
+    (record { form = λ f public x. refl; takes = refl; mode = refl; same = λ e public. tt; rough = λ f facts. tt })
+    (λ f public x none. none.1.1.0) (alone (Some CheckCase) refl) (λ f g p q x y fr e. refl) (λ s t u step static e public. refl)
 
 pub store_ccr_case : (args : List ℕ) → StepCase (ins.Prim 0 3 args)
 unfolding causes shape later_causes prim_shape
 store_ccr_case args =
     still_row (ins.Prim 0 3 args) 1 (λ f public x. Some (has_bit (num (top f 1)) 2, has_bit (num (top f 1)) 1)) (λ f public x. Goes)
-    (record {
-      form = λ f public x. refl;
-      under = λ f public x none. none.1.1.0;
-      alone = alone (Some StoreCcr) refl;
-      takes = refl;
-      mode = refl;
-      nexts = λ f g p q x y fr e. refl;
-      works = λ s t u step static e public. (tt, tt);
-      same = λ e public. tt;
-      rough = λ f facts. tt;
-    })
+    (record { form = λ f public x. refl; takes = refl; mode = refl; same = λ e public. tt; rough = λ f facts. tt })
+    (λ f public x none. none.1.1.0) (alone (Some StoreCcr) refl) (λ f g p q x y fr e. refl) (λ s t u step static e public. (tt, tt))
 
 abbrev flags_of : Worked → Option (Bool × Bool)
 flags_of w = Some (w.c, w.z)
@@ -154,51 +135,24 @@ unfolding causes shape later_causes prim_shape
 compare_case args =
     still_row (ins.Prim 0 5 args) 6
     (λ f public x. let g = frame_after_pop f 6 in let n = number_below_top f 6 in flags_of (sub_blocks (bytes_at g public (number_below_top f 4) n) (bytes_at g public (number_below_top f 2) n))) (λ f public x. Goes)
-    (record {
-      form = λ f public x. refl;
-      under = λ f public x none. none.1.1.0;
-      alone = alone (Some MemoryCompare) refl;
-      takes = refl;
-      mode = refl;
-      nexts = λ f g p q x y fr e. refl;
-      works = λ s t u step static e public. record { on = λ on. absurd (cc on); off = λ no x. refl; reads = refl };
-      same = λ e public. tt;
-      rough = λ f facts. tt;
-    })
+    (record { form = λ f public x. refl; takes = refl; mode = refl; same = λ e public. tt; rough = λ f facts. tt })
+    (λ f public x none. none.1.1.0) (alone (Some MemoryCompare) refl) (λ f g p q x y fr e. refl) (λ s t u step static e public. record { on = λ on. absurd (cc on); off = λ no x. refl; reads = refl })
 
 pub compare_fixed_case : (args : List ℕ) → StepCase (ins.Prim 1 1 args)
 unfolding causes shape later_causes prim_shape
 compare_fixed_case args =
     still_row (ins.Prim 1 1 args) 4
     (λ f public x. let g = frame_after_pop f 4 in let n = slice_index args 0 in flags_of (sub_blocks (bytes_at g public (number_below_top f 4) n) (bytes_at g public (number_below_top f 2) n))) (λ f public x. Goes)
-    (record {
-      form = λ f public x. refl;
-      under = λ f public x none. none.1.1.0;
-      alone = alone (Some CompareFixed) refl;
-      takes = refl;
-      mode = refl;
-      nexts = λ f g p q x y fr e. refl;
-      works = λ s t u step static e public. record { on = λ on. absurd (cc on); off = λ no x. refl; reads = refl };
-      same = λ e public. tt;
-      rough = λ f facts. tt;
-    })
+    (record { form = λ f public x. refl; takes = refl; mode = refl; same = λ e public. tt; rough = λ f facts. tt })
+    (λ f public x none. none.1.1.0) (alone (Some CompareFixed) refl) (λ f g p q x y fr e. refl) (λ s t u step static e public. record { on = λ on. absurd (cc on); off = λ no x. refl; reads = refl })
 
 pub delegate_case : (args : List ℕ) → StepCase (ins.Prim 0 7 args)
 unfolding causes shape later_causes prim_shape
 delegate_case args =
     still_row (ins.Prim 0 7 args) 2 (λ f public x. None)
     (λ f public x. let g = frame_after_pop f 2 in let a = number_below_top f 2 in Delegates (bytes_at g public (a + 1) (count_at g public a)))
-    (record {
-      form = λ f public x. refl;
-      under = λ f public x none. none.1.1.0;
-      alone = alone (Some DelegateTo) refl;
-      takes = refl;
-      mode = refl;
-      nexts = λ f g p q x y fr e. tt;
-      works = λ s t u step static e public. (tt, tt);
-      same = λ e public. tt;
-      rough = λ f facts. tt;
-    })
+    (record { form = λ f public x. refl; takes = refl; mode = refl; same = λ e public. tt; rough = λ f facts. tt })
+    (λ f public x none. none.1.1.0) (alone (Some DelegateTo) refl) (λ f g p q x y fr e. tt) (λ s t u step static e public. (tt, tt))
 
 -- ---- flags as a byte, and protection
 

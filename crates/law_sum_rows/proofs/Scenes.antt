@@ -25,13 +25,13 @@ use Rattle.law_sums.specs.model_prove.proofs.ChangeLemmas.{choice_is_there}
 use Rattle.law_prove_reach.specs.law_prove.specs.Coverings.{parts_memory, frame_memory, IsFrameOf, IsPlace}
 use Rattle.law_prove_reach.specs.law_prove.proofs.Alike.{Sized, stack_length}
 use Rattle.law_prove_reach.specs.law_prove.proofs.Turns.{blank, framed_of, stand_in_like}
-use Rattle.law_prove_targets.proofs.Scenes.{among_first}
 use Rattle.law_prove_reach.proofs.Scenes.{scene_of, Fits, Standing, values_stand, same_outside, all_inside_of, among_inside}
 use Rattle.law_prove_reach.proofs.Choices.{choice_among}
 use Rattle.law_sums.specs.model_sums.specs.Sums.{Sums, SumsTable}
 use Rattle.law_sums.specs.model_sums.specs.Says.{SumsHold}
 use Rattle.law_sums.specs.model_sums.specs.Closed.{Turn, all_pass, turn_closed, choice_closed, first_choice_closed, coarse_closed, choices_closed, fetched_closed}
 use Rattle.law_sum_rows.specs.Rows.{spot_at}
+use Rattle.law_prove_reach.specs.law_prove.proofs.Blocks.{among_left}
 
 -- ---- lists
 
@@ -168,7 +168,7 @@ module _ (s : Setting) (t : Tables) (u : SumsTable) (i : Ins) (step : Step s t u
       (λ a. ap (λ (q : Scene). is_outside q.frame a 1) stand.is ∙ same_outside fetched stand.fixed stand.dyn a 1 stand.fits.size)
       in
       found_of places (first ++ later) x (all_append (λ a. is_outside fetched a 1 ≡ false) first later all_first all_later)
-      (λ b there low. among_first b first later (among_inside (λ a. is_outside base.frame a 1) b places there (same_outside fetched fixed dyn b 1 base_fits.size ∙ low)))
+      (λ b there low. among_left b first later (among_inside (λ a. is_outside base.frame a 1) b places there (same_outside fetched fixed dyn b 1 base_fits.size ∙ low)))
       (subst (λ (c : Choice). turn_closed s u (turn_in (with_values base c)) x ≡ true) (sym (values_append memory first later)) three)
 
   -- ---- few choices or many

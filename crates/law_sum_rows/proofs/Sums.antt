@@ -3,7 +3,7 @@ use Rattle.std.proofs.Common.{◌≡◌, ℕ, ◌+◌, ◌-◌, ◌*◌, ◌%◌
 use Rattle.std.specs.Prelude.{◌==◌, replicate, bit_and, bit_or, bit_xor}
 use Rattle.std.proofs.lemmas.List.{length-replicate}
 use Rattle.law_sums.specs.model_device.specs.Bytes.{AreBytes, num, bytes, bytes2, zeros}
-use Rattle.law_sums.specs.model_device.proofs.ListLemmas.{length_bytes}
+use Rattle.law_sums.specs.model_device.proofs.ListLemmas.{length_bytes, pair_bytes}
 use Rattle.law_sums.specs.model_machine.specs.declared.instruction.Ins.{Ins}
 use Rattle.law_sums.specs.model_machine.specs.declared.instruction.Ins.TheVariants as ins
 use Rattle.law_sums.specs.model_machine.specs.Blocks.{Worked, add_blocks, sub_blocks, inc_block, dec_block, and_blocks, or_blocks, xor_blocks, not_block, is_zero}
@@ -45,9 +45,6 @@ both w = Some (w.c, w.z)
 result_short : (n v : ℕ) (xs : List ℕ) → length xs ≡ n → length (bytes (length xs) v) ≤ n
 result_short n v xs long = let size = length_bytes (length xs) v in omega (arith, size, long)
 
-two_bytes : (w : ℕ) → AreBytes (bytes2 w)
-two_bytes w = (omega arith, (omega arith, tt))
-
 -- ---- a byte or a word
 
 pub addb_case : (tag : ℕ) (off : ℤ) (v : ℕ) → StepCase (ins.Addb tag off v)
@@ -55,18 +52,8 @@ unfolding causes shape
 addb_case tag off v =
     let b = v ∷ [] in
     operation_case (ins.Addb tag off v) tag off 1 1 Plus (λ f. These b) true (λ xs zs. (add_blocks xs zs).value) (λ f. b) (λ f public. both (add_blocks (value_of f public tag off 1) b))
-    (record {
-      some = λ f public x none. refl;
-      access = λ f public x none. none.1.0;
-      form = λ f public x. refl;
-      task = λ f public. refl;
-      steady = λ f fixed dyn. refl;
-      short = λ xs zs long. result_short 1 (num xs + num zs) xs long;
-      takes = refl;
-      none = λ f. refl;
-      prim = refl;
-      mode = refl;
-    })
+    (record { form = λ f public x. refl; task = λ f public. refl; steady = λ f fixed dyn. refl; takes = refl; none = λ f. refl; prim = refl; mode = refl })
+    (λ f public x none. refl) (λ f public x none. none.1.0) (λ xs zs long. result_short 1 (num xs + num zs) xs long)
     (λ s t u step free xs long r is. plus_result 1 xs b r long (is (length_bytes (length xs) (num xs + num b) ∙ long)))
 
 pub subb_case : (tag : ℕ) (off : ℤ) (v : ℕ) → StepCase (ins.Subb tag off v)
@@ -74,18 +61,8 @@ unfolding causes shape
 subb_case tag off v =
     let b = v ∷ [] in
     operation_case (ins.Subb tag off v) tag off 1 1 Minus (λ f. These b) true (λ xs zs. (sub_blocks xs zs).value) (λ f. b) (λ f public. both (sub_blocks (value_of f public tag off 1) b))
-    (record {
-      some = λ f public x none. refl;
-      access = λ f public x none. none.1.0;
-      form = λ f public x. refl;
-      task = λ f public. refl;
-      steady = λ f fixed dyn. refl;
-      short = λ xs zs long. result_short 1 (256 ^ length xs + num xs - num zs) xs long;
-      takes = refl;
-      none = λ f. refl;
-      prim = refl;
-      mode = refl;
-    })
+    (record { form = λ f public x. refl; task = λ f public. refl; steady = λ f fixed dyn. refl; takes = refl; none = λ f. refl; prim = refl; mode = refl })
+    (λ f public x none. refl) (λ f public x none. none.1.0) (λ xs zs long. result_short 1 (256 ^ length xs + num xs - num zs) xs long)
     (λ s t u step free xs long r is.
     let byte : v < 256 = step.shaped.1 in
     minus_result 1 xs b r long refl (byte, tt) (is (length_bytes (length xs) (256 ^ length xs + num xs - num b) ∙ long)))
@@ -95,18 +72,8 @@ unfolding causes shape
 addw_case tag off v =
     let b = bytes2 v in
     operation_case (ins.Addw tag off v) tag off 2 2 Plus (λ f. These b) true (λ xs zs. (add_blocks xs zs).value) (λ f. b) (λ f public. both (add_blocks (value_of f public tag off 2) b))
-    (record {
-      some = λ f public x none. refl;
-      access = λ f public x none. none.1.0;
-      form = λ f public x. refl;
-      task = λ f public. refl;
-      steady = λ f fixed dyn. refl;
-      short = λ xs zs long. result_short 2 (num xs + num zs) xs long;
-      takes = refl;
-      none = λ f. refl;
-      prim = refl;
-      mode = refl;
-    })
+    (record { form = λ f public x. refl; task = λ f public. refl; steady = λ f fixed dyn. refl; takes = refl; none = λ f. refl; prim = refl; mode = refl })
+    (λ f public x none. refl) (λ f public x none. none.1.0) (λ xs zs long. result_short 2 (num xs + num zs) xs long)
     (λ s t u step free xs long r is. plus_result 2 xs b r long (is (length_bytes (length xs) (num xs + num b) ∙ long)))
 
 pub subw_case : (tag : ℕ) (off : ℤ) (v : ℕ) → StepCase (ins.Subw tag off v)
@@ -114,19 +81,9 @@ unfolding causes shape
 subw_case tag off v =
     let b = bytes2 v in
     operation_case (ins.Subw tag off v) tag off 2 2 Minus (λ f. These b) true (λ xs zs. (sub_blocks xs zs).value) (λ f. b) (λ f public. both (sub_blocks (value_of f public tag off 2) b))
-    (record {
-      some = λ f public x none. refl;
-      access = λ f public x none. none.1.0;
-      form = λ f public x. refl;
-      task = λ f public. refl;
-      steady = λ f fixed dyn. refl;
-      short = λ xs zs long. result_short 2 (256 ^ length xs + num xs - num zs) xs long;
-      takes = refl;
-      none = λ f. refl;
-      prim = refl;
-      mode = refl;
-    })
-    (λ s t u step free xs long r is. minus_result 2 xs b r long refl (two_bytes v) (is (length_bytes (length xs) (256 ^ length xs + num xs - num b) ∙ long)))
+    (record { form = λ f public x. refl; task = λ f public. refl; steady = λ f fixed dyn. refl; takes = refl; none = λ f. refl; prim = refl; mode = refl })
+    (λ f public x none. refl) (λ f public x none. none.1.0) (λ xs zs long. result_short 2 (256 ^ length xs + num xs - num zs) xs long)
+    (λ s t u step free xs long r is. minus_result 2 xs b r long refl (pair_bytes v) (is (length_bytes (length xs) (256 ^ length xs + num xs - num b) ∙ long)))
 
 -- ---- one more and one less
 
@@ -135,18 +92,8 @@ unfolding causes shape
 incn_case tag off n =
     let b = bytes n 1 in
     operation_case (ins.Incn tag off n) tag off n n Plus (λ f. These b) true (λ xs zs. (inc_block xs).value) (λ f. b) (λ f public. both (inc_block (value_of f public tag off n)))
-    (record {
-      some = λ f public x none. ranged n none.0;
-      access = λ f public x none. none.1.1.0;
-      form = λ f public x. refl;
-      task = λ f public. refl;
-      steady = λ f fixed dyn. refl;
-      short = λ xs zs long. result_short n (num xs + 1) xs long;
-      takes = refl;
-      none = λ f. refl;
-      prim = refl;
-      mode = refl;
-    })
+    (record { form = λ f public x. refl; task = λ f public. refl; steady = λ f fixed dyn. refl; takes = refl; none = λ f. refl; prim = refl; mode = refl })
+    (λ f public x none. ranged n none.0) (λ f public x none. none.1.1.0) (λ xs zs long. result_short n (num xs + 1) xs long)
     (λ s t u step free xs long r is.
     let one : num b ≡ 1 = one_is n (ranged n free.0) in
     plus_result n xs b r long (is (length_bytes (length xs) (num xs + 1) ∙ long) ∙ ap (λ (v : ℕ). num (bytes (length xs) (num xs + v))) (sym one)))
@@ -156,18 +103,8 @@ unfolding causes shape
 decn_case tag off n =
     let b = bytes n 1 in
     operation_case (ins.Decn tag off n) tag off n n Minus (λ f. These b) true (λ xs zs. (dec_block xs).value) (λ f. b) (λ f public. both (dec_block (value_of f public tag off n)))
-    (record {
-      some = λ f public x none. ranged n none.0;
-      access = λ f public x none. none.1.1.0;
-      form = λ f public x. refl;
-      task = λ f public. refl;
-      steady = λ f fixed dyn. refl;
-      short = λ xs zs long. result_short n (256 ^ length xs + num xs - 1) xs long;
-      takes = refl;
-      none = λ f. refl;
-      prim = refl;
-      mode = refl;
-    })
+    (record { form = λ f public x. refl; task = λ f public. refl; steady = λ f fixed dyn. refl; takes = refl; none = λ f. refl; prim = refl; mode = refl })
+    (λ f public x none. ranged n none.0) (λ f public x none. none.1.1.0) (λ xs zs long. result_short n (256 ^ length xs + num xs - 1) xs long)
     (λ s t u step free xs long r is.
     let one : num b ≡ 1 = one_is n (ranged n free.0) in
     minus_result n xs b r long (length_bytes n 1) (number_bytes n 1) (is (length_bytes (length xs) (256 ^ length xs + num xs - 1) ∙ long) ∙ ap (λ (v : ℕ). num (bytes (length xs) (256 ^ length xs + num xs - v))) (sym one)))
@@ -185,18 +122,8 @@ pub addn_case : (tag : ℕ) (off : ℤ) (n : ℕ) → StepCase (ins.Addn tag off
 unfolding causes shape
 addn_case tag off n =
     operation_case (ins.Addn tag off n) tag off (2 * n) n Plus (λ f. at_top f n) true (λ xs zs. (add_blocks xs zs).value) (λ f. top f n) (λ f public. both (add_blocks (first_of f public tag off n) (top f n)))
-    (record {
-      some = λ f public x none. ranged n none.0;
-      access = λ f public x none. none.1.1.0;
-      form = λ f public x. refl;
-      task = λ f public. refl;
-      steady = λ f fixed dyn. refl;
-      short = λ xs zs long. result_short n (num xs + num zs) xs long;
-      takes = refl;
-      none = λ f. refl;
-      prim = refl;
-      mode = refl;
-    })
+    (record { form = λ f public x. refl; task = λ f public. refl; steady = λ f fixed dyn. refl; takes = refl; none = λ f. refl; prim = refl; mode = refl })
+    (λ f public x none. ranged n none.0) (λ f public x none. none.1.1.0) (λ xs zs long. result_short n (num xs + num zs) xs long)
     (λ s t u step free xs long r is.
     let i : Ins = ins.Addn tag off n in
     let f : Frame = fetched s t u i step in
@@ -208,18 +135,8 @@ pub subn_case : (tag : ℕ) (off : ℤ) (n : ℕ) → StepCase (ins.Subn tag off
 unfolding causes shape
 subn_case tag off n =
     operation_case (ins.Subn tag off n) tag off (2 * n) n Minus (λ f. at_top f n) true (λ xs zs. (sub_blocks xs zs).value) (λ f. top f n) (λ f public. both (sub_blocks (first_of f public tag off n) (top f n)))
-    (record {
-      some = λ f public x none. ranged n none.0;
-      access = λ f public x none. none.1.1.0;
-      form = λ f public x. refl;
-      task = λ f public. refl;
-      steady = λ f fixed dyn. refl;
-      short = λ xs zs long. result_short n (256 ^ length xs + num xs - num zs) xs long;
-      takes = refl;
-      none = λ f. refl;
-      prim = refl;
-      mode = refl;
-    })
+    (record { form = λ f public x. refl; task = λ f public. refl; steady = λ f fixed dyn. refl; takes = refl; none = λ f. refl; prim = refl; mode = refl })
+    (λ f public x none. ranged n none.0) (λ f public x none. none.1.1.0) (λ xs zs long. result_short n (256 ^ length xs + num xs - num zs) xs long)
     (λ s t u step free xs long r is.
     let i : Ins = ins.Subn tag off n in
     let f : Frame = fetched s t u i step in
@@ -236,90 +153,40 @@ pub clearn_case : (tag : ℕ) (off : ℤ) (n : ℕ) → StepCase (ins.Clearn tag
 unfolding causes shape
 clearn_case tag off n =
     operation_case (ins.Clearn tag off n) tag off n n And (λ f. These (zeros n)) false (λ xs zs. zeros n) (λ f. zeros n) (λ f public. Some (f.c, is_zero (zeros n)))
-    (record {
-      some = λ f public x none. none.0;
-      access = λ f public x none. none.1.1.0;
-      form = λ f public x. refl;
-      task = λ f public. refl;
-      steady = λ f fixed dyn. refl;
-      short = λ xs zs long. let size = length-replicate {A = ℕ} n 0 in omega (arith, size);
-      takes = refl;
-      none = λ f. refl;
-      prim = refl;
-      mode = refl;
-    })
+    (record { form = λ f public x. refl; task = λ f public. refl; steady = λ f fixed dyn. refl; takes = refl; none = λ f. refl; prim = refl; mode = refl })
+    (λ f public x none. none.0) (λ f public x none. none.1.1.0) (λ xs zs long. let size = length-replicate {A = ℕ} n 0 in omega (arith, size))
     (λ s t u step free xs long r is. tt)
 
 pub notn_case : (tag : ℕ) (off : ℤ) (n : ℕ) → StepCase (ins.Notn tag off n)
 unfolding causes shape
 notn_case tag off n =
     operation_case (ins.Notn tag off n) tag off n n Xor (λ f. These (replicate n 255)) false (λ xs zs. not_block xs) (λ f. replicate n 255) (λ f public. Some (f.c, is_zero (not_block (value_of f public tag off n))))
-    (record {
-      some = λ f public x none. none.0;
-      access = λ f public x none. none.1.1.0;
-      form = λ f public x. refl;
-      task = λ f public. refl;
-      steady = λ f fixed dyn. refl;
-      short = λ xs zs long. map_short (λ x. 255 - x) xs n (omega (arith, long));
-      takes = refl;
-      none = λ f. refl;
-      prim = refl;
-      mode = refl;
-    })
+    (record { form = λ f public x. refl; task = λ f public. refl; steady = λ f fixed dyn. refl; takes = refl; none = λ f. refl; prim = refl; mode = refl })
+    (λ f public x none. none.0) (λ f public x none. none.1.1.0) (λ xs zs long. map_short (λ x. 255 - x) xs n (omega (arith, long)))
     (λ s t u step free xs long r is. tt)
 
 pub andn_case : (tag : ℕ) (off : ℤ) (n : ℕ) → StepCase (ins.Andn tag off n)
 unfolding causes shape
 andn_case tag off n =
     operation_case (ins.Andn tag off n) tag off (2 * n) n And (λ f. at_top f n) false (λ xs zs. and_blocks xs zs) (λ f. top f n) (λ f public. Some (f.c, is_zero (and_blocks (first_of f public tag off n) (top f n))))
-    (record {
-      some = λ f public x none. none.0;
-      access = λ f public x none. none.1.1.0;
-      form = λ f public x. refl;
-      task = λ f public. refl;
-      steady = λ f fixed dyn. refl;
-      short = λ xs zs long. each_short bit_and xs zs n (omega (arith, long));
-      takes = refl;
-      none = λ f. refl;
-      prim = refl;
-      mode = refl;
-    })
+    (record { form = λ f public x. refl; task = λ f public. refl; steady = λ f fixed dyn. refl; takes = refl; none = λ f. refl; prim = refl; mode = refl })
+    (λ f public x none. none.0) (λ f public x none. none.1.1.0) (λ xs zs long. each_short bit_and xs zs n (omega (arith, long)))
     (λ s t u step free xs long r is. tt)
 
 pub orn_case : (tag : ℕ) (off : ℤ) (n : ℕ) → StepCase (ins.Orn tag off n)
 unfolding causes shape
 orn_case tag off n =
     operation_case (ins.Orn tag off n) tag off (2 * n) n Or (λ f. at_top f n) false (λ xs zs. or_blocks xs zs) (λ f. top f n) (λ f public. Some (f.c, is_zero (or_blocks (first_of f public tag off n) (top f n))))
-    (record {
-      some = λ f public x none. none.0;
-      access = λ f public x none. none.1.1.0;
-      form = λ f public x. refl;
-      task = λ f public. refl;
-      steady = λ f fixed dyn. refl;
-      short = λ xs zs long. each_short bit_or xs zs n (omega (arith, long));
-      takes = refl;
-      none = λ f. refl;
-      prim = refl;
-      mode = refl;
-    })
+    (record { form = λ f public x. refl; task = λ f public. refl; steady = λ f fixed dyn. refl; takes = refl; none = λ f. refl; prim = refl; mode = refl })
+    (λ f public x none. none.0) (λ f public x none. none.1.1.0) (λ xs zs long. each_short bit_or xs zs n (omega (arith, long)))
     (λ s t u step free xs long r is. tt)
 
 pub xorn_case : (tag : ℕ) (off : ℤ) (n : ℕ) → StepCase (ins.Xorn tag off n)
 unfolding causes shape
 xorn_case tag off n =
     operation_case (ins.Xorn tag off n) tag off (2 * n) n Xor (λ f. at_top f n) false (λ xs zs. xor_blocks xs zs) (λ f. top f n) (λ f public. Some (f.c, is_zero (xor_blocks (first_of f public tag off n) (top f n))))
-    (record {
-      some = λ f public x none. none.0;
-      access = λ f public x none. none.1.1.0;
-      form = λ f public x. refl;
-      task = λ f public. refl;
-      steady = λ f fixed dyn. refl;
-      short = λ xs zs long. each_short bit_xor xs zs n (omega (arith, long));
-      takes = refl;
-      none = λ f. refl;
-      prim = refl;
-      mode = refl;
-    })
+    (record { form = λ f public x. refl; task = λ f public. refl; steady = λ f fixed dyn. refl; takes = refl; none = λ f. refl; prim = refl; mode = refl })
+    (λ f public x none. none.0) (λ f public x none. none.1.1.0) (λ xs zs long. each_short bit_xor xs zs n (omega (arith, long)))
     (λ s t u step free xs long r is. tt)
 
 -- ---- comparisons
