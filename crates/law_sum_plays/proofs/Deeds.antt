@@ -41,6 +41,7 @@ use Rattle.law_sum_plays.proofs.Totals.{AreWithin, totals_are, within_more, read
 use Rattle.law_sum_plays.proofs.Checked.{SumsClosed, Led, led}
 use Rattle.law_sum_plays.proofs.Kept.{Keeps}
 use Rattle.law_sum_plays.proofs.Outcomes.{given, event_leads, at_depth, Follows, follows_of}
+use Rattle.law_prove_closed.proofs.Delegated.{other_public}
 
 -- ---- what is known after an event
 
@@ -48,20 +49,6 @@ counted_holds : (b : Bool) (ts : List Total) (ls : List SumLine) (line : List �
     → OffsHold first m sums ts (counted b ts ls line o after).offs → Holds ts (counted b ts ls line o after) first m sums
 counted_holds true ts ls line o after first m sums origins mores offs = record { origins = origins; mores = mores; offs = offs }
 counted_holds false ts ls line o after first m sums origins mores offs = record { origins = origins; mores = mores; offs = offs }
-
--- bytes below the public segment are the same whatever it is
-pub below_public : (f : Frame) (p q : List ℕ) (a : ℕ) → a < public_base → frame_memory f p a ≡ frame_memory f q a
-below_public f p q a low =
-    let b : nat_lt a public_base ≡ true = lt-ltb a public_base low in
-    let x : ℕ = slice_index (static_bytes f) a in
-    let y : ℕ = slice_index f.dyn (a - dynamic_base) in
-    let one : parts_memory (length f.fixed) (static_bytes f) f.dyn p a ≡ cond (nat_lt a (length f.fixed)) x (cond (nat_lt a dynamic_base) 0 y) =
-    ap (λ (z : Bool). cond (nat_lt a (length f.fixed)) x (cond (nat_lt a dynamic_base) 0 (cond z y (slice_index p (a - public_base))))) b
-    in
-    let other : parts_memory (length f.fixed) (static_bytes f) f.dyn q a ≡ cond (nat_lt a (length f.fixed)) x (cond (nat_lt a dynamic_base) 0 y) =
-    ap (λ (z : Bool). cond (nat_lt a (length f.fixed)) x (cond (nat_lt a dynamic_base) 0 (cond z y (slice_index q (a - public_base))))) b
-    in
-    one ∙ sym other
 
 module _ (r : AppRules) (g : Target) (t : Tables) (u : SumsTable) (loadable : IsLoadable g.app) (closed : SumsClosed (record { rules = r; app = g.app }) t u) where
   abbrev setting : Setting
@@ -176,7 +163,7 @@ module _ (r : AppRules) (g : Target) (t : Tables) (u : SumsTable) (loadable : Is
           let c = and_parts (is_settled setting (turn_in z) v) (has_sums r.totals (delegated v) (sums_at u (key_of setting t e (Did deed ∷ h) d.frame segment q))) e2 in
           let within : AreWithin public_base r.totals = within_more (static_size setting) public_base r.totals (let low : static_size setting ≤ dynamic_base = loadable.static in omega (arith, low)) closed.static in
           let held : Holds r.totals (delegated v) p.sums.first (frame_memory d.frame segment) (read_sums d.frame.protected q.standing) =
-          delegated_holds r.totals v p.sums.first (frame_memory d.frame d.public) (frame_memory d.frame segment) (read_sums d.frame.protected q.standing) (λ a low. below_public d.frame d.public segment a low) within (standing_holds after left)
+          delegated_holds r.totals v p.sums.first (frame_memory d.frame d.public) (frame_memory d.frame segment) (read_sums d.frame.protected q.standing) (λ a low. other_public d.frame d.public segment a low) within (standing_holds after left)
           in
           found_place (delegated v) held (deed_keeps z after left c.0 q.frame.size q.standing q.stands) c.1
 

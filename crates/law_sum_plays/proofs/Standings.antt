@@ -15,6 +15,7 @@ use Rattle.law_sum_rows.specs.model_sums.specs.Says.{read_sums}
 use Rattle.law_sum_rows.specs.model_sums.specs.Closed.{all_pass, is_sum}
 use Rattle.law_sum_rows.specs.law_sums.specs.EventLaws.{has_sum}
 use Rattle.law_sum_plays.specs.Laws.{IsQuiet, QuietLaw, AreNamed, NameLaw}
+use Rattle.law_sum_rows.specs.law_sums.proofs.EventLemmas.{names_stay}
 
 -- ---- one
 
@@ -82,15 +83,8 @@ moved_name false adds k s = refl
 moved_name true true k s = refl
 moved_name true false k s = refl
 
-line_named : (l : SumLine) (public : List ℕ) (sums : List Sum) (name : List ℕ) → has_sum (after_sum_line l public sums) name ≡ has_sum sums name
-line_named l public [] name = refl
-line_named l public (s ∷ sums) name =
-    let more : List Sum = after_sum_line l public sums in
-    ap (λ (n : List ℕ). bytes_eq n name || has_sum more name) (moved_name (bytes_eq s.name l.name) l.adds (amount_in public l.amount) s)
-    ∙ ap (λ (b : Bool). bytes_eq s.name name || b) (line_named l public sums name)
-
 picked_named : (picked : Bool) (l : SumLine) (public : List ℕ) (sums : List Sum) (name : List ℕ) → has_sum (cond picked (after_sum_line l public sums) sums) name ≡ has_sum sums name
-picked_named true l public sums name = line_named l public sums name
+picked_named true l public sums name = names_stay l public sums name
 picked_named false l public sums name = refl
 
 moves_named : (ls : List SumLine) (line public : List ℕ) (sums : List Sum) (name : List ℕ) → has_sum (after_moves ls line public sums) name ≡ has_sum sums name
