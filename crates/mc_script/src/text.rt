@@ -5,7 +5,7 @@ ghost use Rattle.model_play.specs.model_device.specs.Bytes.{bytes2, lookup};
 ghost use Rattle.model_play.specs.Play.{static_of};
 ghost use Rattle.model_play.specs.model_machine.specs.Words.{abend_code};
 ghost use Rattle.model_play.specs.model_device.specs.Words.{cause_text};
-ghost use Rattle.model_play.specs.model_text.specs.Listing.{hex_text};
+ghost use Rattle.model_play.specs.model_text.specs.Listing.{hex_digit, hex_text};
 ghost use Rattle.model_play.specs.Transcript.{line_text, outcome_text, text_of_result};
 ghost use Rattle.mc_machine.specs.Turns.{outcome_value};
 ghost use Rattle.mc_bank.specs.Bank.{app_of};
@@ -29,6 +29,9 @@ use model_play::model_machine::Abend;
 
 /// The number of static bytes that are read at a time.
 const PIECE: usize = 256;
+
+/// The number of their digits.
+const DIGITS: usize = 512;
 
 /// The text of a line, which is gathered before it is written. It has room for a number of ten digits, a blank,
 /// `static`, a blank and 4,096 bytes in hexadecimal, and a line feed.
@@ -82,6 +85,27 @@ fn add_outcome(text: &mut Text, outcome: &Outcome)
     }
 }
 
+// Returns the upper case hexadecimal digit of a number below 16, by arithmetic: a loop over a table is not done several
+// bytes at once.
+fn digit(value: u8) -> u8
+    requires { value < 16 }
+    ensures { result ≡ hex_digit value }
+{
+    if value < 10 { 48 + value } else { 55 + value }
+}
+
+// Replaces `into` by the upper case hexadecimal digits of bytes. A text tests its room for each digit that is added, a
+// slice does not.
+fn write_digits(bytes: &[u8], into: &mut [u8])
+    requires { length into.old ≡ 2 * length bytes.now }
+    ensures { into.new ≡ hex_text bytes.now }
+{
+    for (at, byte) in bytes.iter().enumerate() {
+        into[2 * at] = digit(*byte / 16 % 16);
+        into[2 * at + 1] = digit(*byte % 16);
+    }
+}
+
 // Adds `count` static bytes of an application in hexadecimal, from place `at` on.
 fn add_piece<N: Nvm>(text: &mut Text, card: &Card<N>, aid: &Aid, at: u16, count: usize)
     requires up { IsUp N.state card.now }
@@ -96,7 +120,10 @@ fn add_piece<N: Nvm>(text: &mut Text, card: &Card<N>, aid: &Aid, at: u16, count:
     let mut bytes = [0; PIECE];
     let piece = &mut bytes[..count];
     card.static_of(aid, at, piece);
-    add_hex(text, piece);
+    let mut digits = [0; DIGITS];
+    let digits = &mut digits[..2 * count];
+    write_digits(piece, digits);
+    add(text, digits);
 }
 
 // Adds the static bytes of an application in hexadecimal.
