@@ -1,7 +1,9 @@
 // A card over a bench: its size, its power, its words before a power-up, and its armed stops.
 ghost use Rattle.std.specs.Prelude.{◌≡◌, ◌≤◌, ◌<◌, length, slice_set, true, Some, None};
 ghost use Rattle.mc_base.specs.model_device.specs.Device.{next_count, bench_after_poke, IsImage};
+ghost use Rattle.std.specs.Borrow.{Lends, sem};
 ghost use Rattle.mc_card.specs.Parts.{device_in, with_device};
+ghost use Rattle.mc_card.specs.contracts.card.Card.{the_row};
 
 use crate::card::Card;
 use mc_base::Word;
@@ -14,6 +16,15 @@ impl<N: Bench> Card<N> {
         ensures image { IsImage (N.state (device_in self.now)).words }
     {
         self.store.device_len()
+    }
+
+    /// Returns the device as a bench sees it. After its words or its power changed, a card that ran is valid for
+    /// `restart` alone.
+    pub fn device_mut(&mut self) -> &mut N
+        ensures value { result.now ≡ device_in self.old }
+        ensures* writes_back { sem 𝓛 (Lends (the_row N.row) N.row self.entry result (λ w. with_device self.old w)) }
+    {
+        self.store.device_mut()
     }
 
     /// Turns the power of the device on. A card that ran is valid for `restart` alone afterwards.

@@ -8,7 +8,8 @@ ghost use Rattle.mc_apdu.specs.model_machine.specs.Code.{Shaped};
 ghost use Rattle.mc_bank.specs.model_card.specs.Commands.{status};
 ghost use Rattle.mc_bank.specs.Bank.{app_of};
 ghost use Rattle.mc_machine.specs.declared.outcome.Outcome.TheVariants as outcome;
-ghost use Rattle.mc_machine.specs.Turns.{outcome_value, run_outcome, reply_or_stop, IsReply, WritesFew};
+ghost use Rattle.mc_machine.specs.Turns.{brief_result, outcome_value, run_outcome, reply_or_stop};
+ghost use Rattle.mc_machine.specs.Turns.{AgreesWithEnd, IsReply, WritesFew};
 ghost use Rattle.mc_store.specs.Power.{power_writes, power_answer, PowersUp};
 ghost use Rattle.mc_card.specs.Parts.{device_in, card_in, session_state_in, due, IsUp, IsReadyCard, RunsChain, IsRunning};
 ghost use Rattle.mc_card.specs.Ends.{power_up_end, restart_end, device_after, Commanded, Begun, ChainTurned, RouteSteps};
@@ -19,10 +20,10 @@ use arrayvec::ArrayVec;
 use mc_apdu::{Reply, parse};
 use mc_bank::Bank;
 use mc_base::{Aid, Steps, Stop};
-use mc_machine::{ChainPlace, End, Outcome, Turn, run_into};
+use mc_machine::{BriefTurn, ChainPlace, End, Outcome, Turn, run_into};
 use mc_manager::Manager;
 use mc_nvm::Nvm;
-use mc_segs::{Abend, Session};
+use mc_segs::Session;
 use mc_store::{Store, Up};
 use std::sync::ledger::Ledger;
 
@@ -208,7 +209,7 @@ impl<N: Nvm> Card<N> {
         match self.perform_in(bytes, budget, into, steps)? {
             End::Reply => Ok(()),
             End::Abend(abend) => {
-                put_abend(into, abend);
+                into.put_abend(abend);
                 Ok(())
             }
         }
@@ -320,6 +321,8 @@ impl<N: Nvm> Card<N> {
     /// executed instruction, which is one step, or a fetch that ends it. With the last turn the session bytes
     /// become those of the selection.
     ///
+    /// It is `brief_turn` with an outcome of its own.
+    ///
     /// # Errors
     ///
     /// Returns the `Stop` of the device. After a `Stop` only `into_dev` and `restart` may be called.
@@ -337,7 +340,37 @@ impl<N: Nvm> Card<N> {
         ensures ended { Ended (answer_of result) (N.state (device_in self.old)) (N.state (device_in self.new)) }
         ensures keeps_device { N.same (device_in self.old) (device_in self.new) }
     {
-        let reported = self.chain.turn(&mut self.store, steps)?;
+        let mut outcome = Outcome::done();
+        let turn = self.brief_turn(&mut outcome, steps)?;
+        Ok(turn.with_outcome(outcome))
+    }
+
+    /// Runs the next turn as `turn` does, and returns it without the bytes of its reply. With the last turn the outcome
+    /// of the command is written to `into`, in place to avoid copying it.
+    ///
+    /// # Errors
+    ///
+    /// Returns the `Stop` of the device. After a `Stop` only `into_dev` and `restart` may be called.
+    pub fn brief_turn<L: Ledger>(
+        &mut self,
+        into: &mut Outcome,
+        steps: &mut Steps<L>,
+    ) -> Result<BriefTurn, Stop>
+        requires running { IsRunning N.state self.old }
+        ensures done { (ch : ModelChain) (left : ℕ) → RunsChain N.state self.old ch left
+            → ChainTurned N.state N.wrote self.old ch left (turn_of left ch) (brief_result result into.new) self.new }
+        ensures agrees { IfOk result (λ turn. AgreesWithEnd turn.end into.new) }
+        ensures steps { (ch : ModelChain) (left : ℕ) → RunsChain N.state self.old ch left
+            → steps.new ≡ steps.old + (turn_of left ch).count }
+        ensures shaped { IfOk result (λ turn. IfSome turn.ins Shaped) }
+        ensures low { IfOk result (λ turn. 1 ≤ turn.depth) }
+        ensures high { IfOk result (λ turn. turn.depth ≤ 4) }
+        ensures few { IsSized (N.state (device_in self.old)).words → (ch : ModelChain) (left : ℕ)
+            → RunsChain N.state self.old ch left → WritesFew (turn_of left ch) }
+        ensures ended { Ended (answer_of result) (N.state (device_in self.old)) (N.state (device_in self.new)) }
+        ensures keeps_device { N.same (device_in self.old) (device_in self.new) }
+    {
+        let reported = self.chain.turn_into(&mut self.store, into, steps)?;
         if reported.end.is_some() {
             self.chain.end(&mut self.session);
         }
@@ -393,14 +426,4 @@ fn make_reply(outcome: &mut Outcome)
         Outcome::Reply(_) => {}
         Outcome::Abend(_) => outcome.put_done(),
     }
-}
-
-// Replaces an outcome by an abend. It is a call of its own because the place of the new outcome is cleared
-// where it is made.
-#[cold]
-#[inline(never)]
-fn put_abend(into: &mut Outcome, abend: Abend)
-    ensures { into.new ≡ outcome.Abend abend }
-{
-    *into = Outcome::Abend(abend);
 }

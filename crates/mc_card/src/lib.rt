@@ -10,7 +10,7 @@ mod session;
 mod watching;
 
 pub use card::Card;
-pub use mc_machine::{Chain, Outcome, Turn};
+pub use mc_machine::{BriefTurn, Chain, Outcome, Turn};
 pub use mc_manager::Load;
 pub use mc_store::{Store, Unusable, Up};
 pub use saved::SavedSession;

@@ -1,6 +1,6 @@
 // The session state of a card: what is selected, its session bytes, and the open load.
-ghost use Rattle.std.specs.Prelude.{◌≡◌, option_map, length};
-ghost use Rattle.mc_card.specs.Parts.{device_in, session_state_in, with_session, IsReadyCard};
+ghost use Rattle.std.specs.Prelude.{◌≡◌, option_map};
+ghost use Rattle.mc_card.specs.Parts.{session_state_in};
 
 use crate::card::Card;
 use mc_base::Aid;
@@ -32,18 +32,5 @@ impl<N: Nvm> Card<N> {
         ensures { option_map (λ load. load.now) result ≡ self.now.manager.load }
     {
         self.manager.load()
-    }
-
-    /// Replaces the session bytes by others of the same number.
-    pub fn put_session(&mut self, bytes: &[u8])
-        requires { length bytes.now ≡ length self.old.session }
-        ensures session_state { session_state_in N.state self.new
-            ≡ with_session bytes.now (session_state_in N.state self.old) }
-        ensures ready { IsReadyCard N.state self.old → IsReadyCard N.state self.new }
-        ensures device { device_in self.new ≡ device_in self.old }
-    {
-        // There are at most 256 session bytes.
-        let _count = self.session.bytes().len();
-        self.session.set(bytes);
     }
 }

@@ -6,6 +6,7 @@ pub mod Kept
 pub mod FetchLemmas
 pub mod RunLemmas
 pub mod ActLemmas
+pub mod EndLemmas
 pub mod FollowLemmas
 pub mod ReadsLemmas
 pub mod RowFacts

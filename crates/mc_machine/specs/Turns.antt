@@ -23,6 +23,7 @@ use Rattle.mc_machine.specs.declared.outcome.End.{End}
 use Rattle.mc_machine.specs.declared.outcome.End.TheVariants as end
 use Rattle.mc_machine.specs.declared.outcome.Step.{Step}
 use Rattle.mc_machine.specs.declared.outcome.Turn.{Turn}
+use Rattle.mc_machine.specs.declared.outcome.BriefTurn.{BriefTurn}
 use Rattle.mc_bank.specs.declared.bank.Bank.{Ghosts}
 
 -- ---- ends
@@ -65,7 +66,27 @@ abbrev pub EndFits : List ℕ → End → Type 0
 EndFits public end.Reply = la_of public ≤ 1024
 EndFits public (end.Abend a) = Unit {0}
 
+-- an outcome agrees with an end: that of an abend is this abend, that of a reply is a reply
+abbrev pub AgreesWithEnd : Option End → Outcome → Type 0
+AgreesWithEnd None o = Unit {0}
+AgreesWithEnd (Some end.Reply) o = IsReply o
+AgreesWithEnd (Some (end.Abend a)) o = o ≡ outcome.Abend a
+
+-- the outcome of the end of a turn, if it has one
+abbrev pub end_outcome : Option End → Outcome → Option Outcome
+end_outcome None o = None
+end_outcome (Some e) o = Some o
+
 -- ---- turns
+
+-- the turn that a turn without its reply is, if the outcome of its end is the given one
+abbrev pub full_turn : BriefTurn → Outcome → Turn
+full_turn t o = record { depth = t.depth; at = t.at; ins = t.ins; dt = t.dt; flags = t.flags; end = end_outcome t.end o }
+
+-- that turn, or a `Stop`
+abbrev pub brief_result : Result BriefTurn Stop → Outcome → Result Turn Stop
+brief_result (Ok t) o = Ok (full_turn t o)
+brief_result (Err s) o = Err s
 
 -- the turn of the definitions that a turn of the code is, with the number of words that it wrote, which the code's turn
 -- does not have
@@ -78,6 +99,12 @@ turn_value t wrote =
 abbrev pub step_value : ℕ → ℕ → List ℕ → ℕ → Step → Option ℕ → ModelTurn
 step_value depth at public le t wrote =
     record { depth = depth; at = at; ins = t.ins; dt = t.dt; c = t.flags.c; z = t.flags.z; end = option_map (end_value public le) t.end; wrote = wrote }
+
+-- the turn of the definitions that a turn without its reply is, with the public bytes and Le of its end, and the number
+-- of words that it wrote
+abbrev pub brief_value : List ℕ → ℕ → BriefTurn → Option ℕ → ModelTurn
+brief_value public le t wrote =
+    record { depth = t.depth; at = t.at; ins = t.ins; dt = t.dt; c = t.flags.c; z = t.flags.z; end = option_map (end_value public le) t.end; wrote = wrote }
 
 -- what follows a turn: the chain goes on as that of the definitions does, or it has ended, with the session bytes that
 -- it had
@@ -96,6 +123,11 @@ pub record TurnActs {B : Type 0} (ghosts : Ghosts B) (b e : B) (c d : Chained) (
 abbrev pub ActDone : {B : Type 0} → Ghosts B → B → B → Chained → Chained → Chain → Acted → Result Step Stop → Type 0
 ActDone ghosts b e c d ch t (Ok step) = TurnActs ghosts b e c d ch t × (t.turn ≡ step_value (length c.below + 1) c.running.frame.at d.public d.le step t.turn.wrote)
 ActDone ghosts b e c d ch t (Err stop) = InOrder (ChainWrote ghosts) b t.writes (Err stop) e
+
+-- a turn without its reply by its result: it was done, and is that of the definitions; or a `Stop` ended its write
+abbrev pub BriefDone : {B : Type 0} → Ghosts B → B → B → Chained → Chained → Chain → Acted → Result BriefTurn Stop → Type 0
+BriefDone ghosts b e c d ch t (Ok turn) = TurnActs ghosts b e c d ch t × (t.turn ≡ brief_value d.public d.le turn t.turn.wrote)
+BriefDone ghosts b e c d ch t (Err stop) = InOrder (ChainWrote ghosts) b t.writes (Err stop) e
 
 -- a turn with its place by its result: it was done, and is that of the definitions; or a `Stop` ended its write
 abbrev pub TurnDone : {B : Type 0} → Ghosts B → B → B → Chained → Chained → Chain → Acted → Result Turn Stop → Type 0

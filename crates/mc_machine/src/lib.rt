@@ -15,7 +15,7 @@ mod waiting;
 
 pub use chain::{Chain, begin};
 pub use laws::{new_frames_guarded, rows_keep, rows_see};
-pub use outcome::{End, Outcome, Turn};
+pub use outcome::{BriefTurn, End, Outcome, Turn};
 pub use place::ChainPlace;
 pub use running::{run, run_into};
-pub use turning::turn;
+pub use turning::{brief_turn, turn};

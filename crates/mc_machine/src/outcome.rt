@@ -1,8 +1,11 @@
 // How turns and chains end.
-ghost use Rattle.std.specs.Prelude.{◌≡◌, ◌≤◌, ℕ, min, take, Some, None};
+ghost use Rattle.std.specs.Prelude.{◌≡◌, ◌≤◌, ℕ, min, option_map, take, Some, None, IfSome};
 ghost use Rattle.law_machine.specs.model_machine.specs.Frame.{la_of, sw_of};
 ghost use Rattle.law_machine.specs.model_card.specs.Commands.{status};
-ghost use Rattle.mc_machine.specs.Turns.{end_value, last_end, outcome_by, outcome_value, EndFits, IsReply};
+ghost use Rattle.mc_machine.specs.declared.outcome.Outcome.TheVariants as outcome;
+ghost use Rattle.mc_machine.specs.declared.outcome.End.TheVariants as end;
+ghost use Rattle.mc_machine.specs.Turns.{end_outcome, end_value, full_turn, last_end, outcome_by, outcome_value};
+ghost use Rattle.mc_machine.specs.Turns.{AgreesWithEnd, EndFits, IsReply};
 
 use crate::chain::Chain;
 use arrayvec::ArrayVec;
@@ -58,6 +61,16 @@ impl Outcome {
     {
         *self = Outcome::done();
     }
+
+    /// Makes this outcome an abend.
+    // It is a call of its own because the place of the new outcome is cleared where it is made.
+    #[cold]
+    #[inline(never)]
+    pub fn put_abend(&mut self, abend: Abend)
+        ensures { self.new ≡ outcome.Abend abend }
+    {
+        *self = Outcome::Abend(abend);
+    }
 }
 
 /// One executed instruction, or a fetch that ends the chain: the depth of its frame from 1 to 4, the code
@@ -72,6 +85,38 @@ pub struct Turn {
     pub dt: u16,
     pub flags: Flags,
     pub end: Option<Outcome>,
+}
+
+/// A turn without the bytes of its reply: as `Turn`, but of a reply it says only that the chain ends with it. The reply
+/// is in the public segment of the chain, or in the place that it was written to.
+#[derive(Clone, Copy, Debug, PartialEq, Eq)]
+pub struct BriefTurn {
+    pub depth: u8,
+    pub at: u16,
+    pub ins: Option<Ins>,
+    pub dt: u16,
+    pub flags: Flags,
+    pub end: Option<End>,
+}
+
+impl BriefTurn {
+    /// Returns this turn with `outcome` as the outcome of its end, if it has one.
+    pub fn with_outcome(self, outcome: Outcome) -> Turn
+        ensures { result ≡ full_turn self outcome }
+    {
+        let end = match self.end {
+            Some(_) => Some(outcome),
+            None => None,
+        };
+        Turn {
+            depth: self.depth,
+            at: self.at,
+            ins: self.ins,
+            dt: self.dt,
+            flags: self.flags,
+            end,
+        }
+    }
 }
 
 /// The end of a command to an application. Its reply is kept elsewhere: in the public segment, or in the
@@ -182,6 +227,29 @@ fn put_reply(public: &Public, le: u16, reply: &mut Reply)
     reply.sw = sw(public);
 }
 
+// Replaces an abend by the reply in a public segment.
+#[cold]
+#[inline(never)]
+fn replace_by_reply(public: &Public, le: u16, into: &mut Outcome)
+    requires { la_of public.now ≤ 1024 }
+    ensures reply { IsReply into.new }
+    ensures value { outcome_value into.new ≡ end_value public.now le end.Reply }
+{
+    *into = Outcome::Reply(reply_in(public, le));
+}
+
+// Makes an outcome the reply in a public segment. A reply is changed in place.
+fn put_as_reply(public: &Public, le: u16, into: &mut Outcome)
+    requires { la_of public.now ≤ 1024 }
+    ensures reply { IsReply into.new }
+    ensures value { outcome_value into.new ≡ end_value public.now le end.Reply }
+{
+    match into {
+        Outcome::Reply(reply) => put_reply(public, le, reply),
+        Outcome::Abend(_) => replace_by_reply(public, le, into),
+    }
+}
+
 /// Replaces `reply` by the reply of an end, if it has one: the first bytes of the public segment, at most La
 /// and Le, with the status.
 pub fn put_end(public: &Public, le: u16, end: End, reply: &mut Reply)
@@ -213,6 +281,31 @@ impl Chain {
         ensures { outcome_value (outcome_by end reply.new) ≡ end_value self.now.public self.now.le end }
     {
         put_end(&self.public, self.le, end, reply);
+    }
+
+    /// Makes `into` the outcome of an end of the chain. A reply is changed in place.
+    pub fn put_outcome(&self, end: End, into: &mut Outcome)
+        requires { EndFits self.now.public end }
+        ensures value { outcome_value into.new ≡ end_value self.now.public self.now.le end }
+        ensures agrees { AgreesWithEnd (Some end) into.new }
+    {
+        match end {
+            End::Reply => put_as_reply(&self.public, self.le, into),
+            End::Abend(abend) => into.put_abend(abend),
+        }
+    }
+
+    /// Makes `into` the outcome of a turn's end, if the turn ends the chain.
+    pub(crate) fn put_end_of(&self, end: Option<End>, into: &mut Outcome)
+        requires { IfSome end (λ end. EndFits self.now.public end) }
+        ensures value { option_map outcome_value (end_outcome end into.new)
+            ≡ option_map (end_value self.now.public self.now.le) end }
+        ensures agrees { AgreesWithEnd end into.new }
+    {
+        match end {
+            Some(end) => self.put_outcome(end, into),
+            None => {}
+        }
     }
 
     /// Returns the outcome of an end of the chain.

@@ -6,10 +6,11 @@ ghost use Rattle.mc_apdu.specs.Command.{parts_of};
 ghost use Rattle.mc_bank.specs.Bank.{app_of, name_or};
 ghost use Rattle.mc_machine.specs.Chains.{FitsChain, session_in};
 ghost use Rattle.mc_machine.specs.Places.{Runs, IsBegun, TurnsTo};
+ghost use Rattle.mc_machine.specs.Turns.{brief_result, AgreesWithEnd};
 
 use crate::chain::{Chain, begin};
-use crate::outcome::Turn;
-use crate::turning::turn;
+use crate::outcome::{BriefTurn, Outcome};
+use crate::turning::brief_turn;
 use mc_apdu::Apdu;
 use mc_bank::{Bank, Slot};
 use mc_base::{Steps, Stop};
@@ -81,25 +82,31 @@ impl ChainPlace {
         self.is_running = true;
     }
 
-    /// Runs one turn of the chain that runs, as `turn` does. The chain runs on, also after its last turn.
+    /// Runs one turn of the chain that runs, as `brief_turn` does, and writes the outcome of its end, if it has one, to
+    /// `into`. The chain runs on, also after its last turn.
     ///
     /// # Errors
     ///
     /// Returns the `Stop` of the bank in the turn's change.
-    pub fn turn<B: Bank, L: Ledger>(
+    pub fn turn_into<B: Bank, L: Ledger>(
         &mut self,
         bank: &mut B,
+        into: &mut Outcome,
         steps: &mut Steps<L>,
-    ) -> Result<Turn, Stop>
+    ) -> Result<BriefTurn, Stop>
         requires going { (B.state bank.old).stopped ≡ false }
         requires fits { Runs self.old (FitsChain B.Bank bank.old) }
-        ensures done { Runs self.old
-            (λ c. Runs self.new (TurnsTo B.Bank bank.old bank.new result steps.old steps.new c)) }
+        ensures done { Runs self.old (λ c. Runs self.new
+            (TurnsTo B.Bank bank.old bank.new (brief_result result into.new) steps.old steps.new c)) }
+        ensures agrees { IfOk result (λ turn. AgreesWithEnd turn.end into.new) }
         ensures shaped { IfOk result (λ turn. IfSome turn.ins Shaped) }
         ensures low { IfOk result (λ turn. 1 ≤ turn.depth) }
         ensures high { IfOk result (λ turn. turn.depth ≤ 4) }
     {
-        turn(bank, self.chain.as_mut().unwrap(), steps)
+        let chain = self.chain.as_mut().unwrap();
+        let turn = brief_turn(bank, chain, steps)?;
+        chain.put_end_of(turn.end, into);
+        Ok(turn)
     }
 
     /// Ends the chain that runs, and writes the session bytes of its first frame to `session`.

@@ -9,12 +9,12 @@ ghost use Rattle.mc_segs.specs.Ends.{scene, RowActs, then_of};
 ghost use Rattle.mc_rows.specs.Rows.{row_result};
 ghost use Rattle.mc_machine.specs.Chains.{RunsAs, FitsChain};
 ghost use Rattle.mc_machine.specs.Frames.{with_held_frame};
-ghost use Rattle.mc_machine.specs.Turns.{ActDone, TurnDone, WritesFew, EndFits, Followed, FrameExits, chain_at_next, step_of_halt};
+ghost use Rattle.mc_machine.specs.Turns.{ActDone, BriefDone, TurnDone, WritesFew, EndFits, Followed, FrameExits, chain_at_next, step_of_halt};
 ghost use Rattle.mc_machine.specs.Turns.{delegator_of, has_frame, AllFitBank, outcome_value, end_value};
 
 use crate::chain::Chain;
 use crate::fetch::fetch;
-use crate::outcome::{End, Outcome, Step, Turn, last_exit, reported};
+use crate::outcome::{BriefTurn, End, Outcome, Step, Turn, last_exit, reported};
 use crate::waiting::Waiting;
 use mc_bank::Bank;
 use mc_base::{Aid, Steps, Stop};
@@ -58,6 +58,49 @@ pub fn turn<B: Bank, L: Ledger>(
     ensures low { IfOk result (λ turn. 1 ≤ turn.depth) }
     ensures high { IfOk result (λ turn. turn.depth ≤ 4) }
 {
+    let BriefTurn {
+        depth,
+        at,
+        ins,
+        dt,
+        flags,
+        end,
+    } = brief_turn(bank, chain, steps)?;
+    let end = chain.outcome_of(end);
+    Ok(Turn {
+        depth,
+        at,
+        ins,
+        dt,
+        flags,
+        end,
+    })
+}
+
+/// Runs one turn as `turn` does, and returns it without the bytes of its reply, which stays in the public segment: a
+/// reply has room for 1,024 bytes, and moving it takes longer than most turns. `Chain::put_outcome` writes it.
+///
+/// # Errors
+///
+/// Returns the `Stop` of the bank in the instruction's change.
+pub fn brief_turn<B: Bank, L: Ledger>(
+    bank: &mut B,
+    chain: &mut Chain,
+    steps: &mut Steps<L>,
+) -> Result<BriefTurn, Stop>
+    requires going { (B.state bank.old).stopped ≡ false }
+    requires fits { FitsChain B.Bank bank.old chain.old }
+    ensures done { (ch : ModelChain) → RunsAs (B.state bank.old) (B.named bank.old) chain.old ch
+        → BriefDone B.Bank bank.old bank.new chain.old chain.new ch (turn_of chain.old.left ch) result }
+    ensures ticks { (ch : ModelChain) → RunsAs (B.state bank.old) (B.named bank.old) chain.old ch
+        → steps.new ≡ steps.old + (turn_of chain.old.left ch).count }
+    ensures few { (ch : ModelChain) → RunsAs (B.state bank.old) (B.named bank.old) chain.old ch
+        → AreApps (B.state bank.old).apps → WritesFew (turn_of chain.old.left ch) }
+    ensures ends { IfOk result (λ turn. IfSome turn.end (λ end. EndFits chain.new.public end)) }
+    ensures shaped { IfOk result (λ turn. IfSome turn.ins Shaped) }
+    ensures low { IfOk result (λ turn. 1 ≤ turn.depth) }
+    ensures high { IfOk result (λ turn. turn.depth ≤ 4) }
+{
     let depth = chain.waiting.count() + 1;
     let at = chain.running.at();
     let Step {
@@ -66,8 +109,7 @@ pub fn turn<B: Bank, L: Ledger>(
         flags,
         end,
     } = act(bank, chain, steps)?;
-    let end = chain.outcome_of(end);
-    Ok(Turn {
+    Ok(BriefTurn {
         depth,
         at,
         ins,

@@ -8,7 +8,7 @@ use Rattle.model_play.specs.Given.{budget_in}
 use Rattle.mc_store.specs.Power.{HoldsBase}
 use Rattle.mc_machine.specs.Turns.{outcome_value}
 use Rattle.mc_card.specs.declared.card.Card.{Card}
-use Rattle.mc_card.specs.Parts.{device_in, card_in, session_state_in, IsReadyCard}
+use Rattle.mc_card.specs.Parts.{device_in, with_device, card_in, session_state_in, IsReadyCard}
 use Rattle.mc_script.specs.declared.armed.Armed.{Armed}
 use Rattle.mc_script.specs.declared.armed.Armed.TheVariants as armed
 use Rattle.mc_script.specs.declared.answer.Answer.{Answer}
@@ -35,6 +35,10 @@ cut_place (armed.Fail k) = 0
 -- the device below a player
 abbrev pub device_of : {N : Type 0} → Player N → N
 device_of p = device_in p.card
+
+-- the player over another device
+abbrev pub on_device : {N : Type 0} → Player N → N → Player N
+on_device p d = record p { card = with_device p.card d }
 
 -- a stop can be armed: its write is counted from 1
 abbrev pub CanArm : Armed → Type 0

@@ -7,6 +7,7 @@ mod armed;
 mod commands;
 mod decks;
 mod examples;
+mod job;
 mod line;
 mod live;
 mod loading;
@@ -26,6 +27,7 @@ mod writer;
 
 pub use answer::{Answer, was_cut};
 pub use examples::{power_after_lines, steps_of_commands, words_after_lines};
+pub use job::JobFault;
 pub use live::Live;
 pub use player::Player;
 pub use playing::{play, play_lines, summarise, trace};

@@ -1,7 +1,9 @@
 ghost use Rattle.std.specs.Prelude.{◌≡◌};
+ghost use Rattle.std.specs.Borrow.{Lends, sem};
 ghost use Rattle.model_play.specs.Play.{start};
-ghost use Rattle.mc_script.specs.Players.{device_of, IsUnfused};
-ghost use Rattle.mc_script.specs.Benches.{IsPlayerAt};
+ghost use Rattle.mc_script.specs.Players.{device_of, on_device, IsUnfused};
+ghost use Rattle.mc_script.specs.Benches.{IsPlayerAt, IsPlaying};
+ghost use Rattle.mc_script.specs.contracts.player.Player.{the_row};
 
 use crate::armed::Armed;
 use mc_card::Card;
@@ -47,6 +49,29 @@ impl<N: Bench> Player<N> {
             armed: Armed::Not,
             outcome: Outcome::done(),
         }
+    }
+
+    /// Makes this a play before its first line, on its device, as `new` does. It is changed in place: a card has some
+    /// kilobytes, and moving them takes longer than a short command.
+    pub fn rewind(&mut self)
+        requires { IsUnfused (N.bench (device_of self.old)) }
+        ensures at { IsPlayerAt N.Bench self.new (start (N.state (device_of self.old)).words) }
+        ensures playing { IsPlaying N.Bench self.new }
+        ensures device { device_of self.new ≡ device_of self.old }
+    {
+        self.power = Power::BeforePower;
+        self.budget = FIRST_BUDGET;
+        self.armed = Armed::Not;
+        self.outcome.put_done();
+    }
+
+    /// Returns the device. After a change of its words, its power or its fuses, `rewind` is called before a line is
+    /// played.
+    pub fn device_mut(&mut self) -> &mut N
+        ensures value { result.now ≡ device_of self.old }
+        ensures* writes_back { sem 𝓛 (Lends (the_row N.row) N.row self.entry result (λ w. on_device self.old w)) }
+    {
+        self.card.device_mut()
     }
 
     /// Returns how the last command ended, which is the value of an `Outcome` among the results until the

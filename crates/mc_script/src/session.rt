@@ -1,7 +1,6 @@
-// What a play holds between two lines, and the session bytes of its card put back.
+// What a play holds between two lines.
 ghost use Rattle.std.specs.Prelude.{◌≡◌, ◌≤◌, IfSome};
-ghost use Rattle.mc_card.specs.Parts.{device_in, IsReadyCard};
-ghost use Rattle.mc_script.specs.Players.{device_of};
+ghost use Rattle.mc_card.specs.Parts.{IsReadyCard};
 ghost use Rattle.mc_script.specs.Benches.{IsPlaying};
 ghost use Rattle.mc_script.specs.Stops.{has_stop};
 
@@ -42,29 +41,4 @@ impl<N: Bench> Player<N> {
             Armed::Fail(_) => true,
         }
     }
-
-    /// Replaces the session bytes of the selected application by `bytes`, and returns whether it did: if no
-    /// card runs, or if their number is another one, nothing changes.
-    pub fn put_session(&mut self, bytes: &[u8]) -> bool
-        requires { IsPlaying N.Bench self.old }
-        ensures playing { IsPlaying N.Bench self.new }
-        ensures device { device_of self.new ≡ device_of self.old }
-    {
-        match self.power {
-            Power::On => put_same_number(&mut self.card, bytes),
-            _ => false,
-        }
-    }
-}
-
-// Replaces the session bytes of a card by `bytes`, if their number is the same, and returns whether it did.
-fn put_same_number<N: Bench>(card: &mut Card<N>, bytes: &[u8]) -> bool
-    ensures ready { IsReadyCard N.state card.old → IsReadyCard N.state card.new }
-    ensures device { device_in card.new ≡ device_in card.old }
-{
-    if bytes.len() != card.session().len() {
-        return false;
-    }
-    card.put_session(bytes);
-    true
 }

@@ -1,6 +1,7 @@
 // Commands that are run turn by turn before a watcher.
 ghost use Rattle.std.specs.Prelude.{◌≡◌, ◌+◌, ◌≤◌, ◌++◌, List, [], ℕ, is_err};
 ghost use Rattle.model_play.specs.model_machine.specs.Chain.{Chain, turn_of};
+ghost use Rattle.mc_machine.specs.Turns.{brief_result};
 ghost use Rattle.mc_card.specs.Parts.{card_in, device_in, due, IsReadyCard, IsRunning, RunsChain};
 ghost use Rattle.mc_card.specs.Ends.{outcome_or_stop, ChainTurned};
 ghost use Rattle.mc_script.specs.Runs.{RanAndReported, sent_to};
@@ -8,7 +9,7 @@ ghost use Rattle.mc_script.specs.StepCounts.{command_search, instructions, Steps
 ghost use Rattle.mc_script.specs.Watching.{IsWide, Watches, WatchesTurn};
 
 use mc_base::{Steps, Stop};
-use mc_card::{Card, Turn};
+use mc_card::{BriefTurn, Card};
 use mc_machine::Outcome;
 use mc_nvm::Nvm;
 use std::sync::ledger::Ledger;
@@ -18,8 +19,8 @@ use std::sync::ledger::Ledger;
 ///
 /// An `impl` says in `Seen` and `seen` what it sees of a turn, as a function of the chain before the turn and of the
 /// instructions that are left of the budget: `Turn` and `turn_alone` for the turn alone, or a record with what surrounds
-/// it. `watched` says what it then holds. `turn` calls `card.turn(steps)?` once, looks at the card before and after, and
-/// returns the turn: of its clauses only `watches` is the watcher's own.
+/// it. `watched` says what it then holds. `turn` calls `card.brief_turn(into, steps)?` once, looks at the card before and
+/// after, and returns the turn: of its clauses only `watches` is the watcher's own.
 ///
 /// A watcher is made a `Runner` by `run` with `run_watched` as its body and these members, by the laws of the watcher:
 /// `reported` is `Watches seen watched`, `silent` is `λ c. silent`, and `onward` is `λ c d q r s. onward q r s [] []`.
@@ -34,7 +35,7 @@ pub trait Watcher {
     ghost watched: { Self → List Self.Seen → Self → Type 0 };
 
     /// Runs a turn of the command that runs on a card, and records what is seen of it, whichever chain the card runs, if
-    /// its segments are whole.
+    /// its segments are whole. With the last turn the outcome of the command is written to `into`.
     ///
     /// # Errors
     ///
@@ -42,13 +43,14 @@ pub trait Watcher {
     fn turn<N: Nvm, L: Ledger>(
         &mut self,
         card: &mut Card<N>,
+        into: &mut Outcome,
         steps: &mut Steps<L>,
-    ) -> Result<Turn, Stop>
+    ) -> Result<BriefTurn, Stop>
         requires { IsRunning N.state card.old }
         ensures done { (ch : Chain) (left : ℕ) → RunsChain N.state card.old ch left
-            → ChainTurned N.state N.wrote card.old ch left (turn_of left ch) result card.new }
+            → ChainTurned N.state N.wrote card.old ch left (turn_of left ch) (brief_result result into.new) card.new }
         ensures watches { (ch : Chain) (left : ℕ) → RunsChain N.state card.old ch left → IsWide ch
-            → WatchesTurn Self.seen Self.watched left ch result self.old self.new }
+            → WatchesTurn Self.seen Self.watched left ch (brief_result result into.new) self.old self.new }
         ensures steps { (ch : Chain) (left : ℕ) → RunsChain N.state card.old ch left
             → steps.new ≡ steps.old + (turn_of left ch).count }
         ensures keeps_device { N.same (device_in card.old) (device_in card.new) };
@@ -90,9 +92,8 @@ pub fn run_watched<N: Nvm, W: Watcher, L: Ledger>(
     }
     let mut left = budget;
     'turns: loop {
-        let turn = watcher.turn(card, steps)?;
-        if let Some(outcome) = turn.end {
-            *into = outcome;
+        let turn = watcher.turn(card, into, steps)?;
+        if turn.end.is_some() {
             return Ok(());
         }
         left -= 1;

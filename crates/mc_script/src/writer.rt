@@ -3,7 +3,8 @@ ghost use Rattle.std.specs.Prelude.{◌≡◌, ◌≤◌, ◌++◌, ◌∷◌, [
 ghost use Rattle.model_play.specs.model_machine.specs.Chain.{Turn as ModelTurn};
 ghost use Rattle.model_play.specs.model_machine.specs.Code.{Shaped};
 ghost use Rattle.model_play.specs.Transcript.{line_text};
-ghost use Rattle.mc_machine.specs.Turns.{turn_value};
+ghost use Rattle.mc_machine.specs.declared.outcome.Outcome.{Outcome};
+ghost use Rattle.mc_machine.specs.Turns.{full_turn, turn_value};
 ghost use Rattle.mc_text.specs.Texts.{sunk, Puts};
 ghost use Rattle.mc_script.specs.Players.{answer_value};
 ghost use Rattle.mc_script.specs.Benches.{IsPlaying};
@@ -19,12 +20,12 @@ use crate::text::{Text, put_answer};
 use crate::watching::{Watcher, run_watched};
 use arrayvec::ArrayVec;
 use mc_base::{Steps, Stop};
-use mc_card::{Card, Turn};
+use mc_card::{BriefTurn, Card};
 use mc_machine::Outcome;
 use mc_nvm::{Bench, Nvm};
 use mc_streams::{Sink, WriteFault};
 use mc_text::put;
-use mc_trace::line_of;
+use mc_trace::line_of_brief;
 use std::sync::ledger::Ledger;
 
 /// The text of each line of a play: its result, or the lines of its turns and its result.
@@ -86,11 +87,12 @@ impl<'a, T: Sink> Writer<'a, T> {
     }
 
     // Writes the line of a turn, if lines of turns are written.
-    fn report_turn(&mut self, turn: &Turn)
+    fn report_turn(&mut self, turn: &BriefTurn)
         requires shaped { IfSome turn.now.ins Shaped }
         requires low { 1 ≤ turn.now.depth }
         requires high { turn.now.depth ≤ 4 }
-        ensures { (wrote : Option ℕ) → WriterKeeps T.Sink self.old (turn_value turn.now wrote ∷ []) self.new }
+        ensures { (outcome : Outcome) (wrote : Option ℕ)
+            → WriterKeeps T.Sink self.old (turn_value (full_turn turn.now outcome) wrote ∷ []) self.new }
     {
         match self.reporting {
             Reporting::Results => {}
@@ -99,15 +101,16 @@ impl<'a, T: Sink> Writer<'a, T> {
     }
 
     // Writes the line of a turn.
-    fn put_turn(&mut self, turn: &Turn)
+    fn put_turn(&mut self, turn: &BriefTurn)
         requires turns { self.old.reporting ≡ reporting.Turns }
         requires shaped { IfSome turn.now.ins Shaped }
         requires low { 1 ≤ turn.now.depth }
         requires high { turn.now.depth ≤ 4 }
-        ensures { (wrote : Option ℕ) → WriterKeeps T.Sink self.old (turn_value turn.now wrote ∷ []) self.new }
+        ensures { (outcome : Outcome) (wrote : Option ℕ)
+            → WriterKeeps T.Sink self.old (turn_value (full_turn turn.now outcome) wrote ∷ []) self.new }
     {
         if self.fault.is_none() {
-            self.fault = put(self.out, line_of(turn).as_slice()).err();
+            self.fault = put(self.out, line_of_brief(turn).as_slice()).err();
         }
     }
 }
@@ -126,9 +129,10 @@ impl<'a, T: Sink> Watcher for Writer<'a, T> {
     fn turn<N: Nvm, L: Ledger>(
         &mut self,
         card: &mut Card<N>,
+        into: &mut Outcome,
         steps: &mut Steps<L>,
-    ) -> Result<Turn, Stop> {
-        let turn = card.turn(steps)?;
+    ) -> Result<BriefTurn, Stop> {
+        let turn = card.brief_turn(into, steps)?;
         self.report_turn(&turn);
         Ok(turn)
     }

@@ -5,7 +5,7 @@
 mod line;
 mod worked;
 
-pub use line::line_of;
+pub use line::{line_of, line_of_brief};
 pub use worked::lines;
 
 #[cfg(test)]

@@ -5,11 +5,12 @@ ghost use Rattle.model_text.specs.model_device.specs.Bytes.{bytes2};
 ghost use Rattle.model_text.specs.model_machine.specs.Code.{Shaped};
 ghost use Rattle.model_text.specs.Listing.{hex_text};
 ghost use Rattle.model_text.specs.TurnText.{bit_text, ins_text, turn_line};
-ghost use Rattle.mc_machine.specs.Turns.{turn_value};
+ghost use Rattle.mc_machine.specs.declared.outcome.Outcome.{Outcome};
+ghost use Rattle.mc_machine.specs.Turns.{full_turn, turn_value};
 
 use arrayvec::ArrayVec;
 use mc_isa::{Ins, text_of};
-use mc_machine::Turn;
+use mc_machine::{BriefTurn, Turn};
 use mc_text::digit;
 
 type Line = ArrayVec<u8, 96>;
@@ -72,6 +73,25 @@ pub fn line_of(turn: &Turn) -> ArrayVec<u8, 96>
     requires low { 1 ≤ turn.now.depth }
     requires high { turn.now.depth ≤ 4 }
     ensures { (wrote : Option ℕ) → result.items ≡ turn_line (turn_value turn.now wrote) }
+{
+    line_of_brief(&BriefTurn {
+        depth: turn.depth,
+        at: turn.at,
+        ins: turn.ins,
+        dt: turn.dt,
+        flags: turn.flags,
+        end: None,
+    })
+}
+
+/// Returns the line of a turn as `line_of` does, of a turn without its reply: no line has the end of its turn.
+#[tactic(auto, unfolding(model_text::specs::TurnText::turn_line))]
+pub fn line_of_brief(turn: &BriefTurn) -> ArrayVec<u8, 96>
+    requires shaped { IfSome turn.now.ins Shaped }
+    requires low { 1 ≤ turn.now.depth }
+    requires high { turn.now.depth ≤ 4 }
+    ensures { (outcome : Outcome) (wrote : Option ℕ)
+        → result.items ≡ turn_line (turn_value (full_turn turn.now outcome) wrote) }
 {
     let mut line = ArrayVec::new();
     put(&mut line, &[b'>', b' ', b'0' + turn.depth]);

@@ -1,7 +1,9 @@
-use Rattle.std.proofs.Common.{false, Option, Ok, Err, arith, ap, subst}
+use Rattle.std.proofs.Common.{false, Option, Ok, Err, arith, sym, ◌∙◌, ap, subst}
 use Rattle.std.specs.Prelude.{is_err}
 use Rattle.std.proofs.lemmas.Result.{err_from_is_err_and}
 use Rattle.mc_machine.specs.declared.outcome.Outcome.{Outcome}
+use Rattle.mc_machine.specs.Turns.{full_turn}
+use Rattle.mc_machine.proofs.EndLemmas.{end_there, end_missing}
 use Rattle.mc_card.specs.Ends.{Begun}
 use Rattle.mc_card.specs.Parts.{card_in, session_state_in, due}
 use Rattle.mc_script.specs.Runs.{sent_to}
@@ -55,13 +57,14 @@ returns-in_err-turn g c =
       keeps_device = g.met.N.Nvm.onward _ _ _ l.invariant.keeps_device c.turn.ensures.keeps_device;
     }
 
-pub returns-in-Some-end : goal.returns-in-Some-end
-returns-in-Some-end g c =
+pub returns-then-is_some : goal.returns-then-is_some
+returns-then-is_some g c =
     let l = c.turns in
     let e = c.in_ok-turn.ensures in
-    let last = leads_end g.N.Nvm.state g.N.Nvm.wrote g.met.N.Nvm.obeys g.W.Watcher.seen g.W.Watcher.watched g.met.W.Watcher.onward c.args.card.now l.card c.turn.new.card c.args.bytes.now c.args.budget c.args.watcher.now c.args.steps.now l.left l.watcher c.turn.new.self l.steps c.turn.new.steps c.in_ok-turn.turn c.in-Some-end.outcome l.invariant.leads (record { done = e.done; watches = e.watches; steps = c.turn.ensures.steps }) c.in-Some-end.is in
+    let end = end_there c.in_ok-turn.turn.end c.turn.new.into (sym c.is_some.ensures ∙ c.if-is_some.true) in
+    let last = leads_end g.N.Nvm.state g.N.Nvm.wrote g.met.N.Nvm.obeys g.W.Watcher.seen g.W.Watcher.watched g.met.W.Watcher.onward c.args.card.now l.card c.turn.new.card c.args.bytes.now c.args.budget c.args.watcher.now c.args.steps.now l.left l.watcher c.turn.new.self l.steps c.turn.new.steps (full_turn c.in_ok-turn.turn c.turn.new.into) c.turn.new.into l.invariant.leads (record { done = e.done; watches = e.watches; steps = c.turn.ensures.steps }) end in
     record {
-      done = rw c.in-Some-end.outcome-is last.0;
+      done = last.0;
       steps = exact (instructions (due g.N.Nvm.state c.args.card.now c.args.bytes.now c.args.budget).turns) (command_search (card_in g.N.Nvm.state c.args.card.now) c.args.bytes.now) c.args.steps.now c.turn.new.steps false last.1;
       keeps_device = g.met.N.Nvm.onward _ _ _ l.invariant.keeps_device c.turn.ensures.keeps_device;
     }
@@ -70,14 +73,14 @@ pub overflow_sub-left : goal.overflow_sub-left
 overflow_sub-left g c =
     let l = c.turns in
     let e = c.in_ok-turn.ensures in
-    let on = leads_on g.N.Nvm.state g.N.Nvm.wrote g.met.N.Nvm.obeys g.W.Watcher.seen g.W.Watcher.watched g.met.W.Watcher.onward c.args.card.now l.card c.turn.new.card c.args.bytes.now c.args.budget c.args.watcher.now c.args.steps.now l.left l.watcher c.turn.new.self l.steps c.turn.new.steps c.in_ok-turn.turn l.invariant.leads (record { done = e.done; watches = e.watches; steps = c.turn.ensures.steps }) c.in_default-end.is in
+    let on = leads_on g.N.Nvm.state g.N.Nvm.wrote g.met.N.Nvm.obeys g.W.Watcher.seen g.W.Watcher.watched g.met.W.Watcher.onward c.args.card.now l.card c.turn.new.card c.args.bytes.now c.args.budget c.args.watcher.now c.args.steps.now l.left l.watcher c.turn.new.self l.steps c.turn.new.steps (full_turn c.in_ok-turn.turn c.turn.new.into) l.invariant.leads (record { done = e.done; watches = e.watches; steps = c.turn.ensures.steps }) (end_missing c.in_ok-turn.turn.end c.turn.new.into (sym c.is_some.ensures ∙ c.if-is_some.false)) in
     on.0
 
 pub turns-smaller : goal.turns-smaller
 turns-smaller g c =
     let l = c.turns in
     let e = c.in_ok-turn.ensures in
-    let on = leads_on g.N.Nvm.state g.N.Nvm.wrote g.met.N.Nvm.obeys g.W.Watcher.seen g.W.Watcher.watched g.met.W.Watcher.onward c.args.card.now l.card c.turn.new.card c.args.bytes.now c.args.budget c.args.watcher.now c.args.steps.now l.left l.watcher c.turn.new.self l.steps c.turn.new.steps c.in_ok-turn.turn l.invariant.leads (record { done = e.done; watches = e.watches; steps = c.turn.ensures.steps }) c.in_default-end.is in
+    let on = leads_on g.N.Nvm.state g.N.Nvm.wrote g.met.N.Nvm.obeys g.W.Watcher.seen g.W.Watcher.watched g.met.W.Watcher.onward c.args.card.now l.card c.turn.new.card c.args.bytes.now c.args.budget c.args.watcher.now c.args.steps.now l.left l.watcher c.turn.new.self l.steps c.turn.new.steps (full_turn c.in_ok-turn.turn c.turn.new.into) l.invariant.leads (record { done = e.done; watches = e.watches; steps = c.turn.ensures.steps }) (end_missing c.in_ok-turn.turn.end c.turn.new.into (sym c.is_some.ensures ∙ c.if-is_some.false)) in
     let some = on.0 in
     omega (arith, some)
 
@@ -85,5 +88,5 @@ pub turns-preserved : goal.turns-preserved
 turns-preserved g c =
     let l = c.turns in
     let e = c.in_ok-turn.ensures in
-    let on = leads_on g.N.Nvm.state g.N.Nvm.wrote g.met.N.Nvm.obeys g.W.Watcher.seen g.W.Watcher.watched g.met.W.Watcher.onward c.args.card.now l.card c.turn.new.card c.args.bytes.now c.args.budget c.args.watcher.now c.args.steps.now l.left l.watcher c.turn.new.self l.steps c.turn.new.steps c.in_ok-turn.turn l.invariant.leads (record { done = e.done; watches = e.watches; steps = c.turn.ensures.steps }) c.in_default-end.is in
+    let on = leads_on g.N.Nvm.state g.N.Nvm.wrote g.met.N.Nvm.obeys g.W.Watcher.seen g.W.Watcher.watched g.met.W.Watcher.onward c.args.card.now l.card c.turn.new.card c.args.bytes.now c.args.budget c.args.watcher.now c.args.steps.now l.left l.watcher c.turn.new.self l.steps c.turn.new.steps (full_turn c.in_ok-turn.turn c.turn.new.into) l.invariant.leads (record { done = e.done; watches = e.watches; steps = c.turn.ensures.steps }) (end_missing c.in_ok-turn.turn.end c.turn.new.into (sym c.is_some.ensures ∙ c.if-is_some.false)) in
     record { leads = on.1; keeps_device = g.met.N.Nvm.onward _ _ _ l.invariant.keeps_device c.turn.ensures.keeps_device }

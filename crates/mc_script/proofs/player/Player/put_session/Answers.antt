@@ -1,7 +1,0 @@
-use Rattle.mc_script.proofs.SessionLemmas.{put_playing}
-use Rattle.mc_script.proofs.player.Player.put_session.Goals as goal
-
-pub returns-in-On-clause-playing : goal.returns-in-On-clause-playing
-returns-in-On-clause-playing g c =
-    put_playing g.N.Nvm.state g.N.Bench.bench c.args.self.now c.put_same_number.new.card c.in-On.is
-    c.put_same_number.ensures.device c.put_same_number.ensures.ready c.requires
