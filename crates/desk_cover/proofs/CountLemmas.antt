@@ -8,7 +8,7 @@ use Rattle.desk_draft.specs.Listings.{CodeLine, Source}
 use Rattle.desk_draft.specs.FullTurns.{FullTurn}
 use Rattle.desk_draft.specs.Traces.{is_turn_of}
 use Rattle.desk_draft.specs.Coverage.{CoveredLine, covered_line, covered_lines, is_decoded, is_decoded_at, line_condition}
-use Rattle.mc_machine.specs.declared.outcome.Turn.{Turn}
+use Rattle.mc_machine.specs.declared.outcome.BriefTurn.{BriefTurn}
 use Rattle.desk_cover.specs.declared.lcov.LineCount.{LineCount}
 use Rattle.desk_cover.specs.declared.covering.Counter.{Counter}
 use Rattle.desk_cover.specs.Sections.{index_of, is_of}
@@ -85,18 +85,18 @@ lines_same None d k t ls h fits = none_map ls (line_at_index None d t) (λ l. re
 lines_same (Some i) false k t ls h fits = none_map ls (line_at_index (Some i) false t) (λ l. not_decoded (Some i) l.section (t.turn.at == l.place) t l)
 lines_same (Some i) true k t ls h fits = some_same i k t ls h fits
 
-by_code : (o : Option ℕ) (turn : Turn) (ls : List LineCount) → lines_by o turn ls ≡ by_index o (is_decoded turn.ins) turn.flags.c turn.flags.z turn.at ls
+by_code : (o : Option ℕ) (turn : BriefTurn) (ls : List LineCount) → lines_by o turn ls ≡ by_index o (is_decoded turn.ins) turn.flags.c turn.flags.z turn.at ls
 by_code None turn ls = refl
 by_code (Some i) turn ls = refl
 
 -- what a turn of the code says of a full turn
-pub record IsTurn (turn : Turn) (t : FullTurn) : Type 0 where
+pub record IsTurn (turn : BriefTurn) (t : FullTurn) : Type 0 where
   pub ins : turn.ins ≡ t.turn.ins
   pub at : turn.at ≡ t.turn.at
   pub c : turn.flags.c ≡ t.frame.c
   pub z : turn.flags.z ≡ t.frame.z
 
-counted_lines : (ss : List Source) (o : Option ℕ) (turn : Turn) (t : FullTurn) (old new : List LineCount) → IsTurn turn t → o ≡ index_of 0 ss t.frame.name t.code → new ≡ lines_by o turn old → CountsLines ss old (t ∷ []) new
+counted_lines : (ss : List Source) (o : Option ℕ) (turn : BriefTurn) (t : FullTurn) (old new : List LineCount) → IsTurn turn t → o ≡ index_of 0 ss t.frame.name t.code → new ≡ lines_by o turn old → CountsLines ss old (t ∷ []) new
 counted_lines ss o turn t old new is index by k most fits =
     let one : k + 1 ≤ most_count = fits in
     let d = is_decoded t.turn.ins in
@@ -110,7 +110,7 @@ counted_lines ss o turn t old new is index by k most fits =
     (all, subst (λ (ls : List LineCount). AreAtMost (k + 1) ls) (sym all) (moved_most ss k t old most))
 
 -- a counter that counted one turn
-pub counted_turn : (q r : Counter) (o : Option ℕ) (turn : Turn) (t : FullTurn) → IsTurn turn t → r.sections.now ≡ q.sections.now → o ≡ index_of 0 q.sections.now t.frame.name t.code → r.lines.items ≡ lines_by o turn q.lines.items → Counted q (t ∷ []) r
+pub counted_turn : (q r : Counter) (o : Option ℕ) (turn : BriefTurn) (t : FullTurn) → IsTurn turn t → r.sections.now ≡ q.sections.now → o ≡ index_of 0 q.sections.now t.frame.name t.code → r.lines.items ≡ lines_by o turn q.lines.items → Counted q (t ∷ []) r
 counted_turn q r o turn t is same index by = record { sections = same; lines = counted_lines q.sections.now o turn t q.lines.items r.lines.items is index by }
 
 -- ---- all turns

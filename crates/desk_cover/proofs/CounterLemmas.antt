@@ -2,8 +2,9 @@
 use Rattle.std.proofs.Common.{◌≡◌, ℕ, List, [], ◌∷◌, Option, sym, ap, ◌∙◌}
 use Rattle.mc_arith.specs.model_machine.specs.Chain.{Chain, Turn as ModelTurn, turn_of}
 use Rattle.desk_draft.specs.FullTurns.{running_code}
-use Rattle.mc_machine.specs.declared.outcome.Turn.{Turn}
-use Rattle.mc_machine.specs.Turns.{turn_value}
+use Rattle.mc_machine.specs.declared.outcome.BriefTurn.{BriefTurn}
+use Rattle.mc_machine.specs.declared.outcome.Outcome.{Outcome}
+use Rattle.mc_machine.specs.Turns.{full_turn, turn_value}
 use Rattle.desk_cover.specs.declared.covering.Counter.{Counter}
 use Rattle.desk_cover.specs.Counting.{Counted, lines_by}
 use Rattle.desk_cover.specs.Sections.{index_of}
@@ -11,11 +12,11 @@ use Rattle.desk_cover.specs.Watching.{full_turn_of}
 use Rattle.desk_cover.proofs.CountLemmas.{counted_turn}
 use Rattle.desk_cover.proofs.FullTurnLemmas.{code_is, frame_name, turn_is, turn_registers}
 
-pub counted_full : (q r : Counter) (o : Option ℕ) (turn : Turn) (n : ℕ) (ch : Chain) → (turn_of n ch).turn ≡ turn_value turn (turn_of n ch).turn.wrote → r.sections.now ≡ q.sections.now → o ≡ index_of 0 q.sections.now ch.frame.name (running_code ch) → r.lines.items ≡ lines_by o turn q.lines.items
+pub counted_full : (q r : Counter) (o : Option ℕ) (turn : BriefTurn) (outcome : Outcome) (n : ℕ) (ch : Chain) → (turn_of n ch).turn ≡ turn_value (full_turn turn outcome) (turn_of n ch).turn.wrote → r.sections.now ≡ q.sections.now → o ≡ index_of 0 q.sections.now ch.frame.name (running_code ch) → r.lines.items ≡ lines_by o turn q.lines.items
     → Counted q (full_turn_of n ch ∷ []) r
-counted_full q r o turn n ch turned same index by =
+counted_full q r o turn outcome n ch turned same index by =
     let t = full_turn_of n ch in
-    let is : t.turn ≡ turn_value turn (turn_of n ch).turn.wrote = turn_is n ch ∙ turned in
+    let is : t.turn ≡ turn_value (full_turn turn outcome) (turn_of n ch).turn.wrote = turn_is n ch ∙ turned in
     let registers = turn_registers n ch in
     counted_turn q r o turn t
     (record {

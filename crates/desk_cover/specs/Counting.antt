@@ -7,7 +7,7 @@ use Rattle.mc_arith.specs.model_machine.specs.Row.{holds}
 use Rattle.desk_draft.specs.Listings.{CodeLine, Source}
 use Rattle.desk_draft.specs.FullTurns.{FullTurn}
 use Rattle.desk_draft.specs.Coverage.{is_decoded, is_decoded_at, line_condition}
-use Rattle.mc_machine.specs.declared.outcome.Turn.{Turn}
+use Rattle.mc_machine.specs.declared.outcome.BriefTurn.{BriefTurn}
 use Rattle.desk_cover.specs.declared.lcov.LineCount.{LineCount}
 use Rattle.desk_cover.specs.declared.covering.Counter.{Counter}
 use Rattle.desk_cover.specs.Sections.{index_of}
@@ -98,7 +98,7 @@ abbrev pub line_by : ℕ → ℕ → Bool → Bool → LineCount → LineCount
 line_by i at c z l = cond (l.section == i && at == l.place) (line_risen c z l) l
 
 -- lines after a turn, if it runs a section and decoded an instruction
-abbrev pub lines_by : Option ℕ → Turn → List LineCount → List LineCount
+abbrev pub lines_by : Option ℕ → BriefTurn → List LineCount → List LineCount
 lines_by None t ls = ls
 lines_by (Some i) t ls = cond (is_decoded t.ins) (map (line_by i t.at t.flags.c t.flags.z) ls) ls
 

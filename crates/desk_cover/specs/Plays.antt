@@ -7,11 +7,11 @@ use Rattle.mc_text.specs.Texts.{Sunk}
 use Rattle.desk_draft.specs.FullTurns.{turns_of_step}
 use Rattle.desk_draft.specs.Listings.{Source}
 use Rattle.desk_draft.specs.Coverage.{coverage}
+use Rattle.mc_script.specs.declared.job.JobFault.{JobFault}
+use Rattle.mc_script.specs.declared.job.JobFault.TheVariants as fault
 use Rattle.mc_script.specs.Plays.{Bench, Played}
 use Rattle.mc_script.specs.StepCounts.{PlaySteps, CountsSum}
 use Rattle.desk_cover.specs.declared.covering.Counter.{Counter}
-use Rattle.desk_cover.specs.declared.covering.CoverFault.{CoverFault}
-use Rattle.desk_cover.specs.declared.covering.CoverFault.TheVariants as cover
 use Rattle.desk_cover.specs.Counting.{Counted, most_count}
 
 -- ---- counts
@@ -37,7 +37,7 @@ pub record CoversNothing (a : Bench) (x : Sunk) (b : Bench) (y : Sunk) (old new 
   pub steps : new ≡ old
 
 -- a deck by the result of its record
-abbrev pub CoversBy : List ℕ → List Source → List (ℕ × DeckLine) → Bench → Sunk → Result (Unit {0}) CoverFault → Bench → Sunk → ℕ → ℕ → Type 0
+abbrev pub CoversBy : List ℕ → List Source → List (ℕ × DeckLine) → Bench → Sunk → Result (Unit {0}) JobFault → Bench → Sunk → ℕ → ℕ → Type 0
 CoversBy name ss ls a x (Ok u) b y old new = CoversDeck name ss ls a x (Ok tt) b y old new
-CoversBy name ss ls a x (Err cover.WriteFault) b y old new = (f : WriteFault) × CoversDeck name ss ls a x (Err f) b y old new
-CoversBy name ss ls a x (Err cover.NoMemory) b y old new = CoversNothing a x b y old new
+CoversBy name ss ls a x (Err fault.WriteFault) b y old new = (f : WriteFault) × CoversDeck name ss ls a x (Err f) b y old new
+CoversBy name ss ls a x (Err fault.NoMemory) b y old new = CoversNothing a x b y old new

@@ -12,7 +12,7 @@ ghost use Rattle.mc_text.specs.Texts.{sunk};
 ghost use Rattle.mc_script.specs.Players.{IsUnfused};
 ghost use Rattle.mc_script.specs.Benches.{bench_at};
 ghost use Rattle.mc_script.specs.Watching.{Watches};
-ghost use Rattle.desk_cover.specs.declared.covering.CoverFault.TheVariants as fault;
+ghost use Rattle.mc_script.specs.declared.job.JobFault.TheVariants as fault;
 ghost use Rattle.desk_cover.specs.Watching.{full_turn_of};
 ghost use Rattle.desk_cover.specs.Plays.{CountsPlay, CoversBy};
 ghost use Rattle.desk_cover.specs.Counting.{Counted, counted_none, counted_on, holds_by, line_by, line_risen, lines_by, new_line, new_lines, risen, took_by};
@@ -24,22 +24,15 @@ use crate::sections::{Section, Sections, bytes_of};
 use desk_draft::CodeLine;
 use mc_arith::Flags;
 use mc_base::{Steps, Stop};
-use mc_card::{Card, Turn};
+use mc_card::{BriefTurn, Card};
 use mc_deck::Deck;
 use mc_isa::{Ins, decode};
 use mc_machine::Outcome;
 use mc_nvm::{Bench, Nvm};
-use mc_script::{Player, Runner};
+use mc_script::{JobFault, Player, Runner};
 use mc_streams::{Sink, WriteFault};
 use std::alloc::{AllocError, Global};
 use std::sync::ledger::Ledger;
-
-/// Why the record of a play was not written: out of memory before the play, or a fault of the sink.
-#[derive(Clone, Copy, Debug, PartialEq, Eq)]
-pub enum CoverFault {
-    NoMemory,
-    WriteFault,
-}
 
 // The condition of a number, `None` for one that always holds or has its target on the stack.
 fn condition_in(number: u8) -> Option<u8>
@@ -200,7 +193,7 @@ struct Counter<'s, 'o> {
 
 impl<'s, 'o> Counter<'s, 'o> {
     // Counts a turn that runs the section with an index, if it runs one.
-    fn count(&mut self, section: Option<usize>, turn: &Turn)
+    fn count(&mut self, section: Option<usize>, turn: &BriefTurn)
         ensures sections { self.new.sections.now ≡ self.old.sections.now }
         ensures lines { self.new.lines.items ≡ lines_by section turn.now self.old.lines.items }
     {
@@ -231,9 +224,10 @@ impl<'s, 'o> Follower for Counter<'s, 'o> {
         &mut self,
         card: &mut Card<N>,
         known: &Known,
+        into: &mut Outcome,
         steps: &mut Steps<L>,
-    ) -> Result<Turn, Stop> {
-        let turn = card.turn(steps)?;
+    ) -> Result<BriefTurn, Stop> {
+        let turn = card.brief_turn(into, steps)?;
         self.count(known.section(), &turn);
         Ok(turn)
     }
@@ -300,7 +294,7 @@ pub fn cover<N: Bench, T: Sink, L: Ledger>(
     dev: &mut N,
     out: &mut T,
     steps: &mut Steps<L>,
-) -> Result<(), CoverFault>
+) -> Result<(), JobFault>
     requires { IsUnfused (N.bench dev.old) }
     // All lines of the deck are played in order, and what is written is the record of the play under the sections of
     // the draft. Out of memory, nothing is played.
@@ -310,12 +304,12 @@ pub fn cover<N: Bench, T: Sink, L: Ledger>(
     ensures unplayed { IfErr result (λ e. e ≡ fault.NoMemory → dev.new ≡ dev.old) }
 {
     let Ok(lines) = new_lines(alloc, sections.all()) else {
-        return Err(CoverFault::NoMemory);
+        return Err(JobFault::NoMemory);
     };
     let mut counter = Counter { sections, lines };
     let _dev = count_lines(deck, &mut *dev, &mut counter, steps);
     match put_record(out, name, counter.lines.as_slice()) {
         Ok(()) => Ok(()),
-        Err(WriteFault) => Err(CoverFault::WriteFault),
+        Err(WriteFault) => Err(JobFault::WriteFault),
     }
 }

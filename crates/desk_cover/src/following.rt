@@ -2,6 +2,7 @@
 ghost use Rattle.std.specs.Prelude.{◌≡◌, ◌+◌, ◌≤◌, ◌++◌, List, [], ℕ, is_err};
 ghost use Rattle.mc_arith.specs.model_machine.specs.Chain.{Chain, turn_of};
 ghost use Rattle.desk_draft.specs.Listings.{Source};
+ghost use Rattle.mc_machine.specs.Turns.{brief_result};
 ghost use Rattle.mc_card.specs.Parts.{card_in, device_in, due, IsReadyCard, IsRunning, RunsChain};
 ghost use Rattle.mc_card.specs.Ends.{outcome_or_stop, ChainTurned};
 ghost use Rattle.mc_script.specs.Runs.{RanAndReported, sent_to};
@@ -12,7 +13,7 @@ ghost use Rattle.desk_cover.specs.Known.{Knows};
 use crate::known::Known;
 use crate::sections::Sections;
 use mc_base::{Steps, Stop};
-use mc_card::{Card, Turn};
+use mc_card::{BriefTurn, Card};
 use mc_machine::Outcome;
 use mc_nvm::Nvm;
 use std::sync::ledger::Ledger;
@@ -35,7 +36,8 @@ pub trait Follower {
     ghost sources: { Self → List Source };
 
     /// Runs a turn of the command that runs on a card, of whose application this is known, and records what is seen of
-    /// it, whichever chain the card runs, if its segments are whole.
+    /// it, whichever chain the card runs, if its segments are whole. With the last turn the outcome of the command is
+    /// written to `into`.
     ///
     /// # Errors
     ///
@@ -44,14 +46,15 @@ pub trait Follower {
         &mut self,
         card: &mut Card<N>,
         known: &Known,
+        into: &mut Outcome,
         steps: &mut Steps<L>,
-    ) -> Result<Turn, Stop>
+    ) -> Result<BriefTurn, Stop>
         requires running { IsRunning N.state card.old }
         requires known { Knows N.state card.old (sources self.old) known.now }
         ensures done { (ch : Chain) (left : ℕ) → RunsChain N.state card.old ch left
-            → ChainTurned N.state N.wrote card.old ch left (turn_of left ch) result card.new }
+            → ChainTurned N.state N.wrote card.old ch left (turn_of left ch) (brief_result result into.new) card.new }
         ensures watches { (ch : Chain) (left : ℕ) → RunsChain N.state card.old ch left → IsWide ch
-            → WatchesTurn Self.seen Self.watched left ch result self.old self.new }
+            → WatchesTurn Self.seen Self.watched left ch (brief_result result into.new) self.old self.new }
         ensures steps { (ch : Chain) (left : ℕ) → RunsChain N.state card.old ch left
             → steps.new ≡ steps.old + (turn_of left ch).count }
         ensures keeps_device { N.same (device_in card.old) (device_in card.new) };
@@ -100,9 +103,8 @@ pub fn run_followed<N: Nvm, W: Follower, L: Ledger>(
     let mut known = Known::new(card, sections);
     let mut left = budget;
     'turns: loop {
-        let turn = follower.turn(card, &known, steps)?;
-        if let Some(outcome) = turn.end {
-            *into = outcome;
+        let turn = follower.turn(card, &known, into, steps)?;
+        if turn.end.is_some() {
             return Ok(());
         }
         known.follow(card, sections);

@@ -11,7 +11,7 @@ mod sections;
 mod span;
 mod tracing;
 
-pub use covering::{CoverFault, cover};
+pub use covering::cover;
 pub use looking::running_section;
 pub use sections::Sections;
 pub use tracing::trace;

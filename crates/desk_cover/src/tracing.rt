@@ -4,7 +4,8 @@ ghost use Rattle.arrayvec.specs.ArrayVec.{array_vec_len};
 ghost use Rattle.mc_arith.specs.model_machine.specs.Code.{Shaped};
 ghost use Rattle.mc_isa.specs.model_text.specs.TurnText.{turn_line};
 ghost use Rattle.mc_deck.specs.model_play.specs.Transcript.{line_text};
-ghost use Rattle.mc_machine.specs.Turns.{turn_value};
+ghost use Rattle.mc_machine.specs.declared.outcome.Outcome.{Outcome};
+ghost use Rattle.mc_machine.specs.Turns.{full_turn, turn_value};
 ghost use Rattle.desk_draft.specs.FullTurns.{FullTurn, last_bytes};
 ghost use Rattle.desk_draft.specs.Traces.{bytes_or_dash, trace_text};
 ghost use Rattle.desk_draft.specs.Verdicts.{source_line};
@@ -26,14 +27,14 @@ use crate::sections::Sections;
 use arrayvec::ArrayVec;
 use desk_draft::CodeLine;
 use mc_base::{Steps, Stop};
-use mc_card::{Card, Turn};
+use mc_card::{BriefTurn, Card};
 use mc_deck::Deck;
 use mc_machine::Outcome;
 use mc_nvm::{Bench, Nvm};
 use mc_script::{Answer, Player, Reporter, Runner, Text, gather_result, play_lines};
 use mc_streams::{Sink, WriteFault};
 use mc_text::{add, add_decimal, add_hex, put};
-use mc_trace::line_of;
+use mc_trace::line_of_brief;
 use std::sync::ledger::Ledger;
 
 /// The number of bytes of the stack that are shown.
@@ -73,14 +74,15 @@ fn top_of(stack: &[u8]) -> &[u8]
 }
 
 // Gathers what comes before the text of a turn's source line: the line of the turn, and the number of the source line.
-fn gather_front(text: &mut Text, turn: &Turn, number: u32)
+fn gather_front(text: &mut Text, turn: &BriefTurn, number: u32)
     requires shaped { IfSome turn.now.ins Shaped }
     requires low { 1 ≤ turn.now.depth }
     requires high { turn.now.depth ≤ 4 }
-    ensures { (wrote : Option ℕ) → (let line = turn_line (turn_value turn.now wrote)
+    ensures { (outcome : Outcome) (wrote : Option ℕ)
+        → (let line = turn_line (turn_value (full_turn turn.now outcome) wrote)
         in text.new.items ≡ take (length line - 1) line ++ (codes " ; " ++ decimal number ++ codes " ")) }
 {
-    let line = line_of(turn);
+    let line = line_of_brief(turn);
     text.clear();
     add(text, &line.as_slice()[..line.len().saturating_sub(1)]);
     add(text, b" ; ");
@@ -162,12 +164,13 @@ impl<'s, 'o, T: Sink> Tracer<'s, 'o, T> {
     }
 
     // Writes the line of a turn with its source line, its operand and its stack.
-    fn put_turn(&mut self, turn: &Turn, line: &CodeLine<'s>)
+    fn put_turn(&mut self, turn: &BriefTurn, line: &CodeLine<'s>)
         requires shaped { IfSome turn.now.ins Shaped }
         requires low { 1 ≤ turn.now.depth }
         requires high { turn.now.depth ≤ 4 }
-        ensures { (wrote : Option ℕ) → Adds T.Sink self.old (turn_text (turn_value turn.now wrote)
-            (line_value line.now) self.old.after.operand.items self.old.after.stack.items) self.new }
+        ensures { (outcome : Outcome) (wrote : Option ℕ)
+            → Adds T.Sink self.old (turn_text (turn_value (full_turn turn.now outcome) wrote) (line_value line.now)
+            self.old.after.operand.items self.old.after.stack.items) self.new }
     {
         gather_front(&mut self.text, turn, line.number);
         self.write_gathered();
@@ -218,18 +221,19 @@ impl<'s, 'o, T: Sink> Follower for Tracer<'s, 'o, T> {
         &mut self,
         card: &mut Card<N>,
         known: &Known,
+        into: &mut Outcome,
         steps: &mut Steps<L>,
-    ) -> Result<Turn, Stop> {
+    ) -> Result<BriefTurn, Stop> {
         let section = known.section();
         self.scene
             .take(card, known.name(), code_of(self.sections, section));
-        let turn = card.turn(steps)?;
+        let turn = card.brief_turn(into, steps)?;
         match line_at(self.sections, section, turn.at) {
             Some(line) => {
                 self.after.take(card, &self.scene, turn.dt);
                 self.put_turn(&turn, &line);
             }
-            None => self.write(line_of(&turn).as_slice()),
+            None => self.write(line_of_brief(&turn).as_slice()),
         }
         Ok(turn)
     }

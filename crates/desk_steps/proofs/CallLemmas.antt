@@ -1,5 +1,5 @@
 -- The lines of a turn: the first frame before it, its own, and that of the frame that it called.
-use Rattle.std.proofs.Common.{◌≡◌, ℕ, zero, suc, ◌+◌, ◌≤◌, Bool, true, false, cond, List, [], ◌++◌, Option, None, Result, Ok, Err, refl, arith, sym, ap, subst, ◌∙◌}
+use Rattle.std.proofs.Common.{◌≡◌, ℕ, zero, suc, ◌+◌, ◌≤◌, Bool, true, false, cond, List, [], ◌++◌, Option, Some, None, codes, Result, Ok, Err, refl, arith, sym, ap, subst, ◌∙◌}
 use Rattle.std.specs.Prelude.{get_or, length, min, option_map, slice_set}
 use Rattle.law_steps.specs.model_device.specs.Bytes.{lookup}
 use Rattle.law_steps.specs.model_device.specs.Device.{DeviceState}
@@ -8,13 +8,12 @@ use Rattle.law_steps.specs.model_machine.specs.declared.instruction.DecodeFault.
 use Rattle.law_steps.specs.model_machine.specs.declared.instruction.DecodeFault.TheVariants.{Undefined, Past}
 use Rattle.law_steps.specs.model_machine.specs.Code.{instruction_at}
 use Rattle.law_steps.specs.model_machine.specs.Row.{RowEnd, Abends, Does, row}
-use Rattle.law_steps.specs.model_machine.specs.Chain.{Chain, Continues, Ends, Follows, Outcome, Turn as ModelTurn, around, code_in, depth_of, frame_at, row_turn, turn_of, turn_of_chain, turn_of_fetch}
+use Rattle.law_steps.specs.model_machine.specs.Chain.{Chain, Continues, Ends, Follows, Outcome, Reply, Abended, Turn as ModelTurn, around, code_in, depth_of, frame_at, row_turn, turn_of, turn_of_chain, turn_of_fetch}
 use Rattle.std.specs.Borrow.{MutBor}
 use Rattle.mc_streams.specs.declared.refusals.WriteFault.{WriteFault}
 use Rattle.mc_streams.specs.declared.sink.Sink.{Ghosts}
 use Rattle.mc_text.specs.Texts.{sunk}
-use Rattle.mc_machine.specs.declared.outcome.Turn.{Turn}
-use Rattle.mc_machine.specs.Turns.{outcome_value, turn_value}
+use Rattle.mc_machine.specs.declared.outcome.BriefTurn.{BriefTurn}
 use Rattle.mc_card.specs.declared.card.Card.{Card}
 use Rattle.mc_card.specs.Parts.{RunsChain}
 use Rattle.law_steps.specs.Nexts.{open_by}
@@ -25,11 +24,11 @@ use Rattle.desk_json.specs.Sheets.{PutsOn}
 use Rattle.desk_steps.specs.declared.recording.Recorder.{Recorder}
 use Rattle.desk_steps.specs.declared.shot.Shot.{Shot}
 use Rattle.desk_steps.specs.Counted.{count_after, moves_by_shots, waits_by_shots, writes_after}
-use Rattle.desk_steps.specs.Lines.{frame_text, turn_text}
+use Rattle.desk_steps.specs.Lines.{Found, abend_key, aid_key, flag_key, frame_text, number_key, open_key, place_keys, sets_key, turn_text, writes_key}
 use Rattle.desk_steps.specs.Moments.{Moment}
 use Rattle.desk_steps.specs.Recorded.{called_text, first_before, first_by, found_of, line_of, kept_called, kept_in, kept_moves, kept_parts, next_number, open_in, puts_as, puts_from, puts_none, puts_on, same_kept, CallsNext, IsQuiet, KeepsState, Kept, PutsText, RecordsTurn}
 use Rattle.desk_steps.specs.Shots.{shot_changes, shot_reading}
-use Rattle.desk_steps.specs.Turning.{frame_place, is_deeper, IsAfter, IsBefore, IsOneDeeper, IsWideNext}
+use Rattle.desk_steps.specs.Turning.{abend_alone, bare_turn, bare_value, end_of, frame_place, is_deeper, IsAfter, IsBefore, IsOneDeeper, IsWideNext}
 use Rattle.desk_steps.proofs.FrameLemmas.{first_is}
 use Rattle.desk_steps.proofs.SeenLemmas.{IsTurn, Sees, moves_shown, waits_shown}
 
@@ -50,18 +49,35 @@ turn_depth zero ch = refl
 turn_depth (suc n) ch = fetch_depth ch (instruction_at (code_in (lookup ch.map ch.frame.name)) ch.frame.at)
 
 -- the depth of a turn of the code, by that of the definitions
-pub code_depth : (n : ℕ) (ch : Chain) (turn : Turn) → (turn_of n ch).turn ≡ turn_value turn (turn_of n ch).turn.wrote → turn.depth ≡ depth_of ch
+pub code_depth : (n : ℕ) (ch : Chain) (turn : BriefTurn) → bare_turn (turn_of n ch).turn ≡ bare_value turn (turn_of n ch).turn.wrote → turn.depth ≡ depth_of ch
 code_depth n ch turn same = sym (ap (λ (u : ModelTurn). u.depth) same) ∙ turn_depth n ch
 
 depth_place : (d k : ℕ) → d ≡ k + 1 → k ≤ 3 → frame_place d ≡ k
 depth_place d k e few = omega (arith, e, few)
 
+-- protection after a turn and its line show nothing of a reply
+open_alone : (o : Option Outcome) (i : Option Ins) (on : Bool) → open_by (abend_alone o) i on ≡ open_by o i on
+open_alone None i on = refl
+open_alone (Some (Reply body sw)) i on = refl
+open_alone (Some (Abended c)) i on = refl
+
+key_alone : (o : Option Outcome) → abend_key (abend_alone o) ≡ abend_key o
+key_alone None = refl
+key_alone (Some (Reply body sw)) = refl
+key_alone (Some (Abended c)) = refl
+
+text_alone : (n : ℕ) (name : List ℕ) (source : Option ℕ) (u : ModelTurn) (f : Found) → turn_text n name source (bare_turn u) f ≡ turn_text n name source u f
+text_alone n name source u f =
+    ap (λ (k : List ℕ). number_key (codes "{\"turn\":") n ++ number_key (codes ",\"depth\":") u.depth ++ aid_key name ++ place_keys u.at source u.ins
+    ++ (number_key (codes ",\"dt\":") u.dt ++ number_key (codes ",\"lb\":") f.lb ++ flag_key (codes ",\"c\":") u.c ++ flag_key (codes ",\"z\":") u.z ++ open_key f.is_on ++ k)
+    ++ sets_key f.sets ++ writes_key f.writes ++ codes "}\n") (key_alone u.end)
+
 -- protection after a turn of the code
-open_is : (n : ℕ) (ch : Chain) (turn : Turn) (os : List Bool) → (turn_of n ch).turn ≡ turn_value turn (turn_of n ch).turn.wrote → length ch.below ≤ 3 → (let u = (turn_of n ch).turn in open_by (option_map outcome_value turn.end) turn.ins (get_or os (frame_place turn.depth) false) ≡ open_by u.end u.ins (get_or os (length ch.below) false))
+open_is : (n : ℕ) (ch : Chain) (turn : BriefTurn) (os : List Bool) → bare_turn (turn_of n ch).turn ≡ bare_value turn (turn_of n ch).turn.wrote → length ch.below ≤ 3 → (let u = (turn_of n ch).turn in open_by (end_of turn.end) turn.ins (get_or os (frame_place turn.depth) false) ≡ open_by u.end u.ins (get_or os (length ch.below) false))
 open_is n ch turn os same few =
     let u = (turn_of n ch).turn in
     let on : Bool = get_or os (frame_place turn.depth) false in
-    ap (λ (o : Option Outcome). open_by o turn.ins on) (sym (ap (λ (v : ModelTurn). v.end) same)) ∙ ap (λ (i : Option Ins). open_by u.end i on) (sym (ap (λ (v : ModelTurn). v.ins) same))
+    ap (λ (o : Option Outcome). open_by o turn.ins on) (sym (ap (λ (v : ModelTurn). v.end) same)) ∙ open_alone u.end turn.ins on ∙ ap (λ (i : Option Ins). open_by u.end i on) (sym (ap (λ (v : ModelTurn). v.ins) same))
     ∙ ap (λ (k : ℕ). open_by u.end u.ins (get_or os k false)) (depth_place turn.depth (length ch.below) (code_depth n ch turn same) few)
 
 module _ {T : Type 0} (sink : Ghosts T) where
@@ -114,19 +130,19 @@ module _ {T : Type 0} (sink : Ghosts T) where
       puts_from sink q p f (first_before q.turns q.memory.command.items ch) quiet.out quiet.fault (puts_as sink p f (first_by p.turns p.memory.command.items name p.memory.before) (first_before q.turns q.memory.command.items ch) text adds)
 
   -- the device writes of a turn by what its recorder kept, and the words that wait after it
-  abbrev pub found_moves : Recorder T → Turn → ℕ
+  abbrev pub found_moves : Recorder T → BriefTurn → ℕ
   found_moves f turn = moves_by_shots turn f.memory.before f.memory.after (get_or f.memory.opens (frame_place turn.depth) false) (get_or f.memory.guards (frame_place turn.depth) [])
 
-  abbrev pub found_waits : Recorder T → Turn → List ℕ
+  abbrev pub found_waits : Recorder T → BriefTurn → List ℕ
   found_waits f turn = waits_by_shots turn f.memory.before f.memory.after (get_or f.memory.opens (frame_place turn.depth) false) (get_or f.memory.guards (frame_place turn.depth) [])
 
   -- the text of a turn by what its recorder found
-  abbrev pub found_text : Recorder T → List ℕ → Option ℕ → Turn → Option ℕ → List ℕ
+  abbrev pub found_text : Recorder T → List ℕ → Option ℕ → BriefTurn → Option ℕ → List ℕ
   found_text f name source turn wrote =
-      turn_text (next_number f.turns) name source (turn_value turn wrote)
+      turn_text (next_number f.turns) name source (bare_value turn wrote)
       (record {
         lb = f.memory.after.lb;
-        is_on = open_by (option_map outcome_value turn.end) turn.ins (get_or f.memory.opens (frame_place turn.depth) false);
+        is_on = open_by (end_of turn.end) turn.ins (get_or f.memory.opens (frame_place turn.depth) false);
         sets = shot_changes f.memory.before f.memory.after;
         writes = writes_after f.memory.writes (found_moves f turn);
       })
@@ -136,13 +152,13 @@ module _ {T : Type 0} (sink : Ghosts T) where
   part_text source w n name u lb on sets = turn_text (next_number n) name source u (record { lb = lb; is_on = on; sets = sets; writes = w })
 
   -- what a recorder found of a turn, before which the first frame was written, is that of the definition
-  found_is : (q f : Recorder T) (name : List ℕ) (source : Option ℕ) (turn : Turn) (t : Moment) → (turn_of t.left t.chain).turn ≡ turn_value turn (turn_of t.left t.chain).turn.wrote → name ≡ t.chain.frame.name → length t.chain.below ≤ 3 → KeepsState q f → f.memory.before ≡ q.memory.before
+  found_is : (q f : Recorder T) (name : List ℕ) (source : Option ℕ) (turn : BriefTurn) (t : Moment) → bare_turn (turn_of t.left t.chain).turn ≡ bare_value turn (turn_of t.left t.chain).turn.wrote → name ≡ t.chain.frame.name → length t.chain.below ≤ 3 → KeepsState q f → f.memory.before ≡ q.memory.before
       → IsBefore q.memory.before t.chain → IsAfter f.memory.after t.left t.chain → 512 ≤ length t.chain.frame.dyn → found_moves f turn ≡ kept_moves (kept_in q) t
       → found_text f name source turn (turn_of t.left t.chain).turn.wrote ≡ line_of (next_number q.turns) source t (found_of t (open_in q.memory.opens t) (writes_after q.memory.writes (kept_moves (kept_in q) t)))
   found_is q f name source turn t same named few keeps shot before after wide moves =
       let u : ModelTurn = (turn_of t.left t.chain).turn in
-      let v : ModelTurn = turn_value turn u.wrote in
-      let on : Bool = open_by (option_map outcome_value turn.end) turn.ins (get_or f.memory.opens (frame_place turn.depth) false) in
+      let v : ModelTurn = bare_value turn u.wrote in
+      let on : Bool = open_by (end_of turn.end) turn.ins (get_or f.memory.opens (frame_place turn.depth) false) in
       let lb : ℕ = f.memory.after.lb in
       let old : Reading = reading_of t.chain.frame t.chain.public in
       let w : Option (ℕ × ℕ) = writes_after q.memory.writes (kept_moves (kept_in q) t) in
@@ -154,7 +170,7 @@ module _ {T : Type 0} (sink : Ghosts T) where
       let range : writes_after f.memory.writes (found_moves f turn) ≡ w = ap (λ (k : ℕ). writes_after k (found_moves f turn)) keeps.writes ∙ ap (λ (m : ℕ). writes_after q.memory.writes m) moves in
       ap (λ (x : Option (ℕ × ℕ)). part_text source x f.turns name v lb on runs) range
       ∙ ap (λ (n : ℕ). part_text source w n name v lb on runs) keeps.turns ∙ ap (λ (m : List ℕ). part_text source w q.turns m v lb on runs) named
-      ∙ ap (λ (x : ModelTurn). part_text source w q.turns t.chain.frame.name x lb on runs) (sym same) ∙ ap (λ (b : ℕ). part_text source w q.turns t.chain.frame.name u b on runs) after.lb
+      ∙ ap (λ (x : ModelTurn). part_text source w q.turns t.chain.frame.name x lb on runs) (sym same) ∙ text_alone (next_number q.turns) t.chain.frame.name source u (record { lb = lb; is_on = on; sets = runs; writes = w }) ∙ ap (λ (b : ℕ). part_text source w q.turns t.chain.frame.name u b on runs) after.lb
       ∙ ap (λ (b : Bool). part_text source w q.turns t.chain.frame.name u (found_of t b w).lb b runs) is ∙ ap (λ (rs : List (ℕ × List ℕ)). part_text source w q.turns t.chain.frame.name u (found_of t true w).lb (open_in q.memory.opens t) rs) sets
 
   -- a text up to a recorder that wrote as much
@@ -167,16 +183,16 @@ module _ {T : Type 0} (sink : Ghosts T) where
   keeps_on q p f one two = record { sections = two.sections ∙ one.sections; turns = two.turns ∙ one.turns; command = two.command ∙ one.command; opens = two.opens ∙ one.opens; guards = two.guards ∙ one.guards; writes = two.writes ∙ one.writes }
 
   -- what a recorder that wrote a turn keeps, by one that wrote the frame before it
-  pub record WroteTurn (f : Recorder T) (turn : Turn) (m : Recorder T) : Type 0 where
+  pub record WroteTurn (f : Recorder T) (turn : BriefTurn) (m : Recorder T) : Type 0 where
     pub sections : m.sections.now ≡ f.sections.now
     pub turns : m.turns ≡ next_number f.turns
     pub command : m.memory.command.items ≡ f.memory.command.items
-    pub opens : m.memory.opens ≡ slice_set f.memory.opens (frame_place turn.depth) (open_by (option_map outcome_value turn.end) turn.ins (get_or f.memory.opens (frame_place turn.depth) false))
+    pub opens : m.memory.opens ≡ slice_set f.memory.opens (frame_place turn.depth) (open_by (end_of turn.end) turn.ins (get_or f.memory.opens (frame_place turn.depth) false))
     pub guards : m.memory.guards ≡ slice_set f.memory.guards (frame_place turn.depth) (found_waits f turn)
     pub writes : m.memory.writes ≡ count_after f.memory.writes (found_moves f turn)
 
   -- a turn that was recorded: a recorder looked at the card, wrote the first frame, the turn and the frame that it called
-  pub records_moment : (q p f m k r : Recorder T) (name : List ℕ) (source : Option ℕ) (turn : Turn) (t : Moment) → (turn_of t.left t.chain).turn ≡ turn_value turn (turn_of t.left t.chain).turn.wrote → name ≡ t.chain.frame.name → length t.chain.below ≤ 3 → 512 ≤ length t.chain.frame.dyn
+  pub records_moment : (q p f m k r : Recorder T) (name : List ℕ) (source : Option ℕ) (turn : BriefTurn) (t : Moment) → bare_turn (turn_of t.left t.chain).turn ≡ bare_value turn (turn_of t.left t.chain).turn.wrote → name ≡ t.chain.frame.name → length t.chain.below ≤ 3 → 512 ≤ length t.chain.frame.dyn
       → IsBefore q.memory.before t.chain → IsQuiet q p → p.memory.before ≡ q.memory.before → IsAfter p.memory.after t.left t.chain
       → PutsText sink p (first_by p.turns p.memory.command.items name p.memory.before) f → KeepsState p f → f.memory.before ≡ p.memory.before → f.memory.after ≡ p.memory.after
       → PutsText sink f (found_text f name source turn (turn_of t.left t.chain).turn.wrote) m → WroteTurn f turn m

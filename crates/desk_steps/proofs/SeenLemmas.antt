@@ -13,8 +13,7 @@ use Rattle.law_steps.specs.model_machine.specs.declared.machine.Abend.{Abend}
 use Rattle.law_steps.specs.model_machine.specs.Frame.{Frame, Place, Static, Dynamic, Public, address_at, bytes_at, bytes_in, dynamic_base, dynamic_end, is_outside, public_base, public_end, static_bytes}
 use Rattle.law_steps.specs.model_machine.specs.Primitives.{number_below_top}
 use Rattle.law_steps.specs.model_machine.specs.Chain.{Abended, Chain, Outcome, Reply, Turn as ModelTurn, around, delegator_in, depth_of, frame_at, turn_of}
-use Rattle.mc_machine.specs.Turns.{turn_value}
-use Rattle.mc_machine.specs.declared.outcome.Turn.{Turn}
+use Rattle.mc_machine.specs.declared.outcome.BriefTurn.{BriefTurn}
 use Rattle.law_steps.specs.Readings.{Reading, reading_after, reading_of}
 use Rattle.law_steps.specs.Registers.{mode_of}
 use Rattle.law_steps.specs.Spans.{Looks, SeesName}
@@ -25,7 +24,7 @@ use Rattle.law_steps.proofs.TurnWrites.{span_at}
 use Rattle.desk_steps.specs.declared.shot.Shot.{Shot}
 use Rattle.desk_steps.specs.Counted.{moves_by_shots, waits_by_shots}
 use Rattle.desk_steps.specs.Shots.{dynamics, look_of, name_seen, shot_byte, shot_number, shot_reading, span_seen, statics}
-use Rattle.desk_steps.specs.Turning.{IsAfter, IsBefore, frame_place}
+use Rattle.desk_steps.specs.Turning.{IsAfter, IsBefore, abend_alone, bare_turn, bare_value, frame_place}
 
 -- ---- bytes
 
@@ -217,26 +216,41 @@ wait_spans (Some (Reply body sw)) (Some j) p q on ws h = ap (λ (s : Option (ℕ
 
 -- ---- the device writes of a turn
 
+-- the words that a turn writes and those that wait after it depend on no reply
+now_alone : (o : Option Outcome) (i : Option Ins) (p : Ins → Option (ℕ × ℕ)) (on : Bool) (ws : List ℕ) → now_of (abend_alone o) i p on ws ≡ now_of o i p on ws
+now_alone None i p on ws = refl
+now_alone (Some (Reply body sw)) i p on ws = refl
+now_alone (Some (Abended c)) i p on ws = refl
+
+wait_alone : (o : Option Outcome) (i : Option Ins) (p : Ins → Option (ℕ × ℕ)) (on : Bool) (ws : List ℕ) → waits_of (abend_alone o) i p on ws ≡ waits_of o i p on ws
+wait_alone None i p on ws = refl
+wait_alone (Some (Reply body sw)) i p on ws = refl
+wait_alone (Some (Abended c)) i p on ws = refl
+
 -- a turn of the code is that of the definitions, at the depth of its chain
-pub record IsTurn (turn : Turn) (n : ℕ) (ch : Chain) : Type 0 where
-  pub same : (turn_of n ch).turn ≡ turn_value turn (turn_of n ch).turn.wrote
+pub record IsTurn (turn : BriefTurn) (n : ℕ) (ch : Chain) : Type 0 where
+  pub same : bare_turn (turn_of n ch).turn ≡ bare_value turn (turn_of n ch).turn.wrote
   pub depth : turn.depth ≡ depth_of ch
   pub place : frame_place turn.depth ≡ length ch.below
 
-pub moves_shown : (turn : Turn) (s t : Shot) (n : ℕ) (ch : Chain) (os : List Bool) (ws : List (List ℕ)) → Sees s t n ch → IsTurn turn n ch
+pub moves_shown : (turn : BriefTurn) (s t : Shot) (n : ℕ) (ch : Chain) (os : List Bool) (ws : List (List ℕ)) → Sees s t n ch → IsTurn turn n ch
     → moves_by_shots turn s t (get_or os (frame_place turn.depth) false) (get_or ws (frame_place turn.depth) []) ≡ moves_in os ws n ch
 moves_shown turn s t n ch os ws h is =
     let u : ModelTurn = (turn_of n ch).turn in
     let all : Option Outcome → Option Ins → ℕ → ℕ → ℕ = λ o i d k. writes_of_words (now_of o i (span_seen s t (nat_lt 1 d)) (get_or os k false) (get_or ws k [])) in
-    ap (λ (o : Option Outcome). all o turn.ins turn.depth (frame_place turn.depth)) (sym (ap (λ (v : ModelTurn). v.end) is.same)) ∙ ap (λ (i : Option Ins). all u.end i turn.depth (frame_place turn.depth)) (sym (ap (λ (v : ModelTurn). v.ins) is.same))
+    ap (λ (o : Option Outcome). all o turn.ins turn.depth (frame_place turn.depth)) (sym (ap (λ (v : ModelTurn). v.end) is.same))
+    ∙ ap writes_of_words (now_alone u.end turn.ins (span_seen s t (nat_lt 1 turn.depth)) (get_or os (frame_place turn.depth) false) (get_or ws (frame_place turn.depth) []))
+    ∙ ap (λ (i : Option Ins). all u.end i turn.depth (frame_place turn.depth)) (sym (ap (λ (v : ModelTurn). v.ins) is.same))
     ∙ ap (λ (d : ℕ). all u.end u.ins d (frame_place turn.depth)) is.depth ∙ ap (λ (k : ℕ). all u.end u.ins (depth_of ch) k) is.place
     ∙ ap (λ (w : ℕ). writes_of_words w) (now_spans u.end u.ins (span_seen s t (nat_lt 1 (depth_of ch))) (chain_span ch) (get_or os (length ch.below) false) (get_or ws (length ch.below) []) (λ j e goes. seen_span s t n ch j h e goes))
 
-pub waits_shown : (turn : Turn) (s t : Shot) (n : ℕ) (ch : Chain) (os : List Bool) (ws : List (List ℕ)) → Sees s t n ch → IsTurn turn n ch
+pub waits_shown : (turn : BriefTurn) (s t : Shot) (n : ℕ) (ch : Chain) (os : List Bool) (ws : List (List ℕ)) → Sees s t n ch → IsTurn turn n ch
     → (let u = (turn_of n ch).turn in waits_by_shots turn s t (get_or os (frame_place turn.depth) false) (get_or ws (frame_place turn.depth) []) ≡ waits_of u.end u.ins (chain_span ch) (get_or os (length ch.below) false) (get_or ws (length ch.below) []))
 waits_shown turn s t n ch os ws h is =
     let u : ModelTurn = (turn_of n ch).turn in
     let all : Option Outcome → Option Ins → ℕ → ℕ → List ℕ = λ o i d k. waits_of o i (span_seen s t (nat_lt 1 d)) (get_or os k false) (get_or ws k []) in
-    ap (λ (o : Option Outcome). all o turn.ins turn.depth (frame_place turn.depth)) (sym (ap (λ (v : ModelTurn). v.end) is.same)) ∙ ap (λ (i : Option Ins). all u.end i turn.depth (frame_place turn.depth)) (sym (ap (λ (v : ModelTurn). v.ins) is.same))
+    ap (λ (o : Option Outcome). all o turn.ins turn.depth (frame_place turn.depth)) (sym (ap (λ (v : ModelTurn). v.end) is.same))
+    ∙ wait_alone u.end turn.ins (span_seen s t (nat_lt 1 turn.depth)) (get_or os (frame_place turn.depth) false) (get_or ws (frame_place turn.depth) [])
+    ∙ ap (λ (i : Option Ins). all u.end i turn.depth (frame_place turn.depth)) (sym (ap (λ (v : ModelTurn). v.ins) is.same))
     ∙ ap (λ (d : ℕ). all u.end u.ins d (frame_place turn.depth)) is.depth ∙ ap (λ (k : ℕ). all u.end u.ins (depth_of ch) k) is.place
     ∙ wait_spans u.end u.ins (span_seen s t (nat_lt 1 (depth_of ch))) (chain_span ch) (get_or os (length ch.below) false) (get_or ws (length ch.below) []) (λ j e goes. seen_span s t n ch j h e goes)

@@ -8,8 +8,9 @@ use Rattle.law_steps.specs.model_machine.specs.declared.machine.Abend.{Abend}
 use Rattle.law_steps.specs.model_machine.specs.Frame.{Frame, dynamic_base}
 use Rattle.law_steps.specs.model_machine.specs.Chain.{Chain, Follows, Continues, Ends, Outcome, Reply, Abended, depth_of, turn_of}
 use Rattle.mc_machine.specs.Chains.{Chained}
-use Rattle.mc_machine.specs.Turns.{outcome_value, turn_value}
-use Rattle.mc_machine.specs.declared.outcome.Turn.{Turn}
+use Rattle.mc_machine.specs.declared.outcome.End.{End}
+use Rattle.mc_machine.specs.declared.outcome.End.TheVariants as ending
+use Rattle.mc_machine.specs.declared.outcome.BriefTurn.{BriefTurn}
 use Rattle.mc_bank.specs.Bank.{app_of}
 use Rattle.mc_segs.specs.HeldFrames.{Seen, frame_reading, no_pieces}
 use Rattle.mc_card.specs.declared.card.Card.{Card}
@@ -24,7 +25,7 @@ use Rattle.desk_cover.specs.Watching.{frame_in, name_in}
 use Rattle.desk_cover.proofs.LookLemmas.{alike}
 use Rattle.desk_steps.specs.declared.shot.Shot.{Shot}
 use Rattle.desk_steps.specs.Shots.{shot_reading}
-use Rattle.desk_steps.specs.Turning.{IsAfter, IsBefore, IsWideNext, WasTurn, abend_in, exit_in, is_deeper, is_other, lb_shown}
+use Rattle.desk_steps.specs.Turning.{IsAfter, IsBefore, IsWideNext, WasTurn, abend_alone, abend_of, bare_turn, bare_value, end_of, exit_in, is_deeper, is_other, lb_shown}
 use Rattle.desk_steps.proofs.FrameLemmas.{abend_calls, exit_calls, going_calls}
 
 -- ---- LB after a turn
@@ -48,15 +49,21 @@ going_lb n ch stays goes = ap (λ (r : ℕ × Bool). r.0) (registers_law.goes n 
 
 -- ---- shots
 
-abend_there : (o : Option Outcome) → is_some (abend_in o) ≡ true → (c : Abend) × (o ≡ Some (Abended c))
+abend_there : (o : Option End) → is_some (abend_of o) ≡ true → (c : Abend) × (end_of o ≡ Some (Abended c))
 abend_there None e = absurd (cc e)
-abend_there (Some (Reply body sw)) e = absurd (cc e)
-abend_there (Some (Abended c)) e = (c, refl)
+abend_there (Some ending.Reply) e = absurd (cc e)
+abend_there (Some (ending.Abend c)) e = (c, refl)
 
-abend_none : (o : Option Outcome) → is_some (abend_in o) ≡ false → (c : Abend) → o ≢ Some (Abended c)
+abend_none : (o : Option End) → is_some (abend_of o) ≡ false → (c : Abend) → end_of o ≢ Some (Abended c)
 abend_none None e c h = absurd (cc h)
-abend_none (Some (Reply body sw)) e c h = absurd (cc h)
-abend_none (Some (Abended a)) e c h = absurd (cc e)
+abend_none (Some ending.Reply) e c h = absurd (cc h)
+abend_none (Some (ending.Abend a)) e c h = absurd (cc e)
+
+-- an outcome of which an abend is left is this abend
+alone_is : (o : Option Outcome) (c : Abend) → abend_alone o ≡ Some (Abended c) → o ≡ Some (Abended c)
+alone_is None c e = absurd (cc e)
+alone_is (Some (Reply body sw)) c e = absurd (cc e)
+alone_is (Some (Abended a)) c e = e
 
 exit_there : (o : Option Ins) (i : Ins) → exit_in o ≡ Some i → (o ≡ Some i) × (is_exit_of i ≡ true)
 exit_there None i e = absurd (cc e)
@@ -86,15 +93,15 @@ module _ {N : Type 0} (state : N → DeviceState) where
   abbrev pub kept_bytes : Card N → List ℕ → List ℕ
   kept_bytes c name = (app_of (card_in state c).apps (Some name)).fixed
 
-  ends_same : (n : ℕ) (ch : Chain) (turn : Turn) (o : Option Outcome) → (turn_of n ch).turn ≡ turn_value turn (turn_of n ch).turn.wrote → option_map outcome_value turn.end ≡ o → (turn_of n ch).turn.end ≡ o
-  ends_same n ch turn o same is = ap (λ t. t.end) same ∙ is
+  ends_same : (n : ℕ) (ch : Chain) (turn : BriefTurn) (c : Abend) → bare_turn (turn_of n ch).turn ≡ bare_value turn (turn_of n ch).turn.wrote → end_of turn.end ≡ Some (Abended c) → (turn_of n ch).turn.end ≡ Some (Abended c)
+  ends_same n ch turn c same is = alone_is (turn_of n ch).turn.end c (ap (λ t. t.end) same ∙ is)
 
   -- a shot of a turn that abends
-  pub after_abend : (c : Card N) (n : ℕ) (ch : Chain) (turn : Turn) (name : List ℕ) (old new : Shot) (o : Option Abend) → WasTurn state c n ch turn → IsBefore old ch → name ≡ ch.frame.name → o ≡ abend_in (option_map outcome_value turn.end) → is_some o ≡ true → new.lb ≡ old.lb
+  pub after_abend : (c : Card N) (n : ℕ) (ch : Chain) (turn : BriefTurn) (name : List ℕ) (old new : Shot) (o : Option Abend) → WasTurn state c n ch turn → IsBefore old ch → name ≡ ch.frame.name → o ≡ abend_of turn.end → is_some o ≡ true → new.lb ≡ old.lb
       → (IsSome (lookup (card_in state c).apps name) → shot_reading new ≡ record (shot_reading old) { fixed = kept_bytes c name }) → IsAfter new n ch
   after_abend c n ch turn name old new o was before named is some lb reads =
-      let there = abend_there (option_map outcome_value turn.end) (ap (λ (a : Option Abend). is_some a) (sym is) ∙ some) in
-      let end : (turn_of n ch).turn.end ≡ Some (Abended there.0) = ends_same n ch turn (Some (Abended there.0)) was.same there.1 in
+      let there = abend_there turn.end (ap (λ (a : Option Abend). is_some a) (sym is) ∙ some) in
+      let end : (turn_of n ch).turn.end ≡ Some (Abended there.0) = ends_same n ch turn there.0 was.same there.1 in
       let kept = was.kept (inl (there.0, end)) in
       let read : IsSome (lookup (card_in state c).apps ch.frame.name) → shot_reading new ≡ record (shot_reading old) { fixed = kept_bytes c ch.frame.name } =
       subst (λ (m : List ℕ). IsSome (lookup (card_in state c).apps m) → shot_reading new ≡ record (shot_reading old) { fixed = kept_bytes c m }) named reads
@@ -107,12 +114,12 @@ module _ {N : Type 0} (state : N → DeviceState) where
       }
 
   -- a shot of a turn that exits
-  pub after_exited : (c : Card N) (n : ℕ) (ch : Chain) (turn : Turn) (name : List ℕ) (old new : Shot) (a : Option Abend) (o : Option Ins) (i : Ins) → WasTurn state c n ch turn → IsBefore old ch → name ≡ ch.frame.name → a ≡ abend_in (option_map outcome_value turn.end) → is_some a ≡ false → o ≡ exit_in turn.ins → Some i ≡ o
+  pub after_exited : (c : Card N) (n : ℕ) (ch : Chain) (turn : BriefTurn) (name : List ℕ) (old new : Shot) (a : Option Abend) (o : Option Ins) (i : Ins) → WasTurn state c n ch turn → IsBefore old ch → name ≡ ch.frame.name → a ≡ abend_of turn.end → is_some a ≡ false → o ≡ exit_in turn.ins → Some i ≡ o
       → new.lb ≡ old.lb → (IsSome (lookup (card_in state c).apps name) → shot_reading new ≡ record (shot_reading old) { fixed = kept_bytes c name; public = exit_public i old.public }) → IsAfter new n ch
   after_exited c n ch turn name old new a o i was before named ends none is some lb reads =
       let there = exit_there turn.ins i (sym is ∙ sym some) in
       let ins : (turn_of n ch).turn.ins ≡ Some i = ap (λ t. t.ins) was.same ∙ there.0 in
-      let goes : (c : Abend) → (turn_of n ch).turn.end ≢ Some (Abended c) = λ c h. abend_none (option_map outcome_value turn.end) (ap (λ (x : Option Abend). is_some x) (sym ends) ∙ none) c (sym (ap (λ t. t.end) was.same) ∙ h) in
+      let goes : (c : Abend) → (turn_of n ch).turn.end ≢ Some (Abended c) = λ c h. abend_none turn.end (ap (λ (x : Option Abend). is_some x) (sym ends) ∙ none) c (sym (ap (λ t. t.end) was.same) ∙ ap abend_alone h) in
       let kept = was.kept (inr (i, ins, there.1)) in
       let read : IsSome (lookup (card_in state c).apps ch.frame.name) → shot_reading new ≡ record (shot_reading old) { fixed = kept_bytes c ch.frame.name; public = exit_public i old.public } =
       subst (λ (m : List ℕ). IsSome (lookup (card_in state c).apps m) → shot_reading new ≡ record (shot_reading old) { fixed = kept_bytes c m; public = exit_public i old.public }) named reads
@@ -125,11 +132,11 @@ module _ {N : Type 0} (state : N → DeviceState) where
       }
 
   -- a shot of a turn after which the frame goes on, or one that it called
-  pub after_going : (c : Card N) (n : ℕ) (ch : Chain) (turn : Turn) (name : List ℕ) (old new : Shot) (a : Option Abend) (o : Option Ins) → WasTurn state c n ch turn → IsBefore old ch → name ≡ ch.frame.name → a ≡ abend_in (option_map outcome_value turn.end) → is_some a ≡ false → o ≡ exit_in turn.ins → None ≡ o
+  pub after_going : (c : Card N) (n : ℕ) (ch : Chain) (turn : BriefTurn) (name : List ℕ) (old new : Shot) (a : Option Abend) (o : Option Ins) → WasTurn state c n ch turn → IsBefore old ch → name ≡ ch.frame.name → a ≡ abend_of turn.end → is_some a ≡ false → o ≡ exit_in turn.ins → None ≡ o
       → new.lb ≡ lb_shown (turn_of n ch).follows name old.lb → shot_reading new ≡ shown_reading (turn_of n ch).follows name (shot_reading old) turn.dt → IsAfter new n ch
   after_going c n ch turn name old new a o was before named ends none is some lb reads =
       let f : Follows = (turn_of n ch).follows in
-      let goes : (c : Abend) → (turn_of n ch).turn.end ≢ Some (Abended c) = λ c h. abend_none (option_map outcome_value turn.end) (ap (λ (x : Option Abend). is_some x) (sym ends) ∙ none) c (sym (ap (λ t. t.end) was.same) ∙ h) in
+      let goes : (c : Abend) → (turn_of n ch).turn.end ≢ Some (Abended c) = λ c h. abend_none turn.end (ap (λ (x : Option Abend). is_some x) (sym ends) ∙ none) c (sym (ap (λ t. t.end) was.same) ∙ ap abend_alone h) in
       let stays : (j : Ins) → (turn_of n ch).turn.ins ≡ Some j → is_exit_of j ≡ false = λ j h. exit_none turn.ins (sym is ∙ sym some) j (sym (ap (λ t. t.ins) was.same) ∙ h) in
       record {
         lb = lb ∙ ap (λ (m : List ℕ). lb_shown f m old.lb) named ∙ ap (λ (k : ℕ). lb_shown f ch.frame.name k) before.lb ∙ sym (going_lb n ch stays goes);
@@ -139,19 +146,19 @@ module _ {N : Type 0} (state : N → DeviceState) where
       }
 
   -- a turn that abends calls no frame
-  pub abend_called : (c : Card N) (n : ℕ) (ch : Chain) (turn : Turn) (o : Option Abend) → WasTurn state c n ch turn → o ≡ abend_in (option_map outcome_value turn.end) → is_some o ≡ true → false ≡ is_deeper (depth_of ch) (turn_of n ch).follows
+  pub abend_called : (c : Card N) (n : ℕ) (ch : Chain) (turn : BriefTurn) (o : Option Abend) → WasTurn state c n ch turn → o ≡ abend_of turn.end → is_some o ≡ true → false ≡ is_deeper (depth_of ch) (turn_of n ch).follows
   abend_called c n ch turn o was is some =
-      let there = abend_there (option_map outcome_value turn.end) (ap (λ (a : Option Abend). is_some a) (sym is) ∙ some) in
-      sym (abend_calls n ch there.0 (ends_same n ch turn (Some (Abended there.0)) was.same there.1))
+      let there = abend_there turn.end (ap (λ (a : Option Abend). is_some a) (sym is) ∙ some) in
+      sym (abend_calls n ch there.0 (ends_same n ch turn there.0 was.same there.1))
 
   -- nor does one that exits
-  pub exit_called : (c : Card N) (n : ℕ) (ch : Chain) (turn : Turn) (o : Option Ins) (i : Ins) → WasTurn state c n ch turn → o ≡ exit_in turn.ins → Some i ≡ o → false ≡ is_deeper (depth_of ch) (turn_of n ch).follows
+  pub exit_called : (c : Card N) (n : ℕ) (ch : Chain) (turn : BriefTurn) (o : Option Ins) (i : Ins) → WasTurn state c n ch turn → o ≡ exit_in turn.ins → Some i ≡ o → false ≡ is_deeper (depth_of ch) (turn_of n ch).follows
   exit_called c n ch turn o i was is some =
       let there = exit_there turn.ins i (sym is ∙ sym some) in
       sym (exit_calls n ch i (ap (λ t. t.ins) was.same ∙ there.0) there.1)
 
   -- any other calls the frame that runs then, if that has another name
-  pub going_called : (c : Card N) (n : ℕ) (ch : Chain) (turn : Turn) (name : List ℕ) (o : Option Ins) (b : Bool) → WasTurn state c n ch turn → name ≡ ch.frame.name → o ≡ exit_in turn.ins → None ≡ o → b ≡ is_other (turn_of n ch).follows name → b ≡ is_deeper (depth_of ch) (turn_of n ch).follows
+  pub going_called : (c : Card N) (n : ℕ) (ch : Chain) (turn : BriefTurn) (name : List ℕ) (o : Option Ins) (b : Bool) → WasTurn state c n ch turn → name ≡ ch.frame.name → o ≡ exit_in turn.ins → None ≡ o → b ≡ is_other (turn_of n ch).follows name → b ≡ is_deeper (depth_of ch) (turn_of n ch).follows
   going_called c n ch turn name o b was named is none other =
       other ∙ ap (λ (m : List ℕ). is_other (turn_of n ch).follows m) named
       ∙ going_calls n ch (λ j h. exit_none turn.ins (sym is ∙ sym none) j (sym (ap (λ t. t.ins) was.same) ∙ h))

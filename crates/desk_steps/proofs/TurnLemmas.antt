@@ -7,13 +7,19 @@ use Rattle.law_steps.specs.model_device.specs.Bytes.{lookup}
 use Rattle.law_steps.specs.model_device.specs.Card as model
 use Rattle.law_steps.specs.model_device.specs.Card.{App}
 use Rattle.law_steps.specs.model_device.specs.Device.{DeviceState}
-use Rattle.law_steps.specs.model_machine.specs.Chain.{Chain, Continues, Ends, Follows, Turn as ModelTurn, Write, turn_of, turn_of_chain}
+use Rattle.law_steps.specs.model_machine.specs.Chain.{Chain, Continues, Ends, Follows, Outcome as ModelOutcome, Turn as ModelTurn, Write, turn_of, turn_of_chain}
 use Rattle.law_steps.specs.model_card.specs.Items.{write_items}
 use Rattle.law_steps.specs.Shown.{EndsFrame}
 use Rattle.law_steps.proofs.AfterTurns.{ended_writes}
 use Rattle.mc_bank.specs.Bank.{app_of, name_or}
 use Rattle.mc_segs.specs.HeldFrames.{Seen}
 use Rattle.mc_machine.specs.declared.outcome.Turn.{Turn}
+use Rattle.mc_machine.specs.declared.outcome.End.{End}
+use Rattle.mc_machine.specs.declared.outcome.End.TheVariants as end
+use Rattle.mc_machine.specs.declared.outcome.BriefTurn.{BriefTurn}
+use Rattle.mc_machine.specs.declared.outcome.Outcome.{Outcome}
+use Rattle.mc_machine.specs.declared.outcome.Outcome.TheVariants as outcome
+use Rattle.mc_machine.specs.Turns.{end_outcome, full_turn, outcome_value, turn_value, AgreesWithEnd}
 use Rattle.mc_card.specs.declared.card.Card.{Card}
 use Rattle.mc_card.specs.Parts.{IsRunning, IsUp, RunsChain, card_in, device_in, view_in, words_in}
 use Rattle.mc_card.proofs.StaticLemmas.{going_apps}
@@ -33,7 +39,7 @@ use Rattle.desk_cover.proofs.FullTurnLemmas.{chained_name}
 use Rattle.desk_cover.proofs.TraceLemmas.{IsTurnOf}
 use Rattle.desk_steps.specs.declared.recording.Recorder.{Recorder}
 use Rattle.desk_steps.specs.Moments.{moment}
-use Rattle.desk_steps.specs.Turning.{IsWideNext, KeepsStatics, WasTurn}
+use Rattle.desk_steps.specs.Turning.{IsWideNext, KeepsStatics, WasTurn, abend_alone, bare_turn, bare_value, end_of}
 use Rattle.desk_steps.specs.Recorded.{recorded_stopped, IsQuiet, Recorded, WaitsFirst}
 
 module _ {N : Type 0} (state : N → DeviceState) (wrote : N → ℕ → List ℕ → Answer → N → Type 0) where
@@ -94,7 +100,23 @@ module _ {N : Type 0} (state : N → DeviceState) (wrote : N → ℕ → List �
         fixed = subst (λ (k : model.Card). (app_of k.apps (Some ch.frame.name)).fixed ≡ ch.frame.fixed) same fixed;
       }
 
+  -- the outcome of an end that agrees with it, if it is an abend
+  end_alone : (e : Option End) (o : Outcome) → AgreesWithEnd e o → abend_alone (option_map outcome_value (end_outcome e o)) ≡ end_of e
+  end_alone None o agrees = refl
+  end_alone (Some end.Reply) (outcome.Reply r) agrees = refl
+  end_alone (Some end.Reply) (outcome.Abend a) agrees = absurd agrees
+  end_alone (Some (end.Abend a)) o agrees = ap (λ (x : Outcome). abend_alone (Some (outcome_value x))) agrees
+
+  turn_alone : (turn : BriefTurn) (o : Outcome) (t : ModelTurn) → AgreesWithEnd turn.end o → t ≡ turn_value (full_turn turn o) t.wrote → bare_turn t ≡ bare_value turn t.wrote
+  turn_alone turn o t agrees same = ap bare_turn same ∙ ap (λ (e : Option ModelOutcome). record (bare_value turn t.wrote) { end = e }) (end_alone turn.end o agrees)
+
   -- a card after a turn of a chain
-  pub was_turn : (c d : Card N) (ch : Chain) (left : ℕ) (turn : Turn) → RunsChain state c ch left → IsWide ch → ChainTurned state wrote c ch left (turn_of left ch) (Ok turn) d → WasTurn state d left ch turn
-  was_turn c d ch left turn runs wide h =
-      record { same = h.turn; shows = shown_after c d ch _ _ h.follows; wide = wide_after left ch wide; few = runs.runs.few; kept = λ ends. kept_after c d ch left turn runs h ends }
+  pub was_turn : (c d : Card N) (ch : Chain) (left : ℕ) (turn : BriefTurn) (o : Outcome) → RunsChain state c ch left → IsWide ch → AgreesWithEnd turn.end o → ChainTurned state wrote c ch left (turn_of left ch) (Ok (full_turn turn o)) d → WasTurn state d left ch turn
+  was_turn c d ch left turn o runs wide agrees h =
+      record {
+        same = turn_alone turn o (turn_of left ch).turn agrees h.turn;
+        shows = shown_after c d ch _ _ h.follows;
+        wide = wide_after left ch wide;
+        few = runs.runs.few;
+        kept = λ ends. kept_after c d ch left (full_turn turn o) runs h ends;
+      }

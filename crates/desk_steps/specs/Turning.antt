@@ -1,18 +1,19 @@
 -- A card after a turn of a chain, and the shots of the frame that ran it, before the turn and after it.
-use Rattle.std.specs.Prelude.{◌≡◌, ℕ, ◌+◌, ◌-◌, ◌≤◌, Bool, true, false, cond, not, nat_lt, min, List, [], length, replicate, bytes_eq, Option, Some, None, IsSome}
+use Rattle.std.specs.Prelude.{◌≡◌, ℕ, ◌+◌, ◌-◌, ◌≤◌, Bool, true, false, cond, not, nat_lt, min, List, [], length, replicate, bytes_eq, option_map, Option, Some, None, IsSome}
 use Rattle.law_steps.specs.model_device.specs.Bytes.{lookup}
 use Rattle.law_steps.specs.model_device.specs.Device.{DeviceState}
 use Rattle.law_steps.specs.model_machine.specs.declared.instruction.Ins.{Ins}
 use Rattle.law_steps.specs.model_machine.specs.declared.machine.Abend.{Abend}
 use Rattle.law_steps.specs.model_machine.specs.Frame.{Frame}
-use Rattle.law_steps.specs.model_machine.specs.Chain.{Chain, Follows, Continues, Ends, Outcome, Reply, Abended, depth_of, turn_of}
+use Rattle.law_steps.specs.model_machine.specs.Chain.{Chain, Follows, Continues, Ends, Outcome, Reply, Abended, Turn, depth_of, turn_of}
 use Rattle.law_steps.specs.Readings.{reading_after, reading_of}
 use Rattle.law_steps.specs.Registers.{frame_after}
 use Rattle.law_steps.specs.Shown.{EndsFrame, is_exit_of}
 use Rattle.law_steps.specs.Writes.{IsRoomy}
 use Rattle.mc_bank.specs.Bank.{app_of}
-use Rattle.mc_machine.specs.declared.outcome.Turn.{Turn}
-use Rattle.mc_machine.specs.Turns.{turn_value}
+use Rattle.mc_machine.specs.declared.outcome.End.{End}
+use Rattle.mc_machine.specs.declared.outcome.End.TheVariants as end
+use Rattle.mc_machine.specs.declared.outcome.BriefTurn.{BriefTurn}
 use Rattle.mc_card.specs.declared.card.Card.{Card}
 use Rattle.mc_card.specs.Parts.{card_in}
 use Rattle.desk_cover.specs.Looking.{Shows}
@@ -21,11 +22,29 @@ use Rattle.desk_steps.specs.declared.shot.Shot.{Shot}
 
 -- ---- how a turn ends
 
--- the abend in an outcome
-abbrev pub abend_in : Option Outcome → Option Abend
-abend_in None = None
-abend_in (Some (Reply body sw)) = None
-abend_in (Some (Abended cause)) = Some cause
+-- the abend in the end of a turn of the code
+abbrev pub abend_of : Option End → Option Abend
+abend_of None = None
+abend_of (Some end.Reply) = None
+abend_of (Some (end.Abend cause)) = Some cause
+
+-- the end of such a turn, if it is an abend
+abbrev pub end_of : Option End → Option Outcome
+end_of e = option_map Abended (abend_of e)
+
+-- an outcome, if it is an abend
+abbrev pub abend_alone : Option Outcome → Option Outcome
+abend_alone None = None
+abend_alone (Some (Reply body sw)) = None
+abend_alone (Some (Abended cause)) = Some (Abended cause)
+
+-- a turn of the code, with nothing of its reply
+abbrev pub bare_value : BriefTurn → Option ℕ → Turn
+bare_value t wrote = record { depth = t.depth; at = t.at; ins = t.ins; dt = t.dt; c = t.flags.c; z = t.flags.z; end = end_of t.end; wrote = wrote }
+
+-- a turn with nothing of its reply, of which no line shows anything
+abbrev pub bare_turn : Turn → Turn
+bare_turn t = record t { end = abend_alone t.end }
 
 -- an instruction, if it exits its frame
 abbrev pub exit_in : Option Ins → Option Ins
@@ -56,8 +75,8 @@ pub record KeepsStatics {N : Type 0} (state : N → DeviceState) (c : Card N) (f
 
 -- a card after a turn of a chain, with this much of the budget left before it; if the turn ended its frame, the card
 -- keeps the frame's static bytes without what waited
-pub record WasTurn {N : Type 0} (state : N → DeviceState) (c : Card N) (n : ℕ) (ch : Chain) (turn : Turn) : Type 0 where
-  pub same : (turn_of n ch).turn ≡ turn_value turn (turn_of n ch).turn.wrote
+pub record WasTurn {N : Type 0} (state : N → DeviceState) (c : Card N) (n : ℕ) (ch : Chain) (turn : BriefTurn) : Type 0 where
+  pub same : bare_turn (turn_of n ch).turn ≡ bare_value turn (turn_of n ch).turn.wrote
   pub shows : Shows state c (turn_of n ch).follows
   pub wide : IsWideNext (turn_of n ch).follows
   pub few : length ch.below ≤ 3

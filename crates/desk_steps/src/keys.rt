@@ -4,14 +4,14 @@ ghost use Rattle.law_steps.specs.model_machine.specs.Code.{Shaped};
 ghost use Rattle.law_steps.specs.model_machine.specs.Chain.{Abended};
 ghost use Rattle.law_steps.specs.model_text.specs.TurnText.{bit_text, ins_text};
 ghost use Rattle.desk_json.specs.Sheets.{Adds};
-ghost use Rattle.mc_machine.specs.Turns.{outcome_value, turn_value};
 ghost use Rattle.desk_steps.specs.Lines.{abend_key, aid_key, command_key, flag_key, ins_key, open_key, place_keys, range_text, register_keys, source_key, writes_key};
+ghost use Rattle.desk_steps.specs.Turning.{bare_value, end_of};
 
 use desk_json::Sheet;
 use law_steps::model_machine::Abend;
 use mc_base::Aid;
 use mc_isa::{Ins, text_of};
-use mc_machine::{Outcome, Turn};
+use mc_machine::{BriefTurn, End};
 use mc_streams::Sink;
 
 // Adds a flag.
@@ -84,7 +84,7 @@ fn add_ins<T: Sink>(sheet: &mut Sheet<'_, T>, ins: &Option<Ins>)
 }
 
 /// Adds the place, the source line and the instruction of a turn.
-pub fn add_place<T: Sink>(sheet: &mut Sheet<'_, T>, turn: &Turn, source: Option<u32>)
+pub fn add_place<T: Sink>(sheet: &mut Sheet<'_, T>, turn: &BriefTurn, source: Option<u32>)
     requires { IfSome turn.now.ins Shaped }
     ensures { Adds T.Sink sheet.old (place_keys turn.now.at source turn.now.ins) sheet.new }
 {
@@ -114,27 +114,27 @@ fn add_cause<T: Sink>(sheet: &mut Sheet<'_, T>, abend: Abend)
 }
 
 // Adds the abend of an end, if it is one.
-fn add_abend<T: Sink>(sheet: &mut Sheet<'_, T>, end: &Option<Outcome>)
-    ensures { Adds T.Sink sheet.old (abend_key (option_map outcome_value end.now)) sheet.new }
+fn add_abend<T: Sink>(sheet: &mut Sheet<'_, T>, end: Option<End>)
+    ensures { Adds T.Sink sheet.old (abend_key (end_of end)) sheet.new }
 {
     match end {
-        Some(Outcome::Abend(abend)) => add_cause(sheet, *abend),
-        Some(Outcome::Reply(_)) => {}
+        Some(End::Abend(abend)) => add_cause(sheet, abend),
+        Some(End::Reply) => {}
         None => {}
     }
 }
 
 /// Adds the registers, the flags, the protection and the abend of a turn.
-pub fn add_registers<T: Sink>(sheet: &mut Sheet<'_, T>, turn: &Turn, lb: u16, is_on: bool)
+pub fn add_registers<T: Sink>(sheet: &mut Sheet<'_, T>, turn: &BriefTurn, lb: u16, is_on: bool)
     ensures { (wrote : Option ℕ) →
-        Adds T.Sink sheet.old (register_keys (turn_value turn.now wrote) lb is_on) sheet.new }
+        Adds T.Sink sheet.old (register_keys (bare_value turn.now wrote) lb is_on) sheet.new }
 {
     sheet.add_key(b",\"dt\":", turn.dt as u32);
     sheet.add_key(b",\"lb\":", lb as u32);
     add_flag(sheet, b",\"c\":", turn.flags.c);
     add_flag(sheet, b",\"z\":", turn.flags.z);
     add_open(sheet, is_on);
-    add_abend(sheet, &turn.end);
+    add_abend(sheet, turn.end);
 }
 
 // Adds the numbers of a first and a last device write, if there are some.

@@ -4,7 +4,6 @@ ghost use Rattle.law_steps.specs.model_device.specs.Bytes.{lookup};
 ghost use Rattle.mc_bank.specs.Bank.{app_of};
 ghost use Rattle.law_steps.specs.model_machine.specs.Chain.{depth_of, turn_of, Chain as ModelChain, Follows};
 ghost use Rattle.mc_deck.specs.Lines.{line_of};
-ghost use Rattle.mc_machine.specs.Turns.{outcome_value};
 ghost use Rattle.mc_card.specs.Parts.{IsUp, RunsChain, card_in};
 ghost use Rattle.desk_cover.specs.Looking.{Shows};
 ghost use Rattle.desk_cover.specs.Watching.{FrameRuns, IsWatched, frame_in, name_in};
@@ -15,7 +14,7 @@ ghost use Rattle.desk_steps.specs.Counted.{count_after, moves_by_shots, waits_by
 ghost use Rattle.desk_steps.specs.Guards.{all_clear};
 ghost use Rattle.desk_steps.specs.Moments.{command_of};
 ghost use Rattle.desk_steps.specs.Shots.{shot_reading};
-ghost use Rattle.desk_steps.specs.Turning.{all_shut, frame_place, is_deeper, is_other, IsAfter, IsBefore, IsWideNext, WasTurn, lb_shown};
+ghost use Rattle.desk_steps.specs.Turning.{all_shut, end_of, frame_place, is_deeper, is_other, IsAfter, IsBefore, IsWideNext, WasTurn, lb_shown};
 
 use crate::guard::Guard;
 use crate::modes::{abend_of, exit_of, open_by};
@@ -24,7 +23,7 @@ use crate::writes::{device_writes, turn_words};
 use arrayvec::ArrayVec;
 use mc_bank::Bank;
 use mc_base::Aid;
-use mc_card::{Card, Chain, Turn};
+use mc_card::{BriefTurn, Card, Chain};
 use mc_deck::Line;
 use mc_isa::Ins;
 use mc_nvm::Nvm;
@@ -229,7 +228,7 @@ impl Memory {
 
     /// Takes the shot after a turn of the frame that ran it, whose application has a name. Returns whether the turn
     /// called another frame.
-    pub fn look_after<N: Nvm>(&mut self, card: &Card<N>, aid: &Aid, turn: &Turn) -> bool
+    pub fn look_after<N: Nvm>(&mut self, card: &Card<N>, aid: &Aid, turn: &BriefTurn) -> bool
         requires up { IsUp N.state card.now }
         requires watched { IsWatched N.state card.now }
         ensures command { self.new.command.items ≡ self.old.command.items }
@@ -243,7 +242,7 @@ impl Memory {
             → aid.now ≡ ch.frame.name → result ≡ is_deeper (depth_of ch) (turn_of n ch).follows }
     {
         self.after.copy(&self.before);
-        if abend_of(&turn.end).is_some() {
+        if abend_of(turn.end).is_some() {
             self.after.take_kept(card, aid);
             return false;
         }
@@ -255,7 +254,7 @@ impl Memory {
     }
 
     // Keeps the words that wait after a turn, and returns the number of device writes of the turn.
-    fn count_writes(&mut self, turn: &Turn) -> u32
+    fn count_writes(&mut self, turn: &BriefTurn) -> u32
         ensures command { self.new.command.items ≡ self.old.command.items }
         ensures opens { self.new.opens ≡ self.old.opens }
         ensures before { self.new.before ≡ self.old.before }
@@ -283,7 +282,7 @@ impl Memory {
 
     /// Keeps the words that wait after a turn, and returns the first and the last device write of the turn, counted in
     /// its line from 1, or `None` if it made none.
-    pub fn writes_of(&mut self, turn: &Turn) -> Option<(u32, u32)>
+    pub fn writes_of(&mut self, turn: &BriefTurn) -> Option<(u32, u32)>
         ensures command { self.new.command.items ≡ self.old.command.items }
         ensures opens { self.new.opens ≡ self.old.opens }
         ensures before { self.new.before ≡ self.old.before }
@@ -311,14 +310,14 @@ impl Memory {
     }
 
     /// Keeps the protection of the frame that ran a turn, and returns whether it is on.
-    pub fn protection_of(&mut self, turn: &Turn) -> bool
+    pub fn protection_of(&mut self, turn: &BriefTurn) -> bool
         ensures command { self.new.command.items ≡ self.old.command.items }
         ensures guards { self.new.guards ≡ self.old.guards }
         ensures writes { self.new.writes ≡ self.old.writes }
         ensures before { self.new.before ≡ self.old.before }
         ensures after { self.new.after ≡ self.old.after }
         ensures opens { self.new.opens ≡ slice_set self.old.opens (frame_place turn.now.depth) result }
-        ensures on { result ≡ open_by (option_map outcome_value turn.now.end) turn.now.ins
+        ensures on { result ≡ open_by (end_of turn.now.end) turn.now.ins
             (get_or self.old.opens (frame_place turn.now.depth) false) }
     {
         let place = place_of(turn.depth);

@@ -1,24 +1,24 @@
 // How a turn ends, and the protection after it.
 ghost use Rattle.std.specs.Prelude.{◌≡◌, option_map, Some};
-ghost use Rattle.mc_machine.specs.Turns.{outcome_value};
 ghost use Rattle.mc_prims.specs.Table.{primitive_of};
 ghost use Rattle.law_steps.specs.Nexts.{open_by, open_on};
 ghost use Rattle.law_steps.specs.Registers.{mode_of, pair_mode};
 ghost use Rattle.law_steps.specs.Shown.{is_exit_of};
-ghost use Rattle.desk_steps.specs.Turning.{abend_in, exit_in};
+ghost use Rattle.desk_steps.specs.Turning.{abend_of, end_of, exit_in};
 
-use mc_card::{Outcome, Turn};
+use mc_card::BriefTurn;
 use mc_isa::Ins;
+use mc_machine::End;
 use mc_prims::Primitive;
 use mc_segs::Abend;
 
 /// Returns the abend in the end of a turn, or `None` if the chain goes on or ends with a reply.
-pub fn abend_of(end: &Option<Outcome>) -> Option<Abend>
-    ensures { result ≡ abend_in (option_map outcome_value end.now) }
+pub fn abend_of(end: Option<End>) -> Option<Abend>
+    ensures { result ≡ abend_of end }
 {
     match end {
-        Some(Outcome::Abend(abend)) => Some(*abend),
-        Some(Outcome::Reply(_)) => None,
+        Some(End::Abend(abend)) => Some(abend),
+        Some(End::Reply) => None,
         None => None,
     }
 }
@@ -34,7 +34,7 @@ pub fn is_exit(ins: &Ins) -> bool
 }
 
 /// Returns the instruction of a turn, if it exits its frame.
-pub fn exit_of(turn: &Turn) -> Option<Ins>
+pub fn exit_of(turn: &BriefTurn) -> Option<Ins>
     ensures { result ≡ exit_in turn.now.ins }
 {
     let ins = turn.ins?;
@@ -78,10 +78,10 @@ fn open_on(ins: &Ins, is_on: bool) -> bool
 }
 
 /// Returns whether protection is on after a turn in the frame that ran it, by that before the turn.
-pub fn open_by(turn: &Turn, is_on: bool) -> bool
-    ensures { result ≡ open_by (option_map outcome_value turn.now.end) turn.now.ins is_on }
+pub fn open_by(turn: &BriefTurn, is_on: bool) -> bool
+    ensures { result ≡ open_by (end_of turn.now.end) turn.now.ins is_on }
 {
-    if abend_of(&turn.end).is_some() {
+    if abend_of(turn.end).is_some() {
         return is_on;
     }
     match &turn.ins {

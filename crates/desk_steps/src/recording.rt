@@ -4,7 +4,6 @@ ghost use Rattle.law_steps.specs.model_machine.specs.Code.{Shaped};
 ghost use Rattle.law_steps.specs.model_machine.specs.Chain.{depth_of, turn_of, Chain as ModelChain, Follows};
 ghost use Rattle.mc_card.specs.Parts.{IsUp, RunsChain};
 ghost use Rattle.mc_deck.specs.Lines.{line_of};
-ghost use Rattle.mc_machine.specs.Turns.{outcome_value, turn_value};
 ghost use Rattle.desk_cover.specs.Looking.{Shows};
 ghost use Rattle.desk_cover.specs.Watching.{IsWatched};
 ghost use Rattle.mc_text.specs.Texts.{sunk};
@@ -17,7 +16,7 @@ ghost use Rattle.desk_steps.specs.Lines.{aid_key, frame_text, number_key, sets_k
 ghost use Rattle.desk_steps.specs.Moments.{command_of, moment};
 ghost use Rattle.desk_steps.specs.Recorded.{first_by, next_number, CallsNext, IsQuiet, KeepsState, PutsText, RecordsTurn, StoppedText};
 ghost use Rattle.desk_steps.specs.Shots.{frame_changes, shot_changes};
-ghost use Rattle.desk_steps.specs.Turning.{all_shut, frame_place, is_deeper, IsAfter, IsBefore, IsOneDeeper, IsWideNext, WasTurn};
+ghost use Rattle.desk_steps.specs.Turning.{all_shut, bare_value, end_of, frame_place, is_deeper, IsAfter, IsBefore, IsOneDeeper, IsWideNext, WasTurn};
 
 use crate::changes::{add_changes, add_frame};
 use crate::keys::{add_aid, add_command, add_place, add_registers, add_writes};
@@ -27,7 +26,7 @@ use crate::shot::Shot;
 use desk_cover::Sections;
 use desk_json::Sheet;
 use mc_base::Aid;
-use mc_card::{Card, Turn};
+use mc_card::{BriefTurn, Card};
 use mc_deck::Line;
 use mc_nvm::Nvm;
 use mc_streams::{Sink, WriteFault};
@@ -102,14 +101,14 @@ fn put_turn<T: Sink>(
     memory: &Memory,
     number: u32,
     aid: &Aid,
-    turn: &Turn,
+    turn: &BriefTurn,
     source: Option<u32>,
     is_on: bool,
     writes: Option<(u32, u32)>,
 )
     requires { IfSome turn.now.ins Shaped }
     ensures adds { (wrote : Option ℕ) →
-        Adds T.Sink sheet.old (turn_text number aid.now source (turn_value turn.now wrote)
+        Adds T.Sink sheet.old (turn_text number aid.now source (bare_value turn.now wrote)
         (record {
           lb = memory.now.after.lb;
           is_on = is_on;
@@ -164,14 +163,14 @@ fn write_counted<T: Sink>(
     memory: &Memory,
     number: u32,
     aid: &Aid,
-    turn: &Turn,
+    turn: &BriefTurn,
     source: Option<u32>,
     is_on: bool,
     writes: Option<(u32, u32)>,
 ) -> Option<WriteFault>
     requires { IfSome turn.now.ins Shaped }
     ensures { (wrote : Option ℕ) → PutsOn fault (sunk T.Sink out.old)
-        (turn_text number aid.now source (turn_value turn.now wrote)
+        (turn_text number aid.now source (bare_value turn.now wrote)
         (record {
           lb = memory.now.after.lb;
           is_on = is_on;
@@ -278,12 +277,12 @@ impl<'s, 'o, T: Sink> Recorder<'s, 'o, T> {
     }
 
     // Writes the line of a turn, whose shots were taken.
-    fn write_turn(&mut self, aid: &Aid, turn: &Turn, source: Option<u32>)
+    fn write_turn(&mut self, aid: &Aid, turn: &BriefTurn, source: Option<u32>)
         requires { IfSome turn.now.ins Shaped }
         ensures adds { (wrote : Option ℕ) → PutsText T.Sink self.old
-            (turn_text (next_number self.old.turns) aid.now source (turn_value turn.now wrote) (record {
+            (turn_text (next_number self.old.turns) aid.now source (bare_value turn.now wrote) (record {
               lb = self.old.memory.after.lb;
-              is_on = open_by (option_map outcome_value turn.now.end) turn.now.ins
+              is_on = open_by (end_of turn.now.end) turn.now.ins
                   (get_or self.old.memory.opens (frame_place turn.now.depth) false);
               sets = shot_changes self.old.memory.before self.old.memory.after;
               writes = writes_after self.old.memory.writes
@@ -295,7 +294,7 @@ impl<'s, 'o, T: Sink> Recorder<'s, 'o, T> {
         ensures turns { self.new.turns ≡ next_number self.old.turns }
         ensures command { self.new.memory.command.items ≡ self.old.memory.command.items }
         ensures opens { self.new.memory.opens ≡ slice_set self.old.memory.opens (frame_place turn.now.depth)
-            (open_by (option_map outcome_value turn.now.end) turn.now.ins
+            (open_by (end_of turn.now.end) turn.now.ins
             (get_or self.old.memory.opens (frame_place turn.now.depth) false)) }
         ensures guards { self.new.memory.guards ≡ slice_set self.old.memory.guards (frame_place turn.now.depth)
             (waits_by_shots turn.now self.old.memory.before self.old.memory.after
@@ -323,7 +322,7 @@ impl<'s, 'o, T: Sink> Recorder<'s, 'o, T> {
     }
 
     // Looks at the card after a turn of an application, and returns whether the turn called another frame.
-    fn look_after<N: Nvm>(&mut self, card: &Card<N>, aid: &Aid, turn: &Turn) -> bool
+    fn look_after<N: Nvm>(&mut self, card: &Card<N>, aid: &Aid, turn: &BriefTurn) -> bool
         requires up { IsUp N.state card.now }
         requires watched { IsWatched N.state card.now }
         ensures quiet { IsQuiet self.old self.new }
@@ -353,7 +352,7 @@ impl<'s, 'o, T: Sink> Recorder<'s, 'o, T> {
         &mut self,
         card: &Card<N>,
         aid: &Aid,
-        turn: &Turn,
+        turn: &BriefTurn,
         source: Option<u32>,
     )
         requires up { IsUp N.state card.now }

@@ -8,7 +8,7 @@ use crate::looking::{running_aid, source_of};
 use crate::recording::Recorder;
 use desk_cover::running_section;
 use mc_base::{Steps, Stop};
-use mc_card::{Card, Turn};
+use mc_card::{BriefTurn, Card};
 use mc_machine::Outcome;
 use mc_nvm::Nvm;
 use mc_script::{Runner, Watcher, run_watched};
@@ -29,14 +29,15 @@ impl<'s, 'o, T: Sink> Watcher for Recorder<'s, 'o, T> {
     fn turn<N: Nvm, L: Ledger>(
         &mut self,
         card: &mut Card<N>,
+        into: &mut Outcome,
         steps: &mut Steps<L>,
-    ) -> Result<Turn, Stop> {
+    ) -> Result<BriefTurn, Stop> {
         let Some(aid) = running_aid(card) else {
-            return card.turn(steps);
+            return card.brief_turn(into, steps);
         };
         let section = running_section(card, self.sections);
         self.look_before(card, aid);
-        let turn = card.turn(steps)?;
+        let turn = card.brief_turn(into, steps)?;
         let source = source_of(self.sections, section, turn.at);
         self.after_turn(card, &aid, &turn, source);
         Ok(turn)

@@ -1,16 +1,16 @@
 // The static bytes that an executed instruction writes, and the device writes that they take.
 ghost use Rattle.std.specs.Prelude.{◌≡◌, ◌≤◌, ◌+◌, ◌-◌, ◌||◌, ◌==◌, cond, length, nat_lt, option_map, []};
-ghost use Rattle.mc_machine.specs.Turns.{outcome_value};
 ghost use Rattle.mc_prims.specs.Table.{primitive_of};
 ghost use Rattle.law_steps.specs.Registers.{mode_of};
 ghost use Rattle.law_steps.specs.Spans.{below_top, pair_target, placed, pointed, pointer, prim_target, static_only, target};
 ghost use Rattle.law_steps.specs.Writes.{now_by, now_of, span_now, span_waits, waits_by, waits_of, words_under, writes_of_words};
 ghost use Rattle.desk_steps.specs.Shots.{look_of, name_seen, span_seen};
+ghost use Rattle.desk_steps.specs.Turning.{end_of};
 
 use crate::guard::Guard;
 use crate::modes::{abend_of, mode_of};
 use crate::shot::Shot;
-use mc_card::Turn;
+use mc_card::BriefTurn;
 use mc_isa::Ins;
 use mc_prims::Primitive;
 
@@ -212,14 +212,20 @@ fn words_written(
 
 /// Returns the number of words of static bytes that a turn wrote at once, by the bytes of its frame before and after it,
 /// and keeps those that wait, if protection was on, under the frame's guard.
-pub fn turn_words(guard: &mut Guard, is_on: bool, turn: &Turn, before: &Shot, after: &Shot) -> u32
-    ensures now { result ≡ now_of (option_map outcome_value turn.now.end) turn.now.ins
+pub fn turn_words(
+    guard: &mut Guard,
+    is_on: bool,
+    turn: &BriefTurn,
+    before: &Shot,
+    after: &Shot,
+) -> u32
+    ensures now { result ≡ now_of (end_of turn.now.end) turn.now.ins
         (span_seen before.now after.now (nat_lt 1 turn.now.depth)) is_on guard.old }
-    ensures waits { guard.new ≡ waits_of (option_map outcome_value turn.now.end) turn.now.ins
+    ensures waits { guard.new ≡ waits_of (end_of turn.now.end) turn.now.ins
         (span_seen before.now after.now (nat_lt 1 turn.now.depth)) is_on guard.old }
     ensures few { result ≤ 20000 }
 {
-    if abend_of(&turn.end).is_some() {
+    if abend_of(turn.end).is_some() {
         return 0;
     }
     match &turn.ins {

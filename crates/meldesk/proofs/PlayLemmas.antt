@@ -16,8 +16,8 @@ use Rattle.mc_filter.specs.declared.status.Status.TheVariants.{Done, Failed, Wri
 use Rattle.mc_filter.proofs.Outside as filter
 use Rattle.mc_filter.proofs.Statuses.{written_whole}
 use Rattle.desk_draft.specs.Listings.{Desk, Source, desk_read}
-use Rattle.desk_cover.specs.declared.covering.CoverFault.{CoverFault}
-use Rattle.desk_cover.specs.declared.covering.CoverFault.TheVariants as cover
+use Rattle.mc_script.specs.declared.job.JobFault.{JobFault}
+use Rattle.mc_script.specs.declared.job.JobFault.TheVariants as fault
 use Rattle.desk_cover.specs.Plays.{CoversBy, CoversDeck}
 use Rattle.desk_steps.specs.Recorded.{StepsDeck}
 use Rattle.meldesk.specs.Jobs.{Shown, Coverage, Steps, Trace}
@@ -65,9 +65,9 @@ pub is_stepped : (ss : List Source) (deck : List ℕ) (ls : List (ℕ × DeckLin
 is_stepped ss deck ls s a x r b y old new status h = record { result = r; status = status; text = h.text; sums = h.sums.deck; shows = h.shows }
 
 -- a deck whose coverage was not wholly written
-pub cover_fault : (name : List ℕ) (ss : List Source) (ls : List (ℕ × DeckLine)) (a : Bench) (x : Sunk) (r : Result (Unit {0}) CoverFault) (b : Bench) (y : Sunk) (old new : ℕ) → r ≡ Err cover.WriteFault → CoversBy name ss ls a x r b y old new → IsCovered name ss ls WriteFault a x b y
+pub cover_fault : (name : List ℕ) (ss : List Source) (ls : List (ℕ × DeckLine)) (a : Bench) (x : Sunk) (r : Result (Unit {0}) JobFault) (b : Bench) (y : Sunk) (old new : ℕ) → r ≡ Err fault.WriteFault → CoversBy name ss ls a x r b y old new → IsCovered name ss ls WriteFault a x b y
 cover_fault name ss ls a x r b y old new is h =
-    let w : CoversBy name ss ls a x (Err cover.WriteFault) b y old new = subst (λ (q : Result (Unit {0}) CoverFault). CoversBy name ss ls a x q b y old new) is h in
+    let w : CoversBy name ss ls a x (Err fault.WriteFault) b y old new = subst (λ (q : Result (Unit {0}) JobFault). CoversBy name ss ls a x q b y old new) is h in
     is_covered name ss ls WriteFault a x (Err w.0) b y old new refl w.1
 
 -- ---- statuses

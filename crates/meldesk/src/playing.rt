@@ -11,13 +11,14 @@ ghost use Rattle.meldesk.specs.Plays.{IsCovered, IsShown, IsStepped, IsTraced, R
 
 use crate::job::Play;
 use crate::running::{desk_of, end};
-use desk_cover::{CoverFault, Sections, cover, trace};
+use desk_cover::{Sections, cover, trace};
 use desk_draft::Desk;
 use desk_steps::put_steps;
 use mc_base::Steps;
 use mc_deck::Deck;
 use mc_filter::{Rejection, Status, ended, read_input};
 use mc_nvm::Bench;
+use mc_script::JobFault;
 use mc_streams::{Sink, Source};
 use std::alloc::Global;
 use std::sync::ledger::Ledger;
@@ -76,8 +77,8 @@ fn write_coverage<T: Sink, N: Bench, L: Ledger>(
 {
     match cover(alloc, name, sections, deck, dev, out, steps) {
         Ok(()) => Ok(Status::Done),
-        Err(CoverFault::WriteFault) => Ok(Status::WriteFault),
-        Err(CoverFault::NoMemory) => Err(Rejection::NoMemory),
+        Err(JobFault::WriteFault) => Ok(Status::WriteFault),
+        Err(JobFault::NoMemory) => Err(Rejection::NoMemory),
     }
 }
 

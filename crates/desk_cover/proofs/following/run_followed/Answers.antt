@@ -2,6 +2,8 @@ use Rattle.std.proofs.Common.{false, List, Option, Ok, Err, arith, ap, sym, subs
 use Rattle.std.specs.Prelude.{is_err}
 use Rattle.std.proofs.lemmas.Result.{err_from_is_err_and}
 use Rattle.mc_machine.specs.declared.outcome.Outcome.{Outcome}
+use Rattle.mc_machine.specs.Turns.{full_turn}
+use Rattle.mc_machine.proofs.EndLemmas.{end_there, end_missing}
 use Rattle.mc_card.specs.Ends.{Begun}
 use Rattle.mc_card.specs.Parts.{card_in, session_state_in, due}
 use Rattle.mc_script.specs.Runs.{sent_to}
@@ -63,7 +65,7 @@ pub follow-requires : goal.follow-requires
 follow-requires g c =
     let l = c.turns in
     let h = l.invariant.leads in
-    turned_watched g.N.Nvm.state g.N.Nvm.wrote l.card c.turn.new.card c.in_ok-turn.turn (h.chain, l.left, h.runs) c.in_ok-turn.ensures.done
+    turned_watched g.N.Nvm.state g.N.Nvm.wrote l.card c.turn.new.card (full_turn c.in_ok-turn.turn c.turn.new.into) (h.chain, l.left, h.runs) c.in_ok-turn.ensures.done
 
 pub returns-in_err-turn : goal.returns-in_err-turn
 returns-in_err-turn g c =
@@ -77,13 +79,14 @@ returns-in_err-turn g c =
       keeps_device = g.met.N.Nvm.onward _ _ _ l.invariant.keeps_device c.turn.ensures.keeps_device;
     }
 
-pub returns-in-Some-end : goal.returns-in-Some-end
-returns-in-Some-end g c =
+pub returns-then-is_some : goal.returns-then-is_some
+returns-then-is_some g c =
     let l = c.turns in
     let e = c.in_ok-turn.ensures in
-    let last = leads_end g.N.Nvm.state g.N.Nvm.wrote g.met.N.Nvm.obeys g.W.Follower.seen g.W.Follower.watched g.met.W.Follower.onward c.args.card.now l.card c.turn.new.card c.args.bytes.now c.args.budget c.args.follower.now c.args.steps.now l.left l.follower c.turn.new.self l.steps c.turn.new.steps c.in_ok-turn.turn c.in-Some-end.outcome l.invariant.leads (record { done = e.done; watches = e.watches; steps = c.turn.ensures.steps }) c.in-Some-end.is in
+    let end = end_there c.in_ok-turn.turn.end c.turn.new.into (sym c.is_some.ensures ∙ c.if-is_some.true) in
+    let last = leads_end g.N.Nvm.state g.N.Nvm.wrote g.met.N.Nvm.obeys g.W.Follower.seen g.W.Follower.watched g.met.W.Follower.onward c.args.card.now l.card c.turn.new.card c.args.bytes.now c.args.budget c.args.follower.now c.args.steps.now l.left l.follower c.turn.new.self l.steps c.turn.new.steps (full_turn c.in_ok-turn.turn c.turn.new.into) c.turn.new.into l.invariant.leads (record { done = e.done; watches = e.watches; steps = c.turn.ensures.steps }) end in
     record {
-      done = rw c.in-Some-end.outcome-is last.0;
+      done = last.0;
       steps = exact (instructions (due g.N.Nvm.state c.args.card.now c.args.bytes.now c.args.budget).turns) (command_search (card_in g.N.Nvm.state c.args.card.now) c.args.bytes.now) c.args.steps.now c.turn.new.steps false last.1;
       keeps_device = g.met.N.Nvm.onward _ _ _ l.invariant.keeps_device c.turn.ensures.keeps_device;
     }
@@ -92,14 +95,14 @@ pub overflow_sub-left : goal.overflow_sub-left
 overflow_sub-left g c =
     let l = c.turns in
     let e = c.in_ok-turn.ensures in
-    let on = leads_on g.N.Nvm.state g.N.Nvm.wrote g.met.N.Nvm.obeys g.W.Follower.seen g.W.Follower.watched g.met.W.Follower.onward c.args.card.now l.card c.turn.new.card c.args.bytes.now c.args.budget c.args.follower.now c.args.steps.now l.left l.follower c.turn.new.self l.steps c.turn.new.steps c.in_ok-turn.turn l.invariant.leads (record { done = e.done; watches = e.watches; steps = c.turn.ensures.steps }) c.in_default-end.is in
+    let on = leads_on g.N.Nvm.state g.N.Nvm.wrote g.met.N.Nvm.obeys g.W.Follower.seen g.W.Follower.watched g.met.W.Follower.onward c.args.card.now l.card c.turn.new.card c.args.bytes.now c.args.budget c.args.follower.now c.args.steps.now l.left l.follower c.turn.new.self l.steps c.turn.new.steps (full_turn c.in_ok-turn.turn c.turn.new.into) l.invariant.leads (record { done = e.done; watches = e.watches; steps = c.turn.ensures.steps }) (end_missing c.in_ok-turn.turn.end c.turn.new.into (sym c.is_some.ensures ∙ c.if-is_some.false)) in
     on.0
 
 pub turns-smaller : goal.turns-smaller
 turns-smaller g c =
     let l = c.turns in
     let e = c.in_ok-turn.ensures in
-    let on = leads_on g.N.Nvm.state g.N.Nvm.wrote g.met.N.Nvm.obeys g.W.Follower.seen g.W.Follower.watched g.met.W.Follower.onward c.args.card.now l.card c.turn.new.card c.args.bytes.now c.args.budget c.args.follower.now c.args.steps.now l.left l.follower c.turn.new.self l.steps c.turn.new.steps c.in_ok-turn.turn l.invariant.leads (record { done = e.done; watches = e.watches; steps = c.turn.ensures.steps }) c.in_default-end.is in
+    let on = leads_on g.N.Nvm.state g.N.Nvm.wrote g.met.N.Nvm.obeys g.W.Follower.seen g.W.Follower.watched g.met.W.Follower.onward c.args.card.now l.card c.turn.new.card c.args.bytes.now c.args.budget c.args.follower.now c.args.steps.now l.left l.follower c.turn.new.self l.steps c.turn.new.steps (full_turn c.in_ok-turn.turn c.turn.new.into) l.invariant.leads (record { done = e.done; watches = e.watches; steps = c.turn.ensures.steps }) (end_missing c.in_ok-turn.turn.end c.turn.new.into (sym c.is_some.ensures ∙ c.if-is_some.false)) in
     let some = on.0 in
     omega (arith, some)
 
@@ -107,11 +110,11 @@ pub turns-preserved : goal.turns-preserved
 turns-preserved g c =
     let l = c.turns in
     let e = c.in_ok-turn.ensures in
-    let on = leads_on g.N.Nvm.state g.N.Nvm.wrote g.met.N.Nvm.obeys g.W.Follower.seen g.W.Follower.watched g.met.W.Follower.onward c.args.card.now l.card c.turn.new.card c.args.bytes.now c.args.budget c.args.follower.now c.args.steps.now l.left l.follower c.turn.new.self l.steps c.turn.new.steps c.in_ok-turn.turn l.invariant.leads (record { done = e.done; watches = e.watches; steps = c.turn.ensures.steps }) c.in_default-end.is in
+    let on = leads_on g.N.Nvm.state g.N.Nvm.wrote g.met.N.Nvm.obeys g.W.Follower.seen g.W.Follower.watched g.met.W.Follower.onward c.args.card.now l.card c.turn.new.card c.args.bytes.now c.args.budget c.args.follower.now c.args.steps.now l.left l.follower c.turn.new.self l.steps c.turn.new.steps (full_turn c.in_ok-turn.turn c.turn.new.into) l.invariant.leads (record { done = e.done; watches = e.watches; steps = c.turn.ensures.steps }) (end_missing c.in_ok-turn.turn.end c.turn.new.into (sym c.is_some.ensures ∙ c.if-is_some.false)) in
     let h = l.invariant.leads in
     record {
       leads = on.1;
       keeps_device = g.met.N.Nvm.onward _ _ _ l.invariant.keeps_device c.turn.ensures.keeps_device;
       sources = g.met.W.Follower.stays l.follower c.turn.new.self _ (e.watches h.chain l.left h.runs h.wide) ∙ l.invariant.sources;
-      known = known_on g.N.Nvm.state g.N.Nvm.wrote c.args.sections.now l.card c.turn.new.card h.chain l.left c.in_ok-turn.turn l.known c.follow.new.self h.runs l.invariant.known (e.done h.chain l.left h.runs) c.follow.ensures;
+      known = known_on g.N.Nvm.state g.N.Nvm.wrote c.args.sections.now l.card c.turn.new.card h.chain l.left (full_turn c.in_ok-turn.turn c.turn.new.into) l.known c.follow.new.self h.runs l.invariant.known (e.done h.chain l.left h.runs) c.follow.ensures;
     }
