@@ -13,8 +13,8 @@ use Rattle.lab_history.specs.declared.standing.Break.{Break}
 use Rattle.lab_rules.specs.declared.rules.Rules.{Rules as MoveRules}
 use Rattle.lab_search.specs.declared.endings.Explored.{Explored}
 use Rattle.lab_search.specs.declared.endings.Explored.TheVariants as explored
-use Rattle.lab_search.specs.declared.endings.SearchFault.{SearchFault}
-use Rattle.lab_search.specs.declared.endings.SearchFault.TheVariants as fault
+use Rattle.mc_script.specs.declared.job.JobFault.{JobFault}
+use Rattle.mc_script.specs.declared.job.JobFault.TheVariants as fault
 use Rattle.lab_search.specs.declared.endings.Start.{Start}
 use Rattle.lab_search.specs.declared.rounds.Search.{Search}
 use Rattle.lab_search.specs.Endings.{kept_as, IsExplored, IsPut}
@@ -61,7 +61,7 @@ found_more r ms k depth n q h =
 -- ---- the loop
 
 -- the text of a search, from its first depth
-text_whole : (r : Rules) (ms : List rule.Move) (depth : ℕ) (z : State) (a c : Sunk) (result : Result Explored SearchFault) (q : Found) → IsFoundFrom r ms 0 depth q → IsExplored a (text_from 1 z q) q.ending result c
+text_whole : (r : Rules) (ms : List rule.Move) (depth : ℕ) (z : State) (a c : Sunk) (result : Result Explored JobFault) (q : Found) → IsFoundFrom r ms 0 depth q → IsExplored a (text_from 1 z q) q.ending result c
     → IsAppExplored r ms depth z a result c
 text_whole r ms depth z a c result q found h = record { search = q; found = found; explored = h }
 
@@ -80,14 +80,14 @@ module _ (r : Rules) (ls : List (ℕ × DeckLine)) (ms : List rule.Move) (n most
   left_first s w a h = record { nodes = h.node ∷ []; holds = h.holds; rest = λ q result c found x. text_whole r ms depth z a c result q found x }
 
   -- out of memory within a depth
-  pub left_stops : (done : ℕ) (s : Search) (a b : Sunk) (result : Result Explored SearchFault) → done < depth → Left done s a b → IsErr result → IsErrAnd result (λ y. y ≡ fault.NoMemory) → IsAppExplored r ms depth z a result b
+  pub left_stops : (done : ℕ) (s : Search) (a b : Sunk) (result : Result Explored JobFault) → done < depth → Left done s a b → IsErr result → IsErrAnd result (λ y. y ≡ fault.NoMemory) → IsAppExplored r ms depth z a result b
   left_stops done s a b result below k i y =
       k.rest (ended r s (TooMany (done + 1))) result b
       (record { few = omega (arith, below); ending = omega arith; heard = (s.tally.heard.items, refl) })
       (explored_err b b _ _ result fault.NoMemory i y (nothing_yet b _))
 
   -- a depth with one state too many, or with a broken rule
-  pub left_halts : (done : ℕ) (s u : Search) (a b c : Sunk) (h : Halt) (result : Result Explored SearchFault) → done < depth → Left done s a b → Reports r u z ms (done + 1) h b result c → IsAppExplored r ms depth z a result c
+  pub left_halts : (done : ℕ) (s u : Search) (a b c : Sunk) (h : Halt) (result : Result Explored JobFault) → done < depth → Left done s a b → Reports r u z ms (done + 1) h b result c → IsAppExplored r ms depth z a result c
   left_halts done s u a b c halt.Full result below k h =
       k.rest (ended r u (TooMany (done + 1))) result c
       (record { few = omega (arith, below); ending = omega arith; heard = (u.tally.heard.items, refl) })
@@ -100,7 +100,7 @@ module _ (r : Rules) (ls : List (ℕ × DeckLine)) (ms : List rule.Move) (n most
       (explored_by b c _ (Broken name path) explored.Broken result refl (put_as b c result (ap (broken_text name) (sym (way_is z h.0 h.1))) h.3) h.4)
 
   -- the line of a depth fails
-  pub left_fails : (done new : ℕ) (s u : Search) (a b c : Sunk) (result : Result Explored SearchFault) → done < depth → Left done s a b → IsErr result → IsErrAnd result (λ y. y ≡ fault.WriteFault) → Fails b (depth_line (done + 1) new) c
+  pub left_fails : (done new : ℕ) (s u : Search) (a b c : Sunk) (result : Result Explored JobFault) → done < depth → Left done s a b → IsErr result → IsErrAnd result (λ y. y ≡ fault.WriteFault) → Fails b (depth_line (done + 1) new) c
       → IsAppExplored r ms depth z a result c
   left_fails done new s u a b c result below k i y f =
       let q = ended r u (TooMany (done + 2)) in
@@ -108,7 +108,7 @@ module _ (r : Rules) (ls : List (ℕ × DeckLine)) (ms : List rule.Move) (n most
       k.rest (with_depth new q) result c (found_more r ms done depth new q ended_next) (explored_failed (done + 1) z new q b c result i y f)
 
   -- a depth without new states is the last
-  pub left_last : (done new : ℕ) (s u : Search) (a b m c : Sunk) (result : Result Explored SearchFault) → done < depth → Left done s a b → new ≡ 0 → Writes b (depth_line (done + 1) new) m
+  pub left_last : (done new : ℕ) (s u : Search) (a b m c : Sunk) (result : Result Explored JobFault) → done < depth → Left done s a b → new ≡ 0 → Writes b (depth_line (done + 1) new) m
       → IsPut m (kept_text_of r u (how_text None)) result c → IfOk result (λ e. e ≡ kept_as None) → IsAppExplored r ms depth z a result c
   left_last done new s u a b m c result below k none w put is =
       let q = ended r u All in
@@ -130,7 +130,7 @@ module _ (r : Rules) (ls : List (ℕ × DeckLine)) (ms : List rule.Move) (n most
       }
 
   -- all depths are done
-  pub left_end : (done : ℕ) (s : Search) (a b c : Sunk) (result : Result Explored SearchFault) → Left done s a b → done ≡ depth → IsPut b (kept_text_of r s (how_text (Some depth))) result c → IfOk result (λ e. e ≡ kept_as (Some depth))
+  pub left_end : (done : ℕ) (s : Search) (a b c : Sunk) (result : Result Explored JobFault) → Left done s a b → done ≡ depth → IsPut b (kept_text_of r s (how_text (Some depth))) result c → IfOk result (λ e. e ≡ kept_as (Some depth))
       → IsAppExplored r ms depth z a result c
   left_end done s a b c result k e put is =
       k.rest (ended r s (AtDepth depth)) result c
@@ -149,7 +149,7 @@ module _ (r : Rules) (ls : List (ℕ × DeckLine)) (ms : List rule.Move) (n most
       f d k.nodes k.holds within (at ∙ alike_length (KeepsNode (shadow ms n) s) s.states.keys k.nodes k.holds.kept) shadows
 
 -- the deck itself breaks a rule
-pub deck_breaks : (r : Rules) (ms : List rule.Move) (depth : ℕ) (z : State) (a b : Sunk) (x : Break) (result : Result Explored SearchFault) → IsPut a (broken_text (broken_name r x) []) result b → IfOk result (λ e. e ≡ explored.Broken)
+pub deck_breaks : (r : Rules) (ms : List rule.Move) (depth : ℕ) (z : State) (a b : Sunk) (x : Break) (result : Result Explored JobFault) → IsPut a (broken_text (broken_name r x) []) result b → IfOk result (λ e. e ≡ explored.Broken)
     → IsAppExplored r ms depth z a result b
 deck_breaks r ms depth z a b x result put is =
     let q : Found = search_end (Broken (broken_name r x) []) (record { known = []; fresh = []; count = 0; tries = 0; heard = heard_from 0 r.ons.items [] }) in
@@ -160,7 +160,7 @@ deck_breaks r ms depth z a b x result put is =
     }
 
 -- out of memory before the first byte is written
-pub app_stops : (r : Rules) (ms : List rule.Move) (depth : ℕ) (z : State) (a : Sunk) (result : Result Explored SearchFault) → IsErr result → IsErrAnd result (λ y. y ≡ fault.NoMemory) → IsAppExplored r ms depth z a result a
+pub app_stops : (r : Rules) (ms : List rule.Move) (depth : ℕ) (z : State) (a : Sunk) (result : Result Explored JobFault) → IsErr result → IsErrAnd result (λ y. y ≡ fault.NoMemory) → IsAppExplored r ms depth z a result a
 app_stops r ms depth z a result i y =
     let q : Found = search_end (TooMany 1) (record { known = []; fresh = []; count = 0; tries = 0; heard = heard_from 0 r.ons.items [] }) in
     record { search = q; found = record { few = omega arith; ending = omega arith; heard = ([], refl) }; explored = explored_err a a _ _ result fault.NoMemory i y (nothing_yet a _) }

@@ -26,7 +26,7 @@ alone x ls ms h = record { deck = h.deck; rules = h.rules; cards = h.cards }
 
 pub starts_with : (x : Exploration) (ls : List (ℕ × DeckLine)) (ms : List rule.Move) (most n : ℕ) (b : Beginning) (first : CardState) (s : Search) (z : Start) → Begins b (moves_alone ls ms)
     → first.card ≡ b.first.card → first.runs ≡ b.first.runs → length first.allowances.items ≡ suc n
-    → ((r : rule.Rules) (c : model.CardState) → Kept b.laboratory b.rosters (names_in r) first c → Holds (record { rules = r; most = most; from = 0 }) s (record { state = c; path = [] } ∷ []))
+    → ((r : rule.Rules) (c : model.CardState) → Kept b.laboratory b.rosters (names_in r) first c → length b.laboratory.counts.items ≡ length r.ons → Holds (record { rules = r; most = most; from = 0 }) s (record { state = c; path = [] } ∷ []))
     → z.lead ≡ b.lead → z.ran ≡ (b.first.runs && not b.lead.power) → StartsWith ls ms n most s z
 starts_with x ls ms most n b first s z begins card runs many holds lead ran =
     let held = (shadow ms n).allowances in
@@ -34,7 +34,7 @@ starts_with x ls ms most n b first s z begins card runs many holds lead ran =
     let k = kept_named b.laboratory b.rosters (names_in (counting ms)) b.first first (first_state (moves_alone ls ms)) held begins.kept card runs (many ∙ ap suc (sym (length_others n))) in
     record {
       node = record { state = state; path = [] };
-      holds = holds (shadow ms n) state k;
+      holds = holds (shadow ms n) state k begins.counts;
       start = record {
         lead = record { armed = ap (λ l. l.armed) lead ∙ begins.lead.armed; power = ap (λ l. l.power) lead ∙ begins.lead.power };
         ran = ran_start (moves_alone ls ms) z.ran b.first.runs b.lead.power ran begins.kept.runs begins.lead.power;

@@ -17,10 +17,10 @@ use Rattle.lab_search.specs.declared.rounds.Search.{Search}
 use Rattle.lab_search.specs.declared.trying.Laboratory.{Laboratory}
 use Rattle.lab_search.specs.declared.trying.Tried.{Tried}
 use Rattle.lab_search.specs.declared.trying.Tried.TheVariants as tried
-use Rattle.lab_search.specs.Kept.{names_in, Kept, KeepsKept, TryIs}
+use Rattle.lab_search.specs.Kept.{names_in, root_of, Kept, KeepsKept, TryIs}
 use Rattle.lab_search.specs.Rounds.{known_in, round_in, tally_of, try_value, Comes, Depth, Extends, Holds, IsFrom, IsTry, TriesMove}
 use Rattle.lab_search.specs.Trying.{CanCut, IsMade, IsMissed}
-use Rattle.lab_search.proofs.AttemptLemmas.{keeps_there}
+use Rattle.lab_search.proofs.AttemptLemmas.{keeps_self, keeps_then, keeps_there}
 use Rattle.lab_search.proofs.RoundLemmas.{extends_more, extends_none, found_later, holds_still}
 use Rattle.lab_application.specs.declared.attempts.Halt.{Halt}
 use Rattle.lab_application.specs.declared.attempts.Halt.TheVariants as halt
@@ -30,15 +30,15 @@ use Rattle.lab_application.specs.Finding.{AreKeptWith, BreaksAt, ComesTo, HoldsM
 -- ---- the same search
 
 pub same_self : (s : Search) → IsSameSearch s s
-same_self s = record { keeps = λ names x c k. k; room = refl; states = refl; steps = refl }
+same_self s = record { keeps = keeps_self s.laboratory s.rosters; room = refl; states = refl; steps = refl }
 
 pub same_then : (s u v : Search) → IsSameSearch s u → IsSameSearch u v → IsSameSearch s v
 same_then s u v h k =
-    record { keeps = λ names x c e. k.keeps names x c (h.keeps names x c e); room = k.room ∙ h.room; states = k.states ∙ h.states; steps = k.steps ∙ h.steps }
+    record { keeps = keeps_then s.laboratory u.laboratory v.laboratory s.rosters u.rosters v.rosters h.keeps k.keeps; room = k.room ∙ h.room; states = k.states ∙ h.states; steps = k.steps ∙ h.steps }
 
--- a laboratory whose device has the same root, with the same budget
-pub same_laboratory : (s : Search) (lab : Laboratory) → lab.device.root ≡ s.laboratory.device.root → lab.budget ≡ s.laboratory.budget → IsSameSearch s (record s { laboratory = lab })
-same_laboratory s lab root budget = record { keeps = keeps_there s.laboratory lab s.rosters root budget; room = refl; states = refl; steps = refl }
+-- a laboratory whose device has the same root, with the same budget and with room for as many counts
+pub same_laboratory : (s : Search) (lab : Laboratory) → root_of lab ≡ root_of s.laboratory → lab.budget ≡ s.laboratory.budget → length lab.counts.items ≡ length s.laboratory.counts.items → IsSameSearch s (record s { laboratory = lab })
+same_laboratory s lab root budget counts = record { keeps = keeps_there s.laboratory lab s.rosters root budget counts; room = refl; states = refl; steps = refl }
 
 pub same_holds : (d : Depth) (ns : List Node) (s u : Search) → IsSameSearch s u → Holds d s ns → Holds d u ns
 same_holds d ns s u h = holds_still d s u ns h.keeps h.room h.states h.steps
@@ -48,7 +48,7 @@ same_tries d ns n m c i j s u h t =
     record { at = record { holds = same_holds d ns s u h t.at.holds; found = t.at.found }; candidate = t.candidate; place = t.place }
 
 pub kept_with : (s u : Search) (names : List (List ℕ)) (x : CardState) → KeepsKept s.laboratory s.rosters u.laboratory u.rosters → IsKeptWith s names x → IsKeptWith u names x
-kept_with s u names x keeps k = (k.0, keeps names x k.0 k.1)
+kept_with s u names x keeps k = (k.0, keeps.kept names x k.0 k.1)
 
 pub are_kept_with : (s u : Search) (names : List (List ℕ)) (rs : List Reached) → KeepsKept s.laboratory s.rosters u.laboratory u.rosters → AreKeptWith s names rs → AreKeptWith u names rs
 are_kept_with s u names [] keeps h = tt
@@ -113,7 +113,7 @@ pub kept_named : (lab : Laboratory) (r : Rosters) (names : List (List ℕ)) (x y
     → Kept lab r (map (λ a. a.0) held) y (record c { allowances = amounts_with held y.allowances.items })
 kept_named lab r names x y c held k card runs many =
     record {
-      card = subst (λ (n : ℕ). IsKeptCard lab.device.root r n c.base c.live) (sym card) k.card;
+      card = subst (λ (n : ℕ). IsKeptCard (root_of lab) r n c.base c.live) (sym card) k.card;
       runs = runs ∙ k.runs;
       budget_is = k.budget_is;
       amounts = sym (with_amounts held y.allowances.items many);
@@ -194,8 +194,11 @@ breaks_by d ns n m c i j w s u r same h e =
     })
 
 pub keeps_equal : (s u : Search) → u.laboratory ≡ s.laboratory → u.rosters ≡ s.rosters → KeepsKept s.laboratory s.rosters u.laboratory u.rosters
-keeps_equal s u lab ros names x c k =
-    subst (λ (l : Laboratory). Kept l u.rosters names x c) (sym lab) (subst (λ (r : Rosters). Kept s.laboratory r names x c) (sym ros) k)
+keeps_equal s u lab ros =
+    record {
+      kept = λ names x c k. subst (λ (l : Laboratory). Kept l u.rosters names x c) (sym lab) (subst (λ (r : Rosters). Kept s.laboratory r names x c) (sym ros) k);
+      counts = ap (λ (l : Laboratory). length l.counts.items) lab;
+    }
 
 -- a state that was kept, or for which there is no room
 pub kept_comes : (d : Depth) (ns : List Node) (n : Node) (m : rule.Move) (s u : Search) (r : Step) (x y : CardState) (o : Option SearchHalt) → IsFrom d s ns n r.before → slice_get d.rules.moves r.chosen ≡ Some m

@@ -14,8 +14,8 @@ use Rattle.lab_rules.specs.Meanings.{AlikeLists}
 use Rattle.mc_text.specs.Texts.{Sunk, Writes, Fails}
 use Rattle.mc_text.proofs.TextLemmas.{fails_before, fails_then, writes_then}
 use Rattle.lab_search.specs.declared.endings.Explored.{Explored}
-use Rattle.lab_search.specs.declared.endings.SearchFault.{SearchFault}
-use Rattle.lab_search.specs.declared.endings.SearchFault.TheVariants as fault
+use Rattle.mc_script.specs.declared.job.JobFault.{JobFault}
+use Rattle.mc_script.specs.declared.job.JobFault.TheVariants as fault
 use Rattle.lab_search.specs.declared.journey.Step.{Step}
 use Rattle.lab_search.specs.Endings.{explored_as, IsExplored, IsPut}
 use Rattle.lab_search.specs.Reports.{depth_line}
@@ -71,7 +71,7 @@ way_is z t ts = way_some z (reverse (t ∷ ts)) (λ e. let no : suc (length ts) 
 -- ---- what is put
 
 -- a text that is put after one that was written
-pub put_then : {X : Type 0} (a b c : Sunk) (s t : List ℕ) (r : Result X SearchFault) → Writes a s b → IsPut b t r c → IsPut a (s ++ t) r c
+pub put_then : {X : Type 0} (a b c : Sunk) (s t : List ℕ) (r : Result X JobFault) → Writes a s b → IsPut b t r c → IsPut a (s ++ t) r c
 put_then a b c s t (Ok x) w p = writes_then w p
 put_then a b c s t (Err fault.WriteFault) w p = fails_then w p
 put_then a b c s t (Err fault.NoMemory) w p =
@@ -90,13 +90,13 @@ text_split k z n q =
     ap (λ t. depth_lines k (n ∷ q.news) ++ t) (ending_same z n q q.ending) ∙ append_assoc (depth_line k n) (depth_lines (k + 1) q.news) (ending_text z q.found q.ending)
 
 -- the line of a depth was written, and then the rest
-pub explored_then : (k : ℕ) (z : State) (n : ℕ) (q : Found) (a b c : Sunk) (r : Result Explored SearchFault) → Writes a (depth_line k n) b → IsExplored b (text_from (k + 1) z q) q.ending r c
+pub explored_then : (k : ℕ) (z : State) (n : ℕ) (q : Found) (a b c : Sunk) (r : Result Explored JobFault) → Writes a (depth_line k n) b → IsExplored b (text_from (k + 1) z q) q.ending r c
     → IsExplored a (text_from k z (with_depth n q)) (with_depth n q).ending r c
 explored_then k z n q a b c r w x =
     record { text = subst (λ (t : List ℕ). IsPut a t r c) (sym (text_split k z n q)) (put_then a b c (depth_line k n) (text_from (k + 1) z q) r w x.text); ending = x.ending }
 
 -- the line of a depth failed
-pub explored_failed : (k : ℕ) (z : State) (n : ℕ) (q : Found) (a b : Sunk) (r : Result Explored SearchFault) → IsErr r → IsErrAnd r (λ y. y ≡ fault.WriteFault) → Fails a (depth_line k n) b
+pub explored_failed : (k : ℕ) (z : State) (n : ℕ) (q : Found) (a b : Sunk) (r : Result Explored JobFault) → IsErr r → IsErrAnd r (λ y. y ≡ fault.WriteFault) → Fails a (depth_line k n) b
     → IsExplored a (text_from k z (with_depth n q)) (with_depth n q).ending r b
 explored_failed k z n q a b r i y f =
     record {
@@ -105,11 +105,11 @@ explored_failed k z n q a b r i y f =
     }
 
 -- what was put, and how it ends
-pub explored_by : (a b : Sunk) (t : List ℕ) (end : Ending) (e : Explored) (r : Result Explored SearchFault) → e ≡ explored_as end → IsPut a t r b → IfOk r (λ x. x ≡ e) → IsExplored a t end r b
+pub explored_by : (a b : Sunk) (t : List ℕ) (end : Ending) (e : Explored) (r : Result Explored JobFault) → e ≡ explored_as end → IsPut a t r b → IfOk r (λ x. x ≡ e) → IsExplored a t end r b
 explored_by a b t end e (Ok x) how p is = record { text = p; ending = is ∙ how }
 explored_by a b t end e (Err f) how p is = record { text = p; ending = tt }
 
-pub put_as : {X : Type 0} (a b : Sunk) {s t : List ℕ} (r : Result X SearchFault) → s ≡ t → IsPut a s r b → IsPut a t r b
+pub put_as : {X : Type 0} (a b : Sunk) {s t : List ℕ} (r : Result X JobFault) → s ≡ t → IsPut a s r b → IsPut a t r b
 put_as a b r e p = subst (λ (x : List ℕ). IsPut a x r b) e p
 
 -- ---- the end of a search that broke no rule

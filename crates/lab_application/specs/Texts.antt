@@ -11,7 +11,7 @@ use Rattle.law_histories.specs.Searches.{Search as Found, ending_text, text_of_s
 use Rattle.mc_text.specs.Texts.{Sunk}
 use Rattle.lab_search.specs.declared.endings.Explored.{Explored}
 use Rattle.lab_search.specs.declared.endings.Explored.TheVariants as explored
-use Rattle.lab_search.specs.declared.endings.SearchFault.{SearchFault}
+use Rattle.mc_script.specs.declared.job.JobFault.{JobFault}
 use Rattle.lab_search.specs.declared.rounds.Search.{Search}
 use Rattle.lab_search.specs.Endings.{IsExplored, IsPut}
 use Rattle.lab_search.specs.Reports.{how_text}
@@ -53,7 +53,7 @@ IsOfMoves ms t = (i : ℕ) × (slice_get ms i ≡ Some t.move)
 
 -- what is written of a search that ended within a depth, and what is returned: one state too many; or a rule that is broken,
 -- and the statements of tries of the moves
-abbrev pub Reports : Rules → Search → State → List rule.Move → ℕ → Halt → Sunk → Result Explored SearchFault → Sunk → Type 0
+abbrev pub Reports : Rules → Search → State → List rule.Move → ℕ → Halt → Sunk → Result Explored JobFault → Sunk → Type 0
 Reports r s z ms depth halt.Full a result b = IsPut a (kept_text_of r s (how_text (Some depth))) result b × IfOk result (λ e. e ≡ explored.Partial)
 Reports r s z ms depth (halt.Broken x step) a result b =
     (t : Try) × (ts : List Try) × AllByRecursion (IsOfMoves ms) (t ∷ ts) × IsPut a (broken_text (broken_name r x) (statements_to z (reverse (t ∷ ts)))) result b × IfOk result (λ e. e ≡ explored.Broken)
@@ -80,7 +80,7 @@ abbrev pub text_from : ℕ → State → Found → List ℕ
 text_from k z q = depth_lines k q.news ++ ending_text z q.found q.ending
 
 -- What an exploration writes and returns: the text of some search of this form, and how that ends.
-pub record IsAppExplored (r : Rules) (ms : List rule.Move) (depth : ℕ) (z : State) (a : Sunk) (result : Result Explored SearchFault) (b : Sunk) : Type 0 where
+pub record IsAppExplored (r : Rules) (ms : List rule.Move) (depth : ℕ) (z : State) (a : Sunk) (result : Result Explored JobFault) (b : Sunk) : Type 0 where
   pub search : Found
   pub found : IsFoundFrom r ms 0 depth search
   pub explored : IsExplored a (text_of_search z search) search.ending result b
@@ -90,5 +90,5 @@ pub record IsAppExplored (r : Rules) (ms : List rule.Move) (depth : ℕ) (z : St
 pub record DepthsLeft (r : Rules) (ls : List (ℕ × DeckLine)) (ms : List rule.Move) (n most depth done : ℕ) (s : Search) (a b : Sunk) : Type 0 where
   pub nodes : List model.Node
   pub holds : Holds (record { rules = shadow ms n; most = most; from = 0 }) s nodes
-  pub rest : (q : Found) (result : Result Explored SearchFault) (c : Sunk) → IsFoundFrom r ms done depth q
+  pub rest : (q : Found) (result : Result Explored JobFault) (c : Sunk) → IsFoundFrom r ms done depth q
       → IsExplored b (text_from (done + 1) (play_of_deck ls) q) q.ending result c → IsAppExplored r ms depth (play_of_deck ls) a result c

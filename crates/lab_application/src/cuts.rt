@@ -10,7 +10,7 @@ ghost use Rattle.lab_application.specs.Finding.{AreKeptWith, CanTakeCut, ComesTo
 use crate::attempts::{Attempt, Halt, Reached};
 use lab_branch::push;
 use lab_history::{Extent, is_durable};
-use lab_search::{Fill, Manner, Search};
+use lab_search::{Fill, Manner, Search, next_write};
 use mc_base::{NoMemory, Steps};
 use std::alloc::Global;
 use std::sync::ledger::Ledger;
@@ -49,7 +49,8 @@ impl<'a> Attempt<'a> {
             → is_running n.state.live ≡ true → AreKeptWith search.new (names_in d.rules) all.items) }
     {
         let mut all = Vec::new(self.alloc);
-        for made in 0..u32::MAX {
+        let mut made = 0;
+        'writes: loop {
             let manner = Manner::Cut {
                 made,
                 fill: Fill::Zeros,
@@ -58,8 +59,8 @@ impl<'a> Attempt<'a> {
                 Some(reached) => push(&mut all, reached)?,
                 None => return Ok(all),
             }
+            made = next_write(made)?;
         }
-        Err(NoMemory)
     }
 
     // Tries the move cut at a device write with a fill that was not made yet.

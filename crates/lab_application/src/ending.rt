@@ -20,9 +20,9 @@ use crate::naming::put_break;
 use lab_history::Break;
 use lab_rules::Exploration;
 use lab_search::{
-    Explored, Search, SearchFault, Start, Step, begins_cut, count_of_statements, put_path,
-    put_sums, put_unheard,
+    Explored, Search, Start, Step, begins_cut, count_of_statements, put_path, put_sums, put_unheard,
 };
+use mc_script::JobFault;
 use mc_streams::{Sink, WriteFault};
 use prove_events::{On, Rules};
 use std::alloc::Global;
@@ -36,7 +36,7 @@ pub fn report_deck<T: Sink>(
     out: &mut T,
     rules: &Rules<'_>,
     broken: Break,
-) -> Result<Explored, SearchFault>
+) -> Result<Explored, JobFault>
     ensures put { IsPut (sunk T.Sink out.old) (broken_text (broken_name rules.now broken) []) result
         (sunk T.Sink out.new) }
     ensures broken { IfOk result (λ e. e ≡ Explored.Broken) }
@@ -83,7 +83,7 @@ pub fn report_kept<T: Sink>(
     rules: &Rules<'_>,
     depth: Option<u32>,
     out: &mut T,
-) -> Result<Explored, SearchFault>
+) -> Result<Explored, JobFault>
     ensures put { IsPut (sunk T.Sink out.old) (kept_text_of rules.now search.now (how_text depth)) result
         (sunk T.Sink out.new) }
     ensures kept { IfOk result (λ e. e ≡ kept_as depth) }
@@ -101,7 +101,7 @@ fn put_way<T: Sink>(
     start: Start,
     broken: Break,
     path: &[Step],
-) -> Result<(), SearchFault>
+) -> Result<(), JobFault>
     ensures { (x : rule.Exploration) (ts : List Try) → AlikeLists IsMove moves.now.rules.moves.items x.rules.moves
         → StartIs start x → AlikeLists (IsTry x.rules.moves) path.now ts
         → IsPut (sunk T.Sink out.old)
@@ -125,7 +125,7 @@ fn report_broken<T: Sink>(
     broken: Break,
     last: Step,
     out: &mut T,
-) -> Result<Explored, SearchFault>
+) -> Result<Explored, JobFault>
     ensures put { (x : rule.Exploration) (d : Depth) (ns : List Node) (n : Node) (t : Try)
         → AlikeLists IsMove moves.now.rules.moves.items x.rules.moves → StartIs start x → d.rules ≡ x.rules
         → IsFrom d search.now ns n last.before → IsTry d.rules.moves last t
@@ -152,7 +152,7 @@ pub fn report_halt<T: Sink>(
     halt: Halt,
     depth: u32,
     out: &mut T,
-) -> Result<Explored, SearchFault>
+) -> Result<Explored, JobFault>
     ensures { (x : rule.Exploration) (d : Depth) (ns : List Node)
         → AlikeLists IsMove moves.now.rules.moves.items x.rules.moves → StartIs start x → d.rules ≡ x.rules
         → ComesTo d ns (Some halt) search.now

@@ -14,8 +14,9 @@ use lab_branch::push;
 use lab_key::CardState;
 use lab_record::{Subject, chronicle};
 use lab_rules::Exploration;
-use lab_search::{Beginning, Explored, Search, SearchFault, Start, begin, put_depth};
+use lab_search::{Beginning, Explored, Search, Start, begin, put_depth};
 use mc_base::{NoMemory, Steps};
+use mc_script::JobFault;
 use mc_streams::Sink;
 use std::alloc::Global;
 use std::sync::ledger::Ledger;
@@ -79,7 +80,7 @@ fn search_on<T: Sink, L: Ledger>(
     depth: u32,
     out: &mut T,
     steps: &mut Steps<L>,
-) -> Result<Explored, SearchFault>
+) -> Result<Explored, JobFault>
     requires { (ls : List (ℕ × DeckLine)) × (ms : List rule.Move) × (n : ℕ) × (limit : ℕ) × AreMovesOf moves.now ls ms
         × StartsWith ls ms n limit search.old start }
     ensures { (ls : List (ℕ × DeckLine)) (ms : List rule.Move) (n limit : ℕ) → AreMovesOf moves.now ls ms
@@ -127,7 +128,7 @@ pub fn explore_within<T: Sink, L: Ledger>(
     depth: u32,
     out: &mut T,
     steps: &mut Steps<L>,
-) -> Result<Explored, SearchFault>
+) -> Result<Explored, JobFault>
     requires read { (ls : List (ℕ × DeckLine)) × (ms : List rule.Move) × AreMovesOf moves.now ls ms }
     ensures { (ls : List (ℕ × DeckLine)) (ms : List rule.Move) → AreMovesOf moves.now ls ms
         → IsAppExplored subject.entry.rules.now ms depth (play_of_deck ls) (sunk T.Sink out.old) result
@@ -162,7 +163,7 @@ pub fn explore<T: Sink, L: Ledger>(
     depth: u32,
     out: &mut T,
     steps: &mut Steps<L>,
-) -> Result<Explored, SearchFault>
+) -> Result<Explored, JobFault>
     requires read { (ls : List (ℕ × DeckLine)) × (ms : List rule.Move) × AreMovesOf moves.now ls ms }
     ensures { (ls : List (ℕ × DeckLine)) (ms : List rule.Move) → AreMovesOf moves.now ls ms
         → IsAppExplored subject.entry.rules.now ms depth (play_of_deck ls) (sunk T.Sink out.old) result

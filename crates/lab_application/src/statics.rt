@@ -1,15 +1,16 @@
 // The static bytes of an application on the card of a state.
-ghost use Rattle.std.specs.Prelude.{◌≡◌, None, OnOk};
-ghost use Rattle.law_histories.specs.model_device.specs.Image.{image_with};
+ghost use Rattle.std.specs.Prelude.{◌≡◌, length, None, OnOk};
 ghost use Rattle.law_histories.specs.model_device.specs.Layout.{words_fault};
 ghost use Rattle.lab_key.specs.Keys.{IsReadable};
+ghost use Rattle.mc_script.specs.Players.{device_of};
+ghost use Rattle.lab_search.specs.Kept.{root_of};
 ghost use Rattle.lab_application.specs.Finding.{IsKept};
 
 use lab_branch::{BranchNvm, read_applications, static_bytes};
-use lab_key::{CardState, Rosters, Saved};
-use lab_search::Laboratory;
+use lab_key::{CardState, Rosters};
+use lab_search::{Laboratory, put_card};
 use mc_base::{Aid, NoMemory};
-use mc_script::Live;
+use mc_script::{Live, Player};
 use std::alloc::Global;
 
 // The static bytes of the application with a name on a device, or `None` if it is not there.
@@ -42,15 +43,18 @@ fn statics_of(
     }
 }
 
-/// Puts the card that was saved on a device.
-pub fn put_card(device: &mut BranchNvm, saved: Saved<'_>)
-    ensures words { device.new.device.words ≡ image_with device.old.root saved.entry.words.now }
-    ensures root { device.new.root ≡ device.old.root }
-    ensures cut { device.new.device.cut ≡ None }
-    ensures worn { device.new.device.worn ≡ None }
+// The static bytes of the application with a name on the device of a player, or `None` if no card runs there or it is not
+// there.
+fn statics_at(
+    alloc: Global,
+    player: &mut Player<BranchNvm>,
+    live: &Live,
+    aid: &Aid,
+) -> Result<Option<Vec<u8>>, NoMemory>
+    requires { IsReadable (device_of player.old).device.words live.now }
+    ensures { (device_of player.new).root ≡ (device_of player.old).root }
 {
-    device.return_to_root();
-    device.put_words(saved.words);
+    statics_of(alloc, player.device_mut(), live, aid)
 }
 
 /// Puts the card of a state on the device of a laboratory, and returns the static bytes of the application with a name, or
@@ -67,12 +71,13 @@ pub fn statics_in(
     aid: &Aid,
 ) -> Result<Option<Vec<u8>>, NoMemory>
     requires { IsKept laboratory.old rosters.now state.now }
-    ensures root { OnOk result (laboratory.new.device.root ≡ laboratory.old.device.root) }
+    ensures root { OnOk result (root_of laboratory.new ≡ root_of laboratory.old) }
     ensures budget { OnOk result (laboratory.new.budget ≡ laboratory.old.budget) }
+    ensures counts { OnOk result (length laboratory.new.counts.items ≡ length laboratory.old.counts.items) }
 {
     let Some(saved) = rosters.saved(state.card) else {
         return Err(NoMemory);
     };
-    put_card(&mut laboratory.device, saved);
-    statics_of(alloc, &laboratory.device, saved.live, aid)
+    put_card(&mut *laboratory.player, saved);
+    statics_at(alloc, &mut *laboratory.player, saved.live, aid)
 }

@@ -3,7 +3,8 @@ ghost use Rattle.std.specs.Prelude.{◌≡◌, ◌≤◌, ◌∷◌, ℕ, [], by
 ghost use Rattle.mc_apdu.specs.model_machine.specs.Chain.{Chain};
 ghost use Rattle.mc_apdu.specs.model_machine.specs.Code.{Shaped};
 ghost use Rattle.mc_card.specs.Parts.{IsRunning, RunsChain};
-ghost use Rattle.mc_machine.specs.Turns.{turn_value};
+ghost use Rattle.mc_machine.specs.declared.outcome.Outcome.{Outcome as ModelOutcome};
+ghost use Rattle.mc_machine.specs.Turns.{full_turn, turn_value, AgreesWithEnd};
 ghost use Rattle.lab_record.specs.Fitting.{amount_of};
 ghost use Rattle.lab_record.specs.Logs.{deed_value, log_abend, log_counted, log_done, log_end, log_entered, log_fitting, log_left, log_lines, log_on, log_own, log_settled, no_log, public_seen, with_deed, with_mode, Drops, Keeps, Moves, Sight};
 ghost use Rattle.lab_record.specs.Recorders.{log_of, log_rules, IsSight, LooksAt, Recorded, Stays};
@@ -14,8 +15,8 @@ use crate::turning::{fitting_turn, is_named, mode_of};
 use lab_branch::push;
 use lab_history::{Deed, Happening};
 use mc_base::{Aid, NoMemory, Steps, Stop};
-use mc_card::{Card, Turn};
-use mc_machine::Outcome;
+use mc_card::{BriefTurn, Card};
+use mc_machine::{End, Outcome};
 use mc_nvm::Nvm;
 use mc_script::{Runner, Watcher, run_watched};
 use mc_segs::Abend;
@@ -212,12 +213,13 @@ impl<'a> Recorder<'a> {
     }
 
     // Records an instruction that was done.
-    fn see_done(&mut self, turn: &Turn) -> Result<(), NoMemory>
+    fn see_done(&mut self, turn: &BriefTurn) -> Result<(), NoMemory>
         requires shaped { IfSome turn.now.ins Shaped }
         requires low { 1 ≤ turn.now.depth }
         requires high { turn.now.depth ≤ 4 }
         ensures stays { Stays self.old self.new }
-        ensures log { (x : Sight) → x.turn ≡ turn_value turn.now x.turn.wrote
+        ensures log { (o : ModelOutcome) (x : Sight)
+            → x.turn ≡ turn_value (full_turn turn.now o) x.turn.wrote
             → self.old.public.items ≡ public_seen (log_rules self.old.rules.now) x.public
             → OnOk result (log_of self.new ≡ log_done (log_rules self.old.rules.now) x (log_of self.old)) }
     {
@@ -240,18 +242,19 @@ impl<'a> Recorder<'a> {
     }
 
     // Records an instruction of the application that was not stopped.
-    fn see(&mut self, turn: &Turn) -> Result<(), NoMemory>
+    fn see(&mut self, turn: &BriefTurn) -> Result<(), NoMemory>
         requires shaped { IfSome turn.now.ins Shaped }
         requires low { 1 ≤ turn.now.depth }
         requires high { turn.now.depth ≤ 4 }
         ensures stays { Stays self.old self.new }
-        ensures log { (x : Sight) → x.turn ≡ turn_value turn.now x.turn.wrote
+        ensures log { (o : ModelOutcome) (x : Sight) → AgreesWithEnd turn.now.end o
+            → x.turn ≡ turn_value (full_turn turn.now o) x.turn.wrote
             → self.old.public.items ≡ public_seen (log_rules self.old.rules.now) x.public
             → OnOk result (log_of self.new ≡ log_end (log_rules self.old.rules.now) x x.turn.end (log_of self.old)) }
     {
         match &turn.end {
-            Some(Outcome::Abend(abend)) => self.see_abend(*abend),
-            Some(Outcome::Reply(_)) => self.see_done(turn),
+            Some(End::Abend(abend)) => self.see_abend(*abend),
+            Some(End::Reply) => self.see_done(turn),
             None => self.see_done(turn),
         }
     }
@@ -278,14 +281,15 @@ impl<'a> Recorder<'a> {
     }
 
     // Records an instruction of the application.
-    fn see_own(&mut self, turn: &Turn)
+    fn see_own(&mut self, turn: &BriefTurn)
         requires shaped { IfSome turn.now.ins Shaped }
         requires low { 1 ≤ turn.now.depth }
         requires high { turn.now.depth ≤ 4 }
         ensures rules { self.new.rules ≡ self.old.rules }
         ensures aid { self.new.aid ≡ self.old.aid }
         ensures had { self.new.is_short ≡ false → self.old.is_short ≡ false }
-        ensures log { (x : Sight) → x.turn ≡ turn_value turn.now x.turn.wrote
+        ensures log { (o : ModelOutcome) (x : Sight) → AgreesWithEnd turn.now.end o
+            → x.turn ≡ turn_value (full_turn turn.now o) x.turn.wrote
             → self.old.public.items ≡ public_seen (log_rules self.old.rules.now) x.public → self.new.is_short ≡ false
             → log_of self.new ≡ log_own true (log_rules self.old.rules.now) x (log_of self.old) }
     {
@@ -296,14 +300,15 @@ impl<'a> Recorder<'a> {
     }
 
     // Records an instruction, if it is one of the application.
-    fn see_if(&mut self, turn: &Turn, own: bool)
+    fn see_if(&mut self, turn: &BriefTurn, own: bool)
         requires shaped { IfSome turn.now.ins Shaped }
         requires low { 1 ≤ turn.now.depth }
         requires high { turn.now.depth ≤ 4 }
         ensures rules { self.new.rules ≡ self.old.rules }
         ensures aid { self.new.aid ≡ self.old.aid }
         ensures had { self.new.is_short ≡ false → self.old.is_short ≡ false }
-        ensures log { (x : Sight) → IsSight self.old turn.now own x → self.new.is_short ≡ false
+        ensures log { (o : ModelOutcome) (x : Sight) → AgreesWithEnd turn.now.end o
+            → IsSight self.old (full_turn turn.now o) own x → self.new.is_short ≡ false
             → log_of self.new ≡ log_own own (log_rules self.old.rules.now) x (log_of self.old) }
     {
         if own {
@@ -320,11 +325,12 @@ impl<'a> Recorder<'a> {
     }
 
     // Records an instruction that was not stopped, by whether it is one of the application.
-    fn see_turn(&mut self, turn: &Turn, own: bool)
+    fn see_turn(&mut self, turn: &BriefTurn, own: bool)
         requires shaped { IfSome turn.now.ins Shaped }
         requires low { 1 ≤ turn.now.depth }
         requires high { turn.now.depth ≤ 4 }
-        ensures { (x : Sight) → IsSight self.old turn.now own x → Recorded self.old (x ∷ []) self.new }
+        ensures { (o : ModelOutcome) (x : Sight) → AgreesWithEnd turn.now.end o
+            → IsSight self.old (full_turn turn.now o) own x → Recorded self.old (x ∷ []) self.new }
     {
         self.leave(turn.depth);
         self.see_if(turn, own);
@@ -349,11 +355,12 @@ impl<'a> Watcher for Recorder<'a> {
     fn turn<N: Nvm, L: Ledger>(
         &mut self,
         card: &mut Card<N>,
+        into: &mut Outcome,
         steps: &mut Steps<L>,
-    ) -> Result<Turn, Stop> {
+    ) -> Result<BriefTurn, Stop> {
         let own = is_own(card, self.aid);
         self.look_at(own, public_of(card));
-        let turn = card.turn(steps)?;
+        let turn = card.brief_turn(into, steps)?;
         self.see_turn(&turn, own);
         Ok(turn)
     }

@@ -5,7 +5,8 @@ ghost use Rattle.mc_isa.specs.model_text.specs.Text.{first_cut};
 ghost use Rattle.prove_events.specs.model_rules.specs.Keeping.{mode_of_primitive};
 ghost use Rattle.lab_match.specs.law_explore.specs.Tries.{turn_text};
 ghost use Rattle.mc_bank.specs.Bank.{name_or};
-ghost use Rattle.mc_machine.specs.Turns.{turn_value};
+ghost use Rattle.mc_machine.specs.declared.outcome.Outcome.{Outcome as ModelOutcome};
+ghost use Rattle.mc_machine.specs.Turns.{full_turn, turn_value};
 ghost use Rattle.mc_prims.specs.Table.{primitive_of};
 ghost use Rattle.mc_segs.specs.HeldFrames.{CanRun};
 ghost use Rattle.lab_record.specs.Fitting.{fitting_from};
@@ -15,12 +16,12 @@ ghost use Rattle.prove_events.specs.declared.rules.Event.TheVariants as event;
 use crate::fitting::fitting;
 use mc_bank::Bank;
 use mc_base::{Aid, NoMemory};
-use mc_card::Turn;
+use mc_card::BriefTurn;
 use mc_isa::Ins;
 use mc_prims::Primitive;
 use mc_segs::Frame;
 use mc_text::cut;
-use mc_trace::line_of;
+use mc_trace::line_of_brief;
 use prove_events::{Event, On};
 use std::alloc::Global;
 
@@ -69,13 +70,13 @@ fn text_of(line: &[u8]) -> &[u8]
 /// # Errors
 ///
 /// Returns `NoMemory` if it is out of memory.
-pub fn fitting_turn(alloc: Global, ons: &[On], turn: &Turn) -> Result<Vec<usize>, NoMemory>
+pub fn fitting_turn(alloc: Global, ons: &[On], turn: &BriefTurn) -> Result<Vec<usize>, NoMemory>
     requires shaped { IfSome turn.now.ins Shaped }
     requires low { 1 ≤ turn.now.depth }
     requires high { turn.now.depth ≤ 4 }
-    ensures { (wrote : Option ℕ) → IfOk result (λ lines. lines.items
-        ≡ fitting_from 0 event.Turn (turn_text (turn_value turn.now wrote)) ons.now) }
+    ensures { (o : ModelOutcome) (wrote : Option ℕ) → IfOk result (λ lines. lines.items
+        ≡ fitting_from 0 event.Turn (turn_text (turn_value (full_turn turn.now o) wrote)) ons.now) }
 {
-    let line = line_of(turn);
+    let line = line_of_brief(turn);
     fitting(alloc, ons, Event::Turn, text_of(line.as_slice()))
 }

@@ -1,5 +1,5 @@
 -- Lists whose values are related one by one, and values of a list by their places.
-use Rattle.std.proofs.Common.{◌≡◌, ◌⊎◌, inl, inr, ℕ, zero, suc, ◌+◌, ◌<◌, ◌≤◌, List, [], ◌∷◌, ◌++◌, length, drop, Some, refl, arith, sym, ap, subst, slice_get, add-one}
+use Rattle.std.proofs.Common.{◌≡◌, ◌⊎◌, inl, inr, ℕ, zero, suc, ◌+◌, ◌<◌, ◌≤◌, List, [], ◌∷◌, ◌++◌, length, drop, Some, refl, arith, sym, ap, subst, slice_get, add-one, ◌∙◌}
 use Rattle.std.specs.List.{AllByRecursion}
 use Rattle.lab_rules.specs.Meanings.{AlikeLists}
 
@@ -67,6 +67,10 @@ alike_length R [] [] h = refl
 alike_length R [] (y ∷ ys) h = absurd h
 alike_length R (x ∷ xs) [] h = absurd h
 alike_length R (x ∷ xs) (y ∷ ys) h = ap suc (alike_length R xs ys h.1)
+
+-- a list that is as long as one is as long as the other
+pub as_long : {A B C : Type 0} (R : A → B → Type 0) (xs : List A) (ys : List B) (zs : List C) → AlikeLists R xs ys → length zs ≡ length xs → length zs ≡ length ys
+as_long R xs ys zs h e = e ∙ alike_length R xs ys h
 
 pub alike_append : {A B : Type 0} (R : A → B → Type 0) (xs us : List A) (ys vs : List B) → AlikeLists R xs ys → AlikeLists R us vs → AlikeLists R (xs ++ us) (ys ++ vs)
 alike_append R [] us [] vs h g = g

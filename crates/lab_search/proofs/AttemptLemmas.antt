@@ -18,6 +18,9 @@ use Rattle.lab_rules.proofs.CountLemmas.{counts_are_times}
 use Rattle.mc_script.specs.declared.live.Live.{Live}
 use Rattle.mc_script.specs.declared.live.Live.TheVariants as live
 use Rattle.mc_script.specs.Lives.{LiveShows}
+use Rattle.mc_script.specs.declared.player.Player.{Player}
+use Rattle.mc_script.specs.Players.{device_of}
+use Rattle.lab_branch.specs.Branches.{BranchState}
 use Rattle.lab_key.specs.declared.kept.Rosters.{Rosters}
 use Rattle.lab_key.specs.declared.state.CardState.{CardState}
 use Rattle.lab_key.specs.Kept.{IsKeptCard, IsOfDevice}
@@ -28,7 +31,9 @@ use Rattle.lab_search.specs.declared.trying.Laboratory.{Laboratory}
 use Rattle.lab_search.specs.declared.trying.Tried.TheVariants as tried
 use Rattle.lab_search.specs.Reports.{manner_value}
 use Rattle.lab_search.specs.Trying.{IsMade, IsMissed, TriedState, reached}
-use Rattle.lab_search.specs.Kept.{IsCandidate, Kept, KeepsKept, SpendsFrom, TryIs, runs_now}
+use Rattle.lab_rules.specs.Meanings.{IsOn}
+use Rattle.lab_search.specs.Kept.{root_of, CanBeTried, IsCandidate, Kept, KeepsKept, SpendsFrom, TryIs, runs_now}
+use Rattle.lab_search.proofs.AlikeLemmas.{alike_length}
 use Rattle.lab_search.proofs.BaseLemmas.{move_follows, still_of_device}
 
 -- ---- allowances
@@ -83,6 +88,12 @@ pub one_broken : (held : List (List ℕ × ℕ)) (o : Option ℕ) (i : ℕ) (amo
 one_broken held None i amounts r e h = absurd (cc e)
 one_broken held (Some j) i amounts r e h = subst (λ (k : ℕ). Spent held k r) (place_is j i e) (spent_by held j amounts r h)
 
+-- ---- counts
+
+-- there is room for the counts of a candidate
+pub as_many : (lab : Laboratory) (r : Rosters) (s : CardState) (x : Candidate) (w : Manner) → CanBeTried lab r s x w → length lab.counts.items ≡ length x.ons.now
+as_many lab r s x w q = q.7 ∙ sym (alike_length (IsOn q.0) x.ons.now q.1 (q.5).ons)
+
 -- ---- outcomes
 
 -- the step of a try
@@ -103,8 +114,8 @@ runs_shown m live.Muted l h = sym (ap is_running h)
 
 -- ---- what stays kept
 
-pub keeps_there : (lab u : Laboratory) (r : Rosters) → u.device.root ≡ lab.device.root → u.budget ≡ lab.budget → KeepsKept lab r u r
-keeps_there lab u r root budget names s c h =
+stays_kept : (lab u : Laboratory) (r : Rosters) (names : List (List ℕ)) (s : CardState) (c : model.CardState) → root_of u ≡ root_of lab → u.budget ≡ lab.budget → Kept lab r names s c → Kept u r names s c
+stays_kept lab u r names s c root budget h =
     record {
       card = subst (λ (n : List (List ℕ)). IsKeptCard n r s.card c.base c.live) (sym root) h.card;
       runs = h.runs;
@@ -113,26 +124,57 @@ keeps_there lab u r root budget names s c h =
       names_are = h.names_are;
     }
 
-pub keeps_more : (lab u : Laboratory) (r q : Rosters) → u.device.root ≡ lab.device.root → u.budget ≡ lab.budget
-    → ((n : ℕ) (c : Base) (l : play.Live) → IsKeptCard u.device.root r n c l → IsKeptCard u.device.root q n c l) → KeepsKept lab r u q
-keeps_more lab u r q root budget more names s c h =
-    let there = keeps_there lab u r root budget names s c h in
+pub keeps_there : (lab u : Laboratory) (r : Rosters) → root_of u ≡ root_of lab → u.budget ≡ lab.budget → length u.counts.items ≡ length lab.counts.items → KeepsKept lab r u r
+keeps_there lab u r root budget counts = record { kept = λ names s c h. stays_kept lab u r names s c root budget h; counts = counts }
+
+pub keeps_more : (lab u : Laboratory) (r q : Rosters) → root_of u ≡ root_of lab → u.budget ≡ lab.budget → length u.counts.items ≡ length lab.counts.items
+    → ((n : ℕ) (c : Base) (l : play.Live) → IsKeptCard (root_of u) r n c l → IsKeptCard (root_of u) q n c l) → KeepsKept lab r u q
+keeps_more lab u r q root budget counts more =
     record {
-      card = more s.card c.base c.live there.card;
-      runs = there.runs;
-      budget_is = there.budget_is;
-      amounts = there.amounts;
-      names_are = there.names_are;
+      kept = λ names s c h.
+          let there = stays_kept lab u r names s c root budget h in
+          record {
+            card = more s.card c.base c.live there.card;
+            runs = there.runs;
+            budget_is = there.budget_is;
+            amounts = there.amounts;
+            names_are = there.names_are;
+          };
+      counts = counts;
     }
+
+pub keeps_self : (lab : Laboratory) (r : Rosters) → KeepsKept lab r lab r
+keeps_self lab r = record { kept = λ names s c h. h; counts = refl }
+
+pub keeps_then : (lab mid u : Laboratory) (r p q : Rosters) → KeepsKept lab r mid p → KeepsKept mid p u q → KeepsKept lab r u q
+keeps_then lab mid u r p q h k = record { kept = λ names s c i. k.kept names s c (h.kept names s c i); counts = k.counts ∙ h.counts }
+
+-- ---- a card that is kept of a player
+
+-- cards that are kept of one player are kept of an equal one
+pub keeps_by : (p q : Player BranchState) (r t : Rosters) (v : Live) → p ≡ q
+    → ((b : Base) (l : play.Live) → IsShown (device_of p).device.words v b l → IsOfDevice (device_of p).root b → (n : ℕ) (c : Base) (m : play.Live) → IsKeptCard (device_of p).root r n c m → IsKeptCard (device_of p).root t n c m)
+    → (b : Base) (l : play.Live) → IsShown (device_of q).device.words v b l → IsOfDevice (device_of q).root b → (n : ℕ) (c : Base) (m : play.Live) → IsKeptCard (device_of q).root r n c m → IsKeptCard (device_of q).root t n c m
+keeps_by p q r t v e f =
+    subst
+    (λ (o : Player BranchState). (b : Base) (l : play.Live) → IsShown (device_of o).device.words v b l → IsOfDevice (device_of o).root b → (n : ℕ) (c : Base) (m : play.Live) → IsKeptCard (device_of o).root r n c m
+    → IsKeptCard (device_of o).root t n c m)
+    e f
+
+-- and so is its number
+pub number_by : (p q : Player BranchState) (t : Rosters) (v : Live) (n : ℕ) → p ≡ q → ((b : Base) (l : play.Live) → IsShown (device_of p).device.words v b l → IsOfDevice (device_of p).root b → IsKeptCard (device_of p).root t n b l)
+    → (b : Base) (l : play.Live) → IsShown (device_of q).device.words v b l → IsOfDevice (device_of q).root b → IsKeptCard (device_of q).root t n b l
+number_by p q t v n e f =
+    subst (λ (o : Player BranchState). (b : Base) (l : play.Live) → IsShown (device_of o).device.words v b l → IsOfDevice (device_of o).root b → IsKeptCard (device_of o).root t n b l) e f
 
 -- ---- what a try came to
 
 -- a card that was kept stays one of the device
-pub of_device : (lab : Laboratory) (r : Rosters) (names : List (List ℕ)) (s : CardState) (c : model.CardState) (m : rule.Move) (w : Manner) (a : List (List ℕ × ℕ)) (root : List (List ℕ)) → root ≡ lab.device.root
+pub of_device : (lab : Laboratory) (r : Rosters) (names : List (List ℕ)) (s : CardState) (c : model.CardState) (m : rule.Move) (w : Manner) (a : List (List ℕ × ℕ)) (root : List (List ℕ)) → root ≡ root_of lab
     → play.is_card_line m.line ≡ true → Kept lab r names s c → IsOfDevice root (reached c m w a).base
 of_device lab r names s c m w a root same card h =
     subst (λ (n : List (List ℕ)). IsOfDevice n (reached c m w a).base) (sym same)
-    (still_of_device lab.device.root c.base (reached c m w a).base (move_follows c m (manner_value w) a card) h.card.device)
+    (still_of_device (root_of lab) c.base (reached c m w a).base (move_follows c m (manner_value w) a card) h.card.device)
 
 -- a rule that is broken
 pub broken_is : (lab : Laboratory) (r : Rosters) (held : List (List ℕ × ℕ)) (ons : List rule.OnRule) (c : model.CardState) (m : rule.Move) (w : Manner) (o : Option ℕ) (i : ℕ) (amounts : List ℕ)
@@ -145,7 +187,7 @@ broken_is lab r held ons c m w o i amounts made e h =
 pub reached_is : (lab u : Laboratory) (r q : Rosters) (held : List (List ℕ × ℕ)) (ons : List rule.OnRule) (s t : CardState) (c : model.CardState) (m : rule.Move) (w : Manner) (o : Option ℕ) (words : List (List ℕ)) (v : Live)
     → u.budget ≡ lab.budget → Kept lab r (map (λ a. a.0) held) s c → o ≡ None → AreSpent held o t.allowances.items (allowances_after ons m (tried_step c m w) c.allowances)
     → TriedState c m w words (Some v) → t.runs ≡ runs_now v
-    → ((a : List (List ℕ × ℕ)) → IsShown words v (reached c m w a).base (reached c m w a).live → IsKeptCard u.device.root q t.card (reached c m w a).base (reached c m w a).live)
+    → ((a : List (List ℕ × ℕ)) → IsShown words v (reached c m w a).base (reached c m w a).live → IsKeptCard (root_of u) q t.card (reached c m w a).base (reached c m w a).live)
     → TryIs u q (map (λ a. a.0) held) ons c m w (tried.Reached t)
 reached_is lab u r q held ons s t c m w o words v budget kept e h shown runs number =
     let l = none_broken held o t.allowances.items (allowances_after ons m (tried_step c m w) c.allowances) e h in

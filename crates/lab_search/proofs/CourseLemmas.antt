@@ -189,6 +189,15 @@ cuts_as d ns n m made ts r a b s e h = subst (λ (x : Attempt). CutsCome d ns n 
 abbrev pub cuts_left : Depth → Node → rule.Move → ℕ → Round → Result Round HaltedRound
 cuts_left d n m made r = tries_from d n (tries_in m (cuts_from (made + 1) (writes_of (play_of n.state) m - made))) r
 
+less_none : (k : ℕ) → k - 0 ≡ k
+less_none k = omega arith
+
+-- before the first write all cuts are left
+pub cuts_start : (d : Depth) (ns : List Node) (n : Node) (m : rule.Move) (s : Search) → Holds d s ns
+    → Ahead d ns s (cuts_left d n m 0) (tries_from d n (tries_in m (cuts_from 1 (writes_of (play_of n.state) m))) (round_in d (tally_of s) ns))
+cuts_start d ns n m s h =
+    record { all = ns; grew = extends_none ns; holds = h; same = ap (λ (k : ℕ). tries_from d n (tries_in m (cuts_from 1 k)) (round_in d (tally_of s) ns)) (less_none (writes_of (play_of n.state) m)) }
+
 module _ (d : Depth) (ns : List Node) (n : Node) (m : rule.Move) (made : ℕ) (s u : Search) (whole : Result Round HaltedRound) (a : Ahead d ns s (cuts_left d n m made) whole) where
   -- there is no write left
   pub cuts_done : (b : Attempt) → b ≡ attempt.NotHit → CutsCome d a.all n m made (cuts_at m (made + 1)) (round_in d (tally_of s) a.all) b u → Comes d ns whole None u

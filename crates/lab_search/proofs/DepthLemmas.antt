@@ -17,8 +17,8 @@ use Rattle.mc_text.specs.Texts.{Sunk, Writes, Fails}
 use Rattle.mc_text.proofs.TextLemmas.{fails_before, fails_then, writes_then}
 use Rattle.lab_search.specs.declared.endings.Explored.{Explored}
 use Rattle.lab_search.specs.declared.endings.Explored.TheVariants as explored
-use Rattle.lab_search.specs.declared.endings.SearchFault.{SearchFault}
-use Rattle.lab_search.specs.declared.endings.SearchFault.TheVariants as fault
+use Rattle.mc_script.specs.declared.job.JobFault.{JobFault}
+use Rattle.mc_script.specs.declared.job.JobFault.TheVariants as fault
 use Rattle.lab_search.specs.declared.rounds.Halt.{Halt}
 use Rattle.lab_search.specs.declared.rounds.Search.{Search}
 use Rattle.lab_search.specs.Kept.{IsExplorationOf}
@@ -32,7 +32,7 @@ use Rattle.lab_search.proofs.HaltLemmas.{err_ending, explored_err, nothing_yet}
 -- ---- texts
 
 -- a text that is put after one that was written
-pub put_then : {X : Type 0} (a b c : Sunk) (s t : List ℕ) (r : Result X SearchFault) → Writes a s b → IsPut b t r c → IsPut a (s ++ t) r c
+pub put_then : {X : Type 0} (a b c : Sunk) (s t : List ℕ) (r : Result X JobFault) → Writes a s b → IsPut b t r c → IsPut a (s ++ t) r c
 put_then a b c s t (Ok x) w p = writes_then w p
 put_then a b c s t (Err fault.WriteFault) w p = fails_then w p
 put_then a b c s t (Err fault.NoMemory) w p =
@@ -51,12 +51,12 @@ text_split ons k z n e =
     ap (λ t. depth_lines k (n ∷ e.news) ++ t) (ending_same ons z n e e.ending) ∙ append_assoc (depth_line k n) (depth_lines (k + 1) e.news) (ending_text ons z e e.ending)
 
 -- the line of a depth was written, and then the rest
-pub explores_then : (ons : List rule.OnRule) (k : ℕ) (z : State) (n : ℕ) (e : Found) (a b c : Sunk) (r : Result Explored SearchFault) → Writes a (depth_line k n) b → Explores ons (k + 1) z e b r c → Explores ons k z (with_depth n e) a r c
+pub explores_then : (ons : List rule.OnRule) (k : ℕ) (z : State) (n : ℕ) (e : Found) (a b c : Sunk) (r : Result Explored JobFault) → Writes a (depth_line k n) b → Explores ons (k + 1) z e b r c → Explores ons k z (with_depth n e) a r c
 explores_then ons k z n e a b c r w x =
     record { text = subst (λ (t : List ℕ). IsPut a t r c) (sym (text_split ons k z n e)) (put_then a b c (depth_line k n) (text_from ons (k + 1) z e) r w x.text); ending = x.ending }
 
 -- the line of a depth failed
-pub explores_failed : (ons : List rule.OnRule) (k : ℕ) (z : State) (n : ℕ) (e : Found) (a b : Sunk) (r : Result Explored SearchFault) → IsErr r → IsErrAnd r (λ y. y ≡ fault.WriteFault) → Fails a (depth_line k n) b
+pub explores_failed : (ons : List rule.OnRule) (k : ℕ) (z : State) (n : ℕ) (e : Found) (a b : Sunk) (r : Result Explored JobFault) → IsErr r → IsErrAnd r (λ y. y ≡ fault.WriteFault) → Fails a (depth_line k n) b
     → Explores ons k z (with_depth n e) a r b
 explores_failed ons k z n e a b r i y f =
     record {
@@ -100,7 +100,7 @@ abbrev pub next_depth : rule.Rules → ℕ → List Node → Depth
 next_depth rules most ns = record { rules = rules; most = most; from = length ns }
 
 pub holds_next : (rules : rule.Rules) (most from : ℕ) (s : Search) (ns : List Node) → Holds (record { rules = rules; most = most; from = from }) s ns → Holds (next_depth rules most ns) s ns
-holds_next rules most from s ns h = record { room = h.room; within = omega arith; kept = h.kept; reached = h.reached }
+holds_next rules most from s ns h = record { room = h.room; within = omega arith; counts = h.counts; kept = h.kept; reached = h.reached }
 
 -- what is left, by the tries of a depth
 left_step : (rules : rule.Rules) (most depth done from : ℕ) (tries : Tally) (ns : List Node) → done < depth
@@ -157,7 +157,7 @@ depth_round rules most from s ns = round_of_states most rules (drop from ns) (ro
 
 module _ (x : rule.Exploration) (most depth done from : ℕ) (s u : Search) (a b : Sunk) (k : DepthsAhead x most depth done from s a b) (below : done < depth) where
   -- a depth ends the search
-  pub depth_halts : (o : Option Halt) (h : Halt) (r : Result Explored SearchFault) (c : Sunk) → o ≡ Some h → Comes (next_depth x.rules most k.nodes) k.nodes (depth_round x.rules most from s k.nodes) o u
+  pub depth_halts : (o : Option Halt) (h : Halt) (r : Result Explored JobFault) (c : Sunk) → o ≡ Some h → Comes (next_depth x.rules most k.nodes) k.nodes (depth_round x.rules most from s k.nodes) o u
       → ((e : HaltedRound) → Ends (next_depth x.rules most k.nodes) k.nodes e h u → Explores x.rules.ons (done + 1) (play_of_deck x.lines) (search_end (ending_of e.halt (done + 1)) e.count e.tally) b r c)
       → IsExplored a (text_within most depth x) (search_of most depth x).ending r c
   depth_halts o h r c e comes f =
@@ -186,7 +186,7 @@ module _ (x : rule.Exploration) (most depth done from : ℕ) (s u : Search) (a b
       omega (arith, e, before, after, length-drop (length k.nodes) w.all)
 
   -- the line of a depth fails
-  pub depth_fails : (o : Option Halt) (n : ℕ) (r : Result Explored SearchFault) (c : Sunk) → o ≡ None → Comes (next_depth x.rules most k.nodes) k.nodes (depth_round x.rules most from s k.nodes) o u
+  pub depth_fails : (o : Option Halt) (n : ℕ) (r : Result Explored JobFault) (c : Sunk) → o ≡ None → Comes (next_depth x.rules most k.nodes) k.nodes (depth_round x.rules most from s k.nodes) o u
       → n ≡ length u.states.keys - length s.states.keys → IsErr r → IsErrAnd r (λ y. y ≡ fault.WriteFault) → Fails b (depth_line (done + 1) n) c
       → IsExplored a (text_within most depth x) (search_of most depth x).ending r c
   depth_fails o n r c e comes count i y f =
@@ -196,7 +196,7 @@ module _ (x : rule.Exploration) (most depth done from : ℕ) (s u : Search) (a b
       (explores_failed x.rules.ons (done + 1) (play_of_deck x.lines) (length (drop (length k.nodes) w.all)) _ b c r i y (subst (λ (m : ℕ). Fails b (depth_line (done + 1) m) c) (new_count w n count) f)))
 
   -- a depth without new nodes is the last
-  pub depth_last : (o : Option Halt) (n : ℕ) (m c : Sunk) (r : Result Explored SearchFault) → o ≡ None → Comes (next_depth x.rules most k.nodes) k.nodes (depth_round x.rules most from s k.nodes) o u
+  pub depth_last : (o : Option Halt) (n : ℕ) (m c : Sunk) (r : Result Explored JobFault) → o ≡ None → Comes (next_depth x.rules most k.nodes) k.nodes (depth_round x.rules most from s k.nodes) o u
       → n ≡ length u.states.keys - length s.states.keys → n ≡ 0 → Writes b (depth_line (done + 1) n) m
       → ((end : Ending) → explored_as end ≡ explored.All → IsExplored m (kept_text x.rules.ons (length u.states.keys) (tally_of u) (codes " all")) end r c) → IsExplored a (text_within most depth x) (search_of most depth x).ending r c
   depth_last o n m c r e comes count zero_new written f =
@@ -247,7 +247,7 @@ left_first rules most depth tries n none =
     ∙ search_fresh depth 0 most rules (n ∷ []) start (n ∷ [])
 
 -- the text of a search from its start
-text_whole : (x : rule.Exploration) (most depth : ℕ) (a c : Sunk) (r : Result Explored SearchFault) → Explores x.rules.ons 1 (play_of_deck x.lines) (search_from depth most x.rules (first_state x)) a r c
+text_whole : (x : rule.Exploration) (most depth : ℕ) (a c : Sunk) (r : Result Explored JobFault) → Explores x.rules.ons 1 (play_of_deck x.lines) (search_from depth most x.rules (first_state x)) a r c
     → IsExplored a (text_within most depth x) (search_of most depth x).ending r c
 unfolding text_within search_of
 text_whole x most depth a c r e = e
@@ -271,7 +271,7 @@ depth_first x most depth s a h none =
     }
 
 -- the last depth is done
-pub depth_end : (x : rule.Exploration) (most depth done from : ℕ) (s : Search) (a b c : Sunk) (r : Result Explored SearchFault) → DepthsAhead x most depth done from s a b → done ≡ depth
+pub depth_end : (x : rule.Exploration) (most depth done from : ℕ) (s : Search) (a b c : Sunk) (r : Result Explored JobFault) → DepthsAhead x most depth done from s a b → done ≡ depth
     → ((end : Ending) → explored_as end ≡ explored.Partial → IsExplored b (kept_text x.rules.ons (length s.states.keys) (tally_of s) (codes " depth " ++ decimal depth)) end r c) → IsExplored a (text_within most depth x) (search_of most depth x).ending r c
 depth_end x most depth done from s a b c r k e f =
     let count = alike_length (KeepsNode x.rules s) s.states.keys k.nodes k.holds.kept in
@@ -286,7 +286,7 @@ depth_end x most depth done from s a b c r k e f =
     (sym (ap (λ i. search_on i done most x.rules (drop from k.nodes) q) none ∙ search_done done most x.rules (drop from k.nodes) q)) said)
 
 -- out of memory within a depth
-pub depth_stops : (x : rule.Exploration) (most depth done from : ℕ) (s : Search) (a b : Sunk) (r : Result Explored SearchFault) → DepthsAhead x most depth done from s a b → IsErr r → IsErrAnd r (λ y. y ≡ fault.NoMemory)
+pub depth_stops : (x : rule.Exploration) (most depth done from : ℕ) (s : Search) (a b : Sunk) (r : Result Explored JobFault) → DepthsAhead x most depth done from s a b → IsErr r → IsErrAnd r (λ y. y ≡ fault.NoMemory)
     → IsExplored a (text_within most depth x) (search_of most depth x).ending r b
 depth_stops x most depth done from s a b r k i y = k.rest r b (explored_err b b _ _ r fault.NoMemory i y (nothing_yet b _))
 

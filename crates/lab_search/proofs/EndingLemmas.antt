@@ -21,8 +21,8 @@ use Rattle.mc_text.specs.Texts.{Sunk, Writes, Fails, Puts}
 use Rattle.mc_text.proofs.TextLemmas.{fails_before, fails_then, puts_as, puts_failed, puts_then, writes_none, writes_then}
 use Rattle.lab_search.specs.declared.beginning.Lead.{Lead}
 use Rattle.lab_search.specs.declared.endings.Start.{Start}
-use Rattle.lab_search.specs.declared.endings.SearchFault.{SearchFault}
-use Rattle.lab_search.specs.declared.endings.SearchFault.TheVariants as fault
+use Rattle.mc_script.specs.declared.job.JobFault.{JobFault}
+use Rattle.mc_script.specs.declared.job.JobFault.TheVariants as fault
 use Rattle.lab_search.specs.declared.journey.Manner.{Manner}
 use Rattle.lab_search.specs.declared.journey.Manner.TheVariants as manner
 use Rattle.lab_search.specs.declared.journey.Step.{Step}
@@ -206,14 +206,14 @@ has_name e x i name h found past =
 -- ---- faults
 
 -- a text that failed, with the fault that a `?` returns
-pub put_failed : {X : Type 0} (a b : Sunk) (t : List ℕ) (r : Result X SearchFault) → IsErr r → IsErrAnd r (λ e. e ≡ fault.WriteFault) → Fails a t b → IsPut a t r b
+pub put_failed : {X : Type 0} (a b : Sunk) (t : List ℕ) (r : Result X JobFault) → IsErr r → IsErrAnd r (λ e. e ≡ fault.WriteFault) → Fails a t b → IsPut a t r b
 put_failed a b t (Ok x) i e f = absurd (cc i)
-put_failed a b t (Err g) i e f = subst (λ (y : SearchFault). StopsBy y a t b) (sym e) f
+put_failed a b t (Err g) i e f = subst (λ (y : JobFault). StopsBy y a t b) (sym e) f
 
 -- a front of a text, with the fault that a `?` returns
-pub put_stopped : {X : Type 0} (a b : Sunk) (t : List ℕ) (r : Result X SearchFault) → IsErr r → IsErrAnd r (λ e. e ≡ fault.NoMemory) → WritesFront a t b → IsPut a t r b
+pub put_stopped : {X : Type 0} (a b : Sunk) (t : List ℕ) (r : Result X JobFault) → IsErr r → IsErrAnd r (λ e. e ≡ fault.NoMemory) → WritesFront a t b → IsPut a t r b
 put_stopped a b t (Ok x) i e f = absurd (cc i)
-put_stopped a b t (Err g) i e f = subst (λ (y : SearchFault). StopsBy y a t b) (sym e) f
+put_stopped a b t (Err g) i e f = subst (λ (y : JobFault). StopsBy y a t b) (sym e) f
 
 -- the line of a broken rule failed
 pub line_fails : (a b : Sunk) (name : List ℕ) (ls : List Statement) (n : ℕ) → n ≡ length ls → Fails a (broken_line name n) b → Fails a (broken_text name ls) b

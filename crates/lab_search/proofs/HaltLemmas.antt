@@ -11,7 +11,7 @@ use Rattle.mc_text.specs.Texts.{Sunk}
 use Rattle.mc_text.proofs.TextLemmas.{writes_none}
 use Rattle.lab_search.specs.declared.endings.Explored.{Explored}
 use Rattle.lab_search.specs.declared.endings.Explored.TheVariants as explored
-use Rattle.lab_search.specs.declared.endings.SearchFault.{SearchFault}
+use Rattle.mc_script.specs.declared.job.JobFault.{JobFault}
 use Rattle.lab_search.specs.declared.journey.Step.{Step}
 use Rattle.lab_search.specs.declared.rounds.Halt.{Halt}
 use Rattle.lab_search.specs.declared.rounds.Halt.TheVariants as halt
@@ -23,16 +23,16 @@ use Rattle.lab_search.proofs.AlikeLemmas.{alike_length}
 -- ---- faults
 
 -- an exploration that was ended by a fault says nothing of its end
-pub err_ending : (r : Result Explored SearchFault) (end : Ending) → IsErr r → SaysEnding r end
+pub err_ending : (r : Result Explored JobFault) (end : Ending) → IsErr r → SaysEnding r end
 err_ending (Ok e) end h = absurd (cc h)
 err_ending (Err f) end h = tt
 
 -- a text that is put in part, by the fault that is passed on
-pub put_err : {X : Type 0} (a b : Sunk) (t : List ℕ) (r : Result X SearchFault) (g : SearchFault) → IsErr r → IsErrAnd r (λ e. e ≡ g) → StopsBy g a t b → IsPut a t r b
+pub put_err : {X : Type 0} (a b : Sunk) (t : List ℕ) (r : Result X JobFault) (g : JobFault) → IsErr r → IsErrAnd r (λ e. e ≡ g) → StopsBy g a t b → IsPut a t r b
 put_err a b t (Ok x) g i e f = absurd (cc i)
-put_err a b t (Err y) g i e f = subst (λ (z : SearchFault). StopsBy z a t b) (sym e) f
+put_err a b t (Err y) g i e f = subst (λ (z : JobFault). StopsBy z a t b) (sym e) f
 
-pub explored_err : (a b : Sunk) (t : List ℕ) (end : Ending) (r : Result Explored SearchFault) (g : SearchFault) → IsErr r → IsErrAnd r (λ e. e ≡ g) → StopsBy g a t b → IsExplored a t end r b
+pub explored_err : (a b : Sunk) (t : List ℕ) (end : Ending) (r : Result Explored JobFault) (g : JobFault) → IsErr r → IsErrAnd r (λ e. e ≡ g) → StopsBy g a t b → IsExplored a t end r b
 explored_err a b t end r g i e f = record { text = put_err a b t r g i e f; ending = err_ending r end i }
 
 -- nothing was written yet
@@ -74,13 +74,13 @@ path_tries d ns e h s i r steps k b f =
     (f d k.all b.breaks.before b.breaks.last (record { holds = k.holds; found = b.breaks.found }) b.breaks.is)
 
 -- the exploration reports a broken rule
-pub reports_broken : (ons : List rule.OnRule) (depth : ℕ) (z : State) (e : HaltedRound) (name : List ℕ) (path : List Try) (a b : Sunk) (r : Result Explored SearchFault) → e.halt ≡ RuleBroken name path
+pub reports_broken : (ons : List rule.OnRule) (depth : ℕ) (z : State) (e : HaltedRound) (name : List ℕ) (path : List Try) (a b : Sunk) (r : Result Explored JobFault) → e.halt ≡ RuleBroken name path
     → IsPut a (broken_text name (statements_to z (reverse path))) r b → SaysEnding r (Broken name path) → Explores ons depth z (search_end (ending_of e.halt depth) e.count e.tally) a r b
 reports_broken ons depth z e name path a b r is p q =
     subst (λ (h : SearchHalt). Explores ons depth z (search_end (ending_of h depth) e.count e.tally) a r b) (sym is) (record { text = p; ending = q })
 
 -- the exploration reports one state too many
-pub reports_full : (d : Depth) (ns : List Node) (depth : ℕ) (z : State) (e : HaltedRound) (h : Halt) (s : Search) (a b : Sunk) (r : Result Explored SearchFault) → Ends d ns e h s → h ≡ halt.Full
+pub reports_full : (d : Depth) (ns : List Node) (depth : ℕ) (z : State) (e : HaltedRound) (h : Halt) (s : Search) (a b : Sunk) (r : Result Explored JobFault) → Ends d ns e h s → h ≡ halt.Full
     → ((end : Ending) → explored_as end ≡ explored.Partial → IsExplored a (kept_text d.rules.ons (length s.states.keys) (tally_of s) (codes " depth " ++ decimal depth)) end r b)
     → Explores d.rules.ons depth z (search_end (ending_of e.halt depth) e.count e.tally) a r b
 reports_full d ns depth z e h s a b r k is f =

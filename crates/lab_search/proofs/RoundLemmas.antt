@@ -62,8 +62,9 @@ holds_still d s u ns keeps limit keys items h =
     record {
       room = limit ∙ h.room;
       within = h.within;
+      counts = keeps.counts ∙ h.counts;
       kept = subst (λ (ks : List CardState). AlikeLists (KeepsNode d.rules u) ks ns) (sym keys)
-          (alike_other (KeepsNode d.rules s) (KeepsNode d.rules u) (λ t n k. keeps (names_in d.rules) t n.state k) s.states.keys ns h.kept);
+          (alike_other (KeepsNode d.rules s) (KeepsNode d.rules u) (λ t n k. keeps.kept (names_in d.rules) t n.state k) s.states.keys ns h.kept);
       reached = subst (λ (ls : List Step). AreReached d.rules.moves ls ns) (sym items) h.reached;
     }
 
@@ -160,6 +161,7 @@ holds_more d s u ns b r t x c h is k lab ros limit keys items =
     record {
       room = limit ∙ h.holds.room;
       within = omega (arith, within, length-append ns (n ∷ []));
+      counts = ap (λ l. length l.counts.items) lab ∙ h.holds.counts;
       kept = subst (λ (ks : List CardState). AlikeLists (KeepsNode d.rules u) ks (ns ++ n ∷ [])) (sym keys)
           (alike_more (KeepsNode d.rules u) s.states.keys ns x n (alike_other (KeepsNode d.rules s) (KeepsNode d.rules u) (λ y m. kept_in d s u y m.state lab ros) s.states.keys ns h.holds.kept) (kept_in d s u x c lab ros k));
       reached = subst (λ (ls : List Step). AreReached d.rules.moves ls (ns ++ n ∷ [])) (sym items) (reached_more d.rules.moves s.last_steps.items ns r b n t h.holds.reached h.found is refl);

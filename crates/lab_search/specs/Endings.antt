@@ -14,8 +14,8 @@ use Rattle.lab_search.specs.declared.journey.Step.{Step}
 use Rattle.lab_search.specs.declared.rounds.Search.{Search}
 use Rattle.lab_search.specs.declared.endings.Explored.{Explored}
 use Rattle.lab_search.specs.declared.endings.Explored.TheVariants as explored
-use Rattle.lab_search.specs.declared.endings.SearchFault.{SearchFault}
-use Rattle.lab_search.specs.declared.endings.SearchFault.TheVariants as fault
+use Rattle.mc_script.specs.declared.job.JobFault.{JobFault}
+use Rattle.mc_script.specs.declared.job.JobFault.TheVariants as fault
 use Rattle.lab_search.specs.Kept.{LeadIs}
 use Rattle.lab_search.specs.Reports.{count_of_lines}
 use Rattle.lab_search.specs.Rounds.{round_in, tally_of, Holds}
@@ -30,12 +30,12 @@ pub record WritesFront (a : Sunk) (text : List ℕ) (b : Sunk) : Type 0 where
   pub written : Writes a front b
 
 -- what was written of a text, by the fault that ended it
-abbrev pub StopsBy : SearchFault → Sunk → List ℕ → Sunk → Type 0
+abbrev pub StopsBy : JobFault → Sunk → List ℕ → Sunk → Type 0
 StopsBy fault.NoMemory a text b = WritesFront a text b
 StopsBy fault.WriteFault a text b = Fails a text b
 
 -- a text was written, or what was written of it
-abbrev pub IsPut : {X : Type 0} → Sunk → List ℕ → Result X SearchFault → Sunk → Type 0
+abbrev pub IsPut : {X : Type 0} → Sunk → List ℕ → Result X JobFault → Sunk → Type 0
 IsPut a text (Ok x) b = Writes a text b
 IsPut a text (Err f) b = StopsBy f a text b
 
@@ -52,12 +52,12 @@ kept_as None = explored.All
 kept_as (Some depth) = explored.Partial
 
 -- an exploration returns how it ends
-abbrev pub SaysEnding : Result Explored SearchFault → Ending → Type 0
+abbrev pub SaysEnding : Result Explored JobFault → Ending → Type 0
 SaysEnding (Ok e) end = e ≡ explored_as end
 SaysEnding (Err f) end = Unit {0}
 
 -- what an exploration writes and returns: the text, and how it ends
-pub record IsExplored (a : Sunk) (due : List ℕ) (end : Ending) (result : Result Explored SearchFault) (b : Sunk) : Type 0 where
+pub record IsExplored (a : Sunk) (due : List ℕ) (end : Ending) (result : Result Explored JobFault) (b : Sunk) : Type 0 where
   pub text : IsPut a due result b
   pub ending : SaysEnding result end
 
@@ -66,7 +66,7 @@ abbrev pub text_from : List rule.OnRule → ℕ → State → found.Search → L
 text_from ons k z e = depth_lines k e.news ++ ending_text ons z e e.ending
 
 -- what an exploration writes and returns from a depth on
-abbrev pub Explores : List rule.OnRule → ℕ → State → found.Search → Sunk → Result Explored SearchFault → Sunk → Type 0
+abbrev pub Explores : List rule.OnRule → ℕ → State → found.Search → Sunk → Result Explored JobFault → Sunk → Type 0
 Explores ons k z e a result b = IsExplored a (text_from ons k z e) e.ending result b
 
 -- ---- statements
@@ -118,6 +118,6 @@ pub record Starts (most : ℕ) (s : Search) (z : Start) (x : rule.Exploration) :
 pub record DepthsAhead (x : rule.Exploration) (most depth done from : ℕ) (s : Search) (a b : Sunk) : Type 0 where
   pub nodes : List Node
   pub holds : Holds (record { rules = x.rules; most = most; from = from }) s nodes
-  pub rest : (r : Result Explored SearchFault) (c : Sunk)
+  pub rest : (r : Result Explored JobFault) (c : Sunk)
       → Explores x.rules.ons (done + 1) (play_of_deck x.lines) (search_on (depth - done) done most x.rules (drop from nodes) (round_in (record { rules = x.rules; most = most; from = from }) (tally_of s) nodes)) b r c
       → IsExplored a (text_within most depth x) (search_of most depth x).ending r c

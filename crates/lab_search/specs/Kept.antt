@@ -27,7 +27,18 @@ use Rattle.lab_search.specs.Trying.{CanCut, IsMade, IsMissed}
 use Rattle.lab_rules.specs.Occasions.{amounts_of, counts_after_turns, names_of}
 use Rattle.law_explore_text.specs.model_play.specs.TraceText.{shown_turns}
 use Rattle.mc_script.specs.declared.live.Live.{Live}
+use Rattle.mc_script.specs.Players.{device_of}
 use Rattle.mc_script.specs.declared.live.Live.TheVariants as live
+
+-- ---- laboratories
+
+-- the words of the device of a laboratory, and those of its root
+abbrev pub words_of : Laboratory → List (List ℕ)
+words_of lab = (device_of lab.player.value).device.words
+
+-- the words of the root of its device
+abbrev pub root_of : Laboratory → List (List ℕ)
+root_of lab = (device_of lab.player.value).root
 
 -- ---- kept states
 
@@ -38,12 +49,12 @@ is_equal s t = card_state_eq s t
 -- A state that is kept with a laboratory and its rosters is a state of the definition. The names are those of the
 -- allowances, in order.
 abbrev pub Kept : Laboratory → Rosters → List (List ℕ) → CardState → model.CardState → Type 0
-Kept lab r names s c = IsKeptState lab.device.root lab.budget names r s c
+Kept lab r names s c = IsKeptState (root_of lab) lab.budget names r s c
 
--- states that were kept stay kept
-abbrev pub KeepsKept : Laboratory → Rosters → Laboratory → Rosters → Type 0
-KeepsKept lab r lab_new r_new =
-    (names : List (List ℕ)) (s : CardState) (c : model.CardState) → Kept lab r names s c → Kept lab_new r_new names s c
+-- states that were kept stay kept, and there is room for as many counts
+pub record KeepsKept (lab : Laboratory) (r : Rosters) (lab_new : Laboratory) (r_new : Rosters) : Type 0 where
+  pub kept : (names : List (List ℕ)) (s : CardState) (c : model.CardState) → Kept lab r names s c → Kept lab_new r_new names s c
+  pub counts : length lab_new.counts.items ≡ length lab.counts.items
 
 -- ---- a try
 
@@ -55,10 +66,11 @@ pub record IsCandidate (held : List (List ℕ × ℕ)) (rs : List rule.OnRule) (
   pub ons : AlikeLists (IsOn held) c.ons.now rs
   pub applies : c.applies.now ≡ map (λ r. fits r.move m.text) rs
 
--- a try of the definition can be made from a state that is kept: of a move that is a candidate, in a manner that can be
+-- a try of the definition can be made from a state that is kept: of a move that is a candidate, in a manner that can be,
+-- with room for the counts of its `on` lines
 abbrev pub CanBeTried : Laboratory → Rosters → CardState → Candidate → Manner → Type 0
 CanBeTried lab r s x w =
-    (held : List (List ℕ × ℕ)) × (ons : List rule.OnRule) × (c : model.CardState) × (m : rule.Move) × Kept lab r (map (λ a. a.0) held) s c × IsCandidate held ons m x × CanCut c w
+    (held : List (List ℕ × ℕ)) × (ons : List rule.OnRule) × (c : model.CardState) × (m : rule.Move) × Kept lab r (map (λ a. a.0) held) s c × IsCandidate held ons m x × CanCut c w × (length lab.counts.items ≡ length ons)
 
 -- The result of a move and the counts of the executed instructions that it shows are those of a step, and amounts are
 -- those of allowances.
@@ -118,4 +130,5 @@ pub record LeadIs (lead : Lead) (x : rule.Exploration) : Type 0 where
 -- an exploration begins at the first state
 pub record Begins (b : Beginning) (x : rule.Exploration) : Type 0 where
   pub kept : Kept b.laboratory b.rosters (names_in x.rules) b.first (first_state x)
+  pub counts : length b.laboratory.counts.items ≡ length x.rules.ons
   pub lead : LeadIs b.lead x

@@ -65,10 +65,11 @@ pub record Depth : Type 0 where
 abbrev pub KeepsNode : rule.Rules → Search → CardState → Node → Type 0
 KeepsNode rules s t n = Kept s.laboratory s.rosters (names_in rules) t n.state
 
--- a search holds nodes, in the order in which they were found
+-- a search holds nodes, in the order in which they were found, and has room for the counts of the `on` lines
 pub record Holds (d : Depth) (s : Search) (ns : List Node) : Type 0 where
   pub room : s.limit ≡ d.most
   pub within : d.from ≤ length ns
+  pub counts : length s.laboratory.counts.items ≡ length d.rules.ons
   pub kept : AlikeLists (KeepsNode d.rules s) s.states.keys ns
   pub reached : AreReached d.rules.moves s.last_steps.items ns
 

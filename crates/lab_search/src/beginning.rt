@@ -5,7 +5,7 @@ ghost use Rattle.law_explore_text.specs.model_play.specs.Play.{Unarmed, State, a
 ghost use Rattle.law_explore_text.specs.law_explore.specs.Rules as rule;
 ghost use Rattle.law_explore_text.specs.law_explore.specs.Safety.{IsSettled};
 ghost use Rattle.law_explore_text.specs.law_explore.specs.States.{first_warm, play_of_deck, warm_in};
-ghost use Rattle.lab_branch.specs.Branches.{blank_branch};
+ghost use Rattle.lab_branch.specs.Branches.{blank_branch, branch_bench};
 ghost use Rattle.law_explore_text.specs.model_play.specs.DeckGrammar.{DeckLine};
 ghost use Rattle.mc_script.specs.Players.{device_of, IsUnfused};
 ghost use Rattle.mc_script.specs.Benches.{IsPlayerAt, IsPlaying};
@@ -161,6 +161,17 @@ fn play_deck<L: Ledger>(
     first
 }
 
+// A player before its first line, on the heap.
+fn player(alloc: Global, device: BranchNvm) -> Result<Box<Player<BranchNvm>>, NoMemory>
+    requires { IsUnfused (branch_bench device) }
+    ensures { IfOk result (λ player. device_of player.value ≡ device) }
+{
+    match Box::new(alloc, Player::new(device)) {
+        Ok(player) => Ok(player),
+        Err(_) => Err(NoMemory),
+    }
+}
+
 // An empty text on the heap.
 fn text(alloc: Global) -> Result<Box<Text>, NoMemory> {
     match Box::new(alloc, Text::new()) {
@@ -186,8 +197,9 @@ pub fn begin<L: Ledger>(
     let mut rosters = Rosters::new(alloc);
     let runs = runs(&live);
     let card = rosters.keep(alloc, &device, live)?;
+    device.return_to_root();
     let laboratory = Laboratory {
-        device,
+        player: player(alloc, device)?,
         budget,
         text: text(alloc)?,
         plain: text(alloc)?,

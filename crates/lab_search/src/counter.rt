@@ -2,7 +2,8 @@
 ghost use Rattle.std.specs.Prelude.{◌≡◌, ◌≤◌, ◌∷◌, [], ℕ, Option, IfSome};
 ghost use Rattle.law_explore_text.specs.model_machine.specs.Chain.{Turn as ModelTurn};
 ghost use Rattle.law_explore_text.specs.model_machine.specs.Code.{Shaped};
-ghost use Rattle.mc_machine.specs.Turns.{turn_value};
+ghost use Rattle.mc_machine.specs.declared.outcome.Outcome.{Outcome as ModelOutcome};
+ghost use Rattle.mc_machine.specs.Turns.{full_turn, turn_value};
 ghost use Rattle.mc_deck.specs.Lines.{line_of, GoodLine};
 ghost use Rattle.mc_script.specs.Arming.{on_after_answer};
 ghost use Rattle.mc_script.specs.Counting.{count_after_rises, line_powers};
@@ -13,12 +14,12 @@ ghost use Rattle.lab_search.specs.Counters.{counts_no_turn, counts_on, AreCounte
 
 use lab_rules::{OnRule, count_turn, has_turns};
 use mc_base::{Steps, Stop};
-use mc_card::{Card, Turn};
+use mc_card::{BriefTurn, Card};
 use mc_deck::Line;
 use mc_machine::Outcome;
 use mc_nvm::{Bench, Nvm};
 use mc_script::{Answer, Player, Runner, Silent, Watcher, run_watched};
-use mc_trace::line_of;
+use mc_trace::line_of_brief;
 use std::sync::ledger::Ledger;
 
 /// Counts for each `on` line that applies to a move how many executed instructions its pattern fits.
@@ -31,16 +32,17 @@ struct TurnCounter<'a, 'b> {
 
 impl<'a, 'b> TurnCounter<'a, 'b> {
     // Counts an executed instruction.
-    fn count_turn(&mut self, turn: &Turn)
+    fn count_turn(&mut self, turn: &BriefTurn)
         requires shaped { IfSome turn.now.ins Shaped }
         requires low { 1 ≤ turn.now.depth }
         requires high { turn.now.depth ≤ 4 }
-        ensures { (wrote : Option ℕ) → CountsTurns self.old (turn_value turn.now wrote ∷ []) self.new }
+        ensures { (outcome : ModelOutcome) (wrote : Option ℕ)
+            → CountsTurns self.old (turn_value (full_turn turn.now outcome) wrote ∷ []) self.new }
     {
         count_turn(
             self.ons,
             self.applies,
-            line_of(turn).as_slice(),
+            line_of_brief(turn).as_slice(),
             self.counts,
         );
     }
@@ -60,9 +62,10 @@ impl<'a, 'b> Watcher for TurnCounter<'a, 'b> {
     fn turn<N: Nvm, L: Ledger>(
         &mut self,
         card: &mut Card<N>,
+        into: &mut Outcome,
         steps: &mut Steps<L>,
-    ) -> Result<Turn, Stop> {
-        let turn = card.turn(steps)?;
+    ) -> Result<BriefTurn, Stop> {
+        let turn = card.brief_turn(into, steps)?;
         self.count_turn(&turn);
         Ok(turn)
     }

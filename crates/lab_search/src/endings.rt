@@ -1,5 +1,5 @@
 // What an exploration writes when it ends, and what it returns.
-ghost use Rattle.std.specs.Prelude.{◌≡◌, ◌+◌, ℕ, false, not, ◌&&◌, List, [], ◌∷◌, ◌++◌, reverse, slice_get, Some, IfOk};
+ghost use Rattle.std.specs.Prelude.{◌≡◌, ◌+◌, ◌≤◌, ◌^◌, ℕ, false, not, ◌&&◌, List, [], ◌∷◌, ◌++◌, reverse, slice_get, Some, IfOk, OnErr};
 ghost use Rattle.indexmap.specs.IndexSet.{index_set_len};
 ghost use Rattle.law_explore_text.specs.model_play.specs.Play.{State};
 ghost use Rattle.law_explore_text.specs.law_explore.specs.Rules as rule;
@@ -24,6 +24,7 @@ use crate::tally::sum_of;
 use lab_branch::push;
 use lab_rules::{Exploration, Move};
 use mc_base::NoMemory;
+use mc_script::JobFault;
 use mc_streams::{Sink, WriteFault};
 use std::alloc::Global;
 
@@ -34,33 +35,6 @@ pub enum Explored {
     All,
     Partial,
     Broken,
-}
-
-/// Why an exploration ended early: it was out of memory, or its text was not completely written.
-#[derive(Clone, Copy, Debug, PartialEq, Eq)]
-pub enum SearchFault {
-    NoMemory,
-    WriteFault,
-}
-
-impl From<NoMemory> for SearchFault {
-    ghost use Rattle.lab_search.specs.declared.endings.SearchFault.TheVariants.{NoMemory};
-
-    ghost from_gives = { λ f e. e ≡ NoMemory };
-
-    fn from(_error: NoMemory) -> Self {
-        SearchFault::NoMemory
-    }
-}
-
-impl From<WriteFault> for SearchFault {
-    ghost use Rattle.lab_search.specs.declared.endings.SearchFault.TheVariants.{WriteFault};
-
-    ghost from_gives = { λ f e. e ≡ WriteFault };
-
-    fn from(_error: WriteFault) -> Self {
-        SearchFault::WriteFault
-    }
 }
 
 /// What leads from the end of a deck to the first state, and whether a card runs at that end.
@@ -113,7 +87,8 @@ fn kept_as(depth: Option<u32>) -> Explored
 ///
 /// Returns `NoMemory` if there is no room for it.
 pub fn count_of_statements(lead: Lead, path: &[Step]) -> Result<u64, NoMemory>
-    ensures { IfOk result (λ count. count ≡ one_if lead.armed + one_if lead.power + lines_of path.now) }
+    ensures count { IfOk result (λ count. count ≡ one_if lead.armed + one_if lead.power + lines_of path.now) }
+    ensures none { OnErr result (2 ^ 64 ≤ one_if lead.armed + one_if lead.power + lines_of path.now) }
 {
     let mut count = u64::from(lead.armed) + u64::from(lead.power);
     for step in path {
@@ -203,7 +178,7 @@ fn report_broken<T: Sink>(
     start: Start,
     allowance: usize,
     path: &[Step],
-) -> Result<(), SearchFault>
+) -> Result<(), JobFault>
     ensures { (x : rule.Exploration) (name : List ℕ) (ts : List Try) → IsExplorationOf exploration.now x
         → StartIs start x
         → slice_get (names_in x.rules) allowance ≡ Some name → AlikeLists (IsTry x.rules.moves) path.now ts
@@ -253,7 +228,7 @@ impl Search {
         exploration: &Exploration<'_>,
         depth: Option<u32>,
         out: &mut T,
-    ) -> Result<Explored, SearchFault>
+    ) -> Result<Explored, JobFault>
         ensures { (x : rule.Exploration) → IsExplorationOf exploration.now x
             → (end : Ending) → explored_as end ≡ kept_as depth → IsExplored (sunk T.Sink out.old)
             (kept_text x.rules.ons (index_set_len self.now.states) (tally_of self.now) (how_text depth)) end result
@@ -281,7 +256,7 @@ impl Search {
         halt: Halt,
         depth: u32,
         out: &mut T,
-    ) -> Result<Explored, SearchFault>
+    ) -> Result<Explored, JobFault>
         ensures { (x : rule.Exploration) (most from : ℕ) (ns : List Node) (e : HaltedRound)
             → IsExplorationOf exploration.now x → StartIs start x
             → Ends (record { rules = x.rules; most = most; from = from }) ns e halt self.now

@@ -1,8 +1,8 @@
 // How a state was reached.
-ghost use Rattle.std.specs.Prelude.{◌≡◌};
+ghost use Rattle.std.specs.Prelude.{◌≡◌, ◌+◌, ◌<◌, ◌≤◌, ◌^◌, IfOk, OnErr};
 ghost use Rattle.lab_search.specs.Reports.{fill_value};
 
-use mc_base::Word;
+use mc_base::{NoMemory, Word};
 
 /// The word that opens the journal of layout 2.
 const OPENING: Word = *b"OPEN-2--";
@@ -42,4 +42,20 @@ pub struct Step {
     pub before: usize,
     pub chosen: usize,
     pub manner: Manner,
+}
+
+/// Returns the number of device writes before the next cut, after a cut that came after the first `made` ones.
+///
+/// # Errors
+///
+/// Returns `NoMemory` if the next cut has no number: these would be 4,294,967,295 writes.
+pub fn next_write(made: u32) -> Result<u32, NoMemory>
+    ensures next { IfOk result (λ next. next ≡ made + 1) }
+    ensures counted { IfOk result (λ next. next + 1 < 2 ^ 32) }
+    ensures none { OnErr result (2 ^ 32 ≤ made + 2) }
+{
+    if made >= u32::MAX - 1 {
+        return Err(NoMemory);
+    }
+    Ok(made + 1)
 }

@@ -16,12 +16,12 @@ mod tally;
 mod trying;
 
 pub use beginning::{Beginning, Lead, begin};
-pub use endings::{Explored, SearchFault, Start, begins_cut, count_of_statements, put_path};
-pub use journey::{Fill, Manner, Step};
+pub use endings::{Explored, Start, begins_cut, count_of_statements, put_path};
+pub use journey::{Fill, Manner, Step, next_write};
 pub use making::{Candidate, restore};
 pub use playing::{Budget, play};
 pub use report::{put_broken, put_depth, put_sums, put_unheard};
 pub use rounds::{Halt, Search};
 pub use search::{explore, explore_within};
 pub use tally::Tally;
-pub use trying::{Laboratory, Tried};
+pub use trying::{Laboratory, Tried, put_card};

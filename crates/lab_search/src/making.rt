@@ -12,7 +12,7 @@ ghost use Rattle.law_explore_text.specs.law_explore.specs.States.{play_of};
 ghost use Rattle.law_explore_text.specs.law_explore.specs.Tries.{recovery, result_text};
 ghost use Rattle.lab_rules.specs.Moves.{move_deck};
 ghost use Rattle.lab_rules.specs.Meanings.{IsMove};
-ghost use Rattle.mc_script.specs.Players.{answer_value, device_of, IsUnfused};
+ghost use Rattle.mc_script.specs.Players.{answer_value, device_of};
 ghost use Rattle.mc_script.specs.Benches.{IsPlayerAt, IsPlaying};
 ghost use Rattle.lab_search.specs.Playing.{FailsNot};
 ghost use Rattle.lab_search.specs.Benches.{CountsAs, IsLiveAfter, MadeAs, PlaysAs};
@@ -205,15 +205,15 @@ fn live_after<N: Bench>(
     Ok(Some(player.live(alloc)?))
 }
 
-/// Makes a try on a device, whose words show a state. Returns the device, and what runs on it after the move, or `None`
-/// if a cut hit no write.
+/// Makes a try on a player before its first line, the words of whose device show a state. Returns what runs after the
+/// move, or `None` if a cut hit no write.
 ///
 /// # Errors
 ///
 /// Returns `NoMemory` if it is out of memory.
 pub fn try_on<N: Bench, L: Ledger>(
     alloc: Global,
-    device: N,
+    player: &mut Player<N>,
     budget: &Budget,
     saved: &Live,
     candidate: &Candidate<'_>,
@@ -221,20 +221,19 @@ pub fn try_on<N: Bench, L: Ledger>(
     counts: &mut [u64],
     text: &mut Text,
     steps: &mut Steps<L>,
-) -> (N, Result<Option<Live>, NoMemory>)
-    requires unfused { IsUnfused (N.bench device) }
-    requires steady { (N.bench device).steady ≡ true }
-    requires shown { ShowsSome (N.state device).words saved.now }
-    ensures tried { (c : model.CardState) (m : rule.Move) → IsShown (N.state device).words saved.now c.base c.live
+) -> Result<Option<Live>, NoMemory>
+    requires start { IsPlayerAt N.Bench player.old (start (N.state (device_of player.old)).words) }
+    requires steady { (N.bench (device_of player.old)).steady ≡ true }
+    requires shown { ShowsSome (N.state (device_of player.old)).words saved.now }
+    ensures tried { (c : model.CardState) (m : rule.Move)
+        → IsShown (N.state (device_of player.old)).words saved.now c.base c.live
         → c.budget ≡ budget.now → IsMove candidate.now.chosen.now m → is_card_line m.line ≡ true → CanCut c manner
         → TriedAs c m manner candidate.now.ons.now candidate.now.applies.now counts.old counts.new text.new.items
-        (N.state result.0).words result.1 }
+        (N.state (device_of player.new)).words result }
     ensures short { array_vec_len text.new ≤ 8210 }
-    ensures keeps_device { N.same device result.0 }
+    ensures keeps_device { N.same (device_of player.old) (device_of player.new) }
 {
-    let mut player = Player::new(device);
-    restore(&mut player, budget, saved, steps);
-    let made = make(&mut player, candidate, manner, counts, text, steps);
-    let live = live_after(alloc, &player, made);
-    (player.into_dev(), live)
+    restore(player, budget, saved, steps);
+    let made = make(player, candidate, manner, counts, text, steps);
+    live_after(alloc, player, made)
 }

@@ -12,7 +12,7 @@ ghost use Rattle.lab_search.specs.Trying.{CanCut, IsMade, IsMissed};
 ghost use Rattle.lab_search.specs.Rounds.{CanCutMove, CanStep, CanTryMove, CanTryMoves, CanTryStates};
 ghost use Rattle.lab_search.specs.Rounds.{AreCandidates, Attempts, Comes, Depth, Holds, IsFrom, IsTry, TriesMove};
 
-use crate::journey::{Fill, Manner, Step};
+use crate::journey::{Fill, Manner, Step, next_write};
 use crate::making::Candidate;
 use crate::tally::Tally;
 use crate::trying::{Laboratory, Tried};
@@ -67,7 +67,7 @@ impl Search {
         ons: usize,
     ) -> Result<Search, NoMemory>
         ensures holds { IfOk result (λ s. (r : rule.Rules) (c : model.CardState)
-            → Kept laboratory rosters (names_in r) first c
+            → Kept laboratory rosters (names_in r) first c → length laboratory.counts.items ≡ length r.ons
             → Holds (record { rules = r; most = limit; from = 0 }) s (record { state = c; path = [] } ∷ [])) }
         ensures none { IfOk result (λ s. tally_of s ≡ record { tries = 0; heard = replicate ons false }) }
     {
@@ -226,14 +226,15 @@ impl Search {
             → Comes d ns (tries_from d n (tries_in m (cuts_from 1 (writes_of (play_of n.state) m)))
             (round_in d (tally_of self.old) ns)) h self.new) }
     {
-        for made in 0..u32::MAX {
+        let mut made = 0;
+        'writes: loop {
             match self.cut_at(alloc, candidate, before, chosen, made, steps)? {
                 Attempt::NotHit => return Ok(None),
                 Attempt::GoesOn => {}
                 Attempt::Halts(halt) => return Ok(Some(halt)),
             }
+            made = next_write(made)?;
         }
-        Err(NoMemory)
     }
 
     /// Returns whether a card runs in the state with a number.

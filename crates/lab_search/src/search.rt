@@ -10,11 +10,12 @@ ghost use Rattle.lab_search.specs.Kept.{IsExplorationOf};
 ghost use Rattle.lab_search.specs.Endings.{IsExplored, Starts};
 
 use crate::beginning::{Beginning, begin};
-use crate::endings::{Explored, SearchFault, Start};
+use crate::endings::{Explored, Start};
 use crate::report::put_depth;
 use crate::rounds::Search;
 use lab_rules::{Exploration, applications};
 use mc_base::{NoMemory, Steps};
+use mc_script::JobFault;
 use mc_streams::Sink;
 use std::alloc::Global;
 use std::sync::ledger::Ledger;
@@ -64,7 +65,7 @@ pub fn explore_within<T: Sink, L: Ledger>(
     depth: u32,
     out: &mut T,
     steps: &mut Steps<L>,
-) -> Result<Explored, SearchFault>
+) -> Result<Explored, JobFault>
     requires read { (x : rule.Exploration) × IsExplorationOf exploration.now x }
     ensures { (x : rule.Exploration) → IsExplorationOf exploration.now x
         → IsExplored (sunk T.Sink out.old) (text_within limit depth x) (search_of limit depth x).ending result
@@ -110,7 +111,7 @@ pub fn explore<T: Sink, L: Ledger>(
     depth: u32,
     out: &mut T,
     steps: &mut Steps<L>,
-) -> Result<Explored, SearchFault>
+) -> Result<Explored, JobFault>
     requires read { (x : rule.Exploration) × IsExplorationOf exploration.now x }
     ensures { (x : rule.Exploration) → IsExplorationOf exploration.now x
         → IsExplored (sunk T.Sink out.old) (explore_text depth x) (search_of most_states depth x).ending result

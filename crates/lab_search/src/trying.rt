@@ -1,18 +1,24 @@
 // One try: a move from a state, whole or cut.
-ghost use Rattle.std.specs.Prelude.{◌≡◌, ◌≤◌, ℕ, true, List, map, replicate, vec_len, IfOk, OnOk};
+ghost use Rattle.std.specs.Prelude.{◌≡◌, ◌≤◌, ℕ, true, List, length, map, replicate, vec_len, IfOk, OnOk};
 ghost use Rattle.arrayvec.specs.ArrayVec.{array_vec_len};
 ghost use Rattle.law_explore_text.specs.model_device.specs.Image.{image_with};
 ghost use Rattle.law_explore_text.specs.model_play.specs.Play.{is_card_line};
 ghost use Rattle.law_explore_text.specs.law_explore.specs.Rules as rule;
 ghost use Rattle.law_explore_text.specs.law_explore.specs.States as model;
 ghost use Rattle.lab_rules.specs.Meanings.{IsMove};
+ghost use Rattle.law_explore_text.specs.model_device.specs.PowerUp.{Base};
+ghost use Rattle.law_explore_text.specs.model_play.specs.Play as play;
+ghost use Rattle.lab_key.specs.Kept.{IsKeptCard, IsOfDevice};
 ghost use Rattle.lab_key.specs.Shown.{IsShown, ShowsSome};
 ghost use Rattle.law_explore_text.specs.model_play.specs.Play.{Step};
 ghost use Rattle.law_explore_text.specs.law_explore.specs.Rules.{AtResult};
 ghost use Rattle.law_explore_text.specs.law_explore.specs.Matching.{plain};
 ghost use Rattle.law_explore_text.specs.law_explore.specs.Tries.{allowances_after, times};
 ghost use Rattle.lab_rules.specs.Occasions.{capped, counts_after, AreSpent};
-ghost use Rattle.lab_search.specs.Kept.{CanBeTried, IsCandidate, Kept, KeepsKept, SpendsFrom, TryIs, runs_now};
+ghost use Rattle.lab_branch.specs.Branches.{branch_bench, branch_state};
+ghost use Rattle.law_explore_text.specs.model_play.specs.Play.{start};
+ghost use Rattle.mc_script.specs.Players.{device_of, IsPlayerAt, IsUnfused};
+ghost use Rattle.lab_search.specs.Kept.{CanBeTried, IsCandidate, Kept, KeepsKept, SpendsFrom, TryIs, root_of, runs_now, words_of};
 ghost use Rattle.lab_search.specs.Tallies.{CountsTry};
 ghost use Rattle.lab_search.specs.Trying.{CanCut, TriedAs};
 
@@ -22,16 +28,16 @@ use crate::playing::Budget;
 use lab_branch::BranchNvm;
 use lab_key::{CardState, Rosters, Saved};
 use lab_rules::{Occasion, apply_all, count, plain_into};
-use mc_base::{NoMemory, Steps};
-use mc_script::{Live, Text};
+use mc_base::{NoMemory, Steps, Word};
+use mc_script::{Live, Player, Text};
 use std::alloc::Global;
 use std::sync::ledger::Ledger;
 
-/// A device, and the room for the texts and the counts of a try. The texts are on the heap, so that a laboratory can be
-/// moved without a large frame on the stack.
+/// A player, which is put back before each try, and the room for the texts and the counts of a try. Player and texts are
+/// on the heap, so that a laboratory can be moved without a large frame on the stack.
 #[derive(Drop)]
 pub struct Laboratory {
-    pub device: BranchNvm,
+    pub player: Box<Player<BranchNvm>>,
     pub budget: Budget,
     pub text: Box<Text>,
     pub plain: Box<Text>,
@@ -44,6 +50,47 @@ pub enum Tried {
     NotHit,
     Reached(CardState),
     Broken(usize),
+}
+
+/// Puts the card that was saved on the device of a player, and puts the player back before its first line.
+pub fn put_card(player: &mut Player<BranchNvm>, saved: Saved<'_>)
+    ensures words { (device_of player.new).device.words ≡ image_with (device_of player.old).root saved.entry.words.now }
+    ensures root { (device_of player.new).root ≡ (device_of player.old).root }
+    ensures start { IsPlayerAt branch_state branch_bench player.new (start (device_of player.new).device.words) }
+    ensures steady { (branch_bench (device_of player.new)).steady ≡ true }
+{
+    put_words(player.device_mut(), saved.words);
+    player.rewind();
+}
+
+// Puts the words that differ from its root on a device, which has no fuse after it.
+fn put_words(device: &mut BranchNvm, words: &[(u16, Word)])
+    ensures words { device.new.device.words ≡ image_with device.old.root words.now }
+    ensures root { device.new.root ≡ device.old.root }
+    ensures unfused { IsUnfused (branch_bench device.new) }
+{
+    device.return_to_root();
+    device.put_words(words);
+}
+
+// Keeps the card that is on the device of a player, with what runs on it, and returns its number.
+fn keep_card(
+    alloc: Global,
+    rosters: &mut Rosters,
+    player: &mut Player<BranchNvm>,
+    live: Live,
+) -> Result<usize, NoMemory>
+    requires { ShowsSome (device_of player.old).device.words live }
+    ensures of { (b : Base) (l : play.Live) → IsShown (device_of player.old).device.words live b l
+        → IsOfDevice (device_of player.old).root b
+        → IfOk result (λ n. IsKeptCard (device_of player.old).root rosters.new n b l) }
+    ensures keeps { (b : Base) (l : play.Live) → IsShown (device_of player.old).device.words live b l
+        → IsOfDevice (device_of player.old).root b → (n : ℕ) (c : Base) (m : play.Live)
+        → IsKeptCard (device_of player.old).root rosters.old n c m
+        → IsKeptCard (device_of player.old).root rosters.new n c m }
+    ensures root { (device_of player.new).root ≡ (device_of player.old).root }
+{
+    rosters.keep(alloc, player.device_mut(), live)
 }
 
 // Sets all counts to 0.
@@ -112,23 +159,23 @@ impl Laboratory {
         manner: Manner,
         steps: &mut Steps<L>,
     ) -> Result<Option<Live>, NoMemory>
-        requires shown { ShowsSome (image_with self.old.device.root saved.words.now) saved.live.now }
+        requires shown { ShowsSome (image_with (root_of self.old) saved.words.now) saved.live.now }
         ensures tried { (c : model.CardState) (m : rule.Move)
-            → IsShown (image_with self.old.device.root saved.entry.words.now) saved.entry.live.now c.base c.live
+            → IsShown (image_with (root_of self.old) saved.entry.words.now) saved.entry.live.now c.base c.live
             → c.budget ≡ self.old.budget → IsMove candidate.now.chosen.now m → is_card_line m.line ≡ true
             → CanCut c manner → TriedAs c m manner candidate.now.ons.now candidate.now.applies.now
             (replicate (vec_len self.old.counts) 0) self.new.counts.items self.new.text.value.items
-            self.new.device.device.words result }
-        ensures root { self.new.device.root ≡ self.old.device.root }
+            (words_of self.new) result }
+        ensures root { root_of self.new ≡ root_of self.old }
         ensures budget { self.new.budget ≡ self.old.budget }
         ensures short { array_vec_len self.new.text.value ≤ 8210 }
+        ensures counts { length self.new.counts.items ≡ length self.old.counts.items }
     {
-        self.device.return_to_root();
-        self.device.put_words(saved.words);
+        put_card(&mut *self.player, saved);
         zero(&mut self.counts);
-        let (_device, live) = try_on(
+        try_on(
             alloc,
-            &mut self.device,
+            &mut *self.player,
             &self.budget,
             saved.live,
             candidate,
@@ -136,11 +183,10 @@ impl Laboratory {
             self.counts.as_mut_slice(),
             &mut *self.text,
             steps,
-        );
-        live
+        )
     }
 
-    /// Makes a try from a state. `NoMemory` is returned too if the room for the counts is not that of the `on` lines.
+    /// Makes a try from a state.
     ///
     /// # Errors
     ///
@@ -169,11 +215,8 @@ impl Laboratory {
             → IfOk result (CountsTry self.new ons c m manner) }
     {
         let Some(saved) = rosters.saved(state.card) else {
-            return Err(NoMemory);
+            unreachable!()
         };
-        if self.counts.len() != candidate.ons.len() {
-            return Err(NoMemory);
-        }
         let Some(live) = self.play(alloc, saved, candidate, manner, steps)? else {
             return Ok(Tried::NotHit);
         };
@@ -189,7 +232,7 @@ impl Laboratory {
             return Ok(Tried::Broken(allowance));
         }
         let runs = runs(&live);
-        let card = rosters.keep(alloc, &self.device, live)?;
+        let card = keep_card(alloc, rosters, &mut *self.player, live)?;
         Ok(Tried::Reached(CardState {
             card,
             runs,

@@ -16,8 +16,8 @@ use Rattle.lab_search.specs.Kept.{IsExplorationOf}
 use Rattle.lab_search.specs.Endings.{explored_as, IsExplored, WritesFront}
 use Rattle.lab_search.specs.declared.endings.Explored.{Explored}
 use Rattle.lab_search.specs.declared.endings.Explored.TheVariants as explored
-use Rattle.lab_search.specs.declared.endings.SearchFault.{SearchFault}
-use Rattle.lab_search.specs.declared.endings.SearchFault.TheVariants as fault
+use Rattle.mc_script.specs.declared.job.JobFault.{JobFault}
+use Rattle.mc_script.specs.declared.job.JobFault.TheVariants as fault
 use Rattle.mc_filter.specs.Inputs.{ReadsLimited, ReadWhole, Rejects}
 use Rattle.mc_filter.specs.Outside.{IsRead, Outside}
 use Rattle.mc_filter.specs.declared.rejection.Rejection.{Rejection}
@@ -79,7 +79,7 @@ module _ (depth most : ℕ) (a : Outside) (input : List ℕ) (read : ReadWhole a
   failed (ReportsPart t) w = record { result = Err (record {}); status = refl; written = w }
   failed (Refusal t) w = record { result = Err (record {}); status = refl; written = w }
 
-  ends_as : (r : Result Explored SearchFault) → IsExplored a.out_old text end r a.out → MellabEnds (job.Explore depth most) a (status_explored r)
+  ends_as : (r : Result Explored JobFault) → IsExplored a.out_old text end r a.out → MellabEnds (job.Explore depth most) a (status_explored r)
   ends_as (Ok explored.All) h =
       record { verdict = verdict_by text explored.All; due = due explored.All h.ending; done = record { result = Ok tt; status = refl; written = h.text } }
   ends_as (Ok explored.Partial) h =
@@ -102,7 +102,7 @@ module _ (depth most : ℕ) (a : Outside) (input : List ℕ) (read : ReadWhole a
         written = subst (λ (t : List ℕ). WritesFront a.out_old t a.out) (sym (ap text_of_verdict (verdict_is text end) ∙ same_text text (explored_as end))) h.text;
       })
 
-  ends_explored : (r : Result Explored SearchFault) (s : Status) → s ≡ status_explored r → IsExplored a.out_old text end r a.out → MellabEnds (job.Explore depth most) a s
+  ends_explored : (r : Result Explored JobFault) (s : Status) → s ≡ status_explored r → IsExplored a.out_old text end r a.out → MellabEnds (job.Explore depth most) a s
   ends_explored r s e h = subst (λ (t : Status). MellabEnds (job.Explore depth most) a t) (sym e) (ends_as r h)
 
 -- ---- the two kinds of decks

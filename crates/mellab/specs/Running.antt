@@ -13,8 +13,8 @@ use Rattle.lab_application.specs.Texts.{IsAppExplored}
 use Rattle.mc_lab.specs.Expectations.{ExpectedDeck, ExpectationFault}
 use Rattle.lab_search.specs.declared.endings.Explored.{Explored}
 use Rattle.lab_search.specs.declared.endings.Explored.TheVariants as explored
-use Rattle.lab_search.specs.declared.endings.SearchFault.{SearchFault}
-use Rattle.lab_search.specs.declared.endings.SearchFault.TheVariants as fault
+use Rattle.mc_script.specs.declared.job.JobFault.{JobFault}
+use Rattle.mc_script.specs.declared.job.JobFault.TheVariants as fault
 use Rattle.mc_filter.specs.Inputs.{FailsReading, ReadsLimited}
 use Rattle.mc_filter.specs.Outside.{IsRead, Outside}
 use Rattle.mellab.specs.declared.job.Job.{Job}
@@ -40,7 +40,7 @@ refused_application (Ok x) line = ⊥
 refused_application (Err e) line = line ≡ app_fault_line e
 
 -- the status after an exploration
-abbrev pub status_explored : Result Explored SearchFault → Status
+abbrev pub status_explored : Result Explored JobFault → Status
 status_explored (Ok explored.All) = Done
 status_explored (Ok explored.Partial) = Partial
 status_explored (Ok explored.Broken) = Failed
@@ -51,7 +51,7 @@ status_explored (Err fault.NoMemory) = NoMemory
 pub record EndsExploration (depth most : ℕ) (input : List ℕ) (a b : Sunk) (s : Status) : Type 0 where
   pub exploration : Exploration
   pub is : exploration_read input ≡ Ok exploration
-  pub result : Result Explored SearchFault
+  pub result : Result Explored JobFault
   pub status : s ≡ status_explored result
   pub explored : IsExplored a (text_within most depth exploration) (search_of most depth exploration).ending result b
 
@@ -62,7 +62,7 @@ pub record EndsApplication (depth : ℕ) (input : List ℕ) (a b : Sunk) (s : St
   pub is : app_exploration_read input ≡ Ok exploration
   pub rules : CodeRules
   pub are : AreAppRules exploration.rules exploration.target rules
-  pub result : Result Explored SearchFault
+  pub result : Result Explored JobFault
   pub status : s ≡ status_explored result
   pub explored : IsAppExplored rules exploration.moves depth (play_of_deck exploration.lines) a result b
 

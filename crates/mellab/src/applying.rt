@@ -15,10 +15,11 @@ use crate::exploring::status_explored;
 use lab_application::explore_within;
 use lab_deck::{Application, ApplicationRefusal, read_application};
 use lab_record::Subject;
-use lab_search::{Explored, SearchFault};
+use lab_search::Explored;
 use mc_base::Steps;
 use mc_deck::Deck;
 use mc_filter::{Rejection, Status, deck_of, refused};
+use mc_script::JobFault;
 use mc_streams::Sink;
 use std::alloc::Global;
 use std::sync::ledger::Ledger;
@@ -63,7 +64,7 @@ fn explore_read<T: Sink, L: Ledger>(
     application: &Application<'_>,
     out: &mut T,
     steps: &mut Steps<L>,
-) -> Result<Explored, SearchFault>
+) -> Result<Explored, JobFault>
     requires read { (ls : List (ℕ × DeckLine)) × (ms : List Move) × AreMovesOf application.now.moves ls ms }
     ensures { (ls : List (ℕ × DeckLine)) (ms : List Move) → AreMovesOf application.now.moves ls ms
         → IsAppExplored application.now.rules ms depth (play_of_deck ls) (sunk T.Sink out.old) result

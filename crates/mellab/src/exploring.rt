@@ -12,9 +12,10 @@ ghost use Rattle.mellab.specs.Statuses.{MellabEnds};
 use crate::applying::explore_application;
 use lab_moves::names_application;
 use lab_rules::{Exploration, ExplorationRefusal, read_exploration};
-use lab_search::{Explored, SearchFault, explore_within};
+use lab_search::{Explored, explore_within};
 use mc_base::Steps;
 use mc_filter::{Rejection, Status, read_input, refused};
+use mc_script::JobFault;
 use mc_streams::{Sink, Source};
 use std::alloc::Global;
 use std::sync::ledger::Ledger;
@@ -39,15 +40,15 @@ fn exploration_of(alloc: Global, text: &[u8]) -> Result<Exploration<'_>, Rejecti
 }
 
 /// Returns the status after an exploration.
-pub fn status_explored(explored: Result<Explored, SearchFault>) -> Status
+pub fn status_explored(explored: Result<Explored, JobFault>) -> Status
     ensures { result ≡ status_explored explored }
 {
     match explored {
         Ok(Explored::All) => Status::Done,
         Ok(Explored::Partial) => Status::Partial,
         Ok(Explored::Broken) => Status::Failed,
-        Err(SearchFault::WriteFault) => Status::WriteFault,
-        Err(SearchFault::NoMemory) => Status::NoMemory,
+        Err(JobFault::WriteFault) => Status::WriteFault,
+        Err(JobFault::NoMemory) => Status::NoMemory,
     }
 }
 

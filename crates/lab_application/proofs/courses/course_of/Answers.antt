@@ -9,4 +9,6 @@ course_in-requires g c =
     (names_in (q.0).rules, (q.2).state, kept_at q.0 c.args.search.now q.1 q.2 c.args.before c.in-Some.state.now q.3 c.in-Some.ensures.key)
 
 pub returns : goal.returns
-returns g c = on_ok_both c.course_in.result _ _ _ (λ root budget. same_laboratory c.args.search.now c.course_in.new.laboratory root budget) c.course_in.ensures.root c.course_in.ensures.budget
+returns g c =
+    on_ok_both c.course_in.result _ _ _ (λ root more. same_laboratory c.args.search.now c.course_in.new.laboratory root more.0 more.1) c.course_in.ensures.root
+    (on_ok_both c.course_in.result _ _ _ (λ budget counts. (budget, counts)) c.course_in.ensures.budget c.course_in.ensures.counts)

@@ -1,11 +1,13 @@
-use Rattle.std.proofs.Common.{List, ℕ, ap, map, sym, subst, ◌∙◌}
+use Rattle.std.proofs.Common.{List, ℕ, ap, map, rules, sym, subst, ◌∙◌}
 use Rattle.law_explore_text.specs.law_explore.specs.Search.{first_state}
 use Rattle.law_explore_text.specs.law_explore.specs.States.{first_play}
 use Rattle.lab_branch.specs.Branches.{BranchState}
 use Rattle.lab_key.specs.declared.state.CardState.{CardState}
 use Rattle.lab_key.specs.Kept.{IsOfDevice}
 use Rattle.lab_key.specs.KeptStates.{IsKeptState}
+use Rattle.lab_rules.specs.Meanings.{IsOn}
 use Rattle.lab_search.specs.Kept.{names_in}
+use Rattle.lab_search.proofs.AlikeLemmas.{as_long}
 use Rattle.lab_search.proofs.BeginLemmas.{first_kept, first_lead, shown_of_device}
 use Rattle.lab_search.proofs.beginning.begin.Goals as goal
 
@@ -25,6 +27,7 @@ returns g c =
     let first : CardState = record { card = c.in_ok-card.card; runs = c.runs-runs.result; allowances = c.in_ok-amounts.field-0 } in
     let kept = first_kept device.root device.device.words c.keep.new.self ls x first c.in_ok-budget.budget c.in_ok-budget.lead c.in_ok-budget.live h.deck f card c.runs-runs.ensures amounts in
     record {
-      kept = subst (λ (root : List (List ℕ)). IsKeptState root c.in_ok-budget.budget (names_in x.rules) c.keep.new.self first (first_state x)) (ap (λ (b : BranchState). b.root) (sym c.device.view_is)) kept;
+      kept = subst (λ (root : List (List ℕ)). IsKeptState root c.in_ok-budget.budget (names_in x.rules) c.keep.new.self first (first_state x)) (sym (ap (λ (b : BranchState). b.root) c.in_ok-player.ensures ∙ c.return_to_root.ensures.root)) kept;
+      counts = as_long (IsOn x.rules.allowances) c.args.exploration.now.rules.ons.items x.rules.ons _ h.rules.ons (search rules);
       lead = first_lead ls x device.device.words c.in_ok-budget.budget c.in_ok-budget.lead c.in_ok-budget.live h.deck f;
     }

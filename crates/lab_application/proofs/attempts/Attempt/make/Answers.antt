@@ -8,7 +8,7 @@ pub attempt-requires : goal.attempt-requires
 attempt-requires g c =
     let q = c.requires in
     let d = q.0 in
-    (d.rules.allowances, d.rules.ons, (q.2).state, q.3, kept_at d c.args.search.now q.1 q.2 c.args.self.now.before c.in-Some.state.now (q.4).at c.in-Some.ensures.key, (q.4).candidate, q.5)
+    (d.rules.allowances, d.rules.ons, (q.2).state, q.3, kept_at d c.args.search.now q.1 q.2 c.args.self.now.before c.in-Some.state.now (q.4).at c.in-Some.ensures.key, (q.4).candidate, q.5, (q.4).at.holds.counts)
 
 pub returns-in-NotHit-clause-same : goal.returns-in-NotHit-clause-same
 returns-in-NotHit-clause-same g c = record { keeps = c.in_ok-tried.ensures.keeps; room = refl; states = refl; steps = refl }

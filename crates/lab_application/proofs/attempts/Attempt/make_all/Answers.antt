@@ -7,9 +7,10 @@ use Rattle.lab_application.specs.Finding.{AreKeptWith}
 use Rattle.lab_application.proofs.SearchLemmas.{are_kept_with, kept_more, reached_kept, same_self, same_then, same_tries}
 use Rattle.lab_application.proofs.attempts.Attempt.make_all.Goals as goal
 
-pub loop-made-init : goal.loop-made-init
-loop-made-init g c =
+pub writes-init : goal.writes-init
+writes-init g c =
     record {
+      counted = omega arith;
       same = same_self c.args.search.now;
       count = search rules;
       kept = λ d ns n m h k. subst (λ (rs : List Reached). AreKeptWith c.args.search.now (names_in d.rules) rs) (sym c.new-all.ensures.items) tt;
@@ -18,26 +19,29 @@ loop-made-init g c =
 pub make-requires : goal.make-requires
 make-requires g c =
     let q = c.requires in
-    let same = c.loop-made.invariant.same in
-    (q.0, q.1, q.2, q.3, same_tries q.0 q.1 q.2 q.3 c.args.self.now.candidate.now c.args.self.now.before c.args.self.now.chosen c.args.search.now c.loop-made.search same q.4, (q.5, omega (arith, c.loop-made-test.true)))
+    let same = c.writes.invariant.same in
+    let counted = c.writes.invariant.counted in
+    (q.0, q.1, q.2, q.3, same_tries q.0 q.1 q.2 q.3 c.args.self.now.candidate.now c.args.self.now.before c.args.self.now.chosen c.args.search.now c.writes.search same q.4, (q.5, omega (arith, counted)))
 
 pub returns-in-None-clause-same : goal.returns-in-None-clause-same
-returns-in-None-clause-same g c = same_then c.args.search.now c.loop-made.search c.make.new.search c.loop-made.invariant.same c.in_ok-reached.ensures.same
+returns-in-None-clause-same g c = same_then c.args.search.now c.writes.search c.make.new.search c.writes.invariant.same c.in_ok-reached.ensures.same
 
 pub returns-in-None-clause-made : goal.returns-in-None-clause-made
 returns-in-None-clause-made g c =
-    λ d ns n m h k. are_kept_with c.loop-made.search c.make.new.search (names_in d.rules) c.loop-made.all.items c.in_ok-reached.ensures.same.keeps (c.loop-made.invariant.kept d ns n m h k)
+    λ d ns n m h k. are_kept_with c.writes.search c.make.new.search (names_in d.rules) c.writes.all.items c.in_ok-reached.ensures.same.keeps (c.writes.invariant.kept d ns n m h k)
 
-pub loop-made-preserved : goal.loop-made-preserved
-loop-made-preserved g c =
+pub writes-preserved : goal.writes-preserved
+writes-preserved g c =
     record {
-      same = same_then c.args.search.now c.loop-made.search c.make.new.search c.loop-made.invariant.same c.in_ok-reached.ensures.same;
-      count = ap length c.in_ok-push-in-Some.ensures.items ∙ length-append c.loop-made.all.items (c.in-Some.reached ∷ []) ∙ ap (λ (n : ℕ). n + 1) c.loop-made.invariant.count;
+      counted = c.in_ok-made.ensures.counted;
+      same = same_then c.args.search.now c.writes.search c.make.new.search c.writes.invariant.same c.in_ok-reached.ensures.same;
+      count = ap length c.in_ok-push-in-Some.ensures.items ∙ length-append c.writes.all.items (c.in-Some.reached ∷ []) ∙ ap (λ (n : ℕ). n + 1) c.writes.invariant.count;
       kept = λ d ns n m h k.
-          let same = c.loop-made.invariant.same in
-          let there = same_tries d ns n m c.args.self.now.candidate.now c.args.self.now.before c.args.self.now.chosen c.args.search.now c.loop-made.search same h in
-          let reached = c.in_ok-reached.ensures.made d ns n m there (k, omega (arith, c.loop-made-test.true)) in
-          kept_more c.make.new.search (names_in d.rules) c.loop-made.all.items _ c.in-Some.reached c.in_ok-push-in-Some.ensures.items
-          (are_kept_with c.loop-made.search c.make.new.search (names_in d.rules) c.loop-made.all.items c.in_ok-reached.ensures.same.keeps (c.loop-made.invariant.kept d ns n m h k))
-          (reached_kept d c.make.new.search n m (manner.Cut c.loop-made.made fill.Zeros) c.in_ok-reached.field-0 c.in-Some.reached c.in-Some.is reached);
+          let same = c.writes.invariant.same in
+          let counted = c.writes.invariant.counted in
+          let there = same_tries d ns n m c.args.self.now.candidate.now c.args.self.now.before c.args.self.now.chosen c.args.search.now c.writes.search same h in
+          let reached = c.in_ok-reached.ensures.made d ns n m there (k, omega (arith, counted)) in
+          kept_more c.make.new.search (names_in d.rules) c.writes.all.items _ c.in-Some.reached c.in_ok-push-in-Some.ensures.items
+          (are_kept_with c.writes.search c.make.new.search (names_in d.rules) c.writes.all.items c.in_ok-reached.ensures.same.keeps (c.writes.invariant.kept d ns n m h k))
+          (reached_kept d c.make.new.search n m (manner.Cut c.writes.made fill.Zeros) c.in_ok-reached.field-0 c.in-Some.reached c.in-Some.is reached);
     }

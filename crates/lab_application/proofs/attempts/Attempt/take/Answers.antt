@@ -1,4 +1,5 @@
 use Rattle.lab_search.specs.Kept.{names_in}
+use Rattle.lab_search.proofs.AttemptLemmas.{keeps_then}
 use Rattle.lab_application.proofs.SearchLemmas.{breaks_by, if_ok_then, kept_with, on_ok_then, same_tries, step_from}
 use Rattle.lab_application.proofs.attempts.Attempt.take.Goals as goal
 
@@ -10,7 +11,7 @@ returns-in-Err-clause-comes c =
     λ d ns n m h k. breaks_by d ns n m c.args.self.now.candidate.now c.args.self.now.before c.args.self.now.chosen c.args.manner c.args.search.now c.count.new.search c.step-step.result c.in_ok-broken.ensures h c.step-step.ensures
 
 pub returns-in-Ok-clause-keeps : goal.returns-in-Ok-clause-keeps
-returns-in-Ok-clause-keeps c = on_ok_then c.keep.result _ _ (λ h. λ names x k i. h names x k (c.in_ok-broken.ensures.keeps names x k i)) c.keep.ensures.keeps
+returns-in-Ok-clause-keeps c = on_ok_then c.keep.result _ _ (λ h. keeps_then _ _ _ _ _ _ c.in_ok-broken.ensures.keeps h) c.keep.ensures.keeps
 
 pub returns-in-Ok-clause-comes : goal.returns-in-Ok-clause-comes
 returns-in-Ok-clause-comes c =

@@ -1,4 +1,5 @@
 use Rattle.std.proofs.Common.{sym, ◌∙◌}
+use Rattle.lab_search.proofs.AttemptLemmas.{keeps_then}
 use Rattle.lab_application.proofs.SearchLemmas.{comes_goes, comes_then, if_ok_then, on_ok_then, then_tries}
 use Rattle.lab_application.proofs.attempts.Attempt.try_cut.Goals as goal
 
@@ -15,7 +16,7 @@ try_fill-requires-clause-can g c =
     (q.0, a.all, q.2, q.3, then_tries q.0 q.1 q.2 q.3 c.args.self.now.candidate.now c.args.self.now.before c.args.self.now.chosen c.args.search.now c.take.new.search a q.4, q.5)
 
 pub returns-then-is_some-2-clause-keeps : goal.returns-then-is_some-2-clause-keeps
-returns-then-is_some-2-clause-keeps g c = λ names x k i. c.in_ok-halt-2.ensures.keeps names x k (c.in_ok-halt.ensures.keeps names x k i)
+returns-then-is_some-2-clause-keeps g c = keeps_then _ _ _ _ _ _ c.in_ok-halt.ensures.keeps c.in_ok-halt-2.ensures.keeps
 
 pub returns-then-is_some-2-clause-comes : goal.returns-then-is_some-2-clause-comes
 returns-then-is_some-2-clause-comes g c =
@@ -34,7 +35,7 @@ try_fill-requires-2-clause-can g c =
 
 pub returns-clause-keeps : goal.returns-clause-keeps
 returns-clause-keeps g c =
-    on_ok_then c.try_fill-2.result _ _ (λ h. λ names x k i. h names x k (c.in_ok-halt-2.ensures.keeps names x k (c.in_ok-halt.ensures.keeps names x k i))) c.try_fill-2.ensures.keeps
+    on_ok_then c.try_fill-2.result _ _ (λ h. keeps_then _ _ _ _ _ _ c.in_ok-halt.ensures.keeps (keeps_then _ _ _ _ _ _ c.in_ok-halt-2.ensures.keeps h)) c.try_fill-2.ensures.keeps
 
 pub returns-clause-comes : goal.returns-clause-comes
 returns-clause-comes g c =

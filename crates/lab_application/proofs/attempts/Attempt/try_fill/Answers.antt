@@ -1,5 +1,6 @@
 use Rattle.std.proofs.Common.{arith}
 use Rattle.lab_search.specs.declared.journey.Manner.TheVariants as manner
+use Rattle.lab_search.proofs.AttemptLemmas.{keeps_then}
 use Rattle.lab_application.proofs.SearchLemmas.{if_ok_then, on_ok_then, reached_kept, same_tries}
 use Rattle.lab_application.proofs.attempts.Attempt.try_fill.Goals as goal
 
@@ -10,7 +11,7 @@ make-requires g c =
     (q.0, q.1, q.2, q.3, q.4, (q.5, omega (arith, counted)))
 
 pub returns-in-Some-clause-keeps : goal.returns-in-Some-clause-keeps
-returns-in-Some-clause-keeps g c = on_ok_then c.take.result _ _ (λ h. λ names x k i. h names x k (c.in_ok-reached.ensures.same.keeps names x k i)) c.take.ensures.keeps
+returns-in-Some-clause-keeps g c = on_ok_then c.take.result _ _ (λ h. keeps_then _ _ _ _ _ _ c.in_ok-reached.ensures.same.keeps h) c.take.ensures.keeps
 
 pub returns-in-Some-clause-comes : goal.returns-in-Some-clause-comes
 returns-in-Some-clause-comes g c =

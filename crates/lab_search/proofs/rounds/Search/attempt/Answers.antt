@@ -44,4 +44,4 @@ pub attempt-requires : goal.attempt-requires
 attempt-requires g c =
     let q = c.requires in
     let d = q.0 in
-    (d.rules.allowances, d.rules.ons, (q.2).state, q.3, kept_at d c.args.self.now q.1 q.2 c.args.step.before c.in-Some.state.now (q.4).at c.in-Some.ensures.key, (q.4).candidate, q.5)
+    (d.rules.allowances, d.rules.ons, (q.2).state, q.3, kept_at d c.args.self.now q.1 q.2 c.args.step.before c.in-Some.state.now (q.4).at c.in-Some.ensures.key, (q.4).candidate, q.5, (q.4).at.holds.counts)

@@ -1,5 +1,5 @@
 use Rattle.std.proofs.Common.{length, refl, sym, ◌∙◌}
-use Rattle.lab_search.specs.declared.endings.SearchFault.TheVariants as fault
+use Rattle.mc_script.specs.declared.job.JobFault.TheVariants as fault
 use Rattle.lab_search.specs.Reports.{how_text}
 use Rattle.lab_search.specs.Rounds.{tally_of}
 use Rattle.lab_search.proofs.HaltLemmas.{explored_err}
