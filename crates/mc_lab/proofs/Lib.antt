@@ -17,6 +17,7 @@ mod SweepAccounts
 mod SweepNames
 mod SweepLoops
 mod SweepPlayers
+mod SweepStepLemmas
 mod SweepFrontLemmas
 mod SweepRows
 mod SweepDecks

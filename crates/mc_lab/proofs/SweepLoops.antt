@@ -1,5 +1,5 @@
 -- The loops of a sweep: the cuts that hit, and the observed states.
-use Rattle.std.specs.Prelude.{◌≡◌, ℕ, zero, suc, ◌+◌, ◌*◌, slice_set, ◌<◌, ◌≤◌, Bool, true, false, ◌&&◌, nat_le, List, [], ◌∷◌, ◌++◌, length, map, take, refl}
+use Rattle.std.specs.Prelude.{◌≡◌, ℕ, zero, suc, ◌+◌, ◌*◌, slice_set, ◌<◌, ◌≤◌, Bool, true, false, ◌&&◌, nat_le, List, [], ◌∷◌, ◌++◌, length, map, take, refl, Option, Some, None, IfNone}
 use Rattle.std.proofs.Common.{arith, ap, sym, ◌∙◌}
 use Rattle.std.proofs.lemmas.Bool.{leb-true}
 use Rattle.std.proofs.lemmas.Bool.Decides.{nat_tests}
@@ -218,3 +218,14 @@ swept_as p n words plays s e =
 -- a line that makes no write
 pub swept_none : (p : Place) (words : List SweepWord) → writes_in p ≡ 0 → SweptAs p 0 words 0
 swept_none p words none = swept_as p 0 words 0 (sweeping_none p words) (sym none)
+
+-- ---- bounds
+
+-- what follows if there is no value
+pub if_none : {P : Type 0} (o : Option ℕ) → P → IfNone o P
+if_none None h = h
+if_none (Some v) h = tt
+
+pub if_none_then : {P Q : Type 0} (o : Option ℕ) → (P → Q) → IfNone o P → IfNone o Q
+if_none_then None f h = f h
+if_none_then (Some v) f h = tt

@@ -21,4 +21,5 @@ pub mod SweepPlayers
 pub mod SweepFronts
 pub mod Benches
 pub mod SweepEnds
+pub mod SweepSteps
 pub mod SweptRows

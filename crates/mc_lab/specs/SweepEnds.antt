@@ -38,6 +38,10 @@ is_open_at ls i = is_open (take i ls) (line_at ls i)
 abbrev pub AtMost : List (ℕ × DeckLine) → ℕ → ℕ → Type 0
 AtMost ls n most = (i : ℕ) → i < n → is_open_at ls i ≡ true → writes_behind (take i ls) (line_at ls i) ≤ most
 
+-- a line that may be swept makes more device writes than the argument of a `cut` may be
+abbrev pub HasTooMany : List (ℕ × DeckLine) → ℕ → Type 0
+HasTooMany ls i = (is_open_at ls i ≡ true) × (4294967295 ≤ writes_behind (take i ls) (line_at ls i))
+
 -- the swept line of a place, if it is swept
 abbrev pub sweeps_at : Place → List Swept
 sweeps_at p = sweeps_with (is_swept (front_of p) (line_in p)) (line_sweep (names_in p) (front_of p) (line_in p)) []

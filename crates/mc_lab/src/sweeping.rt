@@ -1,6 +1,6 @@
 // Sweeps of a deck.
-ghost use Rattle.std.specs.Prelude.{◌≡◌, ◌+◌, ◌≤◌, ◌<◌, ◌&&◌, Bool, List, [], ◌∷◌, length, not, take, true, false};
-ghost use Rattle.std.specs.Prelude.{IfOk, IfSome, MatchOption, OnOk};
+ghost use Rattle.std.specs.Prelude.{◌≡◌, ℕ, ◌+◌, ◌*◌, ◌≤◌, ◌<◌, ◌&&◌, Bool, List, [], ◌∷◌, length, not, take, true, false};
+ghost use Rattle.std.specs.Prelude.{IfNone, IfOk, IfSome, MatchOption, OnOk};
 ghost use Rattle.law_explore.specs.model_play.specs.Play.{armed_stop_in, is_card_line};
 ghost use Rattle.mc_deck.specs.Lines.{line_of};
 ghost use Rattle.mc_text.specs.Texts.{sunk, Puts};
@@ -10,7 +10,9 @@ ghost use Rattle.mc_lab.specs.Sweeps.{are_fine, is_whole, is_unarmed, marks_afte
 ghost use Rattle.mc_lab.specs.SweepFronts.{HasPlayed};
 ghost use Rattle.mc_lab.specs.SweepBodies.{front_of, line_at, writes_in, AccountsHaveRoom, IsUnarmedLine, IsPlace};
 ghost use Rattle.mc_lab.specs.SweepEnds.{free_behind, is_open_at, sweeps_from, sweeps_at, pending_value, AddsFine, AddsSums, AtMost, IsLineOf, IsRoom};
-ghost use Rattle.mc_lab.specs.SweepEnds.{IsSmall, ReportsSweep};
+ghost use Rattle.mc_lab.specs.SweepEnds.{HasTooMany, IsSmall, ReportsSweep};
+ghost use Rattle.mc_lab.specs.SweepSteps.{if_open, most_of_measure, most_of_sweep, most_through, plays_at, sum_below, swept_steps_at};
+ghost use Rattle.mc_lab.specs.SweepSteps.{IsDoubled, Measured};
 
 use crate::remark::Remark;
 use crate::sweep_line::LineSweeper;
@@ -120,6 +122,9 @@ fn bound_at<D: Trials + Drop, L: Ledger>(
     requires small { most < 4294967295 }
     requires room { AccountsHaveRoom sweeper.old.ends sweeper.old.pair (length place.now.names.now) }
     ensures writes { IfSome result (λ n. is_open_at place.now.deck.now place.now.at ≡ true → writes_in place.now ≤ n) }
+    ensures many { IfNone result (HasTooMany place.now.deck.now place.now.at) }
+    ensures steps { (d : ℕ) → IsDoubled d most → Measured d (if_open (is_open_at place.now.deck.now place.now.at) 1)
+        result (most_through place.now) steps.old steps.new }
     ensures grows { IfSome result (λ n. most ≤ n) }
     ensures small { IfSome result (λ n. n < 4294967295) }
     ensures room { AccountsHaveRoom sweeper.new.ends sweeper.new.pair (length place.now.names.now) }
@@ -141,7 +146,9 @@ fn most_writes<D: Trials + Drop, L: Ledger>(
 ) -> Option<u32>
     requires room { AccountsHaveRoom sweeper.old.ends sweeper.old.pair (length names.now) }
     requires played { D.has_played sweeper.old.trials [] }
-    ensures { IfSome result (λ n. AtMost deck.now (length deck.now) n) }
+    ensures most { IfSome result (λ n. AtMost deck.now (length deck.now) n) }
+    ensures many { IfNone result ((at : ℕ) × (at < length deck.now) × HasTooMany deck.now at) }
+    ensures steps { steps.new ≤ steps.old + most_of_measure deck.now }
 {
     let mut most = 0;
     for at in 0..deck.len() {
@@ -220,6 +227,7 @@ fn sweep_place<D: Trials + Drop, T: Sink, L: Ledger>(
         ≡ marks_after (pending_value (remark_values marks.now) pending.old) (sweeps_at place.now)) }
     ensures small { OnOk result (IsSmall sums.new (place.now.at + 1)) }
     ensures size { length words.new ≡ length words.old }
+    ensures steps { steps.new ≤ steps.old + plays_at place.now * most_through place.now }
     ensures room { AccountsHaveRoom sweeper.new.ends sweeper.new.pair (length place.now.names.now) }
     ensures played { D.has_played sweeper.new.trials (front_of place.now) }
 {
@@ -272,6 +280,8 @@ fn sweep_at<D: Trials + Drop, T: Sink, L: Ledger>(
         ≡ marks_after (pending_value (remark_values marks.now) pending.old) (sweeps_at place.now)) }
     ensures small { OnOk result (IsSmall sums.new (place.now.at + 1)) }
     ensures size { length words.new ≡ length words.old }
+    ensures steps { steps.new ≤ steps.old
+        + if_open (is_open_at place.now.deck.now place.now.at) (plays_at place.now) * most_through place.now }
     ensures room { AccountsHaveRoom sweeper.new.ends sweeper.new.pair (length place.now.names.now) }
     ensures played { D.has_played sweeper.new.trials (front_of place.now) }
 {
@@ -326,6 +336,7 @@ fn sweep_lines<D: Trials + Drop, T: Sink, L: Ledger>(
         sums.new.whole) }
     ensures left { OnOk result (pending_value (remark_values marks.now) pending.new
         ≡ marks_after (pending_value (remark_values marks.now) pending.old) (sweeps_from names.now deck.now 0)) }
+    ensures steps { steps.new ≤ steps.old + sum_below (swept_steps_at names.now deck.now) (length deck.now) }
 {
     for at in 0..deck.len() {
         let place = Place { deck, at, names };
@@ -335,19 +346,51 @@ fn sweep_lines<D: Trials + Drop, T: Sink, L: Ledger>(
     Ok(())
 }
 
+// Allocates a device of which no line was played, and room for the observed states of this number of names.
+fn new_sweeper(alloc: Global, names: usize) -> Result<LineSweeper<Laboratory>, NoMemory>
+    ensures room { IfOk result (λ sweeper. AccountsHaveRoom sweeper.ends sweeper.pair names) }
+    ensures played { IfOk result (λ sweeper. HasPlayed sweeper.trials []) }
+{
+    let trials = Laboratory::new(alloc)?;
+    LineSweeper::new(alloc, trials, names)
+}
+
+// Measures the writes of the lines of a deck on a device of its own: a number that they exceed in no line that may be
+// swept. It is out of memory, too, if a line makes more than the argument of a `cut` may be.
+fn measure<L: Ledger>(
+    alloc: Global,
+    deck: &Deck,
+    names: &[Aid],
+    steps: &mut Steps<L>,
+) -> Result<u32, NoMemory>
+    ensures most { IfOk result (λ n. AtMost deck.now (length deck.now) n) }
+    ensures steps { steps.new ≤ steps.old + most_of_measure deck.now }
+{
+    let mut sweeper = new_sweeper(alloc, names.len())?;
+    match most_writes(&mut sweeper, deck, names, steps) {
+        Some(most) => Ok(most),
+        None => Err(NoMemory),
+    }
+}
+
+// Allocates room for the words of this number of writes.
+fn new_words(alloc: Global, count: u32) -> Result<Vec<SweepWord>, NoMemory>
+    ensures { IfOk result (λ words. length words.items ≡ count) }
+{
+    Ok(vec![in alloc; SweepWord::Same; count as usize]?)
+}
+
 // Allocates the room for a sweep of a deck.
 fn room_for<L: Ledger>(alloc: Global, deck: &Deck, steps: &mut Steps<L>) -> Result<Room, NoMemory>
     ensures room { IfOk result (λ room. IsRoom deck.now room.names.items room.sweeper.ends room.sweeper.pair
         (length room.words.items)) }
     ensures played { IfOk result (λ room. HasPlayed room.sweeper.trials []) }
+    ensures steps { steps.new ≤ steps.old + most_of_measure deck.now }
 {
     let names = names_of(alloc, deck)?;
-    let mut sweeper = LineSweeper::new(alloc, Laboratory::new(alloc)?, names.len())?;
-    let Some(most) = most_writes(&mut sweeper, deck, names.as_slice(), steps) else {
-        return Err(NoMemory);
-    };
-    let words = vec![in alloc; SweepWord::Same; most as usize]?;
-    let sweeper = LineSweeper::new(alloc, Laboratory::new(alloc)?, names.len())?;
+    let most = measure(alloc, deck, names.as_slice(), steps)?;
+    let words = new_words(alloc, most)?;
+    let sweeper = new_sweeper(alloc, names.len())?;
     Ok(Room {
         names,
         sweeper,
@@ -370,6 +413,8 @@ fn sweep_in<T: Sink, L: Ledger>(
     ensures reported { Puts (sunk T.Sink out.old) (sweep_text (remark_values marks.now) deck.now)
         (done_of result) (sunk T.Sink out.new) }
     ensures whole { IfOk result (λ whole. whole ≡ is_whole (remark_values marks.now) deck.now) }
+    ensures steps { steps.new ≤ steps.old
+        + sum_below (swept_steps_at (names_from [] deck.now) deck.now) (length deck.now) }
 {
     let mut sums = no_sums();
     let mut pending = Pending {
@@ -420,6 +465,8 @@ pub fn sweep<T: Sink, L: Ledger>(
         (sweep_text (remark_values marks.now) deck.now) result
         (sunk T.Sink out.new) }
     ensures whole { IfOk result (λ whole. whole ≡ is_whole (remark_values marks.now) deck.now) }
+    // At most the steps of its plays, as if each were played from the beginning of the deck.
+    ensures steps { steps.new ≤ steps.old + most_of_sweep deck.now }
 {
     let mut room = match room_for(alloc, deck, steps) {
         Ok(room) => room,

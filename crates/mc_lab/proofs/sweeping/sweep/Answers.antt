@@ -1,0 +1,8 @@
+use Rattle.mc_lab.proofs.SweepStepLemmas.{measure_most, sweep_most}
+use Rattle.mc_lab.proofs.sweeping.sweep.Goals as goal
+
+pub returns-in-Err-clause-steps : goal.returns-in-Err-clause-steps
+returns-in-Err-clause-steps g c = measure_most c.args.deck.now c.args.steps.now c.room_for.new.steps c.room_for.ensures.steps
+
+pub returns-in-Ok-in-Ok-clause-steps : goal.returns-in-Ok-in-Ok-clause-steps
+returns-in-Ok-in-Ok-clause-steps g c = sweep_most c.args.deck.now c.args.steps.now c.room_for.new.steps c.sweep_in.new.steps c.room_for.ensures.steps c.sweep_in.ensures.steps
