@@ -40,6 +40,11 @@ same_then s u v h k =
 pub same_laboratory : (s : Search) (lab : Laboratory) → root_of lab ≡ root_of s.laboratory → lab.budget ≡ s.laboratory.budget → length lab.counts.items ≡ length s.laboratory.counts.items → IsSameSearch s (record s { laboratory = lab })
 same_laboratory s lab root budget counts = record { keeps = keeps_there s.laboratory lab s.rosters root budget counts; room = refl; states = refl; steps = refl }
 
+pub same_if_ok : {A E : Type 0} (x : Result A E) (s : Search) (lab : Laboratory) → OnOk x (root_of lab ≡ root_of s.laboratory) → OnOk x (lab.budget ≡ s.laboratory.budget) → OnOk x (length lab.counts.items ≡ length s.laboratory.counts.items)
+    → OnOk x (IsSameSearch s (record s { laboratory = lab }))
+same_if_ok (Ok y) s lab root budget counts = same_laboratory s lab root budget counts
+same_if_ok (Err e) s lab root budget counts = tt
+
 pub same_holds : (d : Depth) (ns : List Node) (s u : Search) → IsSameSearch s u → Holds d s ns → Holds d u ns
 same_holds d ns s u h = holds_still d s u ns h.keeps h.room h.states h.steps
 
@@ -154,10 +159,6 @@ on_ok (Err e) P h = tt
 pub on_ok_then : {A E : Type 0} (r : Result A E) (P Q : Type 0) → (P → Q) → OnOk r P → OnOk r Q
 on_ok_then (Ok x) P Q f h = f h
 on_ok_then (Err e) P Q f h = tt
-
-pub on_ok_both : {A E : Type 0} (r : Result A E) (P Q S : Type 0) → (P → Q → S) → OnOk r P → OnOk r Q → OnOk r S
-on_ok_both (Ok x) P Q S f h k = f h k
-on_ok_both (Err e) P Q S f h k = tt
 
 pub if_ok_then : {A E : Type 0} (r : Result A E) (P Q : A → Type 0) → ((x : A) → P x → Q x) → IfOk r P → IfOk r Q
 if_ok_then (Ok x) P Q f h = f x h

@@ -35,7 +35,7 @@ writes-preserved g c =
     record {
       counted = c.in_ok-made.ensures.counted;
       same = same_then c.args.search.now c.writes.search c.make.new.search c.writes.invariant.same c.in_ok-reached.ensures.same;
-      count = ap length c.in_ok-push-in-Some.ensures.items ∙ length-append c.writes.all.items (c.in-Some.reached ∷ []) ∙ ap (λ (n : ℕ). n + 1) c.writes.invariant.count;
+      count = ap length c.in_ok-push-in-Some.ensures.items ∙ length-append c.writes.all.items (c.in-Some.reached ∷ []) ∙ ap (λ (n : ℕ). n + 1) c.writes.invariant.count ∙ sym c.in_ok-made.ensures.next;
       kept = λ d ns n m h k.
           let same = c.writes.invariant.same in
           let counted = c.writes.invariant.counted in
