@@ -4,5 +4,8 @@ use Rattle.mc_lab.proofs.sweeping.sweep.Goals as goal
 pub returns-in-Err-clause-steps : goal.returns-in-Err-clause-steps
 returns-in-Err-clause-steps g c = measure_most c.args.deck.now c.args.steps.now c.room_for.new.steps c.room_for.ensures.steps
 
-pub returns-in-Ok-in-Ok-clause-steps : goal.returns-in-Ok-in-Ok-clause-steps
-returns-in-Ok-in-Ok-clause-steps g c = sweep_most c.args.deck.now c.args.steps.now c.room_for.new.steps c.sweep_in.new.steps c.room_for.ensures.steps c.sweep_in.ensures.steps
+pub returns-in-Ok-sweep_in-clause-steps : goal.returns-in-Ok-sweep_in-clause-steps
+returns-in-Ok-sweep_in-clause-steps g c = sweep_most c.args.deck.now c.args.steps.now c.room_for.new.steps c.sweep_in.new.steps c.room_for.ensures.steps c.sweep_in.ensures.steps
+
+pub returns-clause-steps : goal.returns-clause-steps
+returns-clause-steps g c = sweep_most c.args.deck.now c.args.steps.now c.room_for.new.steps c.sweep_in.new.steps c.room_for.ensures.steps c.sweep_in.ensures.steps
