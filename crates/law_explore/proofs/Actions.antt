@@ -1,6 +1,6 @@
 -- Each action of a play is a try of the state that agrees with it.
-use Rattle.std.specs.Prelude.{◌≡◌, ℕ, ◌+◌, ◌≤◌, Bool, true, cond, ◌==◌, List, Some, None, ⊤, refl}
-use Rattle.std.proofs.Common.{arith, ap, sym, subst, inl, inr, ◌∙◌}
+use Rattle.std.specs.Prelude.{◌≡◌, ℕ, ◌≤◌, Bool, true, cond, ◌==◌, List, Some, None, ⊤, refl}
+use Rattle.std.proofs.Common.{arith, ap, sym, subst, inr, ◌∙◌}
 use Rattle.std.proofs.lemmas.Bool.{le-leb}
 use Rattle.model_play.specs.model_device.specs.declared.device.Stop.TheVariants as stop
 use Rattle.model_play.specs.model_device.specs.Bytes.{zeros}
@@ -12,7 +12,7 @@ use Rattle.model_play.specs.model_card.specs.Manager.{SessionState}
 use Rattle.model_play.specs.model_card.specs.Commands.{Command}
 use Rattle.model_play.specs.DeckGrammar.{DeckLine, DeckCommand}
 use Rattle.model_play.specs.DeckGrammar as line
-use Rattle.model_play.specs.Play.{Armed, Unarmed, ArmedCut, Live, Running, Unpowered, Muted, Warm, State, AfterPower, Step, step, is_card_line, moves_of, power_result, power_live, power_after, power_step, card_line, command_step, line_command, stopped_line}
+use Rattle.model_play.specs.Play.{Armed, Unarmed, ArmedCut, Live, Running, Unpowered, Muted, Warm, State, AfterPower, Step, step, is_card_line, moves_of, power_live, power_after, power_step, card_line, command_step, line_command, stopped_line}
 use Rattle.model_play.specs.Family.{is_running}
 use Rattle.law_explore.specs.Rules.{Move}
 use Rattle.law_explore.specs.States.{CardState, play_of, state_in}
@@ -45,9 +45,7 @@ pub record Agrees (s : State) (c : CardState) : Type 0 where
 
 -- a play by the parts of its state
 pub warm_is : (s : Warm) (b : Base) (v : Live) (g : ℕ) → s.base ≡ b → s.live ≡ v → s.budget ≡ g → s.armed ≡ Unarmed → s ≡ past_power b s.owed s.by v g Unarmed
-warm_is s b v g x y z u =
-    ap (λ (e : Base). past_power e s.owed s.by s.live s.budget s.armed) x ∙ ap (λ (e : Live). past_power b s.owed s.by e s.budget s.armed) y
-    ∙ ap (λ (e : ℕ). past_power b s.owed s.by v e s.armed) z ∙ ap (λ (e : Armed). past_power b s.owed s.by v g e) u
+warm_is s b v g x y z u = grind (arith, past_power)
 
 -- ---- one action
 
@@ -78,15 +76,10 @@ module _ (n : ℕ) (t : List ℕ) (l : DeckLine) where
   line_on b o j v g a = card_line n l (past_power b o j v g a) v b None
 
   whole_shows : (b : Base) (o : ℕ) (j : Journal) (v : Live) (g : ℕ) → ShowsSame (line_on b o j v g Unarmed) (line_on b 0 Two v g Unarmed)
-  whole_shows (OnCard c) o j (Running session_state) g = record { result = refl; turns = refl }
-  whole_shows (AtFault cause place) o j (Running session_state) g = record { result = refl; turns = refl }
-  whole_shows b o j Unpowered g = record { result = refl; turns = refl }
-  whole_shows b o j Muted g = record { result = refl; turns = refl }
+  whole_shows b o j v g = grind arith
 
   whole_after : (b : Base) (o : ℕ) (j : Journal) (v : Live) (g : ℕ) (a : List (List ℕ × ℕ)) → IsStarted v b o → Agrees (line_on b o j v g Unarmed).after (state_in (line_on b 0 Two v g Unarmed).after a)
-  whole_after (OnCard c) o j (Running session_state) g a h =
-      let r = line_command c session_state g l in
-      record { warm = past_power (OnCard (card_done c r.items)) o j (Running r.session_state) g Unarmed; is = refl; base = refl; live = refl; budget = refl; unarmed = refl; started = h }
+  whole_after (OnCard c) o j (Running session_state) g a h = grind (arith, line_command c session_state g l)
   whole_after (AtFault cause place) o j (Running session_state) g a h = absurd h
   whole_after (OnCard c) o j Unpowered g a h = absurd h
   whole_after (AtFault cause place) o j Unpowered g a h =
@@ -140,12 +133,7 @@ module _ (n : ℕ) (t : List ℕ) (l : DeckLine) where
     -- and without those cuts another word that opens alike leads to the same state
     cut_same : (o : ℕ) (j : Journal) (k : ℕ) (x y : List ℕ) (a : List (List ℕ × ℕ)) → OpenAlike x y
         → state_in (next (cut_step o j k x).after (n, line.Power)) a ≡ state_in (next (cut_step o j k y).after (n, line.Power)) a
-    cut_same o j k x y a h =
-        let s = stopped_line (past_power (OnCard c) o j (Running session_state) g (ArmedCut k x)) c (cut_at k x) (at_stop done.items k x) in
-        let z = stopped_line (past_power (OnCard c) o j (Running session_state) g (ArmedCut k y)) c (cut_at k y) (at_stop done.items k y) in
-        ap (λ (e : State). state_in e a) (whole_power n s refl)
-        ∙ states_equal a _ _ _ _ _ _ (ap (λ (b : Base). base_after_migration b) (left_same k x y h)) refl refl
-        ∙ sym (ap (λ (e : State). state_in e a) (whole_power n z refl))
+    cut_same o j k x y a h = grind (arith, past_power, whole_power, states_equal, left_same)
 
 -- ---- how the moves that are commands are played
 
@@ -163,14 +151,7 @@ sent_command n t sent = record { whole = λ s. refl; cut = λ s k x. refl; write
 -- by the steps of the play and of the state
 done_by : (s : State) (c : CardState) (m : Move) (w : Manner) (cs : List (ℕ × List ℕ)) (y : List ℕ) (t u : Step) → step_of s m w ≡ t → step_of (play_of c) m (refilled w y) ≡ u → ShowsSame t u
     → ((a : List (List ℕ × ℕ)) → Agrees (recovery_with m.number w cs t.after) (state_in (recovery m.number (refilled w y) u.after) a)) → IsDone s c m w cs y
-done_by s c m w cs y t u et eu shows after =
-    let v = refilled w y in
-    record {
-      shows = subst (λ (e : Step). ShowsSame e (step_of (play_of c) m v)) (sym et) (subst (λ (e : Step). ShowsSame t e) (sym eu) shows);
-      after = λ a.
-          subst (λ (e : Step). Agrees (recovery_with m.number w cs e.after) (state_in (recovery m.number v (step_of (play_of c) m v).after) a)) (sym et)
-          (subst (λ (e : Step). Agrees (recovery_with m.number w cs t.after) (state_in (recovery m.number v e.after) a)) (sym eu) (after a));
-    }
+done_by s c m w cs y t u et eu shows after = grind arith
 
 module _ (n : ℕ) (t : List ℕ) (l : DeckLine) (cmd : IsCommand n t l) where
   abbrev m : Move
@@ -178,9 +159,7 @@ module _ (n : ℕ) (t : List ℕ) (l : DeckLine) (cmd : IsCommand n t l) where
 
   whole_done : (b : Base) (o : ℕ) (j : Journal) (v : Live) (g : ℕ) (a : List (List ℕ × ℕ)) (cs : List (ℕ × List ℕ)) (y : List ℕ) → IsStarted v b o
       → IsDone (AfterPower (past_power b o j v g Unarmed)) (state_by b v g a) m Whole cs y
-  whole_done b o j v g a cs y h =
-      done_by (AfterPower (past_power b o j v g Unarmed)) (state_by b v g a) m Whole cs y (line_on n t l b o j v g Unarmed) (line_on n t l b 0 Two v g Unarmed)
-      (cmd.whole (past_power b o j v g Unarmed)) (cmd.whole (past_power b 0 Two v g Unarmed)) (whole_shows n t l b o j v g) (λ e. whole_after n t l b o j v g e h)
+  whole_done b o j v g a cs y h = grind (arith, done_by, past_power, state_by, whole_shows, whole_after)
 
   cut_done : (c : Card) (o : ℕ) (j : Journal) (session_state : SessionState) (g : ℕ) (a : List (List ℕ × ℕ)) (k : ℕ) (x : List ℕ) (cs : List (ℕ × List ℕ)) (y : List ℕ) → OpenAlike x y
       → k ≤ writes_of (AfterPower (past_power (OnCard c) o j (Running session_state) g Unarmed)) m → IsDone (AfterPower (past_power (OnCard c) o j (Running session_state) g Unarmed)) (state_by (OnCard c) (Running session_state) g a) m (CutAt k x) cs y
@@ -203,16 +182,12 @@ module _ (n : ℕ) (t : List ℕ) (l : DeckLine) (cmd : IsCommand n t l) where
 
   -- the writes of a move are those of the state
   items_same : (b : Base) (o : ℕ) (j : Journal) (v : Live) (g : ℕ) → (line_on n t l b o j v g Unarmed).items ≡ (line_on n t l b 0 Two v g Unarmed).items
-  items_same (OnCard c) o j (Running session_state) g = refl
-  items_same (AtFault cause place) o j (Running session_state) g = refl
-  items_same b o j Unpowered g = refl
-  items_same b o j Muted g = refl
+  items_same b o j v g = grind arith
 
   command_can : (b : Base) (o : ℕ) (j : Journal) (v : Live) (g : ℕ) (w : Manner) → CanMake (AfterPower (past_power b o j v g Unarmed)) m w → CanMake (AfterPower (past_power b 0 Two v g Unarmed)) m w
   command_can b o j v g Whole can = tt
   command_can b o j v g (CutAt k x) can =
-      let same = cmd.writes (past_power b o j v g Unarmed) ∙ ap (λ (is : List Item). moves is) (items_same b o j v g) ∙ sym (cmd.writes (past_power b 0 Two v g Unarmed)) in
-      (can.0, can.1, subst (λ (i : ℕ). k ≤ i) same can.2)
+      grind (arith, cmd.writes (past_power b o j v g Unarmed) ∙ ap (λ (is : List Item). moves is) (items_same b o j v g) ∙ sym (cmd.writes (past_power b 0 Two v g Unarmed)))
 
   -- a word that a cut leaves, and the fill that does the same
   command_filled : (b : Base) (o : ℕ) (j : Journal) (v : Live) (g k : ℕ) (x : List ℕ) → IsSettled v b o → CanMake (AfterPower (past_power b o j v g Unarmed)) m (CutAt k x)
@@ -227,9 +202,7 @@ module _ (n : ℕ) (t : List ℕ) (l : DeckLine) (cmd : IsCommand n t l) where
         f.fill,
         f.is,
         record {
-          shows =
-              subst (λ (e : Step). ShowsSame e (step_of (AfterPower s) m (CutAt k f.fill))) (sym ex)
-              (subst (λ (e : Step). ShowsSame (cut_step n t l c session_state g o j k x) e) (sym ey) (record { result = refl; turns = refl }));
+          shows = grind arith;
           after = λ a.
               ap (λ (e : Step). state_in (next e.after (n, line.Power)) a) ex
               ∙ cut_same n t l c session_state g o j k x f.fill a f.alike
@@ -244,13 +217,7 @@ module _ (n : ℕ) (t : List ℕ) (l : DeckLine) (cmd : IsCommand n t l) where
 
 power_shows : (n : ℕ) (before after : State) (b : Base) (o : ℕ) (j : Journal) (v : Live) (g : ℕ) → IsStarted v b o
     → ShowsSame (power_step n before (past_power b o j v g Unarmed) None) (power_step n after (past_power b 0 Two v g Unarmed) None)
-power_shows n before after (OnCard c) o j (Running session_state) g h =
-    record { result = ap (λ (i : ℕ). Some (power_result (i + migration (OnCard c)) (OnCard c))) h.0; turns = refl }
-power_shows n before after (AtFault cause place) o j (Running session_state) g h = absurd h
-power_shows n before after (OnCard c) o j Unpowered g h = absurd h
-power_shows n before after (AtFault cause place) o j Unpowered g h = record { result = refl; turns = refl }
-power_shows n before after (OnCard c) o j Muted g h = absurd h
-power_shows n before after (AtFault cause place) o j Muted g h = record { result = refl; turns = refl }
+power_shows n before after b o j v g h = grind arith
 
 power_started : (b : Base) → IsStarted (power_live b) (base_after_migration b) 0
 power_started (OnCard c) = (refl, refl)
@@ -310,9 +277,7 @@ line_done n t _ b o j v g a w cs y is alike h can = absurd (cc is)
 
 line_can : (n : ℕ) (t : List ℕ) (l : DeckLine) (b : Base) (o : ℕ) (j : Journal) (v : Live) (g : ℕ) (w : Manner) → is_card_line l ≡ true → IsStarted v b o
     → CanMake (AfterPower (past_power b o j v g Unarmed)) (move_by n t l) w → CanMake (AfterPower (past_power b 0 Two v g Unarmed)) (move_by n t l) w
-line_can n t line.Power b o j v g w is h can = power_can n t b o j v g w h can
-line_can n t (line.Sent sent) b o j v g w is h can = command_can n t (line.Sent sent) (sent_command n t sent) b o j v g w can
-line_can n t _ b o j v g w is h can = absurd (cc is)
+line_can n t l b o j v g w is h can = grind (arith, power_can, command_can, sent_command)
 
 -- the writes of a move on a running card are those of the state
 line_writes : (n : ℕ) (t : List ℕ) (l : DeckLine) (c : Card) (o : ℕ) (j : Journal) (session_state : SessionState) (g : ℕ) → is_card_line l ≡ true → (o ≡ 0) × (c.layout ≡ 2)
@@ -359,9 +324,7 @@ pub record IsTried (s : State) (c : CardState) (m : Move) (w : Manner) (cs : Lis
   pub done : IsDone s c m w cs fill
 
 whole_among : (v : Live) (n : ℕ) → Among Whole (manners v n)
-whole_among (Running session_state) n = inl refl
-whole_among Unpowered n = inl refl
-whole_among Muted n = inl refl
+whole_among v n = grind arith
 
 cut_among : (v : Live) (n k : ℕ) (y : List ℕ) → is_running v ≡ true → IsFill y → 1 ≤ k → k ≤ n → Among (CutAt k y) (manners v n)
 cut_among (Running session_state) n k y on is low high = inr (cuts_among n 1 k y is low (omega arith))

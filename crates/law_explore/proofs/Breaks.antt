@@ -6,10 +6,10 @@ use Rattle.std.proofs.lemmas.List.{append-nil, append_assoc, reverse-append}
 use Rattle.model_play.specs.model_device.proofs.ImageLemmas.{all_append, all_map}
 use Rattle.model_play.specs.model_text.specs.Text.{◌>>=◌, ok_as}
 use Rattle.model_play.specs.Play.{Live, Running, Unpowered, Muted, State, AfterPower, is_card_line}
-use Rattle.model_play.specs.Family.{live_in, is_running}
+use Rattle.model_play.specs.Family.{is_running}
 use Rattle.law_explore.specs.Rules.{Move, Rules}
 use Rattle.law_explore.specs.States.{CardState, play_of, is_known, first_play}
-use Rattle.law_explore.specs.Tries.{Manner, Whole, CutAt, Try, cuts_from, manners, writes_of, tries_with, tries_of, step_of, allowances_after, outcome}
+use Rattle.law_explore.specs.Tries.{Manner, Try, cuts_from, manners, writes_of, tries_with, tries_of, step_of, allowances_after, outcome}
 use Rattle.law_explore.specs.Search.{Node, Round, Halt, RuleBroken, Full, HaltedRound, with_try, with_new, with_reached, after_outcome, round_of_tries, round_of_states, Broken, Search, search_end, ending_of, after_depth, after_round, search_on, search_from, first_state, Tally, no_tries}
 use Rattle.law_explore.specs.Safety.{Among, CanMake, CanTry, Breaks, BrokenLaw}
 use Rattle.law_explore.proofs.Showings.{allowances_same}
@@ -97,11 +97,7 @@ module _ (limit : ℕ) (rules : Rules) (first : CardState) where
   EndsBroken e d = (name : List ℕ) (path : List Try) → e.ending ≡ Broken name path → EndsIn path name × (length path ≡ d + length e.news + 1)
 
   broken_same : (d : ℕ) (m name : List ℕ) (p path : List Try) → EndsIn p m × (length p ≡ d + 1) → Broken m p ≡ Broken name path → EndsIn path name × (length path ≡ d + 0 + 1)
-  broken_same d m name p path h e =
-      let names : m ≡ name = cc e in
-      let paths : p ≡ path = cc e in
-      let many : length p ≡ d + 1 = h.1 in
-      (subst (λ (q : List Try). EndsIn q name) paths (subst (λ (x : List ℕ). EndsIn p x) names h.0), subst (λ (q : List Try). length q ≡ d + 0 + 1) paths (omega (arith, many)))
+  broken_same d m name p path h e = grind arith
 
   halt_broken : (d s : ℕ) (t : Tally) (h : Halt) → HaltsAt d h → EndsBroken (search_end (ending_of h (d + 1)) s t) d
   halt_broken d s t (RuleBroken m p) h name path e = broken_same d m name p path h e
@@ -109,10 +105,7 @@ module _ (limit : ℕ) (rules : Rules) (first : CardState) where
 
   depth_broken : (d : ℕ) (ns : List Node) (q : Round) (again : List Node → Round → Search) → EndsBroken (again ns q) (d + 1) → EndsBroken (after_depth ns q again) d
   depth_broken d [] q again later name path e = absurd (cc e)
-  depth_broken d (n ∷ ns) q again later name path e =
-      let h = later name path e in
-      let many : length path ≡ d + 1 + length (again (n ∷ ns) q).news + 1 = h.1 in
-      (h.0, omega (arith, many))
+  depth_broken d (n ∷ ns) q again later name path e = grind (arith, later name path e, (later name path e).1)
 
   round_broken : (d : ℕ) (x : Result Round HaltedRound) (again : List Node → Round → Search) → EitherWay (Finds d) (Halts d) x
       → ((ms : List Node) (q : Round) → AreNodes (d + 1) ms → EndsBroken (again ms q) (d + 1)) → EndsBroken (after_round x (d + 1) again) d
@@ -153,9 +146,7 @@ all_mapped f P [] h = tt
 all_mapped f P (x ∷ xs) h = (h.0, all_mapped f P xs h.1)
 
 move_can_be : (all : List Move) (c : CardState) (m : Move) → Among m all → AllByRecursion (TriesOf all c) (tries_with c m)
-move_can_be all c m i =
-    all_mapped (λ w. record { move = m; manner = w }) (TriesOf all c) (manners c.live (writes_of (play_of c) m))
-    (all_map (λ w. CanMake (play_of c) m w) (λ w. TriesOf all c (record { move = m; manner = w })) (λ w h. (i, h)) (manners c.live (writes_of (play_of c) m)) (manners_can c m c.live refl))
+move_can_be all c m i = grind (arith, all_mapped, all_map, manners_can)
 
 moves_can_be : (all ms : List Move) (c : CardState) → ((m : Move) → Among m ms → Among m all) → AllByRecursion (TriesOf all c) (flat_map (tries_with c) ms)
 moves_can_be all [] c f = tt
@@ -167,10 +158,7 @@ tries_can_be ms c t i = among_all (TriesOf ms c) t (flat_map (tries_with c) ms) 
 
 -- and so in a play that agrees
 can_back : (s : State) (c : CardState) (m : Move) (w : Manner) → is_card_line m.line ≡ true → Agrees s c → CanMake (play_of c) m w → CanMake s m w
-can_back s c m Whole is h can = tt
-can_back s c m (CutAt k x) is h can =
-    let same : writes_of s m ≡ writes_of (play_of c) m = move_writes s c m is can.0 h in
-    (ap (λ (z : State). is_running (live_in z)) h.is ∙ ap (λ (v : Live). is_running v) h.live ∙ can.0, can.1, subst (λ (i : ℕ). k ≤ i) (sym same) can.2)
+can_back s c m w is h can = grind (arith, move_writes)
 
 -- ---- played
 

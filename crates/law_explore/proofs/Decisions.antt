@@ -1,14 +1,14 @@
 -- A state decides the answers, and what the words of a device mean decides the state.
 use Rattle.std.specs.Prelude.{◌≡◌, ℕ, ◌≤◌, true, List, [], Option, Some, None, refl}
-use Rattle.std.proofs.Common.{ap, sym, subst, ◌∙◌}
+use Rattle.std.proofs.Common.{ap, sym, subst, ◌∙◌, arith}
 use Rattle.model_play.specs.model_device.specs.declared.cause.Cause.{Cause}
 use Rattle.model_play.specs.model_device.specs.Bytes.{zeros}
 use Rattle.model_play.specs.model_device.specs.Card.{Card, means}
 use Rattle.model_play.specs.model_device.specs.Layout.{fault}
-use Rattle.model_play.specs.model_device.specs.PowerUp.{Base, OnCard, AtFault, base_after_migration, base_of}
+use Rattle.model_play.specs.model_device.specs.PowerUp.{Base, OnCard, base_after_migration, base_of}
 use Rattle.model_play.specs.DeckGrammar as line
 use Rattle.model_play.specs.Family.{is_running}
-use Rattle.model_play.specs.Play.{Unarmed, is_card_line, Live, Running, Unpowered, Muted, Warm, State, BeforePower, AfterPower, Step, step, play_at_power, power_live}
+use Rattle.model_play.specs.Play.{Unarmed, is_card_line, Live, Warm, State, BeforePower, AfterPower, Step, step, play_at_power, power_live}
 use Rattle.law_explore.specs.Rules.{Move}
 use Rattle.law_explore.specs.States.{CardState, play_of, warm_state, state_in}
 use Rattle.law_explore.specs.Tries.{Manner, Whole, CutAt, writes_of, next, step_of, recovery}
@@ -59,10 +59,7 @@ pub state_of : (z : State) (c : CardState) → Agrees z c → state_in z c.allow
 state_of z c h = ap (λ (y : State). state_in y c.allowances) h.is ∙ states_equal c.allowances _ _ _ _ _ _ h.base h.live h.budget
 
 runs_started : (v : Live) (b : Base) (o : ℕ) → is_running v ≡ true → IsSettled v b o → IsStarted v b o
-runs_started (Running session_state) (OnCard c) o on h = h
-runs_started (Running session_state) (AtFault cause place) o on h = h
-runs_started Unpowered b o on h = absurd (cc on)
-runs_started Muted b o on h = absurd (cc on)
+runs_started v b o on h = grind arith
 
 shows_turned : (x y z : Step) → ShowsSame x z → ShowsSame y z → ShowsSame x y
 shows_turned x y z g h = record { result = g.result ∙ sym h.result; turns = g.turns ∙ sym h.turns }

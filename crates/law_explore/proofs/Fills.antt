@@ -47,9 +47,7 @@ fill_for x = fill_by x (bytes_eq x (opening Two)) refl
 -- ---- it is tried
 
 cut_first : (k : ℕ) (f : List ℕ) (rest : List Manner) → IsFill f → Among (CutAt k f) (CutAt k (zeros 8) ∷ CutAt k ones ∷ CutAt k (opening Two) ∷ rest)
-cut_first k f rest (inl z) = inl (ap (λ (x : List ℕ). CutAt k x) z)
-cut_first k f rest (inr (inl o)) = inr (inl (ap (λ (x : List ℕ). CutAt k x) o))
-cut_first k f rest (inr (inr p)) = inr (inr (inl (ap (λ (x : List ℕ). CutAt k x) p)))
+cut_first k f rest h = grind arith
 
 cut_here : (i n k : ℕ) (f : List ℕ) → IsFill f → i ≡ k → Among (CutAt k f) (cuts_from i (suc n))
 cut_here i n k f is e = subst (λ (j : ℕ). Among (CutAt k f) (cuts_from j (suc n))) (sym e) (cut_first k f (cuts_from (k + 1) n) is)

@@ -1,5 +1,5 @@
 -- Patterns match as those of expectations do, once capital letters are small ones.
-use Rattle.std.specs.Prelude.{◌≡◌, ℕ, ◌+◌, ◌≤◌, Bool, true, false, cond, not, ◌&&◌, ◌||◌, nat_le, ◌==◌, List, [], ◌∷◌, map, refl}
+use Rattle.std.specs.Prelude.{◌≡◌, ℕ, ◌+◌, ◌≤◌, Bool, true, false, cond, not, ◌&&◌, ◌||◌, ◌==◌, List, [], ◌∷◌, map, refl}
 use Rattle.std.proofs.Common.{arith, ap, sym, ◌∙◌}
 use Rattle.std.proofs.lemmas.Bool.{leb-true, ne_eqb, and_parts}
 use Rattle.model_play.specs.model_text.specs.Text.{is_blank, is_empty, is_within}
@@ -32,16 +32,10 @@ matches_same (p ∷ ps) t =
 -- ---- blanks
 
 no_blank : (c : ℕ) → 65 ≤ c → is_blank c ≡ false
-no_blank c high =
-    let space : (c == 32) ≡ false = ne_eqb c 32 (λ e. omega (arith, e, high)) in
-    let tab : (c == 9) ≡ false = ne_eqb c 9 (λ e. omega (arith, e, high)) in
-    ap (λ (b : Bool). b || (c == 9)) space ∙ tab
+no_blank c high = grind (arith, ne_eqb)
 
 blank_by : (c : ℕ) (b : Bool) → is_within 65 90 c ≡ b → is_blank (cond b (c + 32) c) ≡ is_blank c
-blank_by c true e =
-    let high : 65 ≤ c = leb-true 65 c (and_parts (nat_le 65 c) (nat_le c 90) e).0 in
-    no_blank (c + 32) (omega (arith, high)) ∙ sym (no_blank c high)
-blank_by c false e = refl
+blank_by c b e = grind (arith, leb-true, and_parts, no_blank)
 
 blank_small : (c : ℕ) → is_blank (small c) ≡ is_blank c
 blank_small c = blank_by c (is_within 65 90 c) refl
@@ -52,9 +46,7 @@ kept_by false c t u e = ap (λ (x : List ℕ). small c ∷ x) (sym e)
 
 blanks_small : (t : List ℕ) → without_blanks (map small t) ≡ plain t
 blanks_small [] = refl
-blanks_small (c ∷ t) =
-    ap (λ (b : Bool). cond (not b) (small c ∷ without_blanks (map small t)) (without_blanks (map small t))) (blank_small c)
-    ∙ kept_by (is_blank c) c (without_blanks (map small t)) (without_blanks t) (sym (blanks_small t))
+blanks_small (c ∷ t) = grind (arith, blank_small, kept_by, blanks_small t)
 
 -- ---- the law
 

@@ -1,7 +1,7 @@
 -- The moves of a deck that was read are lines to the card.
 use Rattle.std.specs.Prelude.{◌≡◌, ℕ, Bool, true, false, cond, List, [], ◌∷◌, ◌++◌, is_none, is_some, bytes_eq, ok_or, Option, Some, None, Result, Ok, Err, ⊤, refl}
 use Rattle.std.specs.List.{AllByRecursion}
-use Rattle.std.proofs.Common.{subst}
+use Rattle.std.proofs.Common.{subst, arith}
 use Rattle.model_play.specs.model_device.specs.Bytes.{lookup}
 use Rattle.model_play.specs.model_device.proofs.ImageLemmas.{all_append}
 use Rattle.model_play.specs.model_text.specs.Text.{◌>>=◌, ok_as, err_as, only_if, lines, with_numbers, fields}
@@ -10,7 +10,7 @@ use Rattle.model_play.specs.declared.deck.DeckCause.TheVariants.{BadLine}
 use Rattle.model_play.specs.DeckGrammar.{DeckLine, Context, Stated, Says, Opens, Word, PowerWord, SelectWord, DeleteWord, ApduWord, statement_of, aid_field, hex_field, deck_read}
 use Rattle.model_play.specs.DeckGrammar as line
 use Rattle.model_play.specs.Play.{is_card_line}
-use Rattle.law_explore.specs.Rules.{Move, Rules, no_rules, marked_lines, move_words, line_stated, move_line, parts_of, full_parts, occasion_words, effect_words, name_and_amount, RuleWord, MoveWord, AllowWord, OnWord, rule_word, with_rule, with_line, rules_from, rules_read, Exploration, exploration_read, line_fault, is_some_of, tested_rules, NoMove, NoRule}
+use Rattle.law_explore.specs.Rules.{Move, Rules, no_rules, marked_lines, move_words, line_stated, move_line, parts_of, full_parts, occasion_words, effect_words, name_and_amount, RuleWord, MoveWord, AllowWord, OnWord, rule_word, with_rule, with_line, rules_from, rules_read, Exploration, exploration_read, line_fault, tested_rules}
 use Rattle.law_explore.proofs.Searches.{IfGoesOn, goes_on}
 
 -- each move is a line to the card
@@ -149,9 +149,7 @@ abbrev ExploresMoves : Exploration → Type 0
 ExploresMoves x = AreMoves x.rules.moves
 
 tested_goes : (r : Rules) → HasMoves r → IfGoesOn HasMoves (tested_rules r)
-tested_goes r h =
-    goes_on HasMoves HasMoves (only_if (is_some_of r.moves) NoMove r) (λ s. only_if (is_some_of s.ons) NoRule s) (only_goes HasMoves (is_some_of r.moves) NoMove r h)
-    (λ s g. only_goes HasMoves (is_some_of s.ons) NoRule s g)
+tested_goes r h = grind (arith, goes_on, only_goes)
 
 exploration_goes : (text : List ℕ) → IfGoesOn ExploresMoves (exploration_read text)
 unfolding exploration_read

@@ -1,6 +1,6 @@
 -- Cuts in power lines lead to no other state once a power line is whole.
 use Rattle.std.specs.Prelude.{◌≡◌, ℕ, ◌-◌, Bool, true, false, cond, nat_le, List, [], ◌∷◌, Option, Some, None, refl}
-use Rattle.std.proofs.Common.{ap, sym, ◌∙◌}
+use Rattle.std.proofs.Common.{ap, ◌∙◌, arith}
 use Rattle.model_play.specs.model_device.specs.Image.{One}
 use Rattle.model_play.specs.model_device.specs.Stopped.{stands}
 use Rattle.model_play.specs.model_device.specs.PowerUp.{Base, OnCard, AtFault, base_after_migration}
@@ -82,9 +82,7 @@ pub record CutTo (n : ℕ) (cs : List (ℕ × List ℕ)) (s : Warm) : Type 0 whe
   pub heals : Heals warm s
 
 once_heals : (s : Warm) (k : ℕ) (x : List ℕ) → Heals (cut_once s k x) s
-once_heals s k x =
-    let h = power_heals (record s { armed = ArmedCut k x }) (hit_of (ArmedCut k x) (power_moves s) None) in
-    record { base = h.base; live = h.live; budget = h.budget; unarmed = h.unarmed }
+once_heals s k x = grind (arith, power_heals (record s { armed = ArmedCut k x }) (hit_of (ArmedCut k x) (power_moves s) None))
 
 pub cuts_heal : (n : ℕ) (cs : List (ℕ × List ℕ)) (s : Warm) → s.armed ≡ Unarmed → CutTo n cs s
 unfolding after_cuts
@@ -100,10 +98,7 @@ cuts_heal n (c ∷ cs) s e =
 
 -- the state after a whole power line
 pub healed : (i : ℕ) (s t : Warm) (a : List (List ℕ × ℕ)) → Heals s t → t.armed ≡ Unarmed → state_in (next (AfterPower s) (i, line.Power)) a ≡ state_in (next (AfterPower t) (i, line.Power)) a
-healed i s t a h e =
-    ap (λ (z : State). state_in z a) (whole_power i s h.unarmed)
-    ∙ states_equal a _ _ _ _ _ _ h.base h.live h.budget
-    ∙ sym (ap (λ (z : State). state_in z a) (whole_power i t e))
+healed i s t a h e = grind (arith, whole_power, states_equal)
 
 pub recovery_law : RecoveryLaw
 recovery_law n i cs s a e =

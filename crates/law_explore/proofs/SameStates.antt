@@ -1,13 +1,12 @@
 -- Two states that the test takes for one are equal.
 use Rattle.std.specs.Prelude.{◌≡◌, ℕ, Bool, true, false, ◌&&◌, ◌||◌, ◌==◌, List, [], ◌∷◌, bytes_eq, Option, Some, None, refl}
-use Rattle.std.proofs.Common.{inl, inr}
+use Rattle.std.proofs.Common.{inl, inr, arith}
 use Rattle.std.proofs.lemmas.Bool.{eqb-true, and_parts}
 use Rattle.std.proofs.lemmas.Slice.Eq.{bytes_eq-Decides}
 use Rattle.model_play.specs.model_device.specs.Card.{App}
 use Rattle.model_play.specs.model_device.specs.PowerUp.{Base, OnCard, AtFault}
 use Rattle.model_play.specs.model_device.specs.Words.{cause_text}
 use Rattle.model_play.specs.model_device.specs.declared.cause.Cause.{Cause}
-use Rattle.model_play.specs.model_device.specs.declared.cause.Cause.TheVariants.{BadJournal, NoRoot, BadBlock, BadRecord, BadChain}
 use Rattle.model_play.specs.model_card.specs.declared.card.Sizes.{Sizes}
 use Rattle.model_play.specs.model_card.specs.Manager.{Selected, Got, Open}
 use Rattle.model_play.specs.Play.{Live, Running, Unpowered, Muted}
@@ -47,12 +46,7 @@ apps_are [] (y ∷ ys) h = absurd (cc h)
 apps_are (x ∷ xs) [] h = absurd (cc h)
 
 cause_is : (c d : Cause) → bytes_eq (cause_text c) (cause_text d) ≡ true → c ≡ d
-cause_is BadJournal BadJournal h = refl
-cause_is NoRoot NoRoot h = refl
-cause_is BadBlock BadBlock h = refl
-cause_is BadRecord BadRecord h = refl
-cause_is BadChain BadChain h = refl
-cause_is c d h = absurd (cc h)
+cause_is c d h = grind arith
 
 base_is : (b c : Base) → is_same_base b c ≡ true → b ≡ c
 base_is (OnCard c) (OnCard d) h =
@@ -62,11 +56,7 @@ base_is (OnCard c) (OnCard d) h =
     let layout : c.layout ≡ d.layout = eqb-true c.layout d.layout q.1 in
     let apps : c.apps ≡ d.apps = apps_are c.apps d.apps p.1 in
     λ i. OnCard (record { size = size i; layout = layout i; apps = apps i })
-base_is (AtFault c p) (AtFault d q) h =
-    let r = and_parts (bytes_eq (cause_text c) (cause_text d)) (p == q) h in
-    let cause : c ≡ d = cause_is c d r.0 in
-    let place : p ≡ q = eqb-true p q r.1 in
-    λ i. AtFault (cause i) (place i)
+base_is (AtFault c p) (AtFault d q) h = grind (arith, and_parts, cause_is, eqb-true)
 base_is (OnCard c) (AtFault d q) h = absurd (cc h)
 base_is (AtFault c p) (OnCard d) h = absurd (cc h)
 
@@ -81,21 +71,7 @@ selection_is None (Some t) h = absurd (cc h)
 selection_is (Some s) None h = absurd (cc h)
 
 sizes_are : (s t : Sizes) → are_same_sizes s t ≡ true → s ≡ t
-sizes_are s t h =
-    let a = and_parts ((s.code == t.code) && (s.fixed == t.fixed) && (s.init == t.init) && (s.session == t.session) && (s.dir == t.dir) && (s.fci == t.fci)) (s.deny == t.deny) h in
-    let b = and_parts ((s.code == t.code) && (s.fixed == t.fixed) && (s.init == t.init) && (s.session == t.session) && (s.dir == t.dir)) (s.fci == t.fci) a.0 in
-    let c = and_parts ((s.code == t.code) && (s.fixed == t.fixed) && (s.init == t.init) && (s.session == t.session)) (s.dir == t.dir) b.0 in
-    let d = and_parts ((s.code == t.code) && (s.fixed == t.fixed) && (s.init == t.init)) (s.session == t.session) c.0 in
-    let e = and_parts ((s.code == t.code) && (s.fixed == t.fixed)) (s.init == t.init) d.0 in
-    let f = and_parts (s.code == t.code) (s.fixed == t.fixed) e.0 in
-    let code : s.code ≡ t.code = eqb-true s.code t.code f.0 in
-    let fixed : s.fixed ≡ t.fixed = eqb-true s.fixed t.fixed f.1 in
-    let init : s.init ≡ t.init = eqb-true s.init t.init e.1 in
-    let session : s.session ≡ t.session = eqb-true s.session t.session d.1 in
-    let dir : s.dir ≡ t.dir = eqb-true s.dir t.dir c.1 in
-    let fci : s.fci ≡ t.fci = eqb-true s.fci t.fci b.1 in
-    let deny : s.deny ≡ t.deny = eqb-true s.deny t.deny a.1 in
-    λ i. record { code = code i; fixed = fixed i; init = init i; session = session i; dir = dir i; fci = fci i; deny = deny i }
+sizes_are s t h = grind (arith, and_parts, eqb-true)
 
 got_is : (g h : Got) → is_same_got g h ≡ true → g ≡ h
 got_is g h e =

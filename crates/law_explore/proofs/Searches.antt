@@ -254,10 +254,7 @@ module _ (limit : ℕ) (rules : Rules) where
   Promises (Broken name path) d k = ⊥
 
   promise_later : (e : Ending) (d k : ℕ) → Promises e d (suc k) → Promises e (d + 1) k
-  promise_later All d k h = tt
-  promise_later (AtDepth e) d k h = omega arith
-  promise_later (TooMany e) d k h = omega arith
-  promise_later (Broken name path) d k h = h
+  promise_later e d k h = grind arith
 
   no_halt : (h : Halt) (d k : ℕ) → Promises (ending_of h (d + 1)) d (suc k) → ⊥
   no_halt (RuleBroken name path) d k h = h

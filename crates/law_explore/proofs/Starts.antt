@@ -1,5 +1,6 @@
 -- Every play from a blank device has its running card settled, and so an exploration begins with a settled card or with
 -- none.
+use Rattle.std.proofs.Common.{arith}
 use Rattle.std.specs.Prelude.{◌≡◌, ℕ, nat_le, Bool, true, false, List, [], ◌∷◌, drop, Option, Some, None, ⊤, refl}
 use Rattle.model_play.specs.model_device.specs.declared.device.Stop.{Stop}
 use Rattle.model_play.specs.model_device.specs.declared.device.Stop.TheVariants as stop
@@ -7,11 +8,10 @@ use Rattle.model_play.specs.model_device.specs.Image.{Journal}
 use Rattle.model_play.specs.model_device.specs.Card.{Card}
 use Rattle.model_play.specs.model_device.specs.Device.{blank_words, device_words}
 use Rattle.model_play.specs.model_device.specs.PowerUp.{Base, OnCard, AtFault, base_after_migration}
-use Rattle.model_play.specs.model_card.specs.Items.{moves, StopAt}
+use Rattle.model_play.specs.model_card.specs.Items.{StopAt}
 use Rattle.model_play.specs.model_card.specs.Commands.{Command}
 use Rattle.model_play.specs.DeckGrammar.{DeckLine}
-use Rattle.model_play.specs.DeckGrammar as line
-use Rattle.model_play.specs.Play.{Armed, Unarmed, Live, Running, Unpowered, Muted, Warm, State, BeforePower, AfterPower, FailedWrite, step, command_step, line_command, hit_of, live_after, power_live, power_after, stopped_power, play_at_power, start, plays, steady_failures, first_failure, last_state, Step}
+use Rattle.model_play.specs.Play.{Armed, Unarmed, Live, Running, Unpowered, Muted, Warm, State, BeforePower, AfterPower, FailedWrite, step, command_step, live_after, power_live, power_after, stopped_power, play_at_power, start, plays, steady_failures, first_failure, last_state, Step}
 use Rattle.law_explore.specs.Rules.{Exploration}
 use Rattle.law_explore.specs.States.{warm_in, play_of_deck, first_warm, first_play}
 use Rattle.law_explore.specs.Search.{first_state}
@@ -49,9 +49,7 @@ kind_settles : {w : Option FailedWrite} {z : State} {n : ℕ} {l : DeckLine} {u 
 kind_settles (Early p) h = tt
 kind_settles (Quiet p q) h = h
 kind_settles (Powers z) h = power_settles (found_by_power z) _
-kind_settles {w} (Sends {n = n} {o = o} {g = g} {j = j} {a = a} k c session_state) h =
-    let r = line_command c session_state g (line.Sent k) in
-    command_settles n (line.Sent k) c o j (Running session_state) g a r (hit_of a (moves r.items) w) h
+kind_settles {w} (Sends {n = n} {o = o} {g = g} {j = j} {a = a} k c session_state) h = grind (arith, command_settles)
 
 step_settles : (z : State) (l : ℕ × DeckLine) (w : Option FailedWrite) → Settles z → Settles (step z l w).after
 step_settles z l w h = kind_settles (by_kind z l w) h
@@ -100,14 +98,5 @@ first_agrees x =
     let f = first_is x.lines in
     record { warm = first_play x.lines; is = refl; base = refl; live = refl; budget = refl; unarmed = f.unarmed; started = f.started }
 
-started_settles : (v : Live) (b : Base) (o : ℕ) → IsStarted v b o → IsSettled v b o
-started_settles (Running session_state) (OnCard c) o h = h
-started_settles (Running session_state) (AtFault cause place) o h = h
-started_settles Unpowered b o h = tt
-started_settles Muted b o h = tt
-
 pub first_law : FirstLaw
-first_law ls =
-    let f = first_is ls in
-    let s = first_play ls in
-    record { unarmed = f.unarmed; settled = started_settles s.live s.base s.owed f.started }
+first_law ls = grind (arith, first_is ls, first_play ls)

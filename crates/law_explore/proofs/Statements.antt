@@ -1,7 +1,7 @@
 -- The statements of a broken rule, appended to their deck, play to where their tries lead.
 use Rattle.std.specs.Prelude.{◌≡◌, ℕ, ◌≤◌, Bool, true, false, cond, nat_le, List, [], ◌∷◌, ◌++◌, map, Option, Some, None, ⊤, refl}
 use Rattle.std.specs.List.{AllByRecursion}
-use Rattle.std.proofs.Common.{ap, sym, ◌∙◌}
+use Rattle.std.proofs.Common.{ap, sym, ◌∙◌, arith}
 use Rattle.std.proofs.lemmas.Bool.{lt-leb}
 use Rattle.std.proofs.lemmas.List.{append_assoc}
 use Rattle.model_play.specs.model_device.specs.declared.device.Stop.TheVariants as stop
@@ -11,13 +11,13 @@ use Rattle.model_play.specs.model_device.specs.Device.{blank_words, device_words
 use Rattle.model_play.specs.model_device.specs.Card.{Card}
 use Rattle.model_play.specs.model_device.specs.Layout.{fault}
 use Rattle.model_play.specs.model_device.specs.PowerUp.{Base, OnCard, AtFault, base_of}
-use Rattle.model_play.specs.model_card.specs.Items.{moves, StopAt}
+use Rattle.model_play.specs.model_card.specs.Items.{StopAt}
 use Rattle.model_play.specs.model_card.specs.Commands.{Command, refusal, command}
 use Rattle.model_play.specs.model_machine.specs.Apdu.{apdu_read}
 use Rattle.model_play.specs.DeckGrammar.{DeckLine}
 use Rattle.model_play.specs.DeckGrammar as line
 use Rattle.model_play.specs.Family.{is_running}
-use Rattle.model_play.specs.Play.{Armed, Unarmed, ArmedCut, ArmedFail, Live, Running, Unpowered, Muted, Warm, State, BeforePower, AfterPower, FailedWrite, step, card_line, line_command, line_after, hit_of, power_moves, stopped_power, is_card_line, moves_of, armed_stop_in, steady_at, steady_failures, plays, start, last_state, play_at_power, power_after}
+use Rattle.model_play.specs.Play.{Armed, Unarmed, ArmedCut, ArmedFail, Live, Running, Unpowered, Muted, Warm, State, BeforePower, AfterPower, FailedWrite, step, card_line, line_after, hit_of, power_moves, stopped_power, is_card_line, moves_of, armed_stop_in, steady_at, steady_failures, plays, start, last_state, play_at_power, power_after}
 use Rattle.law_explore.specs.Rules.{Move}
 use Rattle.law_explore.specs.States.{warm_in, play_of_deck, running_or_powered, first_warm, first_play}
 use Rattle.law_explore.specs.Tries.{Manner, Whole, CutAt, Try, next, step_of, recovery}
@@ -58,9 +58,7 @@ IsSteady (ArmedCut k x) = ⊤
 IsSteady (ArmedFail k) = ⊥
 
 no_failure : (a : Armed) (l : DeckLine) (m : ℕ) → IsSteady a → steady_at a l m ≡ None
-no_failure Unarmed l m h = refl
-no_failure (ArmedCut k x) l m h = refl
-no_failure (ArmedFail k) l m h = absurd h
+no_failure a l m h = grind arith
 
 steady_line : (s : State) (l : ℕ × DeckLine) → IsSteady (armed_stop_in s) → steady_next s l ≡ next s l
 steady_line s l h = ap (λ (w : Option FailedWrite). (step s l w).after) (no_failure (armed_stop_in s) l.1 (moves_of s l) h)
@@ -68,10 +66,7 @@ steady_line s l h = ap (λ (w : Option FailedWrite). (step s l w).after) (no_fai
 -- ---- a line leaves the same whatever its number
 
 card_number : (n m : ℕ) (l : DeckLine) (b : Base) (o : ℕ) (j : Journal) (v : Live) (g : ℕ) (a : Armed) → (card_line n l (past_power b o j v g a) v b None).after ≡ (card_line m l (past_power b o j v g a) v b None).after
-card_number n m l (OnCard c) o j (Running session_state) g a = refl
-card_number n m l (AtFault cause place) o j (Running session_state) g a = refl
-card_number n m l b o j Unpowered g a = refl
-card_number n m l b o j Muted g a = refl
+card_number n m l b o j v g a = grind arith
 
 any_number : (n m : ℕ) (s : Warm) (l : DeckLine) → next (AfterPower s) (n, l) ≡ next (AfterPower s) (m, l)
 unfolding step
@@ -91,9 +86,7 @@ line_frees s c r None = record { warm = line_after s c r None; is = refl; unarme
 line_frees s c r (Some t) = record { warm = line_after s c r (Some t); is = refl; unarmed = refl }
 
 card_frees : (n : ℕ) (l : DeckLine) (b : Base) (o : ℕ) (j : Journal) (v : Live) (g : ℕ) (a : Armed) → IsFree (card_line n l (past_power b o j v g a) v b None).after
-card_frees n l (OnCard c) o j (Running session_state) g a =
-    let r = line_command c session_state g l in
-    line_frees (past_power (OnCard c) o j (Running session_state) g a) c r (hit_of a (moves r.items) None)
+card_frees n l (OnCard c) o j (Running session_state) g a = grind (arith, line_frees, past_power)
 card_frees n l (AtFault cause place) o j (Running session_state) g a = record { warm = past_power (AtFault cause place) o j (Running session_state) g Unarmed; is = refl; unarmed = refl }
 card_frees n l b o j Unpowered g a = record { warm = past_power b o j Unpowered g Unarmed; is = refl; unarmed = refl }
 card_frees n l b o j Muted g a = record { warm = past_power b o j Muted g Unarmed; is = refl; unarmed = refl }
@@ -123,9 +116,7 @@ one_plays n i s l rest z h e =
     played_line (AfterPower s) (n, l.1) (lines_of n rest) ∙ ap (λ (y : State). played y (lines_of n rest)) (steady_line (AfterPower s) (n, l.1) h ∙ any_number n i s l.1 ∙ e)
 
 free_steady : (a : Armed) → a ≡ Unarmed → IsSteady a
-free_steady Unarmed e = tt
-free_steady (ArmedCut k x) e = tt
-free_steady (ArmedFail k) e = absurd (cc e)
+free_steady a e = grind arith
 
 -- the play after a try, by its statements
 record TryPlays (n : ℕ) (w : Manner) (m : Move) (s : Warm) : Type 0 where
@@ -185,11 +176,7 @@ idle_drops n b o j Muted g a h = refl
 
 dropping_plays : (n : ℕ) (b : Base) (o : ℕ) (j : Journal) (v : Live) (g : ℕ) (a : Armed) (rest : List Statement) → CountsFromOne a
     → played (AfterPower (past_power b o j v g a)) (lines_of n (drop_statements a ++ rest)) ≡ played (AfterPower (past_power b o j v g Unarmed)) (lines_of n rest)
-dropping_plays n b o j v g Unarmed rest h = refl
-dropping_plays n b o j v g (ArmedCut k x) rest h =
-    played_line (AfterPower (past_power b o j v g (ArmedCut k x))) (n, line.Sent (line.Apdu (0 ∷ []))) (lines_of n rest) ∙ ap (λ (z : State). played z (lines_of n rest)) (idle_drops n b o j v g (ArmedCut k x) h)
-dropping_plays n b o j v g (ArmedFail k) rest h =
-    played_line (AfterPower (past_power b o j v g (ArmedFail k))) (n, line.Sent (line.Apdu (0 ∷ []))) (lines_of n rest) ∙ ap (λ (z : State). played z (lines_of n rest)) (idle_drops n b o j v g (ArmedFail k) h)
+dropping_plays n b o j v g a rest h = grind (arith, played_line, past_power, idle_drops)
 
 -- before the first power line
 before_power_drops : (n : ℕ) (m : List (List ℕ)) (g : ℕ) (a : Armed) → steady_next (BeforePower m g a) (n, line.Sent (line.Apdu (0 ∷ []))) ≡ BeforePower m g Unarmed
@@ -197,11 +184,7 @@ unfolding step
 before_power_drops n m g a = refl
 
 before_power_dropping : (n : ℕ) (m : List (List ℕ)) (g : ℕ) (a : Armed) (rest : List Statement) → played (BeforePower m g a) (lines_of n (drop_statements a ++ rest)) ≡ played (BeforePower m g Unarmed) (lines_of n rest)
-before_power_dropping n m g Unarmed rest = refl
-before_power_dropping n m g (ArmedCut k x) rest =
-    played_line (BeforePower m g (ArmedCut k x)) (n, line.Sent (line.Apdu (0 ∷ []))) (lines_of n rest) ∙ ap (λ (z : State). played z (lines_of n rest)) (before_power_drops n m g (ArmedCut k x))
-before_power_dropping n m g (ArmedFail k) rest =
-    played_line (BeforePower m g (ArmedFail k)) (n, line.Sent (line.Apdu (0 ∷ []))) (lines_of n rest) ∙ ap (λ (z : State). played z (lines_of n rest)) (before_power_drops n m g (ArmedFail k))
+before_power_dropping n m g a rest = grind (arith, played_line, before_power_drops)
 
 before_power_power : (n : ℕ) (m : List (List ℕ)) (g : ℕ) → steady_next (BeforePower m g Unarmed) (n, line.Power) ≡ AfterPower (power_after (play_at_power m g Unarmed) None)
 unfolding step
@@ -226,11 +209,7 @@ LeadPlays n z v b a first w m rest =
 -- if a power line has to make a card run
 powered_lead : (n : ℕ) (z y : State) (a : Armed) (s : Warm) (more : List Statement) → ((rest : List Statement) → played z (lines_of n (drop_statements a ++ rest)) ≡ played y (lines_of n rest))
     → steady_next y (n, line.Power) ≡ AfterPower s → played z (lines_of n ((drop_statements a ++ power_statement ∷ []) ++ more)) ≡ played (AfterPower s) (lines_of n more)
-powered_lead n z y a s more drops power =
-    ap (λ (l : List Statement). played z (lines_of n l)) (append_assoc (drop_statements a) (power_statement ∷ []) more)
-    ∙ drops (power_statement ∷ more)
-    ∙ played_line y (n, line.Power) (lines_of n more)
-    ∙ ap (λ (x : State). played x (lines_of n more)) power
+powered_lead n z y a s more drops power = grind (arith, append_assoc, played_line)
 
 after_power_lead : (n : ℕ) (b : Base) (o : ℕ) (j : Journal) (v : Live) (g : ℕ) (a : Armed) (w : Manner) (m : Move) (rest : List Statement) → CountsFromOne a → is_running (first_warm (past_power b o j v g a)).live ≡ true
     → LeadPlays n (AfterPower (past_power b o j v g a)) v b a (first_warm (past_power b o j v g a)) w m rest
@@ -264,11 +243,7 @@ lead_plays n (BeforePower image g a) w m rest h on = before_power_by n image g a
 lead_plays n (AfterPower s) w m rest h on = after_power_lead n s.base s.owed s.by s.live s.budget s.armed w m rest h on
 
 first_unarmed : (b : Base) (o : ℕ) (j : Journal) (v : Live) (g : ℕ) (a : Armed) → (first_warm (past_power b o j v g a)).armed ≡ Unarmed
-first_unarmed b o j (Running session_state) g a = refl
-first_unarmed (OnCard c) o j Unpowered g a = refl
-first_unarmed (AtFault cause place) o j Unpowered g a = refl
-first_unarmed (OnCard c) o j Muted g a = refl
-first_unarmed (AtFault cause place) o j Muted g a = refl
+first_unarmed b o j v g a = grind arith
 
 -- ---- the law
 
