@@ -1,5 +1,5 @@
 -- Lists of bytes: parts of them, sums, and what is read from or written to segments of bytes.
-use Rattle.std.proofs.Common.{◌≡◌, ℕ, zero, suc, ◌+◌, ◌-◌, ◌/◌, ◌%◌, ◌^◌, ◌<◌, ◌≤◌, Bool, true, false, cond, List, [], ◌∷◌, ◌++◌, length, take, drop, Option, Some, None, arith}
+use Rattle.std.proofs.Common.{◌≡◌, ℕ, zero, suc, ◌+◌, ◌/◌, ◌%◌, ◌^◌, ◌<◌, ◌≤◌, Bool, true, false, cond, List, [], ◌∷◌, ◌++◌, length, take, drop, Option, Some, None, arith}
 use Rattle.std.specs.Prelude.{◌==◌, slice_index, position, unwrap_or, bit_and, bit_or, bit_xor}
 use Rattle.std.proofs.lemmas.Nat.{and_le_l, or_lt, xor_lt}
 use Rattle.std.proofs.lemmas.List.Quantifiers.{position-Some}
@@ -9,7 +9,7 @@ use Rattle.law_family.specs.model_device.proofs.ImageLemmas.{all_append}
 use Rattle.law_family.specs.model_device.proofs.ListLemmas.{bytes_from}
 use Rattle.law_family.specs.model_machine.specs.Blocks.{each_byte, not_block}
 use Rattle.law_family.specs.model_machine.specs.Modes.{AllBelow}
-use Rattle.law_family.specs.model_machine.specs.Frame.{Frame, Place, Static, Dynamic, Public, where_is, static_bytes, bytes_in, bytes_at}
+use Rattle.law_family.specs.model_machine.specs.Frame.{Frame, Place, where_is, bytes_in, bytes_at}
 use Rattle.law_bytes.specs.OfBytes.{ArePieces, IsByteFrame}
 
 -- ---- parts
@@ -92,10 +92,7 @@ inverted (x ∷ a) = (omega arith, inverted a)
 -- ---- what a frame reads
 
 pub read_in : (f : Frame) (public : List ℕ) (n : ℕ) (o : Option Place) → IsByteFrame f → AreBytes public → AreBytes (bytes_in f public n o)
-read_in f public n None h p = tt
-read_in f public n (Some (Static i)) h p = taken n (drop i (static_bytes f)) (bytes_from (static_bytes f) i (laid f.pieces f.fixed h.pieces h.static))
-read_in f public n (Some (Dynamic i)) h p = taken n (drop i f.dyn) (bytes_from f.dyn i h.stack)
-read_in f public n (Some (Public i)) h p = taken n (drop i public) (bytes_from public i p)
+read_in f public n o h p = grind (arith, taken, bytes_from, laid)
 
 pub read_bytes : (f : Frame) (public : List ℕ) (a n : ℕ) → IsByteFrame f → AreBytes public → AreBytes (bytes_at f public a n)
 unfolding bytes_at
@@ -109,10 +106,7 @@ short_take (suc n) [] = omega arith
 short_take (suc n) (x ∷ l) = omega (arith, short_take n l)
 
 short_in : (f : Frame) (public : List ℕ) (n : ℕ) (o : Option Place) → length (bytes_in f public n o) ≤ n
-short_in f public n None = omega arith
-short_in f public n (Some (Static i)) = short_take n (drop i (static_bytes f))
-short_in f public n (Some (Dynamic i)) = short_take n (drop i f.dyn)
-short_in f public n (Some (Public i)) = short_take n (drop i public)
+short_in f public n o = grind (arith, short_take)
 
 short_cond : (b : Bool) (n : ℕ) (l : List ℕ) → length l ≤ n → length (cond b [] l) ≤ n
 short_cond true n l h = omega arith

@@ -6,9 +6,9 @@ use Rattle.std.proofs.lemmas.Bool.{and_parts, leb-true}
 use Rattle.std.proofs.lemmas.List.{length-take-le}
 use Rattle.law_family.specs.model_device.specs.Bytes.{AreBytes, insert, up, be2, zeros, has_name}
 use Rattle.law_family.specs.model_device.specs.Device.{IsImage}
-use Rattle.law_family.specs.model_device.specs.Image.{Two, look, after}
+use Rattle.law_family.specs.model_device.specs.Image.{Two}
 use Rattle.law_family.specs.model_device.specs.Stopped.{cost, stands}
-use Rattle.law_family.specs.model_device.specs.Card.{App, Block, words_of_lengths, record_at, name_in, name_at, app_at, apps_of, blocks, cells, section, words_after, means}
+use Rattle.law_family.specs.model_device.specs.Card.{App, Block, words_of_lengths, record_at, name_in, name_at, app_at, apps_of, cells, section, means}
 use Rattle.law_family.specs.model_device.specs.Layout.{is_record, bad_record, fault}
 use Rattle.law_family.specs.model_machine.specs.Chain.{Write}
 use Rattle.law_family.specs.model_card.specs.Items.{Change, Fixed, Created, Deleted, Item, Plain, Atomic, apps_after_change, apps_after_items, write_items, Stopped, at_stop, in_flight, with_item}
@@ -117,9 +117,7 @@ read_blocks m (b ∷ bs) names used image h =
 
 -- an image without a fault holds applications of bytes
 pub means_bytes : (m : List (List ℕ)) → IsImage m → fault m ≡ None → AreByteApps (means m).apps
-means_bytes m image h =
-    let w = words_after (after m) m in
-    read_blocks w (blocks w) [] 0 (image_settled m image) (good_records w (sound_after m (look m) refl h))
+means_bytes m image h = grind (arith, read_blocks, image_settled, good_records, sound_after)
 
 -- ---- items
 

@@ -1,5 +1,5 @@
 -- Bytes stay bytes along a chain: each turn keeps it of bytes, and so does a run.
-use Rattle.std.proofs.Common.{◌≡◌, ℕ, zero, suc, ◌+◌, ◌-◌, ◌≤◌, Bool, true, false, cond, List, [], ◌∷◌, ◌++◌, length, Option, Some, None, Result, Ok, Err, refl, sym, subst, arith}
+use Rattle.std.proofs.Common.{◌≡◌, ℕ, zero, suc, ◌-◌, ◌≤◌, Bool, true, false, cond, List, [], ◌∷◌, length, Option, Some, None, Result, Ok, Err, refl, arith}
 use Rattle.std.specs.Prelude.{◌||◌, nat_le, nat_lt, unwrap_or}
 use Rattle.std.specs.List.{AllByRecursion}
 use Rattle.law_family.specs.model_device.specs.Bytes.{AreBytes, bytes2, zeros, lookup}
@@ -14,9 +14,9 @@ use Rattle.law_family.specs.model_machine.specs.declared.machine.Abend.TheVarian
 use Rattle.law_family.specs.model_machine.specs.Apdu.{ApduParts}
 use Rattle.law_family.specs.model_machine.specs.Code.{DecodesTo, instruction_at}
 use Rattle.law_family.specs.model_machine.specs.Frame.{Frame, Effect, new_frame, new_public, with_sw, la_of}
-use Rattle.law_family.specs.model_machine.specs.Primitives.{Then, Goes, Exits, Delegates}
-use Rattle.law_family.specs.model_machine.specs.Row.{RowEnd, Abends, Does, row}
-use Rattle.law_family.specs.model_machine.specs.Chain.{Chain, Outcome, Abended, Follows, Continues, Ends, Acted, Ran, code_in, delegator_in, around, first_frame, chain_session, with_pieces, changed_app, map_changed, write_of, chain_after_effect, is_active, depth_of, called_app, chain_after_call, after_exit, reply_of, follows, row_turn, turn_of_fetch, turn_of_chain, frame_at, run_after_turn, run_of_chain, start_app, no_app}
+use Rattle.law_family.specs.model_machine.specs.Primitives.{Then}
+use Rattle.law_family.specs.model_machine.specs.Row.{RowEnd, row}
+use Rattle.law_family.specs.model_machine.specs.Chain.{Chain, Outcome, Abended, Follows, Ends, Acted, Ran, code_in, delegator_in, around, first_frame, chain_session, changed_app, map_changed, write_of, chain_after_effect, is_active, depth_of, called_app, chain_after_call, after_exit, reply_of, follows, row_turn, turn_of_fetch, turn_of_chain, frame_at, run_after_turn, run_of_chain, start_app, no_app}
 use Rattle.law_family.specs.law_rows.specs.Keeping.{Keeps, OnDone}
 use Rattle.law_family.specs.law_rows.proofs.Keeping.{row_keeps}
 use Rattle.mc_isa.proofs.PlaceLemmas.{decoded_stands}
@@ -32,10 +32,7 @@ code_bytes m n None e h = tt
 code_bytes m n (Some a) e h = (each_found IsByteApp m n a h e).code
 
 changed_by : (m : List (List ℕ × App)) (n : List ℕ) (ps : List (ℕ × List ℕ)) (o : Option App) → lookup m n ≡ o → ArePieces ps → AreByteApps m → AreByteApps (changed_app m n ps o)
-changed_by m n ps None e k h = h
-changed_by m n ps (Some a) e k h =
-    let was : IsByteApp (n, a) = each_found IsByteApp m n a h e in
-    each_inserted IsByteApp m n (with_pieces ps a) (record { name = was.name; code = was.code; fixed = laid ps a.fixed k was.fixed }) h
+changed_by m n ps o e k h = grind (arith, each_found, each_inserted, laid)
 
 pub changed_apps : (m : List (List ℕ × App)) (n : List ℕ) (c : Option (List (ℕ × List ℕ))) → IsChange c → AreByteApps m → AreByteApps (map_changed m n c)
 changed_apps m n None k h = h
@@ -56,9 +53,7 @@ first_bytes f [] h k = h.bytes
 first_bytes f (g ∷ gs) h k = first_bytes g gs k.0 k.1
 
 pub session_bytes : (ch : Chain) → IsByteChain ch → AreBytes (chain_session ch)
-session_bytes ch h =
-    let f = first_frame ch.frame ch.below in
-    taken f.session f.dyn (first_bytes ch.frame ch.below h.frame h.below).stack
+session_bytes ch h = grind (arith, taken, first_bytes)
 
 -- ---- what follows an instruction
 
@@ -83,9 +78,7 @@ exited ch [] k h = ended (nat_lt 1024 (la_of ch.public)) (Abended A09) (reply_of
 exited ch (f ∷ fs) k h = record { apps = h.apps; frame = k.0; below = k.1; public = h.public }
 
 followed : (ch : Chain) (next : Then) → IsByteChain ch → OnGoing (follows ch next) IsByteChain
-followed ch Goes h = h
-followed ch Exits h = exited ch ch.below h.below h
-followed ch (Delegates n) h = delegated ch n (lookup ch.map n) refl h
+followed ch next h = grind (arith, exited, delegated)
 
 -- ---- turns
 
@@ -94,18 +87,10 @@ write_bytes n None k = tt
 write_bytes n (Some ps) k = (k, tt)
 
 after_effect : (ch : Chain) (e : Effect) → IsByteChain ch → e.frame.name ≡ ch.frame.name → IsByteEffect e → IsByteChain (chain_after_effect ch e)
-after_effect ch e h name k =
-    record {
-      apps = changed_apps ch.map ch.frame.name e.changes k.change h.apps;
-      frame = record { name = subst IsName (sym name) (h.frame).name; bytes = k.frame };
-      below = h.below;
-      public = k.public;
-    }
+after_effect ch e h name k = grind (arith, changed_apps)
 
 row_turned : (ch : Chain) (i : Ins) (r : RowEnd) → IsByteChain ch → OnDone r (λ d. Keeps ch.frame ch.public d.effect) → OnDone r (λ d. IsByteEffect d.effect) → IsByteTurn (row_turn ch i r)
-row_turned ch i (Abends cause) h keeps k = record { writes = tt; goes = tt }
-row_turned ch i (Does d) h keeps k =
-    record { writes = write_bytes ch.frame.name d.effect.changes k.change; goes = followed (chain_after_effect ch d.effect) d.next (after_effect ch d.effect h keeps.name k) }
+row_turned ch i r h keeps k = grind (arith, write_bytes, followed, after_effect)
 
 fetched : (ch : Chain) (code : List ℕ) (r : Result (Ins × ℕ) DecodeFault) → DecodesTo code ch.frame.at r → IsByteChain ch → IsByteTurn (turn_of_fetch ch r)
 fetched ch code (Err Undefined) d h = record { writes = tt; goes = tt }
@@ -125,10 +110,7 @@ turn_bytes ch h =
 -- ---- runs
 
 ran : (t : Acted) (session : List ℕ) (f : Follows) (rest : Chain → Ran) → AreByteWrites t.writes → AreBytes session → OnGoing f IsByteChain → ((c : Chain) → IsByteChain c → IsByteRun (rest c)) → IsByteRun (run_after_turn t session f rest)
-ran t session (Ends o) rest w s g again = record { writes = w; session = s }
-ran t session (Continues c) rest w s g again =
-    let r : IsByteRun (rest c) = again c g in
-    record { writes = all_append (λ x. ArePieces x.pieces) t.writes (rest c).writes w r.writes; session = r.session }
+ran t session f rest w s g again = grind (arith, all_append)
 
 pub run_bytes : RunBytesLaw
 unfolding run_of_chain
@@ -140,14 +122,7 @@ run_bytes (suc n) ch h =
 -- ---- beginnings
 
 pub command_bytes : (a : ApduParts) → IsByteCommand a → AreBytes (new_public a)
-command_bytes a h =
-    let words : List ℕ = a.cla ∷ a.ins ∷ a.p1 ∷ a.p2 ∷ a.p3 ∷ [] in
-    let lengths : List ℕ = bytes2 (length a.body) ++ bytes2 (unwrap_or a.le 0) in
-    let rest : List ℕ = 0 ∷ 0 ∷ 0x90 ∷ 0 ∷ [] in
-    let last : AreBytes rest = (omega arith, (omega arith, (omega arith, (omega arith, tt)))) in
-    let filled : List ℕ = a.body ++ zeros (1028 - length a.body) in
-    joined filled (words ++ (lengths ++ rest)) (joined a.body (zeros (1028 - length a.body)) h.body (zero_bytes (1028 - length a.body)))
-    (joined words (lengths ++ rest) h.head (joined lengths rest (joined (bytes2 (length a.body)) (bytes2 (unwrap_or a.le 0)) (pair_bytes (length a.body)) (pair_bytes (unwrap_or a.le 0))) last))
+command_bytes a h = grind (arith, joined, zero_bytes, pair_bytes)
 
 started : (m : List (List ℕ × App)) (name session : List ℕ) (a : ApduParts) (o : Option App) → lookup m name ≡ o → AreByteApps m → IsName name → AreBytes session → IsByteCommand a → IsByteChain (start_app m name session a (unwrap_or o no_app))
 started m name session a None e h n s k = record { apps = h; frame = begun name 0 0 [] session n tt s; below = tt; public = command_bytes a k }

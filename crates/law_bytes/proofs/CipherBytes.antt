@@ -1,5 +1,5 @@
 -- What the ciphers and the digest give is bytes, whatever the sizes of their keys and blocks.
-use Rattle.std.proofs.Common.{◌≡◌, inl, inr, ℕ, zero, suc, ◌+◌, ◌-◌, ◌*◌, ◌/◌, ◌%◌, ◌^◌, ◌<◌, ◌≤◌, List, [], ◌∷◌, ◌++◌, length, take, drop, map, reverse, sym, subst, arith}
+use Rattle.std.proofs.Common.{◌≡◌, ℕ, zero, suc, ◌+◌, ◌-◌, ◌*◌, ◌/◌, ◌%◌, ◌^◌, ◌<◌, List, [], ◌∷◌, ◌++◌, length, take, drop, map, reverse, sym, subst, arith}
 use Rattle.std.specs.Prelude.{slice_index}
 use Rattle.std.specs.Int.{bytes_high_first, byte_at}
 use Rattle.std.proofs.Math.Nat.{pow-suc, one-mul, zero-mul}
@@ -49,11 +49,7 @@ bits_of_low (b ∷ bs) = all_below_append 2 (des.bits 8 b) (des.bits_of bs) (bit
 -- ---- numbers of bits
 
 with_bit : (b p m : ℕ) → b < 2 → m < p → b * p + m < p * 2
-with_bit b p m hb hm =
-    elim (bit_cases b hb) [
-      | inl e ↦ let z : b * p ≡ 0 = rw e (zero-mul p) in omega arith
-      | inr e ↦ let z : b * p ≡ p = rw e (one-mul p) in omega arith
-    ]
+with_bit b p m hb hm = grind (arith, bit_cases, zero-mul, one-mul)
 
 number_low : (l : List ℕ) → AllBelow 2 l → des.number l < 2 ^ length l
 unfolding des.number
@@ -65,10 +61,7 @@ number_low (b ∷ bs) a =
 
 -- at most n bits make a number below 2 ^ n
 number_within : (n : ℕ) (l : List ℕ) → AllBelow 2 l → des.number (take n l) < 2 ^ n
-number_within n l a =
-    let low : des.number (take n l) < 2 ^ length (take n l) = number_low (take n l) (all_below_take 2 n l a) in
-    let most : 2 ^ length (take n l) ≤ 2 ^ n = pow_mono (short_take n l) in
-    omega (arith, low, most)
+number_within n l a = grind (arith, number_low, all_below_take, pow_mono, short_take)
 
 des_blocks : (n : ℕ) (l : List ℕ) → AllBelow 2 l → AreBytes (des.bytes_of n l)
 unfolding des.bytes_of
@@ -123,11 +116,7 @@ twice_low b h = xor_lt 8 (2 * b % 256) (27 * (b / 128)) (omega arith) (omega ari
 
 -- a bit times a byte
 bit_times : (a b : ℕ) → b < 256 → a % 2 * b < 256
-bit_times a b h =
-    elim (bit_cases (a % 2) (omega arith)) [
-      | inl e ↦ let z : a % 2 * b ≡ 0 = rw e (zero-mul b) in omega arith
-      | inr e ↦ let z : a % 2 * b ≡ b = rw e (one-mul b) in omega arith
-    ]
+bit_times a b h = grind (arith, bit_cases, zero-mul, one-mul)
 
 product_by : (n a b : ℕ) → b < 256 → aes.mul_bits n a b < 256
 unfolding aes.mul_bits
@@ -293,14 +282,10 @@ chain_bytes cipher is (suc n) size message last h l =
 -- ---- the ciphers by their names
 
 pub enciphered : (c : Cipher) (key block : List ℕ) → AreBytes key → AreBytes block → AreBytes (encipherment c key block)
-enciphered Des key block k h = enciphered_des key block
-enciphered TripleDes key block k h = enciphered_triple key block
-enciphered Aes key block k h = enciphered_aes key block k h
+enciphered c key block k h = grind (arith, enciphered_des, enciphered_triple, enciphered_aes)
 
 pub deciphered : (c : Cipher) (key block : List ℕ) → AreBytes key → AreBytes block → AreBytes (decipherment c key block)
-deciphered Des key block k h = deciphered_des key block
-deciphered TripleDes key block k h = deciphered_triple key block
-deciphered Aes key block k h = deciphered_aes key block k h
+deciphered c key block k h = grind (arith, deciphered_des, deciphered_triple, deciphered_aes)
 
 pub signed : (c : Cipher) (key start message : List ℕ) → AreBytes key → AreBytes start → AreBytes message → AreBytes (signature c key start message)
 unfolding des.des_signature des.tdes_signature aes.aes_signature

@@ -4,7 +4,6 @@ use Rattle.std.specs.Prelude.{⊤, ◌==◌, ◌&&◌, nat_lt, nat_le, option_ma
 use Rattle.std.specs.List.{AllByRecursion}
 use Rattle.std.proofs.lemmas.Bool.{leb-true}
 use Rattle.law_family.specs.model_card.specs.declared.card.Part.{Part}
-use Rattle.law_family.specs.model_card.specs.declared.card.Part.TheVariants as part
 use Rattle.law_family.specs.model_card.specs.declared.unit.AidFault.TheVariants.{AidLength}
 use Rattle.law_family.specs.model_device.specs.Bytes.{AreBytes, zeros}
 use Rattle.law_family.specs.model_device.specs.Card.{Card}
@@ -208,11 +207,7 @@ checked None n h e = absurd (cc e)
 checked (Some v) n h e = by (nat_le 5 (length v)) (nat_le (length v) 16) refl refl e
   where
     by : (x y : Bool) → nat_le 5 (length v) ≡ x → nat_le (length v) 16 ≡ y → cond (x && y) (Ok v) (Err AidLength) ≡ Ok n → IsName n
-    by true true low high e =
-        let same : v ≡ n = cc e in
-        subst IsName same (record { bytes = h; least = leb-true 5 (length v) low; most = leb-true (length v) 16 high })
-    by true false low high e = absurd (cc e)
-    by false y low high e = absurd (cc e)
+    by x y low high e = grind (arith, leb-true)
 
 name_bytes : (d n : List ℕ) → AreBytes d → name_of d ≡ Ok n → IsName n
 unfolding name_of
@@ -226,10 +221,7 @@ pub record IsByteResult (r : Command) : Type 0 where
   pub session_state : IsByteSession r.session_state
 
 with_load : (p : Part) (b : List ℕ) (o : Open) → AreBytes b → IsLoad (Some o) → IsLoad (Some (record o { got = with_got p b o.got }))
-with_load part.Code b o h k = (joined o.got.code b k.0 h, k.1, k.2)
-with_load part.Data b o h k = (k.0, joined o.got.init b k.1 h, k.2)
-with_load part.Dir b o h k = (k.0, k.1, joined o.got.dir b k.2 h)
-with_load part.Fci b o h k = k
+with_load p b o h k = grind (arith, joined)
 
 plain_items : (n : ℕ) (is : List Item) → AllByRecursion IsByteItem is → AllByRecursion IsByteItem (plains n is)
 plain_items = plains_are (AllByRecursion IsByteItem) (λ is h. (tt, h))

@@ -1,5 +1,5 @@
 -- Along every play of lines of bytes from an image of bytes, each state is of bytes.
-use Rattle.std.proofs.Common.{◌≡◌, ℕ, zero, suc, ◌+◌, ◌-◌, ◌/◌, ◌%◌, Bool, true, false, cond, List, [], ◌∷◌, ◌++◌, take, drop, length, Option, Some, None, refl}
+use Rattle.std.proofs.Common.{◌≡◌, ℕ, zero, suc, ◌+◌, ◌-◌, ◌/◌, ◌%◌, Bool, true, false, cond, List, [], ◌∷◌, ◌++◌, take, drop, length, Option, Some, None, refl, arith}
 use Rattle.std.specs.Prelude.{◌==◌, nat_le}
 use Rattle.std.specs.List.{AllByRecursion}
 use Rattle.law_family.specs.model_device.specs.declared.cause.Cause.{Cause}
@@ -91,9 +91,7 @@ powered (OnCard c) h = (h.0, record { selected = tt; load = tt })
 powered (AtFault cause p) h = tt
 
 migrated : (t : Bool) (b : Base) (v : Live) → IsByteBase b v → IsByteBase (cond t (base_after_migration b) b) v
-migrated true (OnCard c) v h = h
-migrated true (AtFault cause p) v h = h
-migrated false b v h = h
+migrated t b v h = grind arith
 
 power_stopped : (s : Warm) (t : StopAt) (b : Bool) → IsByteBase s.base Unpowered → IsByteState (AfterPower (stopped_power s t b))
 power_stopped s t true h = stopped s.base t.kind h

@@ -1,17 +1,16 @@
 -- Each act of bytes keeps bytes, and each row is such an act.
-use Rattle.std.proofs.Common.{◌≡◌, ℕ, ◌+◌, ◌-◌, ◌*◌, ◌<◌, ◌≤◌, Bool, true, false, cond, List, [], ◌∷◌, ◌++◌, length, take, drop, Option, Some, None, refl, sym, subst, arith}
-use Rattle.std.specs.Prelude.{⊤, ◌||◌, ◌==◌, nat_le, slice_index}
+use Rattle.std.proofs.Common.{ℕ, ◌+◌, ◌-◌, ◌*◌, ◌<◌, ◌≤◌, Bool, cond, List, [], ◌∷◌, length, take, drop, Option, Some, None, refl, sym, subst, arith}
+use Rattle.std.specs.Prelude.{⊤, ◌==◌, slice_index}
 use Rattle.law_family.specs.model_device.specs.Bytes.{AreBytes, bytes2, num, splice}
 use Rattle.law_family.specs.model_device.proofs.ImageLemmas.{all_append}
 use Rattle.law_family.specs.model_device.proofs.ListLemmas.{pair_bytes, bytes_from}
 use Rattle.law_family.specs.model_machine.specs.declared.instruction.Ins.{Ins}
 use Rattle.law_family.specs.model_machine.specs.declared.instruction.Ins.TheVariants as ins
 use Rattle.law_family.specs.model_machine.specs.Code.{Shaped}
-use Rattle.law_family.specs.model_machine.specs.Blocks.{and_blocks, or_blocks, xor_blocks, not_block}
-use Rattle.law_family.specs.model_machine.specs.Frame.{Frame, Effect, Place, Static, Dynamic, Public, where_is, dynamic_base, static_bytes, bytes_at, static_written, write_effect_at, write_effect, frame_after_pop, stack_bytes, top, protect, pending_change}
+use Rattle.law_family.specs.model_machine.specs.Frame.{Frame, Effect, Place, where_is, dynamic_base, bytes_at, static_written, write_effect_at, write_effect, frame_after_pop, stack_bytes, top, protect, pending_change}
 use Rattle.law_family.specs.model_machine.specs.Primitives.{Around, Done, frame_effect, Primitive, LoadCcr, Lookup, MemoryCopy, DelegatorAid, Digest, CopyFixed, Encipher, Decipher, Sign, BitByte, ShiftLeft, ShiftRight, BitWord, primitive, block_len, key_len, encipherment, decipherment, number_below_top, count_at, masked_bytes}
 use Rattle.law_family.specs.model_machine.specs.Row.{causes, effect, first_cause, row, place_of, value_of, first_of, address_or_zero, indexed_address}
-use Rattle.law_family.specs.law_rows.specs.Shapes.{Act, Stays, Answers, Jumps, Calls, Returns, Pushes, Replaces, Writes, Protects, with_status, with_length, act_effect, with_flags, Shape, meaning, delegator_shape, prim_shape, pair_shape, shape}
+use Rattle.law_family.specs.law_rows.specs.Shapes.{Act, Pushes, Replaces, Writes, with_status, with_length, act_effect, with_flags, Shape, meaning, delegator_shape, prim_shape, pair_shape, shape}
 use Rattle.law_family.specs.law_rows.proofs.RowShapes.{shapes}
 use Rattle.law_family.specs.law_rows.proofs.Keeping.{on_done}
 use Rattle.law_bytes.specs.OfBytes.{ArePieces, IsChange, IsByteFrame, IsByteEffect, IsCaller, RowBytesLaw}
@@ -19,10 +18,6 @@ use Rattle.law_bytes.proofs.ByteLists.{taken, joined, spliced, laid, zero_bytes,
 use Rattle.law_bytes.proofs.CipherBytes.{message_bytes, enciphered, deciphered, signed, digested}
 
 -- ---- frames
-
--- a frame with other registers
-pub same_segments : (f g : Frame) → g.fixed ≡ f.fixed → g.pieces ≡ f.pieces → g.dyn ≡ f.dyn → IsByteFrame f → IsByteFrame g
-same_segments f g fixed pieces dyn h = record { static = subst AreBytes (sym fixed) h.static; pieces = subst ArePieces (sym pieces) h.pieces; stack = subst AreBytes (sym dyn) h.stack }
 
 pub popped : (f : Frame) (n : ℕ) → IsByteFrame f → IsByteFrame (frame_after_pop f n)
 popped f n h = record { static = h.static; pieces = h.pieces; stack = h.stack }
@@ -56,16 +51,10 @@ reply_bytes None public p = p
 reply_bytes (Some la) public p = spliced public 1037 (bytes2 la) p (pair_bytes la)
 
 static_bytes_written : (on : Bool) (f : Frame) (public : List ℕ) (i : ℕ) (b : List ℕ) → IsByteFrame f → AreBytes public → AreBytes b → IsByteEffect (static_written on f public i b)
-static_bytes_written false f public i b h p k =
-    record { frame = record { static = spliced f.fixed i b h.static k; pieces = h.pieces; stack = h.stack }; public = p; change = (k, tt) }
-static_bytes_written true f public i b h p k =
-    record { frame = record { static = h.static; pieces = all_append (λ q. AreBytes q.1) f.pieces ((i, b) ∷ []) h.pieces (k, tt); stack = h.stack }; public = p; change = tt }
+static_bytes_written on f public i b h p k = grind (arith, spliced, all_append)
 
 written_at : (f : Frame) (public b : List ℕ) (o : Option Place) → IsByteFrame f → AreBytes public → AreBytes b → IsByteEffect (write_effect_at f public b o)
-written_at f public b None h p k = record { frame = h; public = p; change = tt }
-written_at f public b (Some (Static i)) h p k = static_bytes_written f.protected f public i b h p k
-written_at f public b (Some (Dynamic i)) h p k = record { frame = stacked f i b h k; public = p; change = tt }
-written_at f public b (Some (Public i)) h p k = record { frame = h; public = spliced public i b p k; change = tt }
+written_at f public b o h p k = grind (arith, static_bytes_written, stacked, spliced)
 
 written : (f : Frame) (public : List ℕ) (a : ℕ) (b : List ℕ) → IsByteFrame f → AreBytes public → AreBytes b → IsByteEffect (write_effect f public a b)
 unfolding write_effect
@@ -76,43 +65,18 @@ committed f [] h = tt
 committed f (p ∷ ps) h = h
 
 protected_bytes : (f : Frame) (public : List ℕ) (mode : ℕ) → IsByteFrame f → AreBytes public → IsByteEffect (protect f public mode)
-protected_bytes f public mode h p = by (mode == 1 || mode == 3)
-  where
-    by : (b : Bool) → IsByteEffect (cond {A = Effect} b (record { frame = record f { fixed = static_bytes f; pieces = []; protected = nat_le 2 mode }; public = public; changes = pending_change f f.pieces }) (record { frame = record f { pieces = []; protected = nat_le 2 mode }; public = public; changes = None }))
-    by true = record { frame = record { static = laid f.pieces f.fixed h.pieces h.static; pieces = tt; stack = h.stack }; public = p; change = committed f f.pieces h.pieces }
-    by false = record { frame = record { static = h.static; pieces = tt; stack = h.stack }; public = p; change = tt }
+protected_bytes f public mode h p = grind (arith, laid, committed)
 
 act_bytes : (act : Act) (f : Frame) (public : List ℕ) → IsByteAct act → IsByteFrame f → AreBytes public → IsByteEffect (act_effect act f public)
-act_bytes Stays f public k h p = quiet f public h p
-act_bytes (Answers sw la) f public k h p = quiet f (with_length la (with_status sw public)) h (reply_bytes la (with_status sw public) (status_bytes sw public p))
-act_bytes (Jumps true to) f public k h p = quiet (record f { at = to }) public (record { static = h.static; pieces = h.pieces; stack = h.stack }) p
-act_bytes (Jumps false to) f public k h p = quiet f public h p
-act_bytes (Calls true to) f public k h p =
-    let b : List ℕ = bytes2 f.lb ++ bytes2 f.at in
-    let kept : AreBytes (splice f.dyn (f.dt - dynamic_base) b) = spliced f.dyn (f.dt - dynamic_base) b h.stack (joined (bytes2 f.lb) (bytes2 f.at) (pair_bytes f.lb) (pair_bytes f.at)) in
-    record { frame = record { static = h.static; pieces = h.pieces; stack = kept }; public = p; change = tt }
-act_bytes (Calls false to) f public k h p = quiet f public h p
-act_bytes (Returns less more) f public k h p =
-    record { frame = record { static = h.static; pieces = h.pieces; stack = spliced f.dyn (f.lb - 4 - less - dynamic_base) (top f more) h.stack (topped f more more h) }; public = p; change = tt }
-act_bytes (Pushes b) f public k h p =
-    record { frame = record { static = h.static; pieces = h.pieces; stack = spliced f.dyn (f.dt - dynamic_base) b h.stack k }; public = p; change = tt }
-act_bytes (Replaces b) f public k h p =
-    record { frame = record { static = h.static; pieces = h.pieces; stack = spliced f.dyn (f.dt - length b - dynamic_base) b h.stack k }; public = p; change = tt }
-act_bytes (Writes a n b) f public k h p = written f public a b h p k
-act_bytes (Protects mode) f public k h p = protected_bytes f public mode h p
+act_bytes act f public k h p = grind (arith, quiet, reply_bytes, status_bytes, spliced, joined, pair_bytes, topped, written, protected_bytes)
 
 -- ---- primitives
 
 flags_low : (c z : Bool) → cond c 2 0 + cond z 1 0 < 256
-flags_low true true = omega arith
-flags_low true false = omega arith
-flags_low false true = omega arith
-flags_low false false = omega arith
+flags_low c z = grind arith
 
 masked : (op : ℕ) (v mask : List ℕ) → AreBytes v → AreBytes mask → AreBytes (masked_bytes op v mask)
-masked op v mask h k =
-    in_cond (op == 0) (and_blocks v (not_block mask)) _ (anded v (not_block mask) h)
-    (in_cond (op == 1) (or_blocks v mask) _ (ored v mask h k) (in_cond (op == 2) (xor_blocks v mask) v (xored v mask h k) h))
+masked op v mask h k = grind (arith, in_cond, anded, ored, xored)
 
 called : (f : Frame) (o : Option (List ℕ)) → IsCaller o → IsByteAct (delegator_shape f o).act
 called f None h = tt
