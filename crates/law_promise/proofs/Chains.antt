@@ -1,6 +1,6 @@
 -- What holds of a chain while an application that a domain covers may be among its frames: its own frame runs, or waits
 -- below, or there is none.
-use Rattle.std.proofs.Common.{◌≡◌, ℕ, ◌≤◌, Bool, true, false, List, [], ◌∷◌, length, Option, Some, None, refl, sym, ap, subst, ◌∙◌}
+use Rattle.std.proofs.Common.{◌≡◌, ℕ, ◌≤◌, Bool, true, false, List, [], ◌∷◌, length, Option, Some, None, sym, subst, arith}
 use Rattle.std.specs.Prelude.{⊤, bytes_eq}
 use Rattle.std.proofs.lemmas.Bool.{or_parts}
 use Rattle.model_text.specs.model_machine.specs.declared.machine.Abend.{Abend}
@@ -8,7 +8,7 @@ use Rattle.model_text.specs.model_device.specs.Bytes.{lookup}
 use Rattle.model_text.specs.model_device.specs.Card.{App}
 use Rattle.model_text.specs.model_machine.specs.Apdu.{ApduParts}
 use Rattle.model_text.specs.model_machine.specs.Frame.{Frame, session_of}
-use Rattle.model_text.specs.model_machine.specs.Chain.{Outcome, Abended, Chain, with_pieces, changed_app, map_changed, is_active, first_frame}
+use Rattle.model_text.specs.model_machine.specs.Chain.{Outcome, Abended, Chain, map_changed, is_active, first_frame}
 use Rattle.law_bytes.specs.OfChains.{IsByteChain}
 use Rattle.law_promise.specs.History.{with_event}
 use Rattle.law_promise.specs.Outline.{Entry, BySelection, ByDelegation, public_size}
@@ -27,8 +27,7 @@ NoneOf n (f ∷ fs) = (bytes_eq f.name n ≡ false) × NoneOf n fs
 pub inactive : (n : List ℕ) (f : Frame) (fs : List Frame) → is_active n f fs ≡ false → NoneOf n (f ∷ fs)
 inactive n f [] h = (h, tt)
 inactive n f (g ∷ gs) h =
-    let p = or_parts (bytes_eq f.name n) (is_active n g gs) h in
-    (p.0, inactive n g gs p.1)
+    ((or_parts (bytes_eq f.name n) (is_active n g gs) h).0, inactive n g gs (or_parts (bytes_eq f.name n) (is_active n g gs) h).1)
 
 pub first_none : (n : List ℕ) (f : Frame) (fs : List Frame) → NoneOf n (f ∷ fs) → bytes_eq (first_frame f fs).name n ≡ false
 first_none n f [] h = h.0
@@ -87,16 +86,12 @@ module _ {E : Type 0} (o : Domain E) (q : Asked E) (h : List E) (fixed : List �
   -- where none of the application is and it is idle, all wait
   pub none_waits : (fs : List Frame) → NoneOf o.watch.name fs → o.idle h fixed → AllWait o q h fixed fs
   none_waits [] n i = i
-  none_waits (f ∷ fs) n i =
-      let P = AllWait o q h fixed fs in
-      subst (λ (b : Bool). WaitsIf b o q h fixed f fs P) (sym n.0) (none_waits fs n.1 i)
+  none_waits (f ∷ fs) n i = grind (arith, none_waits fs n.1 i)
 
   -- and the reverse
   pub none_idle : (fs : List Frame) → NoneOf o.watch.name fs → AllWait o q h fixed fs → o.idle h fixed
   none_idle [] n w = w
-  none_idle (f ∷ fs) n w =
-      let P = AllWait o q h fixed fs in
-      none_idle fs n.1 (subst (λ (b : Bool). WaitsIf b o q h fixed f fs P) n.0 w)
+  none_idle (f ∷ fs) n w = none_idle fs n.1 (subst (λ (b : Bool). WaitsIf b o q h fixed f fs (AllWait o q h fixed fs)) n.0 w)
 
   resumed_by : (b : Bool) (f : Frame) (fs : List Frame) (p : List ℕ) → IsSegment o p → WaitsIf b o q h fixed f fs (AllWait o q h fixed fs)
       → RunsIf b o q h fixed f fs p (AllWait o q h fixed fs)
@@ -175,18 +170,11 @@ EndKept b o q k (Some a) session outcome = EndOf b o q k a session outcome
 
 -- a change of another application
 pub beside_changed : (m : List (List ℕ × App)) (n k : List ℕ) (c : Option (List (ℕ × List ℕ))) → bytes_eq n k ≡ false → lookup (map_changed m n c) k ≡ lookup m k
-beside_changed m n k None h = refl
-beside_changed m n k (Some ps) h = by (lookup m n)
-  where
-    by : (found : Option App) → lookup (changed_app m n ps found) k ≡ lookup m k
-    by None = refl
-    by (Some a) = lookup_beside m n (with_pieces ps a) k h
+beside_changed m n k c h = grind (arith, lookup_beside)
 
 abbrev pub with_change : App → Option (List (ℕ × List ℕ)) → App
 with_change a c = record a { fixed = after_change a.fixed c }
 
 -- a change of its own
 pub own_changed : (m : List (List ℕ × App)) (n : List ℕ) (a : App) (c : Option (List (ℕ × List ℕ))) → lookup m n ≡ Some a → lookup (map_changed m n c) n ≡ Some (with_change a c)
-own_changed m n a None h = h
-own_changed m n a (Some ps) h =
-    ap (λ (found : Option App). lookup (changed_app m n ps found) n) h ∙ lookup_inserted_lem m n (with_pieces ps a)
+own_changed m n a c h = grind (arith, lookup_inserted_lem)

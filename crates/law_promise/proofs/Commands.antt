@@ -1,8 +1,8 @@
 -- A command keeps what the domain covers, whatever its route: a run, a selection, or one of the manager.
-use Rattle.std.proofs.Common.{◌≡◌, ℕ, ◌-◌, ◌≤◌, Bool, true, false, not, List, [], ◌∷◌, ◌++◌, length, Option, Some, None, refl, sym, ap, subst, ◌∙◌, arith, inl, inr}
+use Rattle.std.proofs.Common.{◌≡◌, ℕ, ◌≤◌, Bool, true, false, not, List, [], ◌∷◌, length, Option, Some, None, refl, sym, ap, subst, ◌∙◌, arith, inl, inr}
 use Rattle.std.specs.Prelude.{⊤, ◌⊎◌, ◌||◌, ◌==◌, bytes_eq, is_some, is_none, unwrap_or}
 use Rattle.std.proofs.lemmas.List.{length-append, length-replicate}
-use Rattle.model_text.specs.model_device.specs.Bytes.{bytes2, zeros, lookup}
+use Rattle.model_text.specs.model_device.specs.Bytes.{zeros, lookup}
 use Rattle.model_text.specs.model_device.specs.Card.{App, Card}
 use Rattle.model_text.specs.model_machine.specs.Apdu.{ApduParts}
 use Rattle.model_text.specs.model_machine.specs.Frame.{Frame, new_frame, new_public}
@@ -40,10 +40,7 @@ begun c s a known cmd = start_bytes c.apps s.name s.session a known.0 known.1.0 
 
 -- the public segment of a command is whole
 begun_whole : (a : ApduParts) → public_size ≤ length (new_public a)
-begun_whole a =
-    let filled = zeros (1028 - length a.body) in
-    let words = a.cla ∷ a.ins ∷ a.p1 ∷ a.p2 ∷ a.p3 ∷ (bytes2 (length a.body) ++ bytes2 (unwrap_or a.le 0) ++ 0 ∷ 0 ∷ 0x90 ∷ 0 ∷ []) in
-    omega (arith, length-append (a.body ++ filled) words, length-append a.body filled, length-replicate {A = ℕ} (1028 - length a.body) 0)
+begun_whole a = grind (arith, length-append, length-replicate)
 
 -- what is said of the outcome of a command that reaches the application as the selected one
 abbrev pub OnParts : {E : Type 0} → Domain E → Option ApduParts → List E → List E → Outcome → Type 0
@@ -76,10 +73,7 @@ module _ {E : Type 0} (o : Domain E) (shown : IsSound o) where
   start_is m n session a apdu is = ap (λ (z : Option App). start_app m n session apdu (unwrap_or z no_app)) (sym is)
 
   own_frame : (n fixed session : List ℕ) (a : App) → IsLike o.app a → n ≡ o.watch.name → first_frame_in o fixed session ≡ new_frame n (length a.code) a.deny fixed session
-  own_frame n fixed session a like same =
-      ap (λ (k : List ℕ). new_frame k (length o.app.code) o.app.deny fixed session) (sym same)
-      ∙ (ap (λ (c : List ℕ). new_frame n (length c) o.app.deny fixed session) (sym like.code)
-      ∙ ap (λ (d : ℕ). new_frame n (length a.code) d fixed session) (sym like.deny))
+  own_frame n fixed session a like same = grind arith
 
   own_start : (h : List E) (m : List (List ℕ × App)) (n session bytes : List ℕ) (apdu : ApduParts) (found : Option App) → route bytes ≡ ToApplication apdu → (o.of_bytes → IsByteCommand apdu) → (o.of_bytes → IsByteChain (start m n session apdu)) → lookup m o.watch.name ≡ found → bytes_eq n o.watch.name ≡ true → SessionCovered o h found session
       → ChainKept o (asked bytes apdu h) (with_event (o.watch.of_command bytes apdu) h) (start m n session apdu)

@@ -1,10 +1,9 @@
 -- The proof outline of the counter.
-use Rattle.std.proofs.Common.{◌≡◌, ℕ, suc, ◌+◌, ◌-◌, ◌*◌, ◌<◌, ◌≤◌, Bool, true, false, List, [], ◌∷◌, length, take, drop, refl, sym, ap, subst, ◌∙◌, arith}
-use Rattle.std.specs.Prelude.{⊤, ◌≢◌, ◌⊎◌}
-use Rattle.std.proofs.Common.{inl, inr}
+use Rattle.std.proofs.Common.{◌≡◌, ℕ, suc, ◌+◌, ◌*◌, ◌<◌, ◌≤◌, Bool, true, false, List, [], ◌∷◌, length, take, drop, refl, sym, ap, subst, ◌∙◌, arith}
+use Rattle.std.specs.Prelude.{⊤, ◌≢◌}
 use Rattle.std.proofs.lemmas.Bool.{cases_eq}
 use Rattle.model_text.specs.model_device.specs.Bytes.{bytes, num, splice}
-use Rattle.model_text.specs.model_machine.specs.Blocks.{sub_blocks, is_zero}
+use Rattle.model_text.specs.model_machine.specs.Blocks.{sub_blocks}
 use Rattle.model_text.specs.model_machine.specs.Code.{instruction_at}
 use Rattle.model_text.specs.model_machine.specs.Frame.{Frame, bytes_at, write_effect, too_many, new_public, sw_of, with_la}
 use Rattle.model_text.specs.model_machine.specs.Primitives.{Around, Done}
@@ -91,16 +90,10 @@ no_count ByDelegation h p f z = tt
 no_count (BySelection bytes a before) h p f z = λ small. other_ins a 0x10 p f.1 small z
 
 not_full : (x y : ℕ) → (sub_blocks (x ∷ y ∷ []) (0xFF ∷ 0xFF ∷ [])).z ≡ false → num (x ∷ y ∷ []) ≢ 65535
-not_full x y z is =
-    let set : (sub_blocks (x ∷ y ∷ []) (0xFF ∷ 0xFF ∷ [])).z ≡ true = ap (λ (n : ℕ). is_zero (bytes 2 (65536 + n - 65535))) is in
-    absurd (cc (sym set ∙ z))
+not_full x y z is = grind arith
 
 below : (n : ℕ) → n < 65536 → n ≢ 65535 → n + 1 < 65536
-below n small other = by (cases_eq n 65535)
-  where
-    by : (n ≡ 65535) ⊎ (n ≡ 65535 → ⊥) → n + 1 < 65536
-    by (inl is) = absurd (other is)
-    by (inr other) = omega (arith, other)
+below n small other = grind (arith, cases_eq)
 
 one_more_is : (n : ℕ) → n < 65536 → n ≢ 65535 → num (bytes 2 (n + 1)) ≡ suc n
 one_more_is n small other = let less : n + 1 < 65536 = below n small other in omega arith
@@ -116,16 +109,12 @@ counted (BySelection bytes a before) h p v f is = λ small. (ap sw_of f.1 ∙ st
 -- a status other than 9000 ends a command in which nothing was written
 refused_exit : (e : Entry ℕ) (h p : List ℕ) (f : Frame) (d : Done) (high low : ℕ) → IsFresh e h p → d.effect.public ≡ splice p 1039 (high ∷ low ∷ []) → public_size ≤ length p → 256 * high + low ≢ 0x9000 → ExitShown counter_outline e h f d
 refused_exit ByDelegation h p f d high low fresh is size other = tt
-refused_exit (BySelection bytes a before) h p f d high low fresh is size other =
-    let sw : sw_of d.effect.public ≡ 256 * high + low = ap sw_of is ∙ status_set p high low size in
-    (tt, record { durable = λ small ins done. absurd (other (sym sw ∙ done)); refused = λ small ins other. fresh.0 })
+refused_exit (BySelection bytes a before) h p f d high low fresh is size other = grind (arith, ap sw_of is ∙ status_set p high low size)
 
 -- 9000 ends a command that was counted, if it is to count
 counted_exit : (e : Entry ℕ) (h p : List ℕ) (f : Frame) (d : Done) → IsCounted e h p → d.effect.public ≡ with_la p 2 → public_size ≤ length p → ExitShown counter_outline e h f d
 counted_exit ByDelegation h p f d done is size = tt
-counted_exit (BySelection bytes a before) h p f d done is size =
-    let sw : sw_of d.effect.public ≡ sw_of p = ap sw_of is ∙ status_beside_la p 2 size in
-    (tt, record { durable = λ small ins good. (done small).1 ins; refused = λ small ins other. absurd (other (sw ∙ (done small).0)) })
+counted_exit (BySelection bytes a before) h p f d done is size = grind (arith, ap sw_of is ∙ status_beside_la p 2 size)
 
 stored : (e : Entry ℕ) (h p : List ℕ) (x y : ℕ) → IsCounted e h p → IsCounted e h (splice p 0 (x ∷ y ∷ []))
 stored ByDelegation h p x y done = tt
@@ -133,12 +122,7 @@ stored (BySelection bytes a before) h p x y done = λ small. (status_beside_two 
 
 more_kept : (h : List ℕ) (x y : ℕ) → CountKept h (x ∷ y ∷ []) → num (x ∷ y ∷ []) ≢ 65535
     → CountKept (num (bytes 2 (num (x ∷ y ∷ []) + 1)) ∷ h) (bytes 2 (num (x ∷ y ∷ []) + 1))
-more_kept h x y kept other =
-    let n : ℕ = num (x ∷ y ∷ []) in
-    let small : n < 65536 = kept.small in
-    let less : n + 1 < 65536 = below n small other in
-    let same : num (bytes 2 (n + 1)) ≡ suc n = one_more_is n small other in
-    record { size = refl; holds = refl; small = omega (arith, same, less); rises = (same ∙ ap suc kept.holds, kept.rises) }
+more_kept h x y kept other = grind (arith, num (x ∷ y ∷ []), kept.small, below (num (x ∷ y ∷ [])) kept.small other, one_more_is (num (x ∷ y ∷ [])) kept.small other)
 
 turn : (e : Entry ℕ) (h : List ℕ) (f : Frame) (p : List ℕ) (depth : ℕ) (x : Around) → CounterAt e h p f → CountKept h f.fixed → FitsEntry e x → public_size ≤ length p
     → FetchShown counter_outline e h f p depth x (instruction_at counter_code f.at)

@@ -15,9 +15,7 @@ front_few lc b h = omega (arith, length-take lc b)
 
 -- Lc is the number of bytes, or that of the bytes before Le
 whole_few : (x y : Bool) (lc p : ℕ) (b : List ℕ) (le : Option ℕ) → lc ≤ 1024 → (length b == lc) ≡ x → IsFew (cond x (Some (record { p3 = p; body = b; le = None })) (cond y (Some (record { p3 = p; body = take lc b; le = le })) None))
-whole_few true y lc p b le h e = let same : length b ≡ lc = eqb-true (length b) lc e in omega arith
-whole_few false true lc p b le h e = front_few lc b h
-whole_few false false lc p b le h e = tt
+whole_few x y lc p b le h e = grind (arith, eqb-true, front_few)
 
 extended_by : (x : Bool) (lc : ℕ) (b : List ℕ) → (nat_le 1 lc && nat_le lc 1024) ≡ x → IsFew (cond x (extended_body lc b) None)
 extended_by false lc b e = tt
@@ -34,9 +32,7 @@ rest_by true p x xs h = extended_few (x ∷ xs)
 rest_by false p x xs h = whole_few (length (x ∷ xs) == p) (length (x ∷ xs) == p + 1) p p (x ∷ xs) _ (omega arith) refl
 
 rest_few : (b : List ℕ) → AreBytes b → IsFew (rest_read b)
-rest_few [] h = omega arith
-rest_few (p ∷ []) h = omega arith
-rest_few (p ∷ x ∷ xs) h = rest_by (p == 0) p x xs h.0
+rest_few b h = grind (arith, rest_by)
 
 abbrev AreFew : Option ApduParts → Type 0
 AreFew None = ⊤

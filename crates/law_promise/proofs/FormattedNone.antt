@@ -1,10 +1,10 @@
 -- A card that was formatted has none of a name, whatever stop hits its first power line.
-use Rattle.std.proofs.Common.{◌≡◌, ℕ, ◌≤◌, Bool, true, false, cond, List, [], length, Option, Some, None, refl, ap, ◌∙◌}
+use Rattle.std.proofs.Common.{◌≡◌, ℕ, ◌≤◌, Bool, true, false, cond, List, [], length, Option, Some, None, refl, ap, ◌∙◌, arith}
 use Rattle.std.specs.Prelude.{nat_le}
 use Rattle.model_text.specs.model_device.specs.declared.cause.Cause.{Cause}
 use Rattle.model_text.specs.model_device.specs.Bytes.{lookup}
 use Rattle.model_text.specs.model_device.specs.Card.{App}
-use Rattle.model_text.specs.model_device.specs.PowerUp.{Base, OnCard, AtFault, base_after_migration, base_of}
+use Rattle.model_text.specs.model_device.specs.PowerUp.{Base, base_after_migration, base_of}
 use Rattle.law_bytes.specs.model_card.specs.Items.{StopAt}
 use Rattle.law_bytes.specs.model_play.specs.Given.{apps_on, apps_in}
 use Rattle.law_bytes.specs.model_play.specs.Play.{Armed, Warm, AfterPower, hit_of, power_moves, stopped_power, power_after, play_at_power, formatted_image, step}
@@ -13,9 +13,7 @@ use Rattle.law_promise.specs.Along.{FormattedLaw}
 
 -- a power line leaves the applications of its base
 migrated_apps : (x : Bool) (b : Base) → apps_on (cond x (base_after_migration b) b) ≡ apps_on b
-migrated_apps true (OnCard c) = refl
-migrated_apps true (AtFault cause p) = refl
-migrated_apps false b = refl
+migrated_apps x b = grind arith
 
 stopped_apps : (x : Bool) (s : Warm) (t : StopAt) → apps_in (AfterPower (stopped_power s t x)) ≡ apps_on s.base
 stopped_apps true s t = refl

@@ -1,11 +1,10 @@
 -- A play on a card that may already hold the application: each line keeps what the domain covers.
-use Rattle.std.proofs.Common.{◌≡◌, ℕ, ◌-◌, Bool, true, false, cond, List, [], ◌∷◌, drop, Option, Some, None, refl, sym, ap, subst, ◌∙◌}
-use Rattle.std.specs.Prelude.{◌⊎◌, nat_le, ⊤}
+use Rattle.std.proofs.Common.{◌≡◌, ℕ, ◌-◌, Bool, true, false, cond, List, [], ◌∷◌, drop, Option, Some, None, refl, sym, subst, arith}
+use Rattle.std.specs.Prelude.{◌⊎◌, nat_le}
 use Rattle.std.specs.List.{AllByRecursion}
 use Rattle.model_text.specs.model_device.specs.Bytes.{lookup}
-use Rattle.model_text.specs.model_device.specs.Card.{App}
 use Rattle.model_text.specs.model_device.specs.Image.{One}
-use Rattle.model_text.specs.model_device.specs.PowerUp.{Base, OnCard, AtFault, base_after_migration}
+use Rattle.model_text.specs.model_device.specs.PowerUp.{Base, base_after_migration}
 use Rattle.model_text.specs.model_device.specs.Stopped.{stands}
 use Rattle.law_bytes.specs.model_card.specs.Items.{StopAt}
 use Rattle.law_bytes.specs.model_play.specs.DeckGrammar.{DeckLine}
@@ -17,9 +16,9 @@ use Rattle.law_bytes.specs.model_play.proofs.PlayLemmas.{step_is}
 use Rattle.law_bytes.specs.OfPlays.{IsByteState}
 use Rattle.law_bytes.proofs.PlayBytes.{step_bytes}
 use Rattle.law_promise.specs.History.{with_event, after_step}
-use Rattle.law_promise.specs.Along.{BringsOnly, CreatesOnly, FindsNone, stopped_step}
+use Rattle.law_promise.specs.Along.{BringsOnly, FindsNone}
 use Rattle.law_promise.specs.Domain.{Domain, IsSound, IdleCovered, BaseCovered, StateCovered, LineCovered, StopsAtWrite}
-use Rattle.law_promise.specs.Found.{AlongFound, BringsCovered, FindsCovered, IsCoveredFrom, LineFound, StateFound}
+use Rattle.law_promise.specs.Found.{AlongFound, BringsCovered, IsCoveredFrom, LineFound, StateFound}
 use Rattle.law_promise.proofs.Lines.{after_power, base_ended, step_kept, stopped_is}
 
 -- a line before the first power line, or that line
@@ -31,10 +30,7 @@ module _ {E : Type 0} (o : Domain E) (shown : IsSound o) where
   -- ---- the first card
 
   found_migrated : (x : Bool) (h : List E) (b : Base) → IdleCovered o h (lookup (apps_on (cond x (base_after_migration b) b)) o.watch.name) → BaseCovered o h b Unpowered
-  found_migrated true h (OnCard c) g = g
-  found_migrated false h (OnCard c) g = g
-  found_migrated true h (AtFault cause p) g = g
-  found_migrated false h (AtFault cause p) g = g
+  found_migrated x h b g = grind arith
 
   found_stopped : (x : Bool) (h : List E) (s : Warm) (t : StopAt) → IdleCovered o h (lookup (apps_in (AfterPower (stopped_power s t x))) o.watch.name) → BaseCovered o h s.base Unpowered
   found_stopped true h s t g = found_migrated false h s.base g

@@ -1,11 +1,9 @@
 -- From what an outline says along a play to what its application promises.
-use Rattle.std.proofs.Common.{◌≡◌, ℕ, List, [], ◌∷◌, Option, Some, None, refl}
+use Rattle.std.proofs.Common.{◌≡◌, ℕ, List, [], ◌∷◌, Option, Some, None, refl, arith}
 use Rattle.model_text.specs.model_device.specs.Bytes.{lookup}
 use Rattle.model_text.specs.model_device.specs.Card.{App}
 use Rattle.model_text.specs.model_device.specs.PowerUp.{Base, OnCard, AtFault}
 use Rattle.law_bytes.specs.model_play.specs.DeckGrammar.{DeckLine}
-use Rattle.law_bytes.specs.model_play.specs.DeckGrammar as line
-use Rattle.law_bytes.specs.model_play.specs.Given.{apps_in}
 use Rattle.law_bytes.specs.model_play.specs.Play.{State, BeforePower, AfterPower, Warm, Live, Step}
 use Rattle.law_promise.specs.History.{Watch, after_step}
 use Rattle.law_promise.specs.Along.{stopped_step, Along, OnApp, OnFixed}
@@ -30,9 +28,7 @@ module _ {E : Type 0} (w : Watch E) (app : App) (b c : List E → List ℕ → T
   begins_as h (Some a) x = (x.0, more h a.fixed x.1)
 
   finds_as : (h : List E) (z : State) (l : DeckLine) (after : State) → FindsFrom w app c h z l after → FindsFrom w app b h z l after
-  finds_as h (BeforePower m g a) line.Power after x = begins_as h (lookup (apps_in after) w.name) x
-  finds_as h (BeforePower m g a) _ after x = tt
-  finds_as h (AfterPower s) l after x = tt
+  finds_as h z l after x = grind (arith, begins_as)
 
   brings_as : (h : List E) (t : Step) → BringsFrom w app c h t → BringsFrom w app b h t
   brings_as h t x = record { creates = x.creates; finds = finds_as h t.before t.line t.after x.finds }

@@ -1,6 +1,6 @@
 -- Lists of items and one name: those that do not touch it, those that change other static bytes alone, and what keeps
 -- over them.
-use Rattle.std.proofs.Common.{◌≡◌, ℕ, ◌-◌, Bool, true, false, cond, List, [], ◌∷◌, ◌++◌, Option, Some, None, refl, sym, ap, subst, ◌∙◌}
+use Rattle.std.proofs.Common.{◌≡◌, ℕ, ◌-◌, Bool, true, false, cond, List, [], ◌∷◌, ◌++◌, Option, Some, None, refl, sym, ap, subst, ◌∙◌, arith}
 use Rattle.std.specs.Prelude.{⊤, ◌==◌, bytes_eq, nat_le}
 use Rattle.std.proofs.lemmas.Bool.{or_parts, false_from_ne_true}
 use Rattle.model_text.specs.model_device.specs.Bytes.{lookup, insert, remove, has_name}
@@ -119,8 +119,7 @@ module _ {E : Type 0} (o : Domain E) (shown : IsSound o) where
   created_kept : (b : Bool) (h : List E) (m : List (List ℕ × App)) (k : List ℕ) (a : App) → bytes_eq k o.watch.name ≡ b → IsAppIf b o.app a → IdleCovered o h (lookup m o.watch.name) → IdleCovered o (unless_created b h) (lookup (insert m k a) o.watch.name)
   created_kept false h m k a e only kept = subst (IdleCovered o h) (sym (lookup_beside m k a o.watch.name e)) kept
   created_kept true h m k a e only kept =
-      let is : lookup (insert m k a) o.watch.name ≡ Some a = subst (λ (n : List ℕ). lookup (insert m k a) n ≡ Some a) (same_name k o.watch.name e) (lookup_inserted_lem m k a) in
-      subst (IdleCovered o []) (sym is) (record { code = only.code; session = only.session; deny = only.deny }, subst (o.idle []) (sym only.fixed) shown.created)
+      grind (arith, subst (λ (n : List ℕ). lookup (insert m k a) n ≡ Some a) (same_name k o.watch.name e) (lookup_inserted_lem m k a))
 
   left_gone : (h : List E) (found : Option App) → IdleCovered o h found → o.gone h
   left_gone h None kept = kept

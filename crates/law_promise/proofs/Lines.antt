@@ -1,5 +1,5 @@
 -- A line of a play keeps what the domain covers, and so does every play.
-use Rattle.std.proofs.Common.{◌≡◌, ℕ, Bool, true, false, cond, List, [], ◌∷◌, drop, Option, Some, None, refl, sym, ap, subst, ◌∙◌}
+use Rattle.std.proofs.Common.{◌≡◌, ℕ, Bool, true, false, cond, List, [], ◌∷◌, drop, Option, Some, None, refl, sym, subst, arith}
 use Rattle.std.specs.Prelude.{◌⊎◌, nat_le, length}
 use Rattle.model_text.specs.model_device.specs.declared.device.Stop.{Stop}
 use Rattle.model_text.specs.model_device.specs.declared.device.Stop.TheVariants as stop
@@ -8,7 +8,7 @@ use Rattle.model_text.specs.model_device.specs.Image.{Journal, One}
 use Rattle.model_text.specs.model_device.specs.Card.{App, Card}
 use Rattle.model_text.specs.model_device.specs.PowerUp.{Base, OnCard, AtFault, base_after_migration}
 use Rattle.model_text.specs.model_machine.specs.Apdu.{ApduParts}
-use Rattle.model_text.specs.model_machine.specs.Chain.{Outcome, Reply, Abended}
+use Rattle.model_text.specs.model_machine.specs.Chain.{Outcome}
 use Rattle.law_bytes.specs.model_card.specs.Items.{apps_after_items, moves, StopAt, at_stop}
 use Rattle.law_bytes.specs.model_card.specs.Manager.{SessionState, route, is_selected}
 use Rattle.law_bytes.specs.model_card.specs.Commands.{Command, command}
@@ -42,16 +42,11 @@ parts_if false found = None
 
 -- the line as it is stopped elsewhere
 pub stopped_is : (z : State) (l : ℕ × DeckLine) (w : Option FailedWrite) (c : FailedWrite) → step z l (Some c) ≡ stopped_step (step z l w) c
-stopped_is z l w c =
-    let e = step_is z l w in
-    ap (λ (q : State). step q l (Some c)) (sym e.before)
-    ∙ (ap (λ (n : ℕ). step (step z l w).before (n, l.1) (Some c)) (sym e.number) ∙ ap (λ (k : DeckLine). step (step z l w).before ((step z l w).number, k) (Some c)) (sym e.line))
+stopped_is z l w c = grind (arith, step_is)
 
 -- a command that a stop hits is not answered
 not_answered : {E : Type 0} (w : Watch E) (own : Bool) (bytes : List ℕ) (t : StopAt) (kind : Stop) (h : List E) → with_answer w own bytes (Some (result_of_stop t kind)) h ≡ h
-not_answered w true bytes t stop.Off h = refl
-not_answered w true bytes t stop.Worn h = refl
-not_answered w false bytes t kind h = refl
+not_answered w own bytes t kind h = grind arith
 
 module _ {E : Type 0} (o : Domain E) (shown : IsSound o) where
   -- ---- answers
@@ -62,15 +57,11 @@ module _ {E : Type 0} (o : Domain E) (shown : IsSound o) where
 
   -- an answer from the outcome
   answered : (found : Option ApduParts) (h k : List E) (outcome : Outcome) → OnParts o found h k outcome → OnAnswer (λ a sw. o.answers a h k sw) found (Some (Answered outcome))
-  answered None h k outcome x = tt
-  answered (Some a) h k (Reply body sw) x = x
-  answered (Some a) h k (Abended cause) x = tt
+  answered found h k outcome x = grind arith
 
   -- a stop answers no command
   stopped_answer : (found : Option ApduParts) (h k : List E) (t : StopAt) (kind : Stop) → OnAnswer (λ a sw. o.answers a h k sw) found (Some (result_of_stop t kind))
-  stopped_answer None h k t kind = tt
-  stopped_answer (Some a) h k t stop.Off = tt
-  stopped_answer (Some a) h k t stop.Worn = tt
+  stopped_answer found h k t kind = grind arith
 
   -- ---- power lines
 
@@ -108,9 +99,7 @@ module _ {E : Type 0} (o : Domain E) (shown : IsSound o) where
   after_power h s (Some t) x = stopped_powered (nat_le t.at s.owed) h s t x
 
   live_end : (h : List E) (found : Option App) (v : Live) → LiveCovered o h found v → IdleCovered o (with_event (o.watch.of_end (is_selected_on o.watch.name v)) h) found
-  live_end h found (Running session_state) x = selected_end o shown h found session_state.selected x
-  live_end h found Unpowered x = idle_end o shown h found x
-  live_end h found Muted x = idle_end o shown h found x
+  live_end h found v x = grind (arith, selected_end, idle_end)
 
   -- a base that was covered, at the end of a session
   pub base_ended : (h : List E) (b : Base) (v : Live) → BaseCovered o h b v → OnBase (with_event (o.watch.of_end (is_selected_on o.watch.name v)) h) b
@@ -204,10 +193,7 @@ module _ {E : Type 0} (o : Domain E) (shown : IsSound o) where
 
   -- what no card hears is answered by none
   unanswered : (h k : List E) (found : Option ApduParts) (v : Live) → OnAnswer (λ a sw. o.answers a h k sw) found (Some (without_card v))
-  unanswered h k None v = tt
-  unanswered h k (Some a) (Running session_state) = tt
-  unanswered h k (Some a) Unpowered = tt
-  unanswered h k (Some a) Muted = tt
+  unanswered h k found v = grind arith
 
   -- what is sent to a card, or to none
   card_kept : (h : List E) (n : ℕ) (k : DeckCommand) (b : Base) (q : ℕ) (j : Journal) (v : Live) (g : ℕ) (a : Armed) (w : Option FailedWrite) → (o.of_bytes → IsLine (line.Sent k)) → (o.of_bytes → IsByteBase b v) → BaseCovered o h b v → Keeps h (card_line n (line.Sent k) (past_power b q j v g a) v b w)

@@ -17,9 +17,7 @@ use Rattle.model_text.specs.model_machine.specs.Row.{RowEnd, Abends, Does, row}
 use Rattle.model_text.specs.model_machine.specs.Chain.{Outcome, Abended, frame_at}
 use Rattle.law_bytes.specs.model_card.specs.Manager.{Selected}
 use Rattle.law_bytes.specs.model_play.specs.DeckGrammar.{DeckLine}
-use Rattle.law_bytes.specs.model_play.specs.DeckGrammar as line
-use Rattle.law_bytes.specs.model_play.specs.Given.{apps_in}
-use Rattle.law_bytes.specs.model_play.specs.Play.{Live, Running, Unpowered, Muted, State, BeforePower, AfterPower, Step, plays, start}
+use Rattle.law_bytes.specs.model_play.specs.Play.{Live, State, BeforePower, AfterPower, Step, plays, start}
 use Rattle.law_promise.specs.History.{Deed, with_event, is_too_long, done_event, fetch_cause, after_step}
 use Rattle.law_promise.specs.Along.{stopped_step, Along, BringsOnly, FindsNone}
 use Rattle.law_promise.specs.Outline.{Entry, BySelection, ByDelegation, Outline, is_direct, reply_to, public_size, NextShown, RowShown, FetchShown, IsShown}
@@ -126,9 +124,7 @@ module _ {E : Type 0} (o : Outline E) (shown : IsShown o) where
   write_from e h k f d (Some ps) keeps kept = (shown.ended (is_direct e) h f.fixed keeps, shown.ended (is_direct e) k d.effect.frame.fixed kept)
 
   left_fixed : (f g : Frame) (d : Done) (next : Then) → g.fixed ≡ f.fixed → OnLeave next (Leaves g d.effect) → OnLeave next (d.effect.frame.fixed ≡ f.fixed)
-  left_fixed f g d Goes e x = tt
-  left_fixed f g d Exits e x = subst (λ (z : List ℕ). d.effect.frame.fixed ≡ z) e x.fixed
-  left_fixed f g d (Delegates n) e x = subst (λ (z : List ℕ). d.effect.frame.fixed ≡ z) e x.fixed
+  left_fixed f g d next e x = grind arith
 
   row_from : (e : Entry E) (h : List E) (f g : Frame) (public : List ℕ) (depth : ℕ) (i : Ins) (r : RowEnd) → g.fixed ≡ f.fixed → o.at e h f public → o.keeps h f.fixed → OnDone r (λ d. OnLeave d.next (Leaves g d.effect)) → RowShown o e h f public depth i r
       → RowCovered (domain_of o) e h f public depth i r
@@ -175,18 +171,14 @@ module _ {E : Type 0} (o : Outline E) (shown : IsShown o) where
   idle_from h (Some a) x = x
 
   if_from : (b : Bool) (h : List E) (found : Option App) (session : List ℕ) → CoveredIf b (domain_of o) h found session → KeptIn o h found × SessionIf b o h found session
-  if_from false h found session x = (idle_from h found x, tt)
-  if_from true h None session x = absurd x
-  if_from true h (Some a) session x = ((x.0, x.1.0), (x.1.1, x.2))
+  if_from b h found session x = grind (arith, idle_from)
 
   selected_from : (h : List E) (m : List (List ℕ × App)) (s : Option Selected) → SelectedCovered (domain_of o) h (lookup m o.watch.name) s → KeptIn o h (lookup m o.watch.name) × SelectedKept o h m s
   selected_from h m None x = (idle_from h (lookup m o.watch.name) x, tt)
   selected_from h m (Some s) x = if_from (bytes_eq s.name o.watch.name) h (lookup m o.watch.name) s.session x
 
   live_from : (h : List E) (m : List (List ℕ × App)) (v : Live) → LiveCovered (domain_of o) h (lookup m o.watch.name) v → KeptIn o h (lookup m o.watch.name) × LiveKept o h m v
-  live_from h m (Running session_state) x = selected_from h m session_state.selected x
-  live_from h m Unpowered x = (idle_from h (lookup m o.watch.name) x, tt)
-  live_from h m Muted x = (idle_from h (lookup m o.watch.name) x, tt)
+  live_from h m v x = grind (arith, selected_from, idle_from)
 
   base_from : (h : List E) (b : Base) (v : Live) → BaseCovered (domain_of o) h b v → BaseKept o h b v
   base_from h (OnCard c) v x = live_from h c.apps v x
@@ -199,9 +191,7 @@ module _ {E : Type 0} (o : Outline E) (shown : IsShown o) where
   idle_to h (Some a) x = x
 
   finds_to : (h : List E) (z : State) (l : DeckLine) (after : State) → FindsFrom o.watch o.app o.keeps h z l after → FindsCovered (domain_of o) h z l after
-  finds_to h (BeforePower m b a) line.Power after x = idle_to h (lookup (apps_in after) o.watch.name) x
-  finds_to h (BeforePower m b a) _ after x = tt
-  finds_to h (AfterPower s) l after x = tt
+  finds_to h z l after x = grind (arith, idle_to)
 
   brings_to : (h : List E) (t : Step) → BringsFrom o.watch o.app o.keeps h t → BringsCovered (domain_of o) h t
   brings_to h t x = record { creates = x.creates; finds = finds_to h t.before t.line t.after x.finds }
@@ -227,9 +217,7 @@ module _ {E : Type 0} (o : Outline E) (shown : IsShown o) where
   -- ---- from a card that has none of the name
 
   finds_none : (h : List E) (z : State) (l : DeckLine) (after : State) → FindsNone o.watch.name z l after → FindsFrom o.watch o.app o.keeps h z l after
-  finds_none h (BeforePower m b a) line.Power after x = subst (λ (found : Option App). BeginsIn o.app o.keeps h found) (sym x) tt
-  finds_none h (BeforePower m b a) _ after x = tt
-  finds_none h (AfterPower s) l after x = tt
+  finds_none h z l after x = grind arith
 
   brings_none : (h : List E) (t : Step) → BringsOnly o.watch.name o.app t → BringsFrom o.watch o.app o.keeps h t
   brings_none h t x = record { creates = x.creates; finds = finds_none h t.before t.line t.after x.finds }

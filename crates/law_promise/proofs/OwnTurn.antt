@@ -1,16 +1,16 @@
 -- A turn in the application's own frame leads where its domain says; and so each turn of a chain keeps what the domain
 -- covers.
 use Rattle.std.proofs.Common.{◌≡◌, ℕ, ◌+◌, ◌≤◌, Bool, true, false, cond, List, [], ◌∷◌, length, Option, Some, None, Result, Ok, Err, refl, sym, ap, subst, ◌∙◌, arith}
-use Rattle.std.specs.Prelude.{bytes_eq, nat_lt}
+use Rattle.std.specs.Prelude.{bytes_eq}
 use Rattle.model_text.specs.model_machine.specs.declared.instruction.Ins.{Ins}
 use Rattle.model_text.specs.model_machine.specs.declared.instruction.DecodeFault.{DecodeFault}
 use Rattle.model_text.specs.model_machine.specs.declared.instruction.DecodeFault.TheVariants.{Undefined, Past}
 use Rattle.model_text.specs.model_machine.specs.declared.machine.Abend.TheVariants.{A01, A02, A09}
 use Rattle.model_text.specs.model_device.specs.Bytes.{lookup}
 use Rattle.model_text.specs.model_device.specs.Card.{App}
-use Rattle.model_text.specs.model_machine.specs.Apdu.{ApduParts, apdu_case}
+use Rattle.model_text.specs.model_machine.specs.Apdu.{apdu_case}
 use Rattle.model_text.specs.model_machine.specs.Code.{instruction_at}
-use Rattle.model_text.specs.model_machine.specs.Frame.{Frame, session_of, la_of}
+use Rattle.model_text.specs.model_machine.specs.Frame.{Frame, session_of}
 use Rattle.model_text.specs.model_machine.specs.Primitives.{Then, Goes, Exits, Delegates, Done}
 use Rattle.model_text.specs.model_machine.specs.Row.{RowEnd, Abends, Does, row}
 use Rattle.model_text.specs.model_machine.specs.Chain.{Outcome, Abended, Chain, Ends, code_in, map_changed, write_of, chain_after_effect, depth_of, after_exit, follows, row_turn, turn_of_fetch, frame_at, around, turn_of_chain, delegator_in, first_frame, chain_session}
@@ -19,7 +19,7 @@ use Rattle.std.specs.List.{AllByRecursion}
 use Rattle.law_bytes.specs.OfChains.{IsNamedFrame, IsByteChain, OnGoing}
 use Rattle.law_bytes.proofs.ChainBytes.{turn_bytes}
 use Rattle.law_promise.specs.History.{Deed, with_event, is_too_long, done_event, row_event, fetched_event, event_if, turn_event}
-use Rattle.law_promise.specs.Outline.{FitsEntry, reply_to, public_size}
+use Rattle.law_promise.specs.Outline.{FitsEntry, public_size}
 use Rattle.law_promise.specs.Domain.{Domain, IsSound, IsDelegator, AnswerCovered, EndCovered, StopCovered, ExitCovered, NextCovered, WriteCovered, DeedCovered, RowCovered, FetchCovered, FitsDepth}
 use Rattle.law_bytes.specs.law_rows.specs.Keeping.{after_change, Keeps, OnDone}
 use Rattle.law_bytes.specs.law_rows.proofs.Keeping.{row_keeps}
@@ -34,9 +34,7 @@ module _ {E : Type 0} (o : Domain E) (shown : IsSound o) (q : Asked E) where
 
   exit_kept : (b : Bool) (k : List E) (a : App) (session : List ℕ) (x : Outcome) (found : Option App) → found ≡ Some a → b ≡ true → IsLike o.app a → EndCovered o (entry_of q) k a.fixed session x → AnswerCovered o q.bytes q.apdu q.before k x
       → (o.anywhere → StopCovered o (entry_of q) k a.fixed) → EndKept b o q k found session x
-  exit_kept false k a session x found is e like ends answer stops = absurd (cc e)
-  exit_kept true k a session x found is e like ends answer stops =
-      subst (λ (z : Option App). EndKept true o q k z session x) (sym is) (record { like = like; ended = ends; answer = answer; stops = stops })
+  exit_kept b k a session x found is e like ends answer stops = grind (arith, EndKept)
 
   exits_by : (b t : Bool) (k : List E) (a : App) (session : List ℕ) (y : Outcome) (m : List (List ℕ × App)) → lookup m o.watch.name ≡ Some a → b ≡ true → IsLike o.app a → EndCovered o (entry_of q) k a.fixed session (cond t (Abended A09) y)
       → AnswerCovered o q.bytes q.apdu q.before k (cond t (Abended A09) y) → (o.anywhere → StopCovered o (entry_of q) k a.fixed) → FollowsKept b o q k m session (cond t (Ends (Abended A09)) (Ends y))
@@ -46,19 +44,8 @@ module _ {E : Type 0} (o : Domain E) (shown : IsSound o) (q : Asked E) where
   own_exits : (b : Bool) (k : List E) (a : App) (f : Frame) (s : Chain) (d : Done) (fs : List Frame) → s.apdu ≡ q.apdu → s.public ≡ d.effect.public → public_size ≤ length s.public → length fs ≤ 3 → (o.of_bytes → OnGoing (after_exit s fs) IsByteChain) → lookup s.map o.watch.name ≡ Some a → IsLike o.app a
       → d.effect.frame.fixed ≡ a.fixed → NoneOf o.watch.name fs → bytes_eq f.name o.watch.name ≡ true → bytes_eq (first_frame f fs).name o.watch.name ≡ b → ExitCovered o (entry_over q fs) k f d
       → FollowsKept b o q k s.map (session_of (first_frame f fs)) (after_exit s fs)
-  own_exits b k a f s d [] command public l few g is like same none own first x =
-      let t = nat_lt 1024 (la_of d.effect.public) in
-      let y = reply_to q.apdu d.effect.public in
-      let ends : EndCovered o (entry_of q) k a.fixed (session_of f) (cond t (Abended A09) y) = subst (λ (z : List ℕ). EndCovered o (entry_of q) k z (session_of f) (cond t (Abended A09) y)) same x.0 in
-      let stops : o.anywhere → StopCovered o (entry_of q) k a.fixed = λ any. subst (λ (z : List ℕ). StopCovered o (entry_of q) k z) same (x.2 any) in
-      let end : FollowsKept b o q k s.map (session_of f) (cond t (Ends (Abended A09)) (Ends y)) = exits_by b t k a (session_of f) y s.map is (sym first ∙ own) like ends x.1 stops in
-      subst (λ (z : ApduParts). FollowsKept b o q k s.map (session_of f) (cond (nat_lt 1024 (la_of s.public)) (Ends (Abended A09)) (Ends (reply_to z s.public)))) (sym command)
-      (subst (λ (p : List ℕ). FollowsKept b o q k s.map (session_of f) (cond (nat_lt 1024 (la_of p)) (Ends (Abended A09)) (Ends (reply_to q.apdu p)))) (sym public) end)
-  own_exits b k a f s d (g ∷ gs) command public l few bytes is like same none own first x =
-      let idle : o.idle k a.fixed = subst (o.idle k) same x in
-      let w : FoundBelow o q k (Some a) (g ∷ gs) = record { like = like; waits = none_waits o q k a.fixed (g ∷ gs) none idle } in
-      let found : FoundBelow o q k (lookup s.map o.watch.name) (g ∷ gs) = subst (λ (z : Option App). FoundBelow o q k z (g ∷ gs)) (sym is) w in
-      exited_chain o shown q b k s (session_of (first_frame g gs)) g gs command l few bytes found first
+  own_exits b k a f s d [] command public l few g is like same none own first x = grind (arith, entry_of, FollowsKept, exits_by)
+  own_exits b k a f s d (g ∷ gs) command public l few bytes is like same none own first x = grind (arith, FoundBelow, none_waits, exited_chain)
 
   -- ---- what follows
 
@@ -66,12 +53,7 @@ module _ {E : Type 0} (o : Domain E) (shown : IsSound o) (q : Asked E) where
       → d.effect.frame.fixed ≡ a.fixed → NoneOf o.watch.name ch.below → bytes_eq ch.frame.name o.watch.name ≡ true → d.effect.frame.name ≡ ch.frame.name → bytes_eq (first_frame ch.frame ch.below).name o.watch.name ≡ b
       → NextCovered o (entry_over q ch.below) k ch.frame d next
       → FollowsKept b o q k (chain_after_effect ch d.effect).map (chain_session ch) (follows (chain_after_effect ch d.effect) next)
-  own_follows b k a ch d Goes command l few g is like same none own name first x =
-      let s : Chain = chain_after_effect ch d.effect in
-      let its : bytes_eq s.frame.name o.watch.name ≡ true = ap (λ (z : List ℕ). bytes_eq z o.watch.name) name ∙ own in
-      let head : bytes_eq (first_frame s.frame ch.below).name o.watch.name ≡ b = ap (λ (z : List ℕ). bytes_eq z o.watch.name) (first_name s.frame ch.frame ch.below name) ∙ first in
-      let there : ThereKept o q k a s.frame s.below s.public = record { like = like; stack = own_runs o q k a.fixed s.frame s.below s.public its (record { same = same; at = x; none = none }) } in
-      (record { kept = subst (λ (z : Option App). FoundKept o q k z s.frame s.below s.public) (sym is) there; command = command; whole = l; shallow = few; bytes = g }, refl, head)
+  own_follows b k a ch d Goes command l few g is like same none own name first x = grind (arith, first_name, ThereKept, own_runs, FoundKept)
   own_follows b k a ch d Exits command l few g is like same none own name first x =
       own_exits b k a ch.frame (chain_after_effect ch d.effect) d ch.below command refl l few g is like same none own first x
   own_follows b k a ch d (Delegates n) command l few g is like same none own name first x =
@@ -79,18 +61,7 @@ module _ {E : Type 0} (o : Domain E) (shown : IsSound o) (q : Asked E) where
       let e = entry_over q ch.below in
       let its : bytes_eq s.frame.name o.watch.name ≡ true = ap (λ (z : List ℕ). bytes_eq z o.watch.name) name ∙ own in
       let head : bytes_eq (first_frame s.frame ch.below).name o.watch.name ≡ b = ap (λ (z : List ℕ). bytes_eq z o.watch.name) (first_name s.frame ch.frame ch.below name) ∙ first in
-      let w : BelowKept o q k a (s.frame ∷ s.below) =
-      record {
-        like = like;
-        waits = own_waits o q k a.fixed s.frame s.below its (record {
-          same = same;
-          at = x.back;
-          ends = λ cause ok. subst (λ (z : List ℕ). EndCovered o e k z (session_of s.frame) (Abended cause)) same (x.abends cause ok);
-          stops = subst (λ (z : List ℕ). StopCovered o e k z) same x.stops;
-          none = none;
-        });
-      }
-      in
+      let w : BelowKept o q k a (s.frame ∷ s.below) = grind (arith, own_waits) in
       called_chain o shown q b k s (chain_session ch) n (lookup s.map n) command l few refl g head (subst (λ (z : Option App). FoundBelow o q k z (s.frame ∷ s.below)) (sym is) w)
 
   -- ---- a write
@@ -99,10 +70,7 @@ module _ {E : Type 0} (o : Domain E) (shown : IsSound o) (q : Asked E) where
       → ch.frame.fixed ≡ a.fixed → d.effect.frame.fixed ≡ z.fixed → NoneOf o.watch.name ch.below → bytes_eq ch.frame.name o.watch.name ≡ true → bytes_eq (first_frame ch.frame ch.below).name o.watch.name ≡ b
       → WriteCovered o (entry_over q ch.below) h k ch.frame d c → WritesStop b o h k ch.map (write_of ch.frame.name c)
   own_stops b h k a z ch d None is there like alike old new none own first x = tt
-  own_stops b h k a z ch d (Some ps) is there like alike old new none own first x = (
-    subst (StopIf b o h) (sym is) (like, stop_if o shown q b h a.fixed ch.frame ch.below own none first (subst (λ (y : List ℕ). StopCovered o (entry_over q ch.below) h y) old x.0)),
-    subst (StopIf b o k) (sym there) (alike, stop_if o shown q b k z.fixed ch.frame ch.below own none first (subst (λ (y : List ℕ). StopCovered o (entry_over q ch.below) k y) new x.1)),
-  )
+  own_stops b h k a z ch d (Some ps) is there like alike old new none own first x = grind (arith, StopIf, stop_if, entry_over)
 
   -- ---- rows
 

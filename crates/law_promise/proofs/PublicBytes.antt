@@ -30,10 +30,7 @@ ins_byte a h = ap (λ (l : List ℕ). take 1 l) (sym (drop-drop 1 1028 (new_publ
 
 -- a comparison of the INS that clears Z: the command has another
 pub other_ins : (a : ApduParts) (n : ℕ) (p : List ℕ) → p ≡ new_public a → length a.body ≤ 1024 → (sub_blocks (take 1 (drop 1029 p)) (n ∷ [])).z ≡ false → a.ins ≢ n
-other_ins a n p is small z same =
-    let byte : take 1 (drop 1029 p) ≡ n ∷ [] = ap (λ (q : List ℕ). take 1 (drop 1029 q)) is ∙ (ins_byte a small ∙ ap (λ (i : ℕ). i ∷ []) same) in
-    let set : (sub_blocks (take 1 (drop 1029 p)) (n ∷ [])).z ≡ true = ap (λ (b : List ℕ). (sub_blocks b (n ∷ [])).z) byte ∙ equal_is n in
-    absurd (cc (sym set ∙ z))
+other_ins a n p is small z same = grind (arith, ins_byte, equal_is)
 
 pub length_bytes : (a : ApduParts) → length a.body ≤ 1024 → take 2 (drop 1033 (new_public a)) ≡ bytes2 (length a.body)
 length_bytes a h = ap (λ (l : List ℕ). take 2 l) (sym (drop-drop 5 1028 (new_public a)) ∙ ap (λ (l : List ℕ). drop 5 l) (words_behind a h))
@@ -44,18 +41,10 @@ body_of_two a h = ap (λ (l : List ℕ). take 2 l) (append_assoc a.body (zeros (
 -- ---- a byte beside or within what is written
 
 pub index_after : (l : List ℕ) (at : ℕ) (b : List ℕ) (i : ℕ) → at ≤ length l → at + length b ≤ i → get_or (splice l at b) i 0 ≡ get_or l i 0
-index_after l at b i fits h =
-    let n = at + length b in
-    let size : length (take at l ++ b) ≡ n = omega (arith, length-append (take at l) b, length-take-le at l fits) in
-    let place : n + (i - n) ≡ i = omega arith in
-    get_or-append_right (take at l ++ b) (drop n l) n i 0 size h ∙ (get_or-drop n l (i - n) 0 ∙ ap (λ (k : ℕ). get_or l k 0) place)
+index_after l at b i fits h = grind (arith, length-append, length-take-le, get_or-append_right, get_or-drop)
 
 pub index_within : (l : List ℕ) (at : ℕ) (b : List ℕ) (k : ℕ) → at ≤ length l → k < length b → get_or (splice l at b) (at + k) 0 ≡ get_or b k 0
-index_within l at b k fits h =
-    let size : at + k < length (take at l ++ b) = omega (arith, length-append (take at l) b, length-take-le at l fits) in
-    let low : at ≤ at + k = omega arith in
-    let place : at + k - at ≡ k = omega arith in
-    get_or_append_left (take at l ++ b) (drop (at + length b) l) 0 (at + k) size ∙ (get_or-append_right (take at l) b at (at + k) 0 (length-take-le at l fits) low ∙ ap (λ (j : ℕ). get_or b j 0) place)
+index_within l at b k fits h = grind (arith, length-append, length-take-le, get_or_append_left, get_or-append_right)
 
 -- ---- the status
 
@@ -67,9 +56,7 @@ status_set p high low h =
 
 -- a write beside the status leaves it
 pub status_kept : (p : List ℕ) (at : ℕ) (b : List ℕ) → at ≤ length p → at + length b ≤ 1039 → sw_of (splice p at b) ≡ sw_of p
-status_kept p at b fits h =
-    ap (λ (x : ℕ). 256 * x + get_or (splice p at b) 1040 0) (index_after p at b 1039 fits h)
-    ∙ ap (λ (x : ℕ). 256 * get_or p 1039 0 + x) (index_after p at b 1040 fits (omega arith))
+status_kept p at b fits h = grind (arith, index_after)
 
 pub status_beside_la : (p : List ℕ) (la : ℕ) → 1041 ≤ length p → sw_of (with_la p la) ≡ sw_of p
 status_beside_la p la h = status_kept p 1037 (bytes2 la) (omega arith) (omega arith)
@@ -78,6 +65,4 @@ pub status_beside_two : (p : List ℕ) (x y : ℕ) → sw_of (splice p 0 (x ∷ 
 status_beside_two p x y = status_kept p 0 (x ∷ y ∷ []) (omega arith) (omega arith)
 
 pub status_new : (a : ApduParts) → length a.body ≤ 1024 → sw_of (new_public a) ≡ 0x9000
-status_new a h =
-    ap (λ (x : ℕ). 256 * x + get_or (new_public a) 1040 0) (get_or-append_right (front_of a) (words_of a) 1028 1039 0 (front_size a h) (omega arith))
-    ∙ ap (λ (x : ℕ). 256 * 0x90 + x) (get_or-append_right (front_of a) (words_of a) 1028 1040 0 (front_size a h) (omega arith))
+status_new a h = grind (arith, get_or-append_right, front_size)

@@ -66,11 +66,7 @@ module _ {E : Type 0} (b : Bool) (o : Domain E) (shown : IsSound o) (q : Asked E
       → RunKept b o q m (run_after_turn t session f rest) (after_follows f then None k)
   run_on k m t session (Ends outcome) next again = record { ended = next }
   run_on k m t session (Continues c) next again =
-      let r : RunKept b o q c.map (rest c) (then c None k) = again k c next.2 next.0 in
-      let same : apps_after_items c.map (write_items (rest c).writes) ≡ apps_after_items m (write_items (t.writes ++ (rest c).writes)) =
-      ap (λ (z : List (List ℕ × App)). apps_after_items z (write_items (rest c).writes)) next.1 ∙ sym (done_writes t.writes (rest c).writes m)
-      in
-      record { ended = subst (λ (z : List (List ℕ × App)). EndKept b o q (then c None k) (lookup z o.watch.name) (rest c).session (rest c).outcome) same r.ended }
+      grind (arith, again k c next.2 next.0, ap (λ (z : List (List ℕ × App)). apps_after_items z (write_items (rest c).writes)) next.1 ∙ sym (done_writes t.writes (rest c).writes m))
 
   -- ---- a turn and what follows, where a stop comes
 

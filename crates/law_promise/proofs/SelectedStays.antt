@@ -1,17 +1,16 @@
 -- The manager neither creates nor deletes what is selected.
-use Rattle.std.proofs.Common.{◌≡◌, ℕ, Bool, true, false, List, [], ◌∷◌, length, Option, Some, None, sym, ap, ◌∙◌}
+use Rattle.std.proofs.Common.{◌≡◌, ℕ, Bool, true, false, List, [], ◌∷◌, Option, None, sym, ap, ◌∙◌, arith}
 use Rattle.std.specs.Prelude.{bytes_eq, is_some}
 use Rattle.std.proofs.lemmas.Bool.{false_from_ne_true}
 use Rattle.model_text.specs.model_device.specs.Bytes.{lookup}
 use Rattle.model_text.specs.model_machine.specs.Apdu.{ApduParts}
 use Rattle.model_text.specs.model_device.specs.Card.{App, Card}
-use Rattle.law_bytes.specs.model_card.specs.Items.{Created, Item, card_done}
-use Rattle.law_bytes.specs.model_card.specs.Manager.{Selected, SessionState, Route, WrongLength, WrongClass, ToSelect, ToManager, ToApplication, route, p1p2, word_parts, fresh, is_selected, manage, room_on}
-use Rattle.law_bytes.specs.model_card.specs.Commands.{Command, atomic_of, manager_command, by_route, command}
+use Rattle.law_bytes.specs.model_card.specs.Items.{Item, card_done}
+use Rattle.law_bytes.specs.model_card.specs.Manager.{Selected, SessionState, Route, WrongLength, WrongClass, ToSelect, ToManager, ToApplication, route, is_selected, manage, room_on}
+use Rattle.law_bytes.specs.model_card.specs.Commands.{Command, manager_command, by_route, command}
 use Rattle.law_bytes.specs.model_play.specs.Play.{is_done, command_with_rest, send}
 use Rattle.law_bytes.specs.law_manager.specs.Orders.{Order, order_of}
-use Rattle.law_bytes.specs.law_manager.specs.OnCard.{IsCommand, plains, blank_words}
-use Rattle.law_bytes.specs.law_manager.specs.OnCard as made
+use Rattle.law_bytes.specs.law_manager.specs.OnCard.{IsCommand, plains}
 use Rattle.law_bytes.specs.law_manager.proofs.OnCard.{command_made}
 use Rattle.law_bytes.specs.law_manager.proofs.Plains.{plains_are}
 use Rattle.law_bytes.specs.law_family.proofs.OtherCommand.{IsManagers, AreManagers, Aside, command_aside}
@@ -31,13 +30,7 @@ module _ (c : Card) (session_state : SessionState) (n : List ℕ) (there : is_so
   apart_selected k h = false_from_ne_true (bytes_eq k n) (λ e. cc (sym selected ∙ (ap (λ (z : List ℕ). is_selected session_state.selected z) (sym (same_name k n e)) ∙ h)))
 
   made_avoids : (a : ApduParts) (o : Order) (r : Command) → IsCommand c session_state a o r → AllAvoid n r.items
-  made_avoids a _ _ (made.refused o sw h) = tt
-  made_avoids a _ _ (made.quiet o body load h) = tt
-  made_avoids a _ _ (made.loaded p l h) = plain_avoids (length (word_parts (p1p2 a) a.body)) [] tt
-  made_avoids a _ _ (made.created l k h) =
-      let whole = atomic_of c (Some (Created k (fresh l))) in
-      plain_avoids (blank_words l.site) (plains 4 (whole ∷ [])) (plain_avoids 4 (whole ∷ []) (apart_taken k h.free, tt))
-  made_avoids a _ _ (made.deleted h) = (apart_selected a.body h.other, tt)
+  made_avoids a o r h = grind (arith, plain_avoids, apart_taken, apart_selected)
 
   pub manager_avoids : (budget : ℕ) (r : Route) → IsManagers r → AllAvoid n (by_route c session_state budget r).items
   manager_avoids budget WrongLength h = tt

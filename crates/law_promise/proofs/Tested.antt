@@ -1,14 +1,13 @@
 -- What holds along a play passes its tests; so where a test fails, it does not hold.
-use Rattle.std.proofs.Common.{◌≡◌, ℕ, Bool, true, false, not, List, [], ◌∷◌, Option, Some, None, refl, sym, ◌∙◌}
-use Rattle.std.specs.Prelude.{◌&&◌, ◌||◌, ◌==◌, bytes_eq, is_none}
+use Rattle.std.proofs.Common.{◌≡◌, ℕ, Bool, true, false, not, List, [], ◌∷◌, Option, Some, None, refl, sym, ◌∙◌, arith}
+use Rattle.std.specs.Prelude.{◌&&◌, ◌||◌, bytes_eq, is_none}
 use Rattle.std.proofs.lemmas.Bool.{and_parts, and_from, eqb-true}
 use Rattle.model_text.specs.model_device.specs.Bytes.{lookup}
 use Rattle.model_text.specs.model_device.specs.Card.{App}
 use Rattle.law_bytes.specs.model_card.specs.Items.{Fixed, Created, Deleted, Item, Plain, Atomic}
 use Rattle.law_bytes.specs.model_play.specs.DeckGrammar.{DeckLine}
-use Rattle.law_bytes.specs.model_play.specs.DeckGrammar as line
 use Rattle.law_bytes.specs.model_play.specs.Given.{apps_in}
-use Rattle.law_bytes.specs.model_play.specs.Play.{State, BeforePower, AfterPower, Step}
+use Rattle.law_bytes.specs.model_play.specs.Play.{State, Step}
 use Rattle.law_promise.specs.History.{Watch, after_step}
 use Rattle.law_promise.specs.Along.{IsApp, IsAppIf, CreatesOnly, FindsNone, BringsOnly, Along}
 use Rattle.law_promise.specs.Computed.{on_app, tests_along, is_app, creates_only, finds_none, all_bring_only}
@@ -17,12 +16,7 @@ use Rattle.model_text.specs.model_device.proofs.MapLemmas.{same_name}
 -- ---- the premise
 
 app_is : (app a : App) → is_app app a ≡ true → IsApp app a
-app_is app a h =
-    let x : Bool = bytes_eq a.code app.code && bytes_eq a.fixed app.fixed in
-    let to_three = and_parts (x && a.session == app.session) (a.deny == app.deny) h in
-    let to_two = and_parts x (a.session == app.session) to_three.0 in
-    let to_one = and_parts (bytes_eq a.code app.code) (bytes_eq a.fixed app.fixed) to_two.0 in
-    record { code = same_name a.code app.code to_one.0; fixed = same_name a.fixed app.fixed to_one.1; session = eqb-true a.session app.session to_two.1; deny = eqb-true a.deny app.deny to_three.1 }
+app_is app a h = grind (arith, and_parts, same_name, eqb-true)
 
 app_if : (b : Bool) (app a : App) → (not b || is_app app a) ≡ true → IsAppIf b app a
 app_if true app a h = app_is app a h
@@ -42,9 +36,7 @@ none_is None h = refl
 none_is (Some a) h = absurd (cc h)
 
 finds_from : (n : List ℕ) (z : State) (l : DeckLine) (after : State) → finds_none n z l after ≡ true → FindsNone n z l after
-finds_from n (BeforePower m b a) line.Power after h = none_is (lookup (apps_in after) n) h
-finds_from n (BeforePower m b a) _ after h = tt
-finds_from n (AfterPower s) l after h = tt
+finds_from n z l after h = grind (arith, none_is)
 
 -- ---- along a play
 

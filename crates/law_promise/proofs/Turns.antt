@@ -1,6 +1,6 @@
 -- Power and abends while frames of a chain wait, and delegations and exits in it: each leads to what holds of the next
 -- chain, or to the end of the command.
-use Rattle.std.proofs.Common.{◌≡◌, ℕ, ◌≤◌, Bool, true, false, List, [], ◌∷◌, length, Option, Some, None, refl, sym, ap, subst, ◌∙◌, arith}
+use Rattle.std.proofs.Common.{◌≡◌, ℕ, ◌≤◌, Bool, true, false, List, [], ◌∷◌, length, Option, Some, None, refl, sym, subst, ◌∙◌, arith}
 use Rattle.std.specs.Prelude.{⊤, ◌||◌, bytes_eq, nat_le}
 use Rattle.std.proofs.lemmas.Bool.{or_parts, leb-false}
 use Rattle.model_text.specs.model_machine.specs.declared.instruction.Ins.{Ins}
@@ -87,9 +87,7 @@ module _ {E : Type 0} (o : Domain E) (shown : IsSound o) (q : Asked E) where
   -- so its end is that of the command, or a moment at which the application is idle
   pub end_if : (b : Bool) (k : List E) (fixed : List ℕ) (f : Frame) (fs : List Frame) (outcome : Outcome) → bytes_eq f.name o.watch.name ≡ true → NoneOf o.watch.name fs → bytes_eq (first_frame f fs).name o.watch.name ≡ b
       → EndCovered o (entry_over q fs) k fixed (session_of f) outcome → EndIf b o q k fixed (session_of (first_frame f fs)) outcome
-  end_if b k fixed f [] outcome own none e x = subst (λ (y : Bool). EndIf y o q k fixed (session_of f) outcome) (sym own ∙ e) x
-  end_if b k fixed f (g ∷ gs) outcome own none e x =
-      subst (λ (y : Bool). EndIf y o q k fixed (session_of (first_frame g gs)) outcome) (sym (first_none o.watch.name g gs none) ∙ e) x
+  end_if b k fixed f fs outcome own none e x = grind (arith, EndIf, first_none)
 
   -- and a stop ends its session, or another's
   pub stop_if : (b : Bool) (k : List E) (fixed : List ℕ) (f : Frame) (fs : List Frame) → bytes_eq f.name o.watch.name ≡ true → NoneOf o.watch.name fs → bytes_eq (first_frame f fs).name o.watch.name ≡ b
@@ -149,9 +147,7 @@ module _ {E : Type 0} (o : Domain E) (shown : IsSound o) (q : Asked E) where
   spent_by : (b x : Bool) (h : List E) (a : App) (f : Frame) (fs : List Frame) (p : List ℕ) → bytes_eq f.name o.watch.name ≡ x → IsLike o.app a → RunsIf x o q h a.fixed f fs p (AllWait o q h a.fixed fs) → bytes_eq (first_frame f fs).name o.watch.name ≡ b
       → EndKept b o q h (Some a) (session_of (first_frame f fs)) (Abended A07)
   spent_by b true h a f fs p is like r e =
-      let ends : EndCovered o (entry_over q fs) h a.fixed (session_of f) (Abended A07) =
-      subst (λ (z : List ℕ). EndCovered o (entry_over q fs) h z (session_of f) (Abended A07)) r.same (shown.spent (entry_over q fs) h f p r.at)
-      in
+      let ends : EndCovered o (entry_over q fs) h a.fixed (session_of f) (Abended A07) = grind (arith, entry_over) in
       record {
         like = like;
         ended = end_if b h a.fixed f fs (Abended A07) is r.none e ends;
@@ -214,11 +210,7 @@ module _ {E : Type 0} (o : Domain E) (shown : IsSound o) (q : Asked E) where
       (record { kept = resume_found h (lookup s.map o.watch.name) f fs s.public (l, λ t. (bytes t).public) w; command = command; whole = l; shallow = omega (arith, few); bytes = bytes }, refl, e)
 
   frame_like : (a : App) (n fixed : List ℕ) → IsLike o.app a → n ≡ o.watch.name → first_frame_in o fixed (zeros o.app.session) ≡ new_frame n (length a.code) a.deny fixed (zeros a.session)
-  frame_like a n fixed like same =
-      ap (λ (k : List ℕ). new_frame k (length o.app.code) o.app.deny fixed (zeros o.app.session)) (sym same)
-      ∙ (ap (λ (c : List ℕ). new_frame n (length c) o.app.deny fixed (zeros o.app.session)) (sym like.code)
-      ∙ (ap (λ (d : ℕ). new_frame n (length a.code) d fixed (zeros o.app.session)) (sym like.deny)
-      ∙ ap (λ (d : ℕ). new_frame n (length a.code) a.deny fixed (zeros d)) (sym like.session)))
+  frame_like a n fixed like same = grind arith
 
   -- another application is entered
   entered_other : (h : List E) (found : Option App) (g f : Frame) (fs : List Frame) (p : List ℕ) → bytes_eq g.name o.watch.name ≡ false → FoundBelow o q h found (f ∷ fs)
@@ -257,10 +249,7 @@ module _ {E : Type 0} (o : Domain E) (shown : IsSound o) (q : Asked E) where
       → bytes_eq (first_frame s.frame s.below).name o.watch.name ≡ b
       → FoundBelow o q h (lookup s.map o.watch.name) (s.frame ∷ s.below) → FollowsKept b o q h s.map session (Continues (called_app e s n a))
   called_app_kept b h s session n a true command l few is t bytes first w = (with_status h s 0x6985 command l few bytes w, refl, first)
-  called_app_kept b h s session n a false command l few is t bytes first w =
-      let parts = or_parts (is_active n s.frame s.below) (nat_le 4 (depth_of s)) t in
-      let low = leb-false 4 (depth_of s) parts.1 in
-      (record { kept = entered_by h s n a (bytes_eq n o.watch.name) refl is parts.0 (l, λ t. (bytes t).public) w; command = command; whole = l; shallow = omega (arith, low); bytes = bytes }, refl, first)
+  called_app_kept b h s session n a false command l few is t bytes first w = grind (arith, or_parts, leb-false, entered_by)
 
   -- a delegation
   pub called_chain : (b : Bool) (h : List E) (s : Chain) (session : List ℕ) (n : List ℕ) (found : Option App) → s.apdu ≡ q.apdu → public_size ≤ length s.public → length s.below ≤ 3 → lookup s.map n ≡ found → (o.of_bytes → IsByteChain (chain_after_call s n found))
