@@ -45,7 +45,7 @@ fn any_of(on: bool, never: bool, range: bool, block: bool) -> bool
     on || never || range || block
 }
 
-// Whether rules have a line that can be broken.
+// Whether rules have an `on`, a `never` or an `always` line.
 fn can_break(rules: &Rules<'_>) -> bool
     ensures { (a : AppRules) (g : Target) → AreRules a g rules.now → AreSums a rules.now → result ≡ can_break a }
 {
@@ -82,7 +82,7 @@ fn refused_rule(alloc: Global, text: &[u8], refusal: RuleRefusal) -> Application
 /// # Errors
 ///
 /// Returns the refusal of the first line that is no move and no rule of an application; or else `NoMove` if no line is a
-/// move, and `NoRule` if none can be broken; or `NoMemory` if it is out of memory.
+/// move, and `NoRule` if none is an `on`, a `never` or an `always` line; or `NoMemory` if it is out of memory.
 pub fn read_application<'a>(
     alloc: Global,
     deck: &'a Deck,

@@ -12,7 +12,7 @@ pub enum ApplicationRefusal {
     Line(u32, RuleCause),
     /// No line is a move.
     NoMove,
-    /// No line is an `on`, a `never` or an `always` line, so that no rule can be broken.
+    /// No line is an `on`, a `never` or an `always` line.
     NoRule,
     /// Out of memory.
     NoMemory,

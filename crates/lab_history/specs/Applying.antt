@@ -75,7 +75,7 @@ abbrev pub effect_where : Bool → Result (List ℕ) Break → List ℕ → Resu
 effect_where true rest amounts = rest
 effect_where false rest amounts = Ok amounts
 
--- the amounts after the instructions that count
+-- the amounts after the instructions up to the first that does not count
 abbrev pub deeds_effect : List On → Extent → List Happening → List ℕ → Result (List ℕ) Break
 deeds_effect ons e [] amounts = Ok amounts
 deeds_effect ons e (h ∷ hs) amounts =

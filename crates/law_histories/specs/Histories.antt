@@ -44,7 +44,7 @@ pub record AppExploration : Type 0 where
   pub rules : AppRules
   pub target : Target
 
--- why it is not explored: a line of the deck or of its rules that is refused; no move; or no line that can be broken
+-- why it is not explored: a line of the deck or of its rules that is refused; no move; or no `on`, `never` or `always` line
 pub data AppFault : Type 0 where
   LineFault : (line : ℕ) (cause : RuleCause) → AppFault
   NoMove : AppFault
@@ -71,7 +71,7 @@ parts_from loads r ms (l ∷ ls) = do
   ns ← err_as (λ c. (l.0, c)) (with_move_line ms l (fields l.1))
   parts_from loads s ns ls
 
--- whether rules have a line that can be broken
+-- whether rules have an `on`, a `never` or an `always` line
 abbrev pub can_break : AppRules → Bool
 can_break r = is_some_of r.ons || is_some_of r.moves || is_some r.abends || is_some_of r.ranges || is_some_of r.totals
 

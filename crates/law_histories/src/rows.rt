@@ -5,7 +5,7 @@ ghost use Rattle.std.specs.Prelude.{◌≡◌, ◌++◌, codes, Ok, Err};
 ghost use Rattle.law_histories.specs.Histories.{NoMove, NoRule};
 ghost use Rattle.law_histories.specs.Computed.{app_deck, explored_app};
 
-/// A deck without a move, or without a line that can be broken.
+/// A deck without a move, or without an `on`, a `never` or an `always` line.
 pub fn untested()
     ensures moves { explored_app 1 (app_deck (codes "EXIT\n") (codes "#@ never abend\n")) ≡ Err NoMove }
     ensures rules { explored_app 1 (app_deck (codes "EXIT\n") (codes "#@ move power\n#@ allow n 1\n")) ≡ Err NoRule }

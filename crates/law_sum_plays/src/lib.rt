@@ -14,8 +14,8 @@ pub fn sums_stay()
     ensures { NameLaw }
 {}
 
-/// A row leaves the protection unless it is the primitive of it; nothing waits after a row at which totals are asked;
-/// and a row at which they are not asked leaves the static bytes as power would leave them.
+/// A row leaves the protection unless it is the primitive of it; if nothing waited without protection, nothing waits
+/// after a row at which totals are asked; and a row at which they are not asked leaves the static bytes as power would leave them.
 pub fn rows_guard_static_bytes()
     ensures { GuardLaw }
 {}

@@ -83,8 +83,8 @@ pub fn far_writes_end_blocks()
     ensures { ReachLaw }
 {}
 
-/// What is known after an instruction and its event is so of the sums that then stand; if totals were asked and are not
-/// off, each holds of the sums as power would leave them, and else these stay.
+/// What is known after an instruction and its event is so of the sums that then stand. If totals were asked and are not
+/// off, each holds of the sums as power would leave them; if they were not asked, these stay.
 pub fn turns_keep_totals()
     ensures { TurnLaw }
 {}
