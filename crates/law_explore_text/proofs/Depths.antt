@@ -104,25 +104,15 @@ before_by c x w t h e =
 before_first : (c : ℕ) (w t : List ℕ) → every (other c) w ≡ true → before c (w ++ c ∷ t) ≡ w
 before_first c [] t h = ap (λ (b : Bool). cond b [] (c ∷ before c t)) (eq-eqb c c refl)
 before_first c (x ∷ w) t h =
-    let p = and_parts (other c x) (every (other c) w) h in
-    before_by c x w t p.0 (before_first c w t p.1)
+    before_by c x w t (and_parts (other c x) (every (other c) w) h).0 (before_first c w t (and_parts (other c x) (every (other c) w) h).1)
 
 -- ---- the numbers of the sums
 
 sums_states : (states tries : ℕ) (how : List ℕ) → before 32 (after 32 (after 32 (sums_text states tries how))) ≡ decimal states
-sums_states states tries how =
-    let a = codes "explored states " in
-    let b = codes " tries " in
-    let s = decimal states in
-    let t = decimal tries in
-    let n = codes "\n" in
-    ap (λ (u : List ℕ). before 32 (after 32 (after 32 u))) (append_assoc (a ++ s ++ b ++ t) how n ∙ append_assoc (a ++ s ++ b) t (how ++ n) ∙ append_assoc (a ++ s) b (t ++ (how ++ n)) ∙ append_assoc a s (b ++ (t ++ (how ++ n))))
-    ∙ before_first 32 s (codes "tries " ++ (t ++ (how ++ n))) (decimal_every 32 states (omega arith))
+sums_states states tries how = grind (arith, after, append_assoc, before_first, decimal_every)
 
 sums_depth : (states tries d : ℕ) → before 10 (after 32 (after_five (sums_text states tries (codes " depth " ++ decimal d)))) ≡ decimal d
-sums_depth states tries d =
-    ap (λ (u : List ℕ). before 10 (after 32 u)) (sums_end states tries (codes "depth " ++ decimal d))
-    ∙ before_first 10 (decimal d) [] (decimal_every 10 d (omega arith))
+sums_depth states tries d = grind (arith, after, sums_end, before_first, decimal_every)
 
 same_states : (s t d n m e : ℕ) → sums_text s t (codes " depth " ++ decimal d) ≡ sums_text n m (codes " depth " ++ decimal e) → decimal s ≡ decimal n
 same_states s t d n m e h =
@@ -135,9 +125,7 @@ same_depth s t d n m e h = sym (sums_depth s t d) ∙ ap (λ (u : List ℕ). bef
 
 all_none : (s t n m d : ℕ) → sums_text s t (codes " all") ≡ sums_text n m (codes " depth " ++ decimal d) → ⊥
 all_none s t n m d h =
-    let e = sym (sums_end s t (codes "all")) ∙ ap (λ (u : List ℕ). after_five u) h ∙ sums_end n m (codes "depth " ++ decimal d) in
-    let z : 97 ≡ 100 = ap (λ (u : List ℕ). head u) e in
-    omega (arith, z)
+    grind (arith, sym (sums_end s t (codes "all")) ∙ ap (λ (u : List ℕ). after_five u) h ∙ sums_end n m (codes "depth " ++ decimal d), ap (λ (u : List ℕ). head u) (sym (sums_end s t (codes "all")) ∙ ap (λ (u : List ℕ). after_five u) h ∙ sums_end n m (codes "depth " ++ decimal d)))
 
 module _ (ons : List OnRule) (s : State) (e : Search) (ms : List ℕ) where
   abbrev sums_of : List ℕ → ℕ → ℕ → ℕ → Type 0

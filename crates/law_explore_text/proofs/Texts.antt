@@ -53,8 +53,7 @@ after_by c x w t h e = cond_both (x == c) (w ++ c ∷ t) (after c (w ++ c ∷ t)
 pub after_first : (c : ℕ) (w t : List ℕ) → every (other c) w ≡ true → after c (w ++ c ∷ t) ≡ t
 after_first c [] t h = ap (λ (b : Bool). cond b t (after c t)) (eq-eqb c c refl)
 after_first c (x ∷ w) t h =
-    let p = and_parts (other c x) (every (other c) w) h in
-    after_by c x w t p.0 (after_first c w t p.1)
+    after_by c x w t (and_parts (other c x) (every (other c) w) h).0 (after_first c w t (and_parts (other c x) (every (other c) w) h).1)
 
 -- the first character
 abbrev pub head : List ℕ → ℕ
@@ -67,15 +66,10 @@ abbrev pub depth_front : ℕ → ℕ → List ℕ
 depth_front d n = codes "depth " ++ decimal d ++ codes " states " ++ decimal n
 
 front_line : (d n : ℕ) → every (other 10) (depth_front d n) ≡ true
-front_line d n =
-    every_append (other 10) (codes "depth " ++ decimal d ++ codes " states ") (decimal n)
-    (every_append (other 10) (codes "depth " ++ decimal d) (codes " states ") (every_append (other 10) (codes "depth ") (decimal d) refl (decimal_every 10 d (omega arith))) refl)
-    (decimal_every 10 n (omega arith))
+front_line d n = grind (arith, every_append, decimal_every)
 
 unlined : (d n : ℕ) (ns e : List ℕ) → after 10 (depth_lines d (n ∷ ns) ++ e) ≡ depth_lines (d + 1) ns ++ e
-unlined d n ns e =
-    ap (λ (t : List ℕ). after 10 t) (append_assoc (depth_front d n ++ codes "\n") (depth_lines (d + 1) ns) e ∙ append_assoc (depth_front d n) (codes "\n") (depth_lines (d + 1) ns ++ e))
-    ∙ after_first 10 (depth_front d n) (depth_lines (d + 1) ns ++ e) (front_line d n)
+unlined d n ns e = grind (arith, append_assoc, after_first, front_line)
 
 -- texts that are equal are so without the lines of depths before them
 pub unlines : (xs ys : List ℕ) (d : ℕ) (e s : List ℕ) → (head e ≡ 100 → ⊥) → (head s ≡ 100 → ⊥) → depth_lines d xs ++ e ≡ depth_lines d ys ++ s → e ≡ s
@@ -94,9 +88,7 @@ silent_one : (n : ℕ) → every (other 10) (silent_front n) ≡ true
 silent_one n = every_append (other 10) (codes "silent line ") (decimal n) refl (decimal_every 10 n (omega arith))
 
 unsilenced : (n : ℕ) (ns e : List ℕ) → after 10 (silent_lines (n ∷ ns) ++ e) ≡ silent_lines ns ++ e
-unsilenced n ns e =
-    ap (λ (t : List ℕ). after 10 t) (append_assoc (silent_front n ++ codes "\n") (silent_lines ns) e ∙ append_assoc (silent_front n) (codes "\n") (silent_lines ns ++ e))
-    ∙ after_first 10 (silent_front n) (silent_lines ns ++ e) (silent_one n)
+unsilenced n ns e = grind (arith, append_assoc, after_first, silent_one)
 
 -- texts that are equal are so without such lines before them
 pub unsilent : (xs ys : List ℕ) (e s : List ℕ) → (head e ≡ 115 → ⊥) → (head s ≡ 115 → ⊥) → silent_lines xs ++ e ≡ silent_lines ys ++ s → e ≡ s
@@ -129,16 +121,7 @@ abbrev pub after_five : List ℕ → List ℕ
 after_five t = after 32 (after 32 (after 32 (after 32 (after 32 t))))
 
 pub sums_end : (states tries : ℕ) (how : List ℕ) → after_five (sums_text states tries (32 ∷ how)) ≡ how ++ codes "\n"
-sums_end states tries how =
-    let a = codes "explored states " in
-    let b = codes " tries " in
-    let s = decimal states in
-    let t = decimal tries in
-    let h = 32 ∷ how in
-    let n = codes "\n" in
-    ap (λ (u : List ℕ). after_five u) (append_assoc (a ++ s ++ b ++ t) h n ∙ append_assoc (a ++ s ++ b) t (h ++ n) ∙ append_assoc (a ++ s) b (t ++ (h ++ n)) ∙ append_assoc a s (b ++ (t ++ (h ++ n))))
-    ∙ ap (λ (u : List ℕ). after 32 (after 32 u)) (after_first 32 s (codes "tries " ++ (t ++ (h ++ n))) (decimal_every 32 states (omega arith)))
-    ∙ after_first 32 t (how ++ n) (decimal_every 32 tries (omega arith))
+sums_end states tries how = grind (arith, append_assoc, after_first, decimal_every)
 
 -- ---- endings
 
