@@ -1,5 +1,5 @@
 -- An atomic write writes its gate twice, and every other word once at the most.
-use Rattle.std.proofs.Common.{◌≡◌, ◌≢◌, ◌⊎◌, ℕ, ◌+◌, ◌<◌, ◌≤◌, Bool, true, false, cond, ◌&&◌, ◌||◌, List, [], ◌∷◌, ◌++◌, length, map, refl, sym, ap, inl, inr, arith}
+use Rattle.std.proofs.Common.{◌≡◌, ◌≢◌, ◌⊎◌, ℕ, ◌+◌, ◌<◌, ◌≤◌, Bool, true, cond, ◌&&◌, ◌||◌, List, [], ◌∷◌, ◌++◌, length, map, refl, ap, inl, inr, arith}
 use Rattle.std.specs.Prelude.{◌==◌, nat_le, nat_lt}
 use Rattle.std.specs.List.{AllByRecursion}
 use Rattle.std.proofs.lemmas.Bool.{and_parts, leb-true, eqb-true}
@@ -36,36 +36,17 @@ times_append p (x ∷ xs) ys = let rest = times_append p xs ys in omega (arith, 
 
 times_not : (p : ℕ) (ws : List Pair) → AllByRecursion (λ w. w.0 ≢ p) ws → times_written p ws ≡ 0
 times_not p [] a = refl
-times_not p (w ∷ ws) a =
-    let one : hits w.0 p ≡ 0 = hits_not w.0 p a.0 in
-    let rest : times_written p ws ≡ 0 = times_not p ws a.1 in
-    omega (arith, one, rest)
+times_not p (w ∷ ws) a = grind (arith, hits_not, times_not p ws a.1)
 
 times_once : (p least : ℕ) (ws : List Pair) → Ascends least ws → times_written p ws ≤ 1
 times_once p least [] a = omega arith
-times_once p least (w ∷ ws) a =
-    elim (eqb_tells w.0 p) [
-      | inl own ↦ (
-          let none : times_written p ws ≡ 0 = times_not p ws (ascends_other (w.0 + 1) ws p a.1 (let same = own.1 in omega (arith, same))) in
-          let one : hits w.0 p ≤ 1 = hits_most w.0 p in
-          omega (arith, none, one)
-          )
-      | inr not ↦ (
-          let none : hits w.0 p ≡ 0 = hits_not w.0 p not.1 in
-          let rest : times_written p ws ≤ 1 = times_once p (w.0 + 1) ws a.1 in
-          omega (arith, none, rest)
-          )
-    ]
+times_once p least (w ∷ ws) a = grind (arith, eqb_tells, times_not, ascends_other, hits_most, hits_not, times_once p (w.0 + 1) ws a.1)
 
 -- ---- the places of an atomic write
 
 -- a target lies outside both journals
 apart_by : (size t p : ℕ) (x y : Bool) → (t == 0) ≡ x → (nat_le 131 t && nat_lt t size) ≡ y → 1 ≤ p → p ≤ 130 → (x || y) ≡ true → t ≢ p
-apart_by size t p true y ex ey low high h = let none : t ≡ 0 = eqb-true t 0 ex in λ e. absurd (omega (arith, none, e, low))
-apart_by size t p false true ex ey low high h =
-    let far : 131 ≤ t = leb-true 131 t (and_parts (nat_le 131 t) (nat_lt t size) ey).0 in
-    λ e. absurd (omega (arith, far, e, high))
-apart_by size t p false false ex ey low high h = absurd (cc h)
+apart_by size t p x y ex ey low high h = grind (arith, eqb-true, leb-true, and_parts)
 
 apart : (size p : ℕ) → 1 ≤ p → p ≤ 130 → (list : List Pair) → AllByRecursion (λ w. within size w.0 ≡ true) list → AllByRecursion (λ w. w.0 ≢ p) list
 apart size p low high list a =
@@ -102,80 +83,23 @@ module _ (j : Journal) (size : ℕ) (list : List Pair) (high : size ≤ 16384) (
 
   -- how often each of them is written
   in_all : (p : ℕ) → times_written p (writes j list) ≡ times_written p (entries j list) + (hits 2 p + (hits (gate j) p + (times_written p list + hits (gate j) p)))
-  in_all p =
-      let last = (gate j, shut_word) ∷ [] in
-      let all : times_written p (writes j list) ≡ times_written p (entries j list) + times_written p ((2, word_of_number (length list)) ∷ (gate j, opening j) ∷ (list ++ last)) =
-      times_append p (entries j list) ((2, word_of_number (length list)) ∷ (gate j, opening j) ∷ (list ++ last))
-      in
-      let rest : times_written p (list ++ last) ≡ times_written p list + times_written p last = times_append p list last in
-      omega (arith, all, rest)
+  in_all p = grind (arith, times_append)
 
   in_recovery : (p : ℕ) → times_written p (replay j list) ≡ times_written p list + hits (gate j) p
   in_recovery p = let rest = times_append p list ((gate j, shut_word) ∷ []) in omega (arith, rest)
 
   gate_twice : times_written (gate j) (writes j list) ≡ 2
-  gate_twice =
-      let range = gate_range j in
-      let e : times_written (gate j) (entries j list) ≡ 0 = no_entry (gate j) (λ i k. k.apart) in
-      let t : times_written (gate j) list ≡ 0 = no_target (gate j) range.0 range.1 in
-      let h : hits 2 (gate j) ≡ 0 = hits_not 2 (gate j) (λ s. range.2 (sym s)) in
-      let g : hits (gate j) (gate j) ≡ 1 = hits_own (gate j) in
-      let all = in_all (gate j) in
-      omega (arith, e, t, h, g, all)
+  gate_twice = grind (arith, gate_range, no_entry, no_target, hits_not, hits_own, in_all)
 
   other_by : (p : ℕ) → p ≢ gate j → (p ≡ 2) ⊎ (((1 ≤ p) × (p ≤ 130) × (p ≢ 2)) ⊎ ((p < 1) ⊎ (130 < p))) → times_written p (writes j list) ≤ 1
-  other_by p not_gate (inl head) =
-      let e : times_written p (entries j list) ≡ 0 = no_entry p (λ i k s. absurd (let low = k.low in omega (arith, low, s, head))) in
-      let t : times_written p list ≡ 0 = no_target p (omega (arith, head)) (omega (arith, head)) in
-      let g : hits (gate j) p ≡ 0 = hits_not (gate j) p (λ s. not_gate (sym s)) in
-      let h : hits 2 p ≤ 1 = hits_most 2 p in
-      let all = in_all p in
-      omega (arith, e, t, g, h, all)
-  other_by p not_gate (inr (inl inside)) =
-      let e : times_written p (entries j list) ≤ 1 = entries_once p in
-      let t : times_written p list ≡ 0 = no_target p inside.0 inside.1 in
-      let g : hits (gate j) p ≡ 0 = hits_not (gate j) p (λ s. not_gate (sym s)) in
-      let h : hits 2 p ≡ 0 = hits_not 2 p (λ s. inside.2 (sym s)) in
-      let all = in_all p in
-      omega (arith, e, t, g, h, all)
-  other_by p not_gate (inr (inr outside)) =
-      let far : (p < 1) ⊎ (130 < p) → (i : ℕ) → InEntries j i → i ≢ p = λ o i k s.
-      let low = k.low in
-      let high = k.high in
-      absurd (elim o [ inl below ↦ omega (arith, low, s, below) | inr above ↦ omega (arith, high, s, above) ])
-      in
-      let e : times_written p (entries j list) ≡ 0 = no_entry p (far outside) in
-      let t : times_written p list ≤ 1 = targets_once p in
-      let g : hits (gate j) p ≡ 0 = hits_not (gate j) p (λ s. not_gate (sym s)) in
-      let h : hits 2 p ≡ 0 = hits_not 2 p (λ s. absurd (elim outside [ inl below ↦ omega (arith, s, below) | inr above ↦ omega (arith, s, above) ])) in
-      let all = in_all p in
-      omega (arith, e, t, g, h, all)
+  other_by p not_gate h = grind (arith, no_entry, no_target, hits_not, hits_most, in_all, entries_once, InEntries, targets_once)
 
   recovery_by : (p : ℕ) → (p ≡ gate j) ⊎ (p ≢ gate j) → times_written p (replay j list) ≤ 1
-  recovery_by p (inl own) =
-      let range = gate_range j in
-      let t : times_written p list ≡ 0 = no_target p (let low = range.0 in omega (arith, low, own)) (let top = range.1 in omega (arith, top, own)) in
-      let g : hits (gate j) p ≤ 1 = hits_most (gate j) p in
-      let all = in_recovery p in
-      omega (arith, t, g, all)
-  recovery_by p (inr not) =
-      let t : times_written p list ≤ 1 = targets_once p in
-      let g : hits (gate j) p ≡ 0 = hits_not (gate j) p (λ s. not (sym s)) in
-      let all = in_recovery p in
-      omega (arith, t, g, all)
+  recovery_by p h = grind (arith, gate_range, no_target, hits_most, in_recovery, targets_once, hits_not)
 
 -- where a word lies
 place_by : (p : ℕ) → (p ≡ 2) ⊎ (((1 ≤ p) × (p ≤ 130) × (p ≢ 2)) ⊎ ((p < 1) ⊎ (130 < p)))
-place_by p =
-    elim (eqb_tells p 2) [
-      | inl own ↦ inl own.1
-      | inr other ↦ inr (by (nat_le 1 p) (nat_le p 130) refl refl other.1)
-    ]
-  where
-    by : (x y : Bool) → nat_le 1 p ≡ x → nat_le p 130 ≡ y → p ≢ 2 → ((1 ≤ p) × (p ≤ 130) × (p ≢ 2)) ⊎ ((p < 1) ⊎ (130 < p))
-    by true true ex ey h = inl (leb-true 1 p ex, leb-true p 130 ey, h)
-    by false y ex ey h = inr (inl (grind (arith, ex)))
-    by true false ex ey h = inr (inr (grind (arith, ey)))
+place_by p = grind (arith, eqb_tells, leb-true)
 
 own_or_other : (p q : ℕ) → (p ≡ q) ⊎ (p ≢ q)
 own_or_other p q = elim (eqb_tells p q) [ inl own ↦ inl own.1 | inr other ↦ inr other.1 ]
@@ -185,8 +109,7 @@ atomic_wear_law j size list high atomic =
     let g = geo j size list high atomic in
     let last = (gate j, shut_word) ∷ [] in
     let all : length (writes j list) ≡ length (entries j list) + length ((2, word_of_number (length list)) ∷ (gate j, opening j) ∷ (list ++ last)) =
-    length-append (entries j list) ((2, word_of_number (length list)) ∷ (gate j, opening j) ∷ (list ++ last))
-    in
+    grind (arith, length-append) in
     let rest : length (list ++ last) ≡ length list + length last = length-append list last in
     let costs : length (entries j list) + length list + 3 ≡ cost j (length list) = g.costs in
     record {

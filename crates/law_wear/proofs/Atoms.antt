@@ -1,12 +1,11 @@
 -- The number of atomic writes of one command, and of the commands of a load.
-use Rattle.std.proofs.Common.{◌≡◌, ℕ, zero, suc, ◌+◌, ◌≤◌, Bool, true, false, cond, List, [], ◌∷◌, ◌++◌, length, Some, None, refl, sym, ◌∙◌, ap, subst, arith}
-use Rattle.std.specs.Prelude.{◌==◌}
+use Rattle.std.proofs.Common.{◌≡◌, ℕ, zero, suc, ◌+◌, ◌≤◌, Bool, true, false, List, [], ◌∷◌, ◌++◌, refl, arith}
 use Rattle.law_family.specs.model_machine.specs.Apdu.{ApduParts}
 use Rattle.law_family.specs.model_card.specs.Units.{UnitParts}
 use Rattle.law_family.specs.model_device.specs.Card.{Card}
-use Rattle.law_family.specs.model_card.specs.Items.{Created, Deleted, Item, Plain, Atomic, card_done}
-use Rattle.law_family.specs.model_card.specs.Manager.{SessionState, Route, WrongLength, WrongClass, ToSelect, ToManager, ToApplication, route, select, p1p2, fresh, word_parts, manage, room_on}
-use Rattle.law_family.specs.model_card.specs.Commands.{Command, atomic_of, manager_command, by_route, command}
+use Rattle.law_family.specs.model_card.specs.Items.{Item, Plain, Atomic, card_done}
+use Rattle.law_family.specs.model_card.specs.Manager.{SessionState, Route, ToApplication, route, manage, room_on}
+use Rattle.law_family.specs.model_card.specs.Commands.{Command, manager_command, by_route, command}
 use Rattle.law_family.specs.model_play.specs.Play.{is_done, command_with_rest, send, load_commands}
 use Rattle.law_family.specs.law_manager.specs.Orders.{Order, order_of, HasIns}
 use Rattle.law_family.specs.law_manager.specs.OnCard.{IsCommand, IsSelect, plains, done, blank_words}
@@ -33,14 +32,7 @@ module _ (c : Card) (session_state : SessionState) (a : ApduParts) where
   Atoms ins r = atomic_writes r.items ≤ most_atomic_of_manager ins
 
   made_atoms : (o : Order) (r : Command) → HasIns o a.ins → IsCommand c session_state a o r → Atoms a.ins r
-  made_atoms _ _ ins (made.refused o sw h) = omega arith
-  made_atoms _ _ ins (made.quiet o body load h) = omega arith
-  made_atoms _ _ ins (made.loaded p l h) = let none = plains_atomic (length (word_parts (p1p2 a) a.body)) [] in omega (arith, none)
-  made_atoms _ _ ins (made.created l n h) =
-      let items = plains 4 (atomic_of c (Some (Created n (fresh l))) ∷ []) in
-      let one = plains_atomic (blank_words l.site) items in
-      subst (λ (i : ℕ). Atoms i (done [] (record session_state { load = None }) (plains (blank_words l.site) items))) (sym ins) (omega (arith, one))
-  made_atoms _ _ ins (made.deleted h) = subst (λ (i : ℕ). Atoms i (done [] (record session_state { load = None }) (atomic_of c (Some (Deleted a.body)) ∷ []))) (sym ins) (omega arith)
+  made_atoms o r ins h = grind (arith, plains_atomic)
 
   manage_atoms : Atoms a.ins (manager_command c session_state (manage (room_on c) c.apps session_state a))
   manage_atoms = made_atoms (order_of a.ins) (manager_command c session_state (manage (room_on c) c.apps session_state a)) (order_law (room_on c) c.apps session_state a).ins (command_made c session_state a)
@@ -51,45 +43,22 @@ module _ (c : Card) (session_state : SessionState) (a : ApduParts) where
 
 -- a command that no application runs
 pub route_atoms : (c : Card) (session_state : SessionState) (budget k : ℕ) (r : Route) → ((a : ApduParts) → r ≡ ToApplication a → ⊥) → atomic_writes (by_route c session_state budget r).items ≤ most_atomic_of_route k r
-route_atoms c session_state budget k WrongLength h = omega arith
-route_atoms c session_state budget k WrongClass h = omega arith
-route_atoms c session_state budget k (ToSelect a) h = select_atoms c session_state a (manager_command c session_state (select c.apps session_state a)) (selects_law c session_state a)
-route_atoms c session_state budget k (ToManager a) h = manage_atoms c session_state a
-route_atoms c session_state budget k (ToApplication a) h = absurd (h a refl)
+route_atoms c session_state budget k r h = grind (arith, select_atoms, selects_law, manage_atoms)
 
 -- ---- a load
 
 filler_route : (c : Card) (session_state : SessionState) (budget : ℕ) (r : Route) → IsFiller r → atomic_writes (by_route c session_state budget r).items ≤ 0
-filler_route c session_state budget WrongLength h = omega arith
-filler_route c session_state budget WrongClass h = absurd h
-filler_route c session_state budget (ToSelect a) h = absurd h
-filler_route c session_state budget (ToManager a) h =
-    let few : atomic_writes (by_route c session_state budget (ToManager a)).items ≤ most_atomic_of_manager a.ins = manage_atoms c session_state a in
-    let none : most_atomic_of_manager a.ins ≡ 0 = ap (λ (b : Bool). cond b 1 (cond (a.ins == 0x18) 1 0)) h.0 ∙ ap (λ (b : Bool). cond b 1 0) h.1 in
-    omega (arith, few, none)
-filler_route c session_state budget (ToApplication a) h = absurd h
+filler_route c session_state budget r h = grind (arith, manage_atoms)
 
 filler_atoms : (c : Card) (session_state : SessionState) (b : List ℕ) (budget : ℕ) → IsFiller (route b) → atomic_writes (command c session_state b budget).items ≤ 0
 unfolding command
 filler_atoms c session_state b budget h = filler_route c session_state budget (route b) h
 
 manager_most : (ins : ℕ) → most_atomic_of_manager ins ≤ 1
-manager_most ins = by (ins == 0x16) (ins == 0x18)
-  where
-    by : (x y : Bool) → cond x 1 (cond y 1 0) ≤ 1
-    by true y = omega arith
-    by false true = omega arith
-    by false false = omega arith
+manager_most ins = grind arith
 
 creates_route : (c : Card) (session_state : SessionState) (budget : ℕ) (r : Route) → IsManagerOf 0x16 r → atomic_writes (by_route c session_state budget r).items ≤ 1
-creates_route c session_state budget WrongLength h = omega arith
-creates_route c session_state budget WrongClass h = absurd h
-creates_route c session_state budget (ToSelect a) h = absurd h
-creates_route c session_state budget (ToManager a) h =
-    let few : atomic_writes (by_route c session_state budget (ToManager a)).items ≤ most_atomic_of_manager a.ins = manage_atoms c session_state a in
-    let most = manager_most a.ins in
-    omega (arith, few, most)
-creates_route c session_state budget (ToApplication a) h = absurd h
+creates_route c session_state budget r h = grind (arith, manage_atoms, manager_most)
 
 creates_atoms : (c : Card) (session_state : SessionState) (budget : ℕ) → atomic_writes (command c session_state create_bytes budget).items ≤ 1
 unfolding command

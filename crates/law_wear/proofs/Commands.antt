@@ -1,16 +1,13 @@
 -- The device writes of one command at the most, by its route.
-use Rattle.std.proofs.Common.{◌≡◌, ℕ, ◌+◌, ◌*◌, ◌≤◌, List, [], ◌∷◌, length, Option, Some, None, refl, sym, ap, subst, arith}
+use Rattle.std.proofs.Common.{◌≡◌, ℕ, ◌*◌, ◌≤◌, List, [], length, Option, Some, None, refl, ap, subst, arith}
 use Rattle.law_family.specs.model_card.specs.declared.card.Part.{Part}
-use Rattle.law_family.specs.model_card.specs.declared.card.Part.TheVariants as part
 use Rattle.law_family.specs.model_device.specs.Limits.{most_static}
-use Rattle.law_family.specs.model_device.specs.Bytes.{insert, remove}
 use Rattle.law_family.specs.model_machine.specs.Apdu.{ApduParts}
 use Rattle.law_family.specs.model_machine.specs.Chain.{Turn}
 use Rattle.law_family.specs.model_device.specs.Card.{Card}
-use Rattle.law_family.specs.model_device.specs.Layout.{step_of}
-use Rattle.law_family.specs.model_card.specs.Items.{Created, moves}
-use Rattle.law_family.specs.model_card.specs.Manager.{Selected, Open, SessionState, Route, WrongLength, WrongClass, ToSelect, ToManager, ToApplication, route, Managed, Declines, Accepts, p1p2, select, word_parts, fresh, manage, room_on}
-use Rattle.law_family.specs.model_card.specs.Commands.{Command, atomic_of, manager_command, application_command, by_route, command}
+use Rattle.law_family.specs.model_card.specs.Items.{moves}
+use Rattle.law_family.specs.model_card.specs.Manager.{Selected, Open, SessionState, Route, WrongLength, WrongClass, ToSelect, ToManager, ToApplication, route, Managed, Declines, Accepts, p1p2, select, word_parts, manage, room_on}
+use Rattle.law_family.specs.model_card.specs.Commands.{Command, manager_command, application_command, by_route, command}
 use Rattle.law_family.specs.law_machine.proofs.AppSizes.{Limited}
 use Rattle.law_family.specs.law_manager.specs.Orders.{Order, Loads, Creates, Deletes, order_of, ins_of_part, HasIns}
 use Rattle.law_family.specs.law_manager.specs.OnCard.{IsCommand, IsSelect, plains, blank_words}
@@ -45,10 +42,7 @@ manager_turns c session_state (Declines sw) = refl
 manager_turns c session_state (Accepts a) = refl
 
 part_most : (p : Part) (a : ApduParts) → length (word_parts (p1p2 a) a.body) ≤ most_of_manager (ins_of_part p) (length a.body)
-part_most part.Code a = let few = parts_few (p1p2 a) a.body in omega (arith, few)
-part_most part.Data a = let few = parts_few (p1p2 a) a.body in omega (arith, few)
-part_most part.Dir a = let few = parts_few (p1p2 a) a.body in omega (arith, few)
-part_most part.Fci a = let few = parts_few (p1p2 a) a.body in omega (arith, few)
+part_most p a = grind (arith, parts_few)
 
 module _ (c : Card) (session_state : SessionState) (a : ApduParts) where
   -- the most device writes of a command: of a LOAD one for each word that its piece touches, of a CREATE by the sizes
@@ -60,33 +54,15 @@ module _ (c : Card) (session_state : SessionState) (a : ApduParts) where
   most_of_order _ = 0
 
   pub made_few : (o : Order) (r : Command) → AreOnCard c.apps → LoadFits session_state.load → IsCommand c session_state a o r → moves r.items ≤ most_of_order o
-  made_few _ _ on fits (made.refused o sw h) = omega arith
-  made_few _ _ on fits (made.quiet o body load h) = omega arith
-  made_few _ _ on fits (made.loaded p l h) = let all = plains_moves (length (word_parts (p1p2 a) a.body)) [] in omega (arith, all)
-  made_few _ _ on fits (made.created l n h) =
-      let fit : LoadFits (Some l) = subst LoadFits h.is fits in
-      let less : l.site.sizes.init ≤ l.site.sizes.fixed = fit.1 in
-      let few : 8 * blank_words l.site ≤ l.site.sizes.fixed + 7 = zeros_few l.site.sizes.init l.site.sizes.fixed less in
-      let words : length (step_of c (record c { apps = insert c.apps n (fresh l) })) ≤ 3 = created_headers c n (fresh l) h.free in
-      let all = plains_moves (blank_words l.site) (plains 4 (atomic_of c (Some (Created n (fresh l))) ∷ [])) in
-      let same : fixed_in session_state.load ≡ l.site.sizes.fixed = ap fixed_in h.is in
-      omega (arith, few, words, all, same)
-  made_few _ _ on fits (made.deleted h) =
-      let words : length (step_of c (record c { apps = remove c.apps a.body })) ≤ 2 = deleted_headers c a.body on.ascending in
-      omega (arith, words)
+  made_few o r on fits h = grind (arith, plains_moves, LoadFits, zeros_few, created_headers, deleted_headers)
 
   -- no more than by its INS
   most_by_ins : (o : Order) → LoadFits session_state.load → HasIns o a.ins → most_of_order o ≤ most_of_manager a.ins (length a.body)
-  most_by_ins (Loads p) fits ins = subst (λ (i : ℕ). length (word_parts (p1p2 a) a.body) ≤ most_of_manager i (length a.body)) (sym ins) (part_most p a)
-  most_by_ins Creates fits ins = subst (λ (i : ℕ). most_of_creation (fixed_in session_state.load) ≤ most_of_manager i (length a.body)) (sym ins) (creation_small session_state.load fits)
-  most_by_ins Deletes fits ins = subst (λ (i : ℕ). most_of_deletion ≤ most_of_manager i (length a.body)) (sym ins) (omega arith)
-  most_by_ins _ fits ins = omega arith
+  most_by_ins o fits ins = grind (arith, part_most, creation_small)
 
   manage_few : AreOnCard c.apps → LoadFits session_state.load → moves (manager_command c session_state (manage (room_on c) c.apps session_state a)).items ≤ most_of_manager a.ins (length a.body)
   manage_few on fits =
-      let few = made_few (order_of a.ins) (manager_command c session_state (manage (room_on c) c.apps session_state a)) on fits (command_made c session_state a) in
-      let most = most_by_ins (order_of a.ins) fits (order_law (room_on c) c.apps session_state a).ins in
-      omega (arith, few, most)
+      grind (arith, made_few (order_of a.ins) (manager_command c session_state (manage (room_on c) c.apps session_state a)) on fits (command_made c session_state a), most_by_ins (order_of a.ins) fits (order_law (room_on c) c.apps session_state a).ins)
 
   select_few : (r : Command) → IsSelect c session_state a r → moves r.items ≤ 0
   select_few _ (made.unselected sw h) = omega arith
@@ -100,9 +76,7 @@ pub record CommandWears (most : ℕ → ℕ) (budget : ℕ) (r : Command) : Type
   pub count : instructions r.turns ≤ budget
 
 managed_wears : (c : Card) (session_state : SessionState) (n budget : ℕ) (m : Managed) → moves (manager_command c session_state m).items ≤ n → CommandWears (λ k. n) budget (manager_command c session_state m)
-managed_wears c session_state n budget m h =
-    let none : instructions (manager_command c session_state m).turns ≡ 0 = ap (λ (ts : List Turn). instructions ts) (manager_turns c session_state m) in
-    record { writes = h; count = omega (arith, none) }
+managed_wears c session_state n budget m h = grind (arith, ap (λ (ts : List Turn). instructions ts) (manager_turns c session_state m))
 
 passed_wears : (c : Card) (session_state : SessionState) (o : Option Selected) (a : ApduParts) (budget : ℕ) → session_state.selected ≡ o → Limited c.apps → AreOnCard c.apps → SessionStateStands c.apps session_state
     → CommandWears (λ k. 78 * k) budget (application_command c session_state o a budget)
@@ -124,18 +98,11 @@ routed_wears c session_state budget (ToApplication a) fits limited on h = passed
 -- its atomic writes
 run_atoms : (c : Card) (session_state : SessionState) (o : Option Selected) (a : ApduParts) (budget : ℕ) → session_state.selected ≡ o → Limited c.apps → AreOnCard c.apps → SessionStateStands c.apps session_state
     → let r = application_command c session_state o a budget in atomic_writes r.items ≤ instructions r.turns
-run_atoms c session_state None a budget e limited on h = omega arith
-run_atoms c session_state (Some s) a budget e limited on h =
-    let short : length s.name ≤ 16 = subst SelectedStands e h.selected in
-    (run_few c.apps s.name s.session a budget (are_coded c.apps limited on) short).atomic
+run_atoms c session_state o a budget e limited on h = grind (arith, SelectedStands, run_few, are_coded)
 
 routed_atoms : (c : Card) (session_state : SessionState) (budget : ℕ) (r : Route) → Limited c.apps → AreOnCard c.apps → SessionStateStands c.apps session_state
     → atomic_writes (by_route c session_state budget r).items ≤ most_atomic_of_route (instructions (by_route c session_state budget r).turns) r
-routed_atoms c session_state budget WrongLength limited on h = omega arith
-routed_atoms c session_state budget WrongClass limited on h = omega arith
-routed_atoms c session_state budget (ToSelect a) limited on h = route_atoms c session_state budget 0 (ToSelect a) (λ b e. absurd (cc e))
-routed_atoms c session_state budget (ToManager a) limited on h = route_atoms c session_state budget 0 (ToManager a) (λ b e. absurd (cc e))
-routed_atoms c session_state budget (ToApplication a) limited on h = run_atoms c session_state session_state.selected a budget refl limited on h
+routed_atoms c session_state budget r limited on h = grind (arith, route_atoms, run_atoms)
 
 pub command_atoms : (c : Card) (session_state : SessionState) (b : List ℕ) (budget : ℕ) → Limited c.apps → AreOnCard c.apps → SessionStateStands c.apps session_state
     → atomic_writes (command c session_state b budget).items ≤ most_atomic_of_route (instructions (command c session_state b budget).turns) (route b)

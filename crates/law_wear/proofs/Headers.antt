@@ -7,7 +7,7 @@ use Rattle.std.proofs.lemmas.Bool.{eq-eqb, or_left, or_right, ltb-true}
 use Rattle.std.proofs.lemmas.Bool.Decides.{eqb_tells}
 use Rattle.law_family.specs.model_device.specs.Bytes.{lookup, insert, remove, AscendByName}
 use Rattle.law_family.specs.model_device.specs.Card.{App, Card, heap_start}
-use Rattle.law_family.specs.model_device.specs.Layout.{put_at, spans, gap, gaps_from, gaps, first_place, hole_header, used_header, root, gap_headers, with_used, layout, same_pair, step_of}
+use Rattle.law_family.specs.model_device.specs.Layout.{spans, gap, gaps_from, gaps, first_place, hole_header, used_header, root, gap_headers, with_used, layout, same_pair, step_of}
 use Rattle.law_family.specs.model_device.proofs.BoolLemmas.{cond_most}
 use Rattle.law_wear.proofs.Spans.{Span, Without, inserted, Removed, removed}
 use Rattle.law_family.specs.law_machine.proofs.FewHeaders.{Pair, one_if, one_most, count, count_first, count_put, any_put, self_pair}
@@ -23,11 +23,7 @@ span_headers (s ∷ ss) = span_header s ∷ span_headers ss
 
 used_count : (t : Pair → Bool) (ss : List Span) (hs : List Pair) → count t (with_used ss hs) ≡ count t (span_headers ss) + count t hs
 used_count t [] hs = omega arith
-used_count t (s ∷ ss) hs =
-    let one : count t (put_at s.0 (used_header s.1) (with_used ss hs)) ≡ one_if (t (span_header s)) + count t (with_used ss hs) = count_put t s.0 (used_header s.1) (with_used ss hs) in
-    let first : count t (span_header s ∷ span_headers ss) ≡ one_if (t (span_header s)) + count t (span_headers ss) = count_first t (span_header s) (span_headers ss) in
-    let rest : count t (with_used ss hs) ≡ count t (span_headers ss) + count t hs = used_count t ss hs in
-    omega (arith, one, first, rest)
+used_count t (s ∷ ss) hs = grind (arith, count, one_if, count_put, count_first, used_count t ss hs)
 
 or_true : (a b : Bool) → (a || b) ≡ true → (a ≡ true) ⊎ (b ≡ true)
 or_true true b h = inl refl
@@ -63,11 +59,7 @@ none_new all (e ∷ es) into = (
 
 none_counted : (t : Pair → Bool) (es : List Pair) → NonePass t es → count t es ≡ 0
 none_counted t [] h = refl
-none_counted t (e ∷ es) h =
-    let one : one_if (t e) ≡ 0 = ap one_if h.0 in
-    let rest : count t es ≡ 0 = none_counted t es h.1 in
-    let all : count t (e ∷ es) ≡ one_if (t e) + count t es = count_first t e es in
-    omega (arith, one, rest, all)
+none_counted t (e ∷ es) h = grind (arith, one_if, count, count_first, none_counted t es h.1)
 
 -- ---- gaps
 
@@ -83,18 +75,7 @@ differs_self a = ap (λ (b : Bool). cond b 0 1) (eq-eqb a a refl)
 
 -- a header whose number is as before, or differs
 same_or_counts : (t : Pair → Bool) (f : ℕ → Pair) (a b : ℕ) → t (f a) ≡ false → one_if (t (f b)) ≤ differs a b
-same_or_counts t f a b old =
-    elim (eqb_tells a b) [
-      | inl same ↦ (
-          let none : one_if (t (f b)) ≡ 0 = ap one_if (subst (λ (n : ℕ). t (f n) ≡ false) same.1 old) in
-          omega (arith, none)
-          )
-      | inr other ↦ (
-          let one : differs a b ≡ 1 = ap (λ (c : Bool). cond c 0 1) other.0 in
-          let most : one_if (t (f b)) ≤ 1 = one_most (t (f b)) in
-          omega (arith, one, most)
-          )
-    ]
+same_or_counts t f a b old = grind (arith, eqb_tells, one_if, one_most)
 
 module _ (t : Pair → Bool) (last : ℕ) where
   -- the headers of gaps
@@ -172,13 +153,7 @@ module _ (t : Pair → Bool) (last : ℕ) where
   same_gap p q old now h rest = by (nat_lt p q) h
     where
       by : (b : Bool) → NonePass t (gap_headers (cond b ((p, q - p) ∷ []) [] ++ old)) → FewNew (cond b ((p, q - p) ∷ []) [] ++ old) (cond b ((p, q - p) ∷ []) [] ++ now)
-      by true k =
-          let f : ℕ → Pair = λ n. (p, hole_header (q - p) n) in
-          let most : one_if (t (f (first_place now))) ≤ differs (first_place old) (first_place now) = same_or_counts t f (first_place old) (first_place now) k.0 in
-          let all : count t (f (first_place now) ∷ gap_headers now) ≡ one_if (t (f (first_place now))) + count t (gap_headers now) = count_first t (f (first_place now)) (gap_headers now) in
-          let few : count t (gap_headers now) + differs (first_place old) (first_place now) ≤ 2 = rest k.1 in
-          let same : differs p p ≡ 0 = differs_self p in
-          omega (arith, most, all, few, same)
+      by true k = grind (arith, Pair, one_if, same_or_counts, count, count_first, differs_self)
       by false k = rest k
 
   -- a span fewer
@@ -209,9 +184,7 @@ module _ (t : Pair → Bool) (last : ℕ) where
       few = moved (x.0 + x.1) p ss old
 
       by : (b : Bool) → nat_lt p x.0 ≡ b → FewNew (gaps_from p ss last) (cond b ((p, x.0 - p) ∷ []) [] ++ gaps_from (x.0 + x.1) ss last)
-      by false is =
-          let one = differs_most (first_place (gaps_from p ss last)) (first_place (gaps_from (x.0 + x.1) ss last)) in
-          omega (arith, few, one)
+      by false is = grind (arith, differs_most, few)
       by true is =
           let now = gaps_from (x.0 + x.1) ss last in
           let h : Pair = (p, hole_header (x.0 - p) (first_place now)) in
@@ -219,14 +192,8 @@ module _ (t : Pair → Bool) (last : ℕ) where
           let most : one_if (t h) ≤ 1 = one_most (t h) in
           let low : p < x.0 = ltb-true p x.0 is in
           elim (none_moved p (x.0 + x.1) ss (omega (arith, low)) old) [
-            | inl same ↦ (
-                let none : differs (first_place (gaps_from p ss last)) p ≡ 0 = ap (λ (n : ℕ). differs n p) same ∙ differs_self p in
-                omega (arith, all, most, few, none)
-                )
-            | inr gone ↦ (
-                let one : differs (first_place (gaps_from p ss last)) p ≤ 1 = differs_most (first_place (gaps_from p ss last)) p in
-                omega (arith, all, most, gone, one)
-                )
+            | inl same ↦ grind (arith, differs_self, few)
+            | inr gone ↦ grind (arith, differs_most)
           ]
 
   created : (s : Span) (p : ℕ) (more ss : List Span) → Without s more ss → NonePass t (gap_headers (gaps_from p ss last)) → FewNew (gaps_from p ss last) (gaps_from p more last)
@@ -242,19 +209,11 @@ module _ (t : Pair → Bool) (last : ℕ) where
   fewer_spans : (s : Span) (ss less : List Span) → Without s ss less → NonePass t (span_headers ss) → count t (span_headers less) ≡ 0
   fewer_spans s [] less h old = absurd h
   fewer_spans s (x ∷ xs) less (inl own) old = subst (λ (l : List Span). count t (span_headers l) ≡ 0) own.1 (none_counted t (span_headers xs) old.1)
-  fewer_spans s (x ∷ xs) less (inr later) old =
-      let one : one_if (t (span_header x)) ≡ 0 = ap one_if old.0 in
-      let rest : count t (span_headers later.0) ≡ 0 = fewer_spans s xs later.0 later.2 old.1 in
-      let all : count t (span_headers (x ∷ later.0)) ≡ one_if (t (span_header x)) + count t (span_headers later.0) = count_first t (span_header x) (span_headers later.0) in
-      subst (λ (l : List Span). count t (span_headers l) ≡ 0) (sym later.1) (omega (arith, one, rest, all))
+  fewer_spans s (x ∷ xs) less (inr later) old = grind (arith, one_if, count, count_first, Span, fewer_spans s xs later.0 later.2 old.1)
 
   one_span : (s : Span) (more ss : List Span) → Without s more ss → NonePass t (span_headers ss) → count t (span_headers more) ≤ 1
   one_span s [] ss h old = absurd h
-  one_span s (x ∷ xs) ss (inl own) old =
-      let most : one_if (t (span_header x)) ≤ 1 = one_most (t (span_header x)) in
-      let rest : count t (span_headers xs) ≡ 0 = none_counted t (span_headers xs) (subst (λ (l : List Span). NonePass t (span_headers l)) (sym own.1) old) in
-      let all : count t (span_headers (x ∷ xs)) ≡ one_if (t (span_header x)) + count t (span_headers xs) = count_first t (span_header x) (span_headers xs) in
-      omega (arith, most, rest, all)
+  one_span s (x ∷ xs) ss (inl own) old = grind (arith, one_if, one_most, count, none_counted, Span, count_first)
   one_span s (x ∷ xs) ss (inr later) old =
       let o : NonePass t (span_headers (x ∷ later.0)) = subst (λ (l : List Span). NonePass t (span_headers l)) later.1 old in
       let one : one_if (t (span_header x)) ≡ 0 = ap one_if o.0 in

@@ -1,10 +1,10 @@
 -- The device writes of a line on a running card at the most, and what it leaves of the card.
-use Rattle.std.proofs.Common.{◌≡◌, ℕ, ◌+◌, ◌<◌, ◌≤◌, List, [], ◌∷◌, ◌++◌, length, Option, Some, None, refl, ap, arith}
-use Rattle.std.specs.Prelude.{◌==◌, option_map}
+use Rattle.std.proofs.Common.{◌≡◌, ℕ, ◌≤◌, List, ◌∷◌, length, Option, Some, None, refl, ap, arith}
+use Rattle.std.specs.Prelude.{option_map}
 use Rattle.law_family.specs.model_machine.specs.Apdu.{Rest, rest_read, apdu_read}
 use Rattle.law_family.specs.model_machine.specs.Chain.{Turn}
 use Rattle.law_family.specs.model_device.specs.Card.{Card}
-use Rattle.law_family.specs.model_card.specs.Manager.{SessionState, Route, WrongLength, WrongClass, ToSelect, ToManager, ToApplication, route_of_parts, route}
+use Rattle.law_family.specs.model_card.specs.Manager.{SessionState, Route, route_of_parts, route}
 use Rattle.law_family.specs.model_card.specs.Commands.{command}
 use Rattle.law_family.specs.model_play.specs.DeckGrammar.{DeckLine}
 use Rattle.law_family.specs.model_play.specs.DeckGrammar as line
@@ -47,9 +47,7 @@ line_wears c session_state budget (line.Sent (line.Delete n)) is h =
     record { writes = omega (arith, writes, delete_most (instructions r.turns) n); count = w.count }
 line_wears c session_state budget (line.Sent (line.Apdu b)) is h = command_wears c session_state b budget h.fits h.limited h.on h.stands
 line_wears c session_state budget (line.Sent (line.Load u fixed session)) is h =
-    let s = load_sends budget u fixed session c session_state is.0 is.1 is.2 is.3 h in
-    let none = ap (λ (ts : List Turn). instructions ts) s.none in
-    record { writes = s.writes; count = omega (arith, none) }
+    grind (arith, load_sends budget u fixed session c session_state is.0 is.1 is.2 is.3 h, ap (λ (ts : List Turn). instructions ts) (load_sends budget u fixed session c session_state is.0 is.1 is.2 is.3 h).none)
 line_wears c session_state budget _ is h = record { writes = omega arith; count = omega arith }
 
 -- ---- its atomic writes
@@ -71,12 +69,8 @@ unfolding apdu_read
 delete_atomic k n = delete_atomic_by k (rest_read (length n ∷ n))
 
 pub line_atomic : (c : Card) (session_state : SessionState) (budget : ℕ) (l : DeckLine) → Good c session_state → let r = line_command c session_state budget l in atomic_writes r.items ≤ most_atomic (instructions r.turns) l
-line_atomic c session_state budget (line.Sent (line.Select n)) h =
-    let few = command_atoms c session_state (select_bytes n) budget h.limited h.on h.stands in
-    omega (arith, few, select_atomic (instructions (command c session_state (select_bytes n) budget).turns) n)
-line_atomic c session_state budget (line.Sent (line.Delete n)) h =
-    let few = command_atoms c session_state (delete_bytes n) budget h.limited h.on h.stands in
-    omega (arith, few, delete_atomic (instructions (command c session_state (delete_bytes n) budget).turns) n)
+line_atomic c session_state budget (line.Sent (line.Select n)) h = grind (arith, command_atoms, select_atomic)
+line_atomic c session_state budget (line.Sent (line.Delete n)) h = grind (arith, command_atoms, delete_atomic)
 line_atomic c session_state budget (line.Sent (line.Apdu b)) h = command_atoms c session_state b budget h.limited h.on h.stands
 line_atomic c session_state budget (line.Sent (line.Load u fixed session)) h = load_atoms c session_state budget u fixed session
 line_atomic c session_state budget _ h = omega arith
@@ -84,11 +78,7 @@ line_atomic c session_state budget _ h = omega arith
 -- ---- more instructions
 
 route_more : (k n : ℕ) (r : Route) → k ≤ n → most_of_route k r ≤ most_of_route n r
-route_more k n WrongLength h = omega arith
-route_more k n WrongClass h = omega arith
-route_more k n (ToSelect a) h = omega arith
-route_more k n (ToManager a) h = omega arith
-route_more k n (ToApplication a) h = omega (arith, h)
+route_more k n r h = grind arith
 
 pub most_more : (k n : ℕ) (l : DeckLine) → k ≤ n → most_writes k l ≤ most_writes n l
 most_more k n (line.Sent (line.Apdu b)) h = route_more k n (route b) h

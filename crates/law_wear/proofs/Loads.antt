@@ -19,9 +19,7 @@ use Rattle.law_family.specs.model_device.proofs.ListLemmas.{pair_bytes}
 use Rattle.law_family.specs.model_device.proofs.ImageLemmas.{all_append}
 use Rattle.law_family.specs.law_machine.proofs.AppSizes.{Limited, limited_done}
 use Rattle.law_family.specs.law_manager.specs.Orders.{Order, Opens, Loads, Creates, order_of, ins_of_part, managed}
-use Rattle.law_family.specs.law_manager.specs.Answers as quiet
 use Rattle.law_family.specs.law_manager.specs.OnCard.{IsCommand}
-use Rattle.law_family.specs.law_manager.specs.OnCard as made
 use Rattle.law_family.specs.law_manager.proofs.Orders.{order_law, part_order}
 use Rattle.law_family.specs.law_manager.proofs.OnCard.{commands_law}
 use Rattle.law_family.proofs.CardFacts.{all_take, all_drop, AreOnCard, done_stands}
@@ -103,21 +101,13 @@ managed_sends c session_state a o good =
 steps_managed : (fixed budget k : ℕ) (b : List ℕ) (c : Card) (session_state : SessionState) (a : ApduParts) (o : Order) → route b ≡ ToManager a → order_of a.ins ≡ o → Good c session_state → most_of_order c session_state a o ≤ k
     → (let r = manager_command c session_state (managed o (room_on c) c.apps session_state a) in is_done r.outcome ≡ true → fixed_in r.session_state.load ≤ fixed) → Steps fixed budget k b c session_state
 steps_managed fixed budget k b c session_state a o r is good most keeps =
-    let same : command c session_state b budget ≡ manager_command c session_state (managed o (room_on c) c.apps session_state a) = routed c session_state budget b a o r is in
-    let sends = managed_sends c session_state a o good in
-    let writes = sends.writes in
-    record {
-      first = subst (λ (x : Command). Sends k x) (sym same) (record { writes = omega (arith, writes, most); none = sends.none });
-      keeps = subst (λ (x : Command). is_done x.outcome ≡ true → fixed_in x.session_state.load ≤ fixed) (sym same) keeps;
-    }
+    grind (arith, routed c session_state budget b a o r is, managed_sends c session_state a o good, (managed_sends c session_state a o good).writes)
 
 -- ---- pieces
 
 -- a LOAD leaves the sizes of the open load
 load_size : (c : Card) (session_state : SessionState) (a : ApduParts) (p : Part) (r : Command) → IsCommand c session_state a (Loads p) r → fixed_in r.session_state.load ≤ fixed_in session_state.load
-load_size c session_state a p _ (made.refused _ sw h) = omega arith
-load_size c session_state a p _ (made.quiet _ _ _ (quiet.answers _ first rest)) = omega arith
-load_size c session_state a p _ (made.loaded _ l h) = let same : fixed_in session_state.load ≡ l.site.sizes.fixed = ap fixed_in h.is in omega (arith, same)
+load_size c session_state a p r h = grind (arith, fixed_in)
 
 -- the command of a piece
 abbrev piece_bytes : ℕ → ℕ → List ℕ → List ℕ
@@ -215,9 +205,7 @@ unfolding apdu_read
 open_route u fixed session = refl
 
 opened_size : (c : Card) (session_state : SessionState) (u : UnitParts) (fixed session : ℕ) (r : Command) → IsCommand c session_state (open_apdu u fixed session) Opens r → is_done r.outcome ≡ true → fixed_in r.session_state.load ≤ fixed
-opened_size c session_state u fixed session _ (made.refused _ sw h) done = absurd (cc (sym done ∙ h))
-opened_size c session_state u fixed session _ (made.quiet _ _ _ (quiet.answers _ first rest)) done = absurd (cc done)
-opened_size c session_state u fixed session _ (made.quiet _ _ _ (quiet.opens h)) done = omega arith
+opened_size c session_state u fixed session r h done = grind arith
 
 open_steps : (budget : ℕ) (u : UnitParts) (fixed session : ℕ) (c : Card) (session_state : SessionState) → Good c session_state → Steps fixed budget 0 (open_bytes u fixed session) c session_state
 open_steps budget u fixed session c session_state good =
@@ -228,14 +216,7 @@ open_steps budget u fixed session c session_state good =
 -- ---- a load
 
 sizes_sent : (u : UnitParts) (fixed session : ℕ) → AreBytes (open_body u fixed session)
-sizes_sent u fixed session =
-    let A = λ (b : List ℕ) (n : ℕ) (h : AreBytes b). all_append (λ x. x < 256) b (bytes2 n) h (pair_bytes n) in
-    let a1 : List ℕ = bytes2 (length u.code) in
-    let a2 : List ℕ = a1 ++ bytes2 fixed in
-    let a3 : List ℕ = a2 ++ bytes2 (length u.init) in
-    let a4 : List ℕ = a3 ++ bytes2 session in
-    let a5 : List ℕ = a4 ++ bytes2 (length u.dir) in
-    all_append (λ x. x < 256) a5 (bytes2 (length u.fci)) (all_append (λ x. x < 256) a4 (bytes2 (length u.dir)) (all_append (λ x. x < 256) a3 (bytes2 session) (all_append (λ x. x < 256) a2 (bytes2 (length u.init)) (all_append (λ x. x < 256) a1 (bytes2 fixed) (pair_bytes (length u.code)) (pair_bytes fixed)) (pair_bytes (length u.init))) (pair_bytes session)) (pair_bytes (length u.dir))) (pair_bytes (length u.fci))
+sizes_sent u fixed session = grind (arith, all_append, pair_bytes)
 
 pub load_sends : (budget : ℕ) (u : UnitParts) (fixed session : ℕ) (c : Card) (session_state : SessionState) → AreBytes u.code → AreBytes u.init → AreBytes u.dir → AreBytes u.fci → Good c session_state
     → Sends (most_of_load u fixed) (send c session_state budget (load_commands u fixed session))

@@ -1,13 +1,13 @@
 -- How a row treats the pending pieces of its frame: what it writes at once, and what it commits.
-use Rattle.std.specs.Prelude.{ℕ, Bool, true, false, cond, ◌||◌, nat_le, ◌==◌, List, [], length, Option, Some, None, ⊤}
-use Rattle.std.proofs.Common.{◌≡◌, ◌⊎◌, refl, sym, subst, ap, inl, inr}
+use Rattle.std.specs.Prelude.{ℕ, Bool, true, false, List, [], length, Option, Some, None, ⊤}
+use Rattle.std.proofs.Common.{◌≡◌, ◌⊎◌, refl, sym, subst, inl, inr, arith}
 use Rattle.law_family.specs.model_machine.specs.declared.instruction.Ins.{Ins}
 use Rattle.law_family.specs.model_machine.specs.declared.instruction.Ins.TheVariants as ins
-use Rattle.law_family.specs.model_machine.specs.Frame.{Frame, Effect, Place, Static, Dynamic, Public, static_written, write_effect_at, where_is, write_effect, protect, static_bytes, pending_change}
+use Rattle.law_family.specs.model_machine.specs.Frame.{Frame, Effect, Place, static_written, write_effect_at, where_is, write_effect, protect}
 use Rattle.law_family.specs.model_machine.specs.Primitives.{Around, Done, Primitive, SetProtection, primitive}
 use Rattle.law_family.specs.model_machine.specs.Row.{effect}
 use Rattle.law_family.specs.law_machine.specs.FewWords.{most_of, most_words}
-use Rattle.law_family.specs.law_rows.specs.Shapes.{Act, Writes, Protects, Shape, act_effect, with_flags, meaning, prim_shape, pair_shape, shape}
+use Rattle.law_family.specs.law_rows.specs.Shapes.{Act, Writes, Shape, act_effect, with_flags, meaning, prim_shape, pair_shape, shape}
 use Rattle.law_family.specs.law_rows.proofs.RowShapes.{shapes}
 
 -- A row leaves the pending pieces, and may write at most 33 words at once; or it writes nothing; or it commits: none
@@ -23,21 +23,14 @@ static_pays most few true f public i b = inr (inl refl)
 static_pays most few false f public i b = inl (refl, few)
 
 placed_pays : (most : ℕ) → most ≡ 33 → (f : Frame) (public b : List ℕ) (o : Option Place) → Pays most f.pieces (write_effect_at f public b o)
-placed_pays most few f public b None = inr (inl refl)
-placed_pays most few f public b (Some (Static i)) = static_pays most few f.protected f public i b
-placed_pays most few f public b (Some (Dynamic i)) = inr (inl refl)
-placed_pays most few f public b (Some (Public i)) = inr (inl refl)
+placed_pays most few f public b o = grind (arith, static_pays)
 
 written_pays : (most : ℕ) → most ≡ 33 → (f : Frame) (public : List ℕ) (a : ℕ) (b : List ℕ) → Pays most f.pieces (write_effect f public a b)
 unfolding write_effect
 written_pays most few f public a b = placed_pays most few f public b (where_is f a (length b))
 
 protect_pays : (most : ℕ) (f : Frame) (public : List ℕ) (mode : ℕ) → Pays most f.pieces (protect f public mode)
-protect_pays most f public mode = by (mode == 1 || mode == 3)
-  where
-    by : (b : Bool) → Pays most f.pieces (cond {A = Effect} b (record { frame = record f { fixed = static_bytes f; pieces = []; protected = nat_le 2 mode }; public = public; changes = pending_change f f.pieces }) (record { frame = record f { pieces = []; protected = nat_le 2 mode }; public = public; changes = None }))
-    by true = inr (inr (refl, λ e. ap (λ (ps : List (ℕ × List ℕ)). pending_change f ps) e))
-    by false = inr (inl refl)
+protect_pays most f public mode = grind arith
 
 -- if an act is a write
 abbrev OnWrite : Act → Type 0 → Type 0
@@ -49,9 +42,7 @@ on_write P (Writes a n b) p = p
 on_write P _ p = tt
 
 act_pays : (act : Act) (most : ℕ) → OnWrite act (most ≡ 33) → (f : Frame) (public : List ℕ) → Pays most f.pieces (act_effect act f public)
-act_pays (Writes a n b) most few f public = written_pays most few f public a b
-act_pays (Protects mode) most few f public = protect_pays most f public mode
-act_pays _ most few f public = inr (inl refl)
+act_pays act most few f public = grind (arith, written_pays, protect_pays)
 
 -- ---- rows
 

@@ -1,5 +1,5 @@
 -- The number of words that bytes at a place touch.
-use Rattle.std.proofs.Common.{◌≡◌, ℕ, zero, suc, ◌+◌, ◌-◌, ◌*◌, ◌%◌, ◌≤◌, Bool, true, false, cond, List, [], ◌∷◌, take, drop, length, refl, arith}
+use Rattle.std.proofs.Common.{◌≡◌, ℕ, zero, suc, ◌+◌, ◌-◌, ◌*◌, ◌%◌, ◌≤◌, Bool, cond, List, [], ◌∷◌, take, drop, length, refl, arith}
 use Rattle.std.proofs.lemmas.List.{length-drop, length-replicate}
 use Rattle.law_family.specs.model_device.specs.Bytes.{zeros}
 use Rattle.law_family.specs.model_card.specs.Manager.{is_empty, in_words, word_parts}
@@ -9,13 +9,7 @@ parts n at b = length (in_words n at b)
 
 words_by : (n at : ℕ) (b : List ℕ) (t : Bool) → is_empty b ≡ t → 8 * parts n (at + (8 - at % 8)) (drop (8 - at % 8) b) ≤ (at + (8 - at % 8)) % 8 + length (drop (8 - at % 8) b) + 7
     → 8 * length (cond t [] ((at, take (8 - at % 8) b) ∷ in_words n (at + (8 - at % 8)) (drop (8 - at % 8) b))) ≤ at % 8 + length b + 7
-words_by n at b true e rest = omega arith
-words_by n at [] false e rest = absurd (cc e)
-words_by n at (x ∷ xs) false e rest =
-    let k : ℕ = 8 - at % 8 in
-    let less : length (drop k (x ∷ xs)) ≡ length (x ∷ xs) - k = length-drop k (x ∷ xs) in
-    let whole : (at + (8 - at % 8)) % 8 ≡ 0 = omega arith in
-    omega (arith, less, whole, rest)
+words_by n at b t e rest = grind (arith, length-drop)
 
 in_words_few : (n at : ℕ) (b : List ℕ) → 8 * parts n at b ≤ at % 8 + length b + 7
 in_words_few zero at b = omega arith
@@ -27,7 +21,4 @@ parts_few at b = in_words_few (length b) at b
 
 -- the parts of zeros from `init` up to `fixed`
 pub zeros_few : (init fixed : ℕ) → init ≤ fixed → 8 * length (word_parts init (zeros (fixed - init))) ≤ fixed + 7
-zeros_few init fixed h =
-    let few : 8 * length (word_parts init (zeros (fixed - init))) ≤ init % 8 + length (zeros (fixed - init)) + 7 = parts_few init (zeros (fixed - init)) in
-    let size : length (zeros (fixed - init)) ≡ fixed - init = length-replicate {A = ℕ} (fixed - init) 0 in
-    omega (arith, few, size)
+zeros_few init fixed h = grind (arith, parts_few, length-replicate)

@@ -1,22 +1,19 @@
 -- No line of a play makes more device writes than its row of the table says.
-use Rattle.std.proofs.Common.{◌≡◌, ℕ, zero, suc, ◌+◌, ◌-◌, ◌<◌, ◌≤◌, Bool, true, false, cond, List, [], ◌∷◌, take, Option, Some, None, refl, sym, subst, arith}
-use Rattle.std.specs.Prelude.{⊤, ◌==◌, nat_le}
+use Rattle.std.proofs.Common.{◌≡◌, ℕ, zero, suc, ◌≤◌, Bool, true, false, cond, List, [], ◌∷◌, take, Option, Some, None, sym, subst, arith}
+use Rattle.std.specs.Prelude.{⊤, nat_le}
 use Rattle.std.proofs.lemmas.Bool.{leb-true}
 use Rattle.law_family.specs.model_device.specs.declared.device.Stop.TheVariants as stop
 use Rattle.law_family.specs.model_device.specs.Device.{IsImage}
-use Rattle.law_family.specs.model_device.specs.Image.{One}
-use Rattle.law_family.specs.model_device.specs.Stopped.{stands}
 use Rattle.law_family.specs.model_device.specs.Card.{Card}
 use Rattle.law_family.specs.model_device.specs.PowerUp.{OnCard, migration}
-use Rattle.law_family.specs.model_card.specs.Items.{moves, apps_after_items, StopAt, at_stop}
+use Rattle.law_family.specs.model_card.specs.Items.{moves, StopAt}
 use Rattle.law_family.specs.model_card.specs.Commands.{Command}
 use Rattle.law_family.specs.model_play.specs.DeckGrammar.{DeckLine}
 use Rattle.law_family.specs.model_play.specs.DeckGrammar as line
-use Rattle.law_family.specs.model_play.specs.Play.{Armed, Unarmed, ArmedCut, ArmedFail, Running, Unpowered, Warm, State, BeforePower, AfterPower, Step, line_command, hit_of, moves_with, FailedWrite, live_after, power_after, stopped_power, power_moves, power_step, line_after, step, play_at_power, plays, start, moves_of, MayHit, Possible}
+use Rattle.law_family.specs.model_play.specs.Play.{Armed, Running, Unpowered, Warm, State, BeforePower, AfterPower, Step, line_command, hit_of, moves_with, FailedWrite, power_moves, power_step, line_after, step, play_at_power, plays, moves_of, MayHit, Possible}
 use Rattle.law_family.specs.model_play.specs.Given.{budget_in}
 use Rattle.law_family.specs.model_play.specs.ReadyAgain.{IsLine, AreLines}
 use Rattle.law_family.specs.model_play.proofs.PlayLemmas.{step_is}
-use Rattle.law_family.specs.model_device.proofs.BoolLemmas.{cond_most}
 use Rattle.law_family.proofs.CardFacts.{AreOnCard, done_stands, whole_stand}
 use Rattle.law_family.proofs.FewItems.{CommandStands}
 use Rattle.law_family.proofs.PlaySizes.{StateFits, step_fits}
@@ -25,7 +22,7 @@ use Rattle.law_wear.specs.Most.{most_atomic, most_writes}
 use Rattle.law_wear.specs.Laws.{atomic_writes, instructions, WritesFew, EachWritesFew, writes_of_play, most_of_play, WearLaw}
 use Rattle.law_wear.proofs.Loads.{Good}
 use Rattle.law_wear.proofs.Lines.{line_wears, line_atomic, most_more}
-use Rattle.law_family.proofs.FewLines.{line_stands, early_stands, BaseStands, after_stop, base_on_card, base_stopped, base_powered, base_cond, warmed_stands}
+use Rattle.law_family.proofs.FewLines.{line_stands, early_stands, BaseStands, after_stop, base_on_card, warmed_stands}
 use Rattle.law_family.specs.model_play.proofs.LineKinds.{past_power, StepKind, Early, Quiet, Powers, Sends, by_kind}
 
 -- ---- the writes that recovery may have to make
@@ -49,10 +46,7 @@ cut_within k m x true e = leb-true k m e
 cut_within k m x false e = omega arith
 
 hit_within : (a : Armed) (m : ℕ) (w : Option FailedWrite) → IsWithin w m → moves_with m (hit_of a m w) ≤ m
-hit_within a m (Some w) h = h
-hit_within (ArmedCut k x) m None h = cut_within k m x (nat_le k m) refl
-hit_within Unarmed m None h = omega arith
-hit_within (ArmedFail k) m None h = omega arith
+hit_within a m w h = grind (arith, cut_within)
 
 possible_within : (z : State) (l : ℕ × DeckLine) (w : Option FailedWrite) (m : ℕ) → moves_of z l ≤ m → MayHit z l w → IsWithin w m
 possible_within z l None m h k = tt
@@ -67,36 +61,17 @@ record LineWears (z : State) (l : ℕ × DeckLine) (w : Option FailedWrite) (u :
 
 -- ---- power lines
 
-stopped_good : (s : Warm) (t : StopAt) (b : Bool) → s.owed ≤ 65 → BaseStands s.base Unpowered → StateGood (AfterPower (stopped_power s t b))
-stopped_good s t true few h = (cond_most _ (s.owed - 1 + 1) 0 65 (omega (arith, few)) (omega arith), base_stopped s.base t.kind h)
-stopped_good s t false few h = (cond_most _ 2 0 65 (omega arith) (omega arith), base_cond (stands One 1 (t.at - s.owed) t.left) s.base (live_after t.kind) (base_stopped s.base t.kind h))
-
-power_good : (s : Warm) (t : Option StopAt) → s.owed ≤ 65 → BaseStands s.base Unpowered → StateGood (AfterPower (power_after s t))
-power_good s None few h = (omega arith, base_powered s.base h)
-power_good s (Some t) few h = stopped_good s t (nat_le t.at s.owed) few h
-
 power_few : (s : Warm) → s.owed ≤ 65 → power_moves s ≤ 71
 power_few s few = let more : migration s.base ≤ 6 = migration_most s.base in omega (arith, few, more)
 
 power_wears : (n : ℕ) (z : State) (s : Warm) (a : Armed) (w : Option FailedWrite) → moves_of z (n, line.Power) ≤ power_moves s → s.owed ≤ 65 → BaseStands s.base Unpowered
     → LineWears z (n, line.Power) w (power_step n z s (hit_of a (power_moves s) w))
-power_wears n z s a w all few h =
-    let t = hit_of a (power_moves s) w in
-    let most : power_moves s ≤ 71 = power_few s few in
-    record {
-      few = λ may. let within : moves_with (power_moves s) t ≤ power_moves s = hit_within a (power_moves s) w (possible_within z (n, line.Power) w (power_moves s) all may) in omega (arith, within, most);
-      atomic = omega arith;
-      count = omega arith;
-      next = power_good s t few h;
-    }
+power_wears n z s a w all few h = grind (arith, hit_of a (power_moves s) w, power_few s few)
 
 -- ---- lines of a running card
 
 after_good : (s : Warm) (c : Card) (r : Command) (t : Option StopAt) → s.owed ≤ 65 → AreOnCard c.apps → CommandStands c.apps r → StateGood (AfterPower (line_after s c r t))
-after_good s c r None few on k = (few, (done_stands r.items c.apps on k.items, k.session_state))
-after_good s c r (Some t) few on k =
-    let whole = (at_stop r.items t.at t.left).whole in
-    (at_stop_owed r.items t.at t.left k.few, (done_stands whole c.apps on (whole_stand r.items c.apps t.at t.left k.items), after_stop (apps_after_items c.apps whole) t.kind))
+after_good s c r t few on k = grind (arith, done_stands, at_stop_owed, whole_stand, after_stop)
 
 -- ---- lines up to the first power line
 
@@ -161,6 +136,4 @@ summed [] h = omega arith
 summed (t ∷ ts) h = let first = h.0.within in let rest = summed ts h.1 in omega (arith, first, rest)
 
 pub wear_law : WearLaw
-wear_law ls m ws may image n are =
-    let each = each_from n (start m) ls ws tt image may are in
-    record { each = each; all = summed (take n (plays (start m) ls ws)) each }
+wear_law ls m ws may image n are = grind (arith, each_from, summed)

@@ -1,6 +1,6 @@
 -- A run makes at most 78 device writes for each instruction: a commit of more is paid by the instructions before it,
 -- which wrote nothing.
-use Rattle.std.proofs.Common.{◌≡◌, ℕ, zero, suc, ◌+◌, ◌*◌, ◌≤◌, Bool, true, false, cond, List, [], ◌∷◌, length, Option, Some, None, Result, Ok, Err, refl, ap, ◌∙◌, arith, inl, inr}
+use Rattle.std.proofs.Common.{◌≡◌, ℕ, zero, suc, ◌+◌, ◌*◌, ◌≤◌, Bool, true, false, cond, List, [], ◌∷◌, length, Option, Some, None, Result, Ok, Err, refl, ap, arith, inl, inr}
 use Rattle.std.specs.Prelude.{◌||◌, nat_lt, nat_le}
 use Rattle.law_family.specs.model_machine.specs.declared.instruction.Ins.{Ins}
 use Rattle.law_family.specs.model_machine.specs.declared.instruction.DecodeFault.{DecodeFault}
@@ -11,15 +11,15 @@ use Rattle.law_family.specs.model_machine.specs.Apdu.{ApduParts}
 use Rattle.law_family.specs.model_machine.specs.Code.{Shaped, instruction_at}
 use Rattle.law_family.specs.model_device.specs.Card.{App}
 use Rattle.law_family.specs.model_machine.specs.Frame.{Frame, la_of}
-use Rattle.law_family.specs.model_machine.specs.Primitives.{Then, Goes, Exits, Delegates}
+use Rattle.law_family.specs.model_machine.specs.Primitives.{Then}
 use Rattle.law_family.specs.model_machine.specs.Row.{Does, causes, effect, first_cause, row_end, row}
-use Rattle.law_family.specs.model_machine.specs.Chain.{Outcome, Write, Chain, Ran, Acted, Follows, Continues, Ends, code_in, write_of, chain_after_effect, is_active, depth_of, called_app, chain_after_call, after_exit, follows, row_turn, turn_of_fetch, frame_at, around, turn_of_chain, run_after_turn, run_of_chain, start_app, start}
+use Rattle.law_family.specs.model_machine.specs.Chain.{Outcome, Write, Chain, Ran, Acted, Follows, Continues, Ends, code_in, write_of, chain_after_effect, is_active, depth_of, called_app, chain_after_call, after_exit, follows, row_turn, turn_of_fetch, frame_at, around, turn_of_chain, run_after_turn, run_of_chain, start}
 use Rattle.law_family.specs.law_machine.specs.FewWords.{words_in, most_words}
 use Rattle.law_family.specs.law_machine.specs.FewRuns.{AreCoded}
 use Rattle.law_family.specs.law_machine.proofs.RowWords.{none_holds, DoneRowFacts, row_few, reported_any, most_64}
 use Rattle.law_family.specs.law_machine.proofs.FewRuns.{FewChain, FewNext, reported_by, acted_few, start_few}
 use Rattle.law_family.specs.law_machine.proofs.RunSizes.{ChainFits, NextFits, acted_fits, start_fits}
-use Rattle.std.specs.Prelude.{is_some, filter, ◌++◌}
+use Rattle.std.specs.Prelude.{is_some, ◌++◌}
 use Rattle.law_family.specs.model_machine.specs.Frame.{Effect}
 use Rattle.law_family.specs.model_machine.specs.Chain.{Turn, run}
 use Rattle.law_family.specs.model_card.specs.Items.{moves, write_items}
@@ -67,11 +67,7 @@ abbrev counts : Turn → ℕ
 counts t = cond (is_some t.ins) 1 0
 
 instructions_first : (t : Turn) (ts : List Turn) → instructions (t ∷ ts) ≡ counts t + instructions ts
-instructions_first t ts = by (is_some t.ins)
-  where
-    by : (b : Bool) → length (cond b (t ∷ filter (λ u. is_some u.ins) ts) (filter (λ u. is_some u.ins) ts)) ≡ cond b 1 0 + instructions ts
-    by true = omega arith
-    by false = omega arith
+instructions_first t ts = grind arith
 
 paid_most : (ps : List (ℕ × List ℕ)) → paid ps ≤ 69
 paid_most [] = omega arith
@@ -102,9 +98,7 @@ called_pays s n None = omega arith
 called_pays s n (Some a) = called_by s n (is_active n s.frame s.below || nat_le 4 (depth_of s)) a
 
 follows_pays : (s : Chain) (t : Then) → paid_next (follows s t) ≤ paid_next (Continues s)
-follows_pays s Goes = omega arith
-follows_pays s Exits = exited_pays s s.below refl
-follows_pays s (Delegates n) = called_pays s n (lookup s.map n)
+follows_pays s t = grind (arith, exited_pays, called_pays)
 
 -- ---- turns
 
@@ -124,19 +118,9 @@ committed n [] o h none = let zero-writes : written (write_of n o) ≡ 0 = none_
 committed n (p ∷ ps) o h none = let most : written (write_of n o) ≤ 147 = most_written n o h in omega (arith, most)
 
 pays : (n : List ℕ) (most : ℕ) (pieces : List (ℕ × List ℕ)) (e : Effect) → most ≤ 64 → words_in e.changes ≤ most → Pays most pieces e → written (write_of n e.changes) + paid e.frame.pieces ≤ paid pieces + 78
-pays n most pieces e high words (inl same) =
-    let is : most ≡ 33 = same.1 in
-    let few : written (write_of n e.changes) ≤ 78 = few_written n e.changes (omega (arith, words, is)) in
-    let kept : paid e.frame.pieces ≡ paid pieces = ap paid same.0 in
-    omega (arith, few, kept)
-pays n most pieces e high words (inr (inl none)) =
-    let zero-writes : written (write_of n e.changes) ≡ 0 = none_written n e.changes none in
-    let most-paid : paid e.frame.pieces ≤ 69 = paid_most e.frame.pieces in
-    omega (arith, zero-writes, most-paid)
-pays n most pieces e high words (inr (inr commit)) =
-    let all : written (write_of n e.changes) ≤ paid pieces + 78 = committed n pieces e.changes (omega (arith, words, high)) commit.1 in
-    let gone : paid e.frame.pieces ≡ 0 = ap paid commit.0 in
-    omega (arith, all, gone)
+pays n most pieces e high words (inl same) = grind (arith, few_written, paid)
+pays n most pieces e high words (inr (inl none)) = grind (arith, none_written, paid, paid_most)
+pays n most pieces e high words (inr (inr commit)) = grind (arith, paid, committed)
 
 done_pays : (ch : Chain) (i : Ins) (at : ℕ) → FewChain ch → (let f = frame_at ch.frame at in DoneRowFacts i f ch.public (around ch)) → ActPays ch (row_turn ch i (Does (effect i (frame_at ch.frame at) ch.public (around ch))))
 done_pays ch i at h p =
@@ -151,14 +135,7 @@ done_pays ch i at h p =
 judged_pays : (ch : Chain) (i : Ins) (at : ℕ) (o : Option Abend) → first_cause (causes i (frame_at ch.frame at) ch.public (around ch)) ≡ o → FewChain ch → Shaped i
     → ActPays ch (row_turn ch i (row_end o (effect i (frame_at ch.frame at) ch.public (around ch))))
 judged_pays ch i at (Some a) e h shaped = record { paid = omega arith; one = omega arith; same = refl }
-judged_pays ch i at None e h shaped =
-    let f = frame_at ch.frame at in
-    done_pays ch i at h
-    (record {
-      shaped = shaped;
-      reported = reported_any i (around ch).delegator (reported_by ch.below h.below);
-      none = none_holds (causes i f ch.public (around ch)) e;
-    })
+judged_pays ch i at None e h shaped = grind (arith, done_pays, reported_any, reported_by, none_holds)
 
 row_pays : (ch : Chain) (i : Ins) (at : ℕ) → FewChain ch → Shaped i → ActPays ch (row_turn ch i (row i (frame_at ch.frame at) ch.public (around ch)))
 unfolding row
@@ -182,9 +159,7 @@ pub record RanFew (budget least : ℕ) (r : Ran) : Type 0 where
 
 ran_on_few : (n : ℕ) (ch : Chain) (t : Acted) (session : List ℕ) (f : Follows) (rest : Chain → Ran) → t.count ≤ 1 → written t.writes + paid_next f ≤ paid_next (Continues ch) + 78 * t.count → atomic t.writes ≤ t.count → counts t.turn ≡ t.count
     → NextFits ch f → FewNext f → ((c : Chain) → ChainFits c → FewChain c → RanFew n (paid_next (Continues c)) (rest c)) → RanFew (suc n) (paid_next (Continues ch)) (run_after_turn t session f rest)
-ran_on_few n ch t session (Ends o) rest one paid each same next few more =
-    let first : instructions (t.turn ∷ []) ≡ counts t.turn + 0 = instructions_first t.turn [] in
-    record { writes = omega (arith, first, paid, same); atomic = omega (arith, first, same, each); count = omega (arith, first, same, one) }
+ran_on_few n ch t session (Ends o) rest one paid each same next few more = grind (arith, instructions_first t.turn [])
 ran_on_few n ch t session (Continues c) rest one paid each same next few more =
     let r : RanFew n (paid_next (Continues c)) (rest c) = more c next.1 few in
     let first : instructions (t.turn ∷ (rest c).turns) ≡ counts t.turn + instructions (rest c).turns = instructions_first t.turn (rest c).turns in
@@ -201,10 +176,6 @@ ran_few zero ch fits h = record { writes = omega arith; atomic = omega arith; co
 ran_few (suc n) ch fits h =
     let t : ActPays ch (turn_of_chain ch) = acted_pays ch h in
     ran_on_few n ch (turn_of_chain ch) _ (turn_of_chain ch).follows (λ c. run_of_chain n c) (turn_count ch) t.paid t.one t.same (acted_fits ch fits).next (acted_few ch fits h).next (λ c k l. ran_few n c k l)
-
--- a run begins with nothing pending
-start_paid : (m : List (List ℕ × App)) (first session : List ℕ) (apdu : ApduParts) (a : App) → paid_next (Continues (start_app m first session apdu a)) ≡ 0
-start_paid m first session apdu a = refl
 
 -- the device writes of a command to an application, and the instructions that it runs
 pub run_few : (m : List (List ℕ × App)) (first session : List ℕ) (apdu : ApduParts) (budget : ℕ) → AreCoded m → length first ≤ 16 → RanFew budget 0 (run m first session apdu budget)

@@ -73,9 +73,7 @@ put_both s p w (x ∷ xs) less sorted (inl own) = by (nat_lt p x.0) refl
     same = ap (put_at p w) own.1
 
     by : (b : Bool) → nat_lt p x.0 ≡ b → Without s (cond b ((p, w) ∷ x ∷ xs) (x ∷ put_at p w xs)) (put_at p w less)
-    by true e =
-        let front : put_at p w xs ≡ (p, w) ∷ xs = put_first p w x.0 xs (ltb-true p x.0 e) sorted.0 in
-        inr (xs, sym same ∙ front, inl (own.0, refl))
+    by true e = grind (arith, put_first, ltb-true)
     by false e = inl (own.0, same)
 put_both s p w (x ∷ xs) less sorted (inr later) =
     subst (λ (l : List Span). Without s (put_at p w (x ∷ xs)) (put_at p w l)) (sym later.1) (by (nat_lt p x.0) (put_both s p w xs later.0 sorted.1 later.2))
