@@ -1,17 +1,14 @@
 -- How often one word is written: by the items of a line, by a line, and by a play.
-use Rattle.std.specs.Prelude.{◌≡◌, ℕ, ◌+◌, ◌*◌, ◌≤◌, Bool, true, false, cond, nat_le, ◌==◌, List, [], ◌∷◌, ◌++◌, length, take, ⊤}
+use Rattle.std.specs.Prelude.{◌≡◌, ℕ, ◌+◌, ◌*◌, ◌≤◌, Bool, true, false, cond, nat_le, ◌==◌, List, [], ◌∷◌, ◌++◌, length, take}
 use Rattle.law_family.specs.model_device.specs.Image.{Journal, One, Two, gate}
 use Rattle.law_family.specs.model_device.specs.Stopped.{replay, writes, IsAtomic}
 use Rattle.law_family.specs.model_device.specs.Card.{heap_start}
 use Rattle.law_family.specs.model_device.specs.Layout.{fault}
 use Rattle.law_family.specs.model_device.specs.PowerUp.{Base, base_of, migration}
 use Rattle.law_family.specs.model_card.specs.Items.{Change, Item, Plain, Atomic}
-use Rattle.law_family.specs.model_machine.specs.Chain.{Turn}
-use Rattle.law_family.specs.model_play.specs.DeckGrammar.{DeckLine}
-use Rattle.law_family.specs.model_play.specs.DeckGrammar as line
 use Rattle.law_family.specs.model_play.specs.Given.{is_power}
 use Rattle.law_family.specs.model_play.specs.Play.{State, BeforePower, AfterPower, Step}
-use Rattle.law_wear.specs.Laws.{instructions, times_written}
+use Rattle.law_wear.specs.Laws.{instructions}
 use Rattle.law_wear.specs.Most.{most_atomic}
 
 -- ---- the device writes of items
