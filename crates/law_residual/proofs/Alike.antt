@@ -1,15 +1,13 @@
 -- Plays of two images that mean the same, step by step.
-use Rattle.std.proofs.Common.{◌≡◌, ℕ, Bool, true, false, List, [], ◌∷◌, ◌++◌, drop, Option, Some, None, refl, sym, ap, subst, ◌∙◌}
-use Rattle.std.specs.List.{AllByRecursion}
+use Rattle.std.proofs.Common.{◌≡◌, ℕ, false, List, [], ◌∷◌, ◌++◌, drop, Option, refl, ap, subst, ◌∙◌, arith}
 use Rattle.model_play.specs.model_device.specs.Layout.{fault}
 use Rattle.model_play.specs.model_device.specs.PowerUp.{Base, base_of, pending_journal}
 use Rattle.model_play.specs.model_device.specs.Image.{Journal, count_of_recovery_writes, which}
-use Rattle.model_play.specs.model_card.specs.Items.{StopAt}
 use Rattle.model_play.specs.DeckGrammar.{DeckLine}
 use Rattle.model_play.specs.DeckGrammar as line
-use Rattle.model_play.specs.Play.{plays, play_at_power, first_failure, hit_of, power_moves, power_step, step, start, Armed, BeforePower, AfterPower, FailedWrite, State, Step, Unpowered, Warm}
-use Rattle.model_play.specs.Transcript.{texts, transcript, plain_text}
-use Rattle.model_play.specs.TraceText.{traced_text, trace_text}
+use Rattle.model_play.specs.Play.{plays, play_at_power, first_failure, hit_of, power_moves, power_step, step, start, Armed, BeforePower, FailedWrite, State, Step, Unpowered, Warm}
+use Rattle.model_play.specs.Transcript.{texts, plain_text}
+use Rattle.model_play.specs.TraceText.{traced_text}
 use Rattle.law_residual.specs.Laws.{writes_words, MeanAlike, NoneWritesWords, ShowAlike}
 
 -- two states: before the first power line with images that mean the same, or one state
@@ -74,6 +72,4 @@ plays_alike (l ∷ ls) s z ws alike none =
 
 -- the law
 pub residual : (m k : List (List ℕ)) → MeanAlike m k → (ls : List (ℕ × DeckLine)) → NoneWritesWords ls → (ws : List (Option FailedWrite)) → ShowAlike m k ls ws
-residual m k alike ls none ws =
-    let both = plays_alike ls (start m) (start k) ws (NotYet m k _ _ alike) none in
-    record { transcript = both.plain; trace = both.traced }
+residual m k alike ls none ws = grind (arith, plays_alike ls (start m) (start k) ws (NotYet m k _ _ alike) none)

@@ -1,5 +1,5 @@
 -- Images that have a card's words in common mean the same card.
-use Rattle.std.proofs.Common.{◌≡◌, ℕ, zero, suc, ◌+◌, ◌-◌, ◌≤◌, Bool, true, false, cond, ◌&&◌, ◌||◌, not, ◌==◌, nat_le, nat_lt, List, [], ◌∷◌, ◌++◌, length, take, drop, Option, Some, None, refl, sym, ap, subst, ◌∙◌, arith}
+use Rattle.std.proofs.Common.{◌≡◌, ℕ, zero, suc, ◌+◌, ◌-◌, ◌≤◌, Bool, true, false, cond, ◌&&◌, ◌||◌, not, ◌==◌, nat_le, nat_lt, List, [], ◌∷◌, length, take, drop, Option, Some, None, refl, sym, ap, subst, ◌∙◌, arith}
 use Rattle.std.specs.Prelude.{bytes_eq, slice_index}
 use Rattle.std.specs.List.{AllByRecursion, concat}
 use Rattle.std.proofs.lemmas.Bool.Decides.{nat_tests}
@@ -8,10 +8,10 @@ use Rattle.model_play.specs.model_device.specs.declared.cause.Cause.TheVariants.
 use Rattle.model_play.specs.model_device.specs.Bytes.{be2, insert, or_else, has_name, up}
 use Rattle.std.proofs.lemmas.List.{drop-take}
 use Rattle.std.proofs.Math.Seq.{drop-nil}
-use Rattle.model_play.specs.model_device.specs.Card.{app_at, app_of, apps_of, block_and, blocks, blocks_from, card_of, cells, header, heap_start, is_header, means, name_at, name_in, record_at, section, word, words_of_lengths, App, Block, Card}
-use Rattle.model_play.specs.model_device.specs.Image.{look, look_at, which, count_of_recovery_writes, debt, Closed, Look, Neither, Which}
-use Rattle.model_play.specs.model_device.specs.Layout.{bad_block, bad_chain, bad_header, bad_link, first_hole, bad_record, by_cause, fault, is_hole, is_record, next_block, no_root, root, words_fault}
-use Rattle.model_play.specs.model_device.specs.PowerUp.{base_of, pending_journal, Base, OnCard}
+use Rattle.model_play.specs.model_device.specs.Card.{app_at, app_of, apps_of, block_and, blocks, blocks_from, card_of, cells, header, heap_start, is_header, name_at, name_in, record_at, section, word, words_of_lengths, App, Block, Card}
+use Rattle.model_play.specs.model_device.specs.Image.{look, look_at, debt, Closed, Which}
+use Rattle.model_play.specs.model_device.specs.Layout.{bad_block, bad_chain, bad_header, bad_link, first_hole, bad_record, by_cause, fault, is_hole, is_record, next_block, no_root, root}
+use Rattle.model_play.specs.model_device.specs.PowerUp.{base_of, pending_journal, OnCard}
 use Rattle.model_play.specs.model_device.proofs.BoolLemmas.{or_else_none}
 use Rattle.model_play.specs.model_device.proofs.LayoutLemmas.{cause_none, closed_fault, closed_means}
 use Rattle.law_residual.specs.Laws.{HoldOneCard, MeanAlike, SameInBlock}
@@ -67,20 +67,7 @@ abbrev app_with : List ℕ → List ℕ → List ℕ → List ℕ → ℕ → �
 app_with code fixed dir fci session deny place = record { code = code; fixed = fixed; session = session; deny = deny; dir = dir; fci = fci; place = place }
 
 app_same : (m k : List (List ℕ)) (b : Block) (r : List ℕ) → take b.words (drop b.place m) ≡ take b.words (drop b.place k) → b.words ≡ words_of_lengths (be2 r 20) (be2 r 22) (slice_index r 17) (slice_index r 18) → app_of m b.place r ≡ app_of k b.place r
-app_same m k b r same words =
-    let p = b.place in
-    let code = be2 r 20 in
-    let fixed = be2 r 22 in
-    let dir = slice_index r 17 in
-    let fci = slice_index r 18 in
-    let one = section_same m k p b.words (p + 5) code same (omega arith) (omega (arith, words)) in
-    let two = section_same m k p b.words (p + 5 + up code 8) fixed same (omega arith) (omega (arith, words)) in
-    let three = section_same m k p b.words (p + 5 + up code 8 + up fixed 8) dir same (omega arith) (omega (arith, words)) in
-    let four = section_same m k p b.words (p + 5 + up code 8 + up fixed 8 + up dir 8) fci same (omega arith) (omega (arith, words)) in
-    ap (λ (t : List ℕ). app_with t (section m (p + 5 + up code 8) fixed) (section m (p + 5 + up code 8 + up fixed 8) dir) (section m (p + 5 + up code 8 + up fixed 8 + up dir 8) fci) (be2 r 24) (be2 r 26) p) one
-    ∙ ap (λ (t : List ℕ). app_with (section k (p + 5) code) t (section m (p + 5 + up code 8 + up fixed 8) dir) (section m (p + 5 + up code 8 + up fixed 8 + up dir 8) fci) (be2 r 24) (be2 r 26) p) two
-    ∙ ap (λ (t : List ℕ). app_with (section k (p + 5) code) (section k (p + 5 + up code 8) fixed) t (section m (p + 5 + up code 8 + up fixed 8 + up dir 8) fci) (be2 r 24) (be2 r 26) p) three
-    ∙ ap (λ (t : List ℕ). app_with (section k (p + 5) code) (section k (p + 5 + up code 8) fixed) (section k (p + 5 + up code 8 + up fixed 8) dir) t (be2 r 24) (be2 r 26) p) four
+app_same m k b r same words = grind (arith, section_same)
 
 -- ---- records
 
@@ -93,11 +80,7 @@ record_lengths : (r : List ℕ) (words : ℕ) → is_record r words ≡ true →
 record_lengths r words e = grind (arith, nat_tests, e)
 
 good_record : (r : List ℕ) (words : ℕ) (names : List (List ℕ)) (used : ℕ) → is_good r words names used ≡ true → is_record r words ≡ true
-good_record r words names used e = by (is_record r words) _ _ e
-  where
-    by : (a b c : Bool) → (a && b && c) ≡ true → a ≡ true
-    by true b c h = refl
-    by false b c h = h
+good_record r words names used e = grind arith
 
 -- the places of the records and the applications of two images with these blocks in common
 record RecordsAlike (m k : List (List ℕ)) (bs : List Block) (names : List (List ℕ)) (used : ℕ) : Type 0 where
@@ -209,10 +192,7 @@ blocks_alike (suc n) m k p after_hole size e all = by (p == length m) refl (head
           sound = ap (λ (t : Bool). cond t None (header_test (bad_header (length k) after_hole (header p (word k p))) p (rest k (header p (word k p))))) test_k;
           blocks = ap (λ (x : List ℕ). block_and (length m) (header p x) (λ q. blocks_from n m q)) (word_past m p end) ∙ sym (ap (λ (x : List ℕ). block_and (length k) (header p x) (λ q. blocks_from n k q)) (word_past k p end_k));
         }
-    by false at None is later =
-        let now : header_test (bad_header (length m) after_hole (header p (word m p))) p (rest m (header p (word m p))) ≡ None = ap (λ (t : Bool). cond t None (header_test (bad_header (length m) after_hole (header p (word m p))) p (rest m (header p (word m p))))) (sym at) ∙ e in
-        let good = header_test_good (bad_header (length m) after_hole (header p (word m p))) p (rest m (header p (word m p))) now in
-        absurd (no_block (length m) after_hole (ap (λ (o : Option Block). bad_header (length m) after_hole o) (sym is) ∙ good.0))
+    by false at None is later = grind (arith, rest, header_test_good, no_block)
     by false at (Some b) is later =
         let now : header_test (bad_header (length m) after_hole (header p (word m p))) p (rest m (header p (word m p))) ≡ None = ap (λ (t : Bool). cond t None (header_test (bad_header (length m) after_hole (header p (word m p))) p (rest m (header p (word m p))))) (sym at) ∙ e in
         let good = header_test_good (bad_header (length m) after_hole (header p (word m p))) p (rest m (header p (word m p))) now in
@@ -258,9 +238,7 @@ none_of bad_root bad_b bad_r bad_c e =
     record { root = cause_none NoRoot bad_root one.0; blocks = cause_none BadBlock bad_b two.0; records = cause_none BadRecord bad_r three.0; chain = cause_none BadChain bad_c three.1 }
 
 all_none : (bad_root bad_b bad_r bad_c : Option ℕ) → NoneOf bad_root bad_b bad_r bad_c → first_of bad_root bad_b bad_r bad_c ≡ None
-all_none bad_root bad_b bad_r bad_c none =
-    ap (λ (o : Option ℕ). first_of o bad_b bad_r bad_c) none.root ∙ ap (λ (o : Option ℕ). first_of None o bad_r bad_c) none.blocks
-    ∙ ap (λ (o : Option ℕ). first_of None None o bad_c) none.records ∙ ap (λ (o : Option ℕ). first_of None None None o) none.chain
+all_none bad_root bad_b bad_r bad_c none = grind arith
 
 -- the tests of a root, by its word
 abbrev root_test : ℕ → List ℕ → Option ℕ

@@ -1,12 +1,11 @@
 -- Plays on a device that refuses writes: of two images that mean the same, and of two that mean one card.
-use Rattle.std.proofs.Common.{◌≡◌, ℕ, zero, suc, ◌+◌, ◌-◌, ◌<◌, ◌≤◌, Bool, true, false, cond, List, [], ◌∷◌, ◌++◌, drop, Option, Some, None, refl, sym, ap, subst, ◌∙◌, arith}
-use Rattle.std.specs.Prelude.{⊤, min, nat_le, ◌&&◌}
+use Rattle.std.proofs.Common.{◌≡◌, ℕ, zero, suc, ◌+◌, ◌-◌, ◌≤◌, Bool, true, false, cond, List, [], ◌∷◌, ◌++◌, Option, Some, None, refl, ap, ◌∙◌, arith}
+use Rattle.std.specs.Prelude.{⊤, nat_le, ◌&&◌}
 use Rattle.model_play.specs.model_device.specs.Bytes.{zeros}
-use Rattle.std.specs.List.{AllByRecursion}
 use Rattle.std.proofs.lemmas.Bool.{leb-true, lt-leb}
 use Rattle.std.proofs.lemmas.Bool.Decides.{nat_tests}
 use Rattle.model_play.specs.model_device.specs.declared.device.Stop.TheVariants as stop
-use Rattle.model_play.specs.model_device.specs.Image.{Journal, count_of_recovery_writes, which}
+use Rattle.model_play.specs.model_device.specs.Image.{Journal, which}
 use Rattle.model_play.specs.model_device.specs.Layout.{fault}
 use Rattle.model_play.specs.model_device.specs.PowerUp.{Base, OnCard, AtFault, base_after_migration, base_of, migration, pending_journal}
 use Rattle.model_play.specs.model_device.specs.Card.{Card}
@@ -14,13 +13,13 @@ use Rattle.model_play.specs.model_card.specs.Items.{moves, StopAt}
 use Rattle.model_play.specs.model_card.specs.Manager.{SessionState}
 use Rattle.model_play.specs.DeckGrammar.{DeckCommand, DeckLine}
 use Rattle.model_play.specs.DeckGrammar as line
-use Rattle.model_play.specs.Play.{plays, play_at_power, armed_stop_in, hit_of, is_card_line, line_after, line_command, moves_of, power_after, power_live, power_moves, power_result, start, steady_at, step, stopped_power, after_power_step, Armed, Unarmed, ArmedCut, ArmedFail, BeforePower, AfterPower, FailedWrite, Live, Running, Unpowered, Muted, State, Step, Warm}
-use Rattle.model_play.specs.Transcript.{line_text, texts, transcript, plain_text}
-use Rattle.model_play.specs.TraceText.{traced_text, trace_text}
+use Rattle.model_play.specs.Play.{plays, play_at_power, armed_stop_in, hit_of, is_card_line, line_after, line_command, moves_of, power_after, power_live, power_moves, start, steady_at, step, after_power_step, Armed, Unarmed, ArmedCut, ArmedFail, BeforePower, AfterPower, FailedWrite, Live, Running, Unpowered, Muted, State, Step, Warm}
+use Rattle.model_play.specs.Transcript.{texts, plain_text}
+use Rattle.model_play.specs.TraceText.{traced_text}
 use Rattle.model_play.proofs.LineKinds.{past_power}
-use Rattle.law_residual.specs.Refusals.{Refusals, count_before_armed, failure_among, failure_on, failure_or, failures_on, first_refused, play_on, refused_or, refuses_after}
-use Rattle.law_residual.specs.Laws.{counts_from_one, first_text, first_writes, play_after_power, writes_words, CountFromOne, MeanAlike, NoneWritesWords, ShowAlikeAfter, ShowAlikeOn}
-use Rattle.law_residual.proofs.Alike.{found_alike, residual, step_alike, NotYet, PlaysAlike, Same, SeenAlike}
+use Rattle.law_residual.specs.Refusals.{Refusals, count_before_armed, failure_among, failure_on, failure_or, failures_on, first_refused, refused_or, refuses_after}
+use Rattle.law_residual.specs.Laws.{counts_from_one, first_text, first_writes, play_after_power, CountFromOne, MeanAlike, NoneWritesWords, ShowAlikeAfter, ShowAlikeOn}
+use Rattle.law_residual.proofs.Alike.{found_alike, residual, step_alike, NotYet, Same, SeenAlike}
 
 -- the failed writes of some lines, with that of the first
 abbrev with_first : Refusals → ℕ → State → ℕ × DeckLine → List (ℕ × DeckLine) → Option FailedWrite → List (Option FailedWrite)
@@ -50,13 +49,7 @@ same_failures (l ∷ ls) r d s z alike none =
 
 pub device_law : (m k : List (List ℕ)) → MeanAlike m k → (ls : List (ℕ × DeckLine)) → NoneWritesWords ls → (r : Refusals) → ShowAlikeOn r m k ls
 device_law m k alike ls none r =
-    let same = same_failures ls r 0 (start m) (start k) (NotYet m k _ _ alike) none in
-    let shown = residual m k alike ls none (failures_on r 0 (start m) ls) in
-    record {
-      transcript = shown.transcript ∙ ap (λ (ws : List (Option FailedWrite)). transcript (plays (start k) ls ws)) same;
-      trace = shown.trace ∙ ap (λ (ws : List (Option FailedWrite)). trace_text (plays (start k) ls ws)) same;
-      failures = same;
-    }
+    grind (arith, same_failures ls r 0 (start m) (start k) (NotYet m k _ _ alike) none, residual m k alike ls none (failures_on r 0 (start m) ls))
 
 -- ---- stops that are counted from 1
 
@@ -108,9 +101,7 @@ either_from_one None w f g = g
 either_from_one (Some v) w f g = f
 
 fails_from_one : (r : Refusals) (d : ℕ) (s : State) (l : ℕ × DeckLine) → ArmedFromOne (armed_stop_in s) → FailsFromOne (failure_on r d s l)
-fails_from_one r d s l f =
-    let a = armed_stop_in s in
-    either_from_one (first_refused r d 0 (count_before_armed a (moves_of s l))) (steady_at a l.1 (moves_of s l)) (refused_from_one r d 0 (count_before_armed a (moves_of s l))) (asked_from_one a l.1 (moves_of s l) f)
+fails_from_one r d s l f = grind (arith, either_from_one, refused_from_one, asked_from_one)
 
 -- ---- images of one card
 
@@ -129,9 +120,7 @@ record Alike (t u : Step) : Type 0 where
 settled_power : (b : Base) (i j : Journal) (v : Live) (g : ℕ) (a : Armed) (o : Option StopAt) → HitsFromOne o
     → SettledAlike (AfterPower (power_after (past_power b 0 i v g a) o)) (AfterPower (power_after (past_power b 0 j v g a) o))
 settled_power b i j v g a None low = Journals (base_after_migration b) i j (power_live b) g Unarmed tt
-settled_power b i j v g a (Some t) low =
-    let late : nat_le t.at 0 ≡ false = lt-leb t.at 0 (omega (arith, low)) in
-    subst (λ (x : Bool). SettledAlike (AfterPower (stopped_power (past_power b 0 i v g a) t x)) (AfterPower (stopped_power (past_power b 0 j v g a) t x))) (sym late) (One _)
+settled_power b i j v g a (Some t) low = grind (arith, lt-leb, past_power, One)
 
 settled_line : (c : Card) (q : SessionState) (i j : Journal) (g : ℕ) (a : Armed) (l : DeckLine) (o : Option StopAt)
     → SettledAlike (AfterPower (line_after (past_power (OnCard c) 0 i (Running q) g a) c (line_command c q g l) o)) (AfterPower (line_after (past_power (OnCard c) 0 j (Running q) g a) c (line_command c q g l) o))
@@ -209,12 +198,7 @@ none_refused r d k (suc n) h =
 
 later_refused : (r : Refusals) (d e k n : ℕ) → first_refused (refuses_after d r) (d + e) k n ≡ first_refused r e k n
 later_refused r d e k zero = refl
-later_refused r d e k (suc n) =
-    let late : nat_le (d + e + (k + 1)) d ≡ false = lt-leb (d + e + (k + 1)) d (omega arith) in
-    let number : d + e + (k + 1) - d ≡ e + (k + 1) = omega arith in
-    ap (λ (b : Bool). refused_or (k + 1) (cond b None (r (d + e + (k + 1) - d))) (first_refused (refuses_after d r) (d + e) (k + 1) n)) late
-    ∙ ap (λ (i : ℕ). refused_or (k + 1) (r i) (first_refused (refuses_after d r) (d + e) (k + 1) n)) number
-    ∙ ap (λ (w : Option FailedWrite). refused_or (k + 1) (r (e + (k + 1))) w) (later_refused r d e (k + 1) n)
+later_refused r d e k (suc n) = grind (arith, lt-leb, later_refused r d e (k + 1) n)
 
 later_failures : (ls : List (ℕ × DeckLine)) (r : Refusals) (d e : ℕ) (s : State) → failures_on (refuses_after d r) (d + e) s ls ≡ failures_on r e s ls
 unfolding failures_on
@@ -235,10 +219,7 @@ abbrev recovered : List (List ℕ) → State
 recovered m = let b = base_of (fault m) m in AfterPower (past_power (base_after_migration b) 0 (pending_journal (which m)) (power_live b) 10000 Unarmed)
 
 settled : (m k : List (List ℕ)) → base_of (fault m) m ≡ base_of (fault k) k → SettledAlike (recovered m) (recovered k)
-settled m k same =
-    let b = base_of (fault m) m in
-    subst (λ (c : Base). SettledAlike (AfterPower (past_power (base_after_migration b) 0 (pending_journal (which m)) (power_live b) 10000 Unarmed)) (AfterPower (past_power (base_after_migration c) 0 (pending_journal (which k)) (power_live c) 10000 Unarmed))) same
-    (Journals (base_after_migration b) (pending_journal (which m)) (pending_journal (which k)) (power_live b) 10000 Unarmed tt)
+settled m k same = grind (arith, past_power, Journals)
 
 first_failure_is : (r : Refusals) (m : List (List ℕ)) (n : ℕ) → failure_on (refuses_after (first_writes m) r) 0 (start m) (n, line.Power) ≡ None
 unfolding moves_of step play_at_power

@@ -1,15 +1,14 @@
 -- What a device refuses of a play is possible.
-use Rattle.std.proofs.Common.{◌≡◌, ℕ, zero, suc, ◌+◌, ◌-◌, ◌<◌, ◌≤◌, Bool, true, false, cond, List, [], ◌∷◌, Option, Some, None, refl, sym, ap, subst, arith}
-use Rattle.std.specs.Prelude.{⊤, min, nat_le, ◌&&◌}
+use Rattle.std.proofs.Common.{◌≡◌, ℕ, zero, suc, ◌+◌, ◌≤◌, Bool, true, false, List, [], ◌∷◌, Option, Some, None, refl, arith}
+use Rattle.std.specs.Prelude.{nat_le}
 use Rattle.std.proofs.lemmas.Bool.{and_parts, leb-true}
-use Rattle.model_play.specs.model_device.specs.Bytes.{zeros}
 use Rattle.model_play.specs.model_device.specs.PowerUp.{OnCard}
 use Rattle.model_play.specs.model_card.specs.Items.{moves, StopAt}
 use Rattle.model_play.specs.model_card.specs.Commands.{Command}
 use Rattle.model_play.specs.model_device.specs.Card.{Card}
 use Rattle.model_play.specs.DeckGrammar.{DeckLine}
 use Rattle.model_play.specs.DeckGrammar as line
-use Rattle.model_play.specs.Play.{armed_stop_in, hit_of, is_card_line, line_after, line_command, moves_of, play_at_power, power_after, power_moves, start, steady_at, step, stopped_power, Armed, Unarmed, ArmedCut, ArmedFail, Running, BeforePower, AfterPower, FailedWrite, IsBeforeCut, IsPossibleAt, MayHit, Possible, State, Step, Warm}
+use Rattle.model_play.specs.Play.{armed_stop_in, hit_of, is_card_line, line_after, line_command, moves_of, play_at_power, power_after, power_moves, start, steady_at, step, stopped_power, Armed, Running, BeforePower, AfterPower, FailedWrite, IsBeforeCut, MayHit, Possible, State, Step, Warm}
 use Rattle.model_play.proofs.LineKinds.{armed_after, past_power, by_kind, Early, Powers, Quiet, Sends, StepKind}
 use Rattle.law_residual.specs.Refusals.{Refusals, count_before_armed, failure_on, failure_or, failures_on, first_refused, refused_or}
 use Rattle.law_residual.specs.Laws.{counts_from_one, CountFromOne, PossibleLaw}
@@ -28,14 +27,10 @@ kind_writes {z = AfterPower s} {l = l} k h = absurd (omega (arith, h))
 -- ---- what is refused
 
 before_all : (a : Armed) (m : ℕ) → count_before_armed a m ≤ m
-before_all Unarmed m = omega arith
-before_all (ArmedCut k x) m = omega arith
-before_all (ArmedFail k) m = omega arith
+before_all a m = grind arith
 
 before_cut : (a : Armed) (m j : ℕ) → 1 ≤ j → j ≤ count_before_armed a m → IsBeforeCut a j
-before_cut Unarmed m j low h = tt
-before_cut (ArmedCut k x) m j low h = omega (arith, low, h)
-before_cut (ArmedFail k) m j low h = tt
+before_cut a m j low h = grind arith
 
 refused_may : (r : Refusals) (z : State) (l : ℕ × DeckLine) (d k n : ℕ) → k + n ≤ count_before_armed (armed_stop_in z) (moves_of z l) → MayHit z l (first_refused r d k n)
 refused_may r z l d k zero h = tt
@@ -53,15 +48,7 @@ refused_may r z l d k (suc n) h = by (r (d + (k + 1))) (refused_may r z l d (k +
         }
 
 asked_may : (z : State) (l : ℕ × DeckLine) (a : Armed) → armed_stop_in z ≡ a → ArmedFromOne a → MayHit z l (steady_at a l.1 (moves_of z l))
-asked_may z l Unarmed e f = tt
-asked_may z l (ArmedCut k x) e f = tt
-asked_may z l (ArmedFail k) e f = by (is_card_line l.1 && nat_le k (moves_of z l)) refl
-  where
-    by : (b : Bool) → (is_card_line l.1 && nat_le k (moves_of z l)) ≡ b → MayHit z l (cond b (Some (record { at = k; left = zeros 8 })) None)
-    by true h =
-        let p = and_parts (is_card_line l.1) (nat_le k (moves_of z l)) h in
-        record { card_line = p.0; low = f; high = leb-true k (moves_of z l) p.1; first = subst (λ (a : Armed). IsBeforeCut a k) (sym e) tt }
-    by false h = tt
+asked_may z l a e f = grind (arith, and_parts, leb-true)
 
 either_may : (z : State) (l : ℕ × DeckLine) (v w : Option FailedWrite) → MayHit z l v → MayHit z l w → MayHit z l (failure_or v w)
 either_may z l None w f g = g
@@ -82,10 +69,7 @@ line_from_one s c r None = tt
 line_from_one s c r (Some t) = tt
 
 armed_from_one : (l : DeckLine) (a : Armed) → counts_from_one l ≡ true → ArmedFromOne a → ArmedFromOne (armed_after l a)
-armed_from_one (line.Cut k x) a h f = leb-true 1 k h
-armed_from_one (line.Fail k) a h f = leb-true 1 k h
-armed_from_one (line.Sent k) a h f = tt
-armed_from_one _ a h f = f
+armed_from_one l a h f = grind (arith, leb-true)
 
 next_from_one : {w : Option FailedWrite} {z : State} {n : ℕ} {l : DeckLine} {u : Step} → StepKind w z n l u → counts_from_one l ≡ true → ArmedFromOne (armed_stop_in z) → ArmedFromOne (armed_stop_in u.after)
 next_from_one (Early {l = l} {a = a} p) h f = armed_from_one l a h f
