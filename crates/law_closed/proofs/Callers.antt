@@ -1,9 +1,9 @@
 -- In every play each delegation comes from an application that was on the card before the line, and that can delegate.
-use Rattle.std.proofs.Common.{◌≡◌, ℕ, zero, suc, List, [], ◌∷◌, take, drop, Option, Some, None, sym, subst}
+use Rattle.std.proofs.Common.{◌≡◌, ℕ, zero, suc, List, [], ◌∷◌, take, drop, Option, Some, None, sym, subst, arith}
 use Rattle.std.specs.List.{AllByRecursion}
 use Rattle.law_family.specs.model_device.specs.Card.{App, Card}
 use Rattle.law_family.specs.model_machine.specs.Apdu.{ApduParts}
-use Rattle.law_family.specs.model_card.specs.Manager.{Selected, SessionState, Route, WrongLength, WrongClass, ToSelect, ToManager, ToApplication, route, select, manage, room_on}
+use Rattle.law_family.specs.model_card.specs.Manager.{Selected, SessionState, Route, route}
 use Rattle.law_family.specs.model_card.specs.Commands.{application_command, by_route, command}
 use Rattle.law_family.specs.model_play.specs.DeckGrammar.{DeckLine}
 use Rattle.law_family.specs.model_play.specs.DeckGrammar as line
@@ -27,11 +27,7 @@ applied_call c session_state None a budget = tt
 applied_call c session_state (Some s) a budget = (runs_law c.apps s.name s.session a budget).callers
 
 routed_call : (c : Card) (session_state : SessionState) (budget : ℕ) (r : Route) → Callers c.apps (by_route c session_state budget r).pairs
-routed_call c session_state budget WrongLength = tt
-routed_call c session_state budget WrongClass = tt
-routed_call c session_state budget (ToSelect a) = none_call c.apps _ (managed_none c session_state (select c.apps session_state a))
-routed_call c session_state budget (ToManager a) = none_call c.apps _ (managed_none c session_state (manage (room_on c) c.apps session_state a))
-routed_call c session_state budget (ToApplication a) = applied_call c session_state session_state.selected a budget
+routed_call c session_state budget r = grind (arith, none_call, managed_none, applied_call)
 
 command_call : (c : Card) (session_state : SessionState) (b : List ℕ) (budget : ℕ) → Callers c.apps (command c session_state b budget).pairs
 unfolding command

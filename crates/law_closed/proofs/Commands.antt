@@ -1,6 +1,6 @@
 -- The delegations of a command on a card of which no application outside a family can delegate: they come from the
 -- family, and only its own commands have any.
-use Rattle.std.proofs.Common.{◌≡◌, ℕ, Bool, true, false, List, [], ◌∷◌, ◌++◌, Option, Some, None, refl, sym, ap, subst, ◌∙◌}
+use Rattle.std.proofs.Common.{◌≡◌, ℕ, Bool, true, false, List, [], ◌∷◌, ◌++◌, Option, Some, None, refl, sym, ap, subst, ◌∙◌, arith}
 use Rattle.std.specs.List.{AllByRecursion}
 use Rattle.law_family.specs.model_device.specs.Bytes.{has_name}
 use Rattle.law_family.specs.model_device.specs.Card.{App, Card}
@@ -17,7 +17,7 @@ use Rattle.law_family.specs.model_play.specs.Family.{routes_in, selects_in, comm
 use Rattle.law_family.specs.model_play.specs.Play.{Running, command_with_rest, is_done, send, line_command, select_bytes, delete_bytes, load_commands}
 use Rattle.law_family.proofs.OtherCommand.{IsManagers, AreManagers}
 use Rattle.law_family.proofs.LoadCommands.{load_managers, delete_manager}
-use Rattle.law_closed.specs.Delegations.{can_delegate, CanCall, NoneOutsideCan}
+use Rattle.law_closed.specs.Delegations.{CanCall, NoneOutsideCan}
 use Rattle.law_closed.specs.Laws.{DelegatesByCode}
 use Rattle.law_closed.proofs.Runs.{runs_law}
 
@@ -33,13 +33,7 @@ no_pairs K own pairs e = record { callers = subst (λ (z : List (List ℕ × Lis
 
 -- a name whose application can delegate is of the family
 call_inside : (K : List (List ℕ)) (m : List (List ℕ × App)) (n : List ℕ) → NoneOutsideCan K m → CanCall m n → has_name n K ≡ true
-call_inside K m n h c = by (has_name n K) refl
-  where
-    by : (b : Bool) → has_name n K ≡ b → b ≡ true
-    by true e = refl
-    by false e =
-        let cannot : can_delegate c.app ≡ false = each_found (λ (f : List ℕ × App). has_name f.0 K ≡ false → can_delegate f.1 ≡ false) m n c.app h c.found e in
-        absurd (cc (sym cannot ∙ c.can))
+call_inside K m n h c = grind (arith, each_found)
 
 ran_pairs : (K : List (List ℕ)) (m : List (List ℕ × App)) (n : List ℕ) (pairs : List (List ℕ × List ℕ)) → NoneOutsideCan K m → DelegatesByCode m n pairs → PairsOf K (has_name n K) pairs
 ran_pairs K m n pairs h d =
@@ -72,11 +66,7 @@ command_pairs K c session_state b budget h = routed_pairs K c session_state budg
 -- ---- commands that reach the manager
 
 routed_none : (c : Card) (session_state : SessionState) (budget : ℕ) (r : Route) → IsManagers r → (by_route c session_state budget r).pairs ≡ []
-routed_none c session_state budget WrongLength h = refl
-routed_none c session_state budget (ToManager a) h = managed_none c session_state (manage (room_on c) c.apps session_state a)
-routed_none c session_state budget WrongClass h = absurd h
-routed_none c session_state budget (ToSelect a) h = absurd h
-routed_none c session_state budget (ToApplication a) h = absurd h
+routed_none c session_state budget r h = grind (arith, managed_none)
 
 pub command_none : (c : Card) (session_state : SessionState) (b : List ℕ) (budget : ℕ) → IsManagers (route b) → (command c session_state b budget).pairs ≡ []
 unfolding command

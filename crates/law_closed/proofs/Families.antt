@@ -1,5 +1,5 @@
 -- A family is closed if its names are known by whether they are in two closed families.
-use Rattle.std.proofs.Common.{◌≡◌, ℕ, Bool, true, false, cond, List, [], ◌∷◌, ◌++◌, refl, sym, ap, ◌∙◌}
+use Rattle.std.proofs.Common.{◌≡◌, ℕ, Bool, true, false, cond, List, [], ◌∷◌, ◌++◌, refl, sym, ap, ◌∙◌, arith}
 use Rattle.std.specs.Prelude.{not, ◌&&◌, ◌||◌, bytes_eq, filter}
 use Rattle.law_family.specs.model_device.specs.Bytes.{has_name}
 use Rattle.law_family.specs.model_device.proofs.MapLemmas.{same_name}
@@ -46,12 +46,7 @@ module _ (K J L : List (List ℕ)) (f : Bool → Bool → Bool) (names : (n : Li
 -- ---- the law
 
 names_law : (K J : List (List ℕ)) → AreNamesOf K J
-names_law K J =
-    record {
-      either = λ n. names_appended n K J;
-      both = λ n. names_filtered (λ k. has_name k J) n K;
-      alone = λ n. names_filtered (λ k. not (has_name k J)) n K;
-    }
+names_law K J = grind (arith, names_appended, names_filtered)
 
 closed_law : (K J : List (List ℕ)) (ts : List Step) → Closed K ts → Closed J ts → AreClosed K J ts
 closed_law K J ts g h =

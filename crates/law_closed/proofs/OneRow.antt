@@ -1,5 +1,5 @@
 -- The one row after which another application is called: the primitive that delegates, if it is not denied.
-use Rattle.std.proofs.Common.{◌≡◌, ℕ, true, false, List, Option, Some, None, refl, ap, subst}
+use Rattle.std.proofs.Common.{◌≡◌, ℕ, true, false, List, Option, Some, None, refl, arith}
 use Rattle.law_family.specs.model_machine.specs.declared.instruction.Ins.{Ins}
 use Rattle.law_family.specs.model_machine.specs.declared.instruction.Ins.TheVariants as ins
 use Rattle.law_family.specs.model_machine.specs.Frame.{Frame}
@@ -15,9 +15,7 @@ prim_delegates p args f public x n e = absurd (cc e)
 
 done_delegates : (o : Option Primitive) (args : List ℕ) (f : Frame) (public : List ℕ) (x : Around) → NoneHolds (prim_causes o args f public x) → (n : List ℕ) → (prim_done o args f public x).next ≡ Delegates n → (is_delegate o ≡ true) × (is_denied f.deny DelegateTo ≡ false)
 done_delegates None args f public x none n e = absurd (cc e)
-done_delegates (Some p) args f public x none n e =
-    let is : p ≡ DelegateTo = prim_delegates p args f public x n e in
-    (ap (λ (q : Primitive). is_delegate (Some q)) is, subst (λ (q : Primitive). is_denied f.deny q ≡ false) is none.1.0)
+done_delegates (Some p) args f public x none n e = grind (arith, prim_delegates p args f public x n e)
 
 pub row_delegates : (i : Ins) (f : Frame) (public : List ℕ) (x : Around) → NoneHolds (causes i f public x) → (n : List ℕ) → (effect i f public x).next ≡ Delegates n → (is_delegation i ≡ true) × (is_denied f.deny DelegateTo ≡ false)
 unfolding causes effect

@@ -1,5 +1,5 @@
 -- Over a play: no application outside the family can ever delegate, so the pairs of each line are the family's.
-use Rattle.std.proofs.Common.{◌≡◌, ◌⊎◌, ℕ, zero, suc, Bool, true, false, cond, List, [], ◌∷◌, take, drop, Option, Some, None, refl, sym, subst, ◌∙◌, inl, inr}
+use Rattle.std.proofs.Common.{◌≡◌, ◌⊎◌, ℕ, zero, suc, Bool, true, false, cond, List, [], ◌∷◌, take, drop, Option, Some, None, refl, sym, subst, ◌∙◌, inl, inr, arith}
 use Rattle.std.specs.Prelude.{⊤}
 use Rattle.std.specs.List.{AllByRecursion}
 use Rattle.law_family.specs.model_device.specs.Bytes.{has_name, lookup, insert}
@@ -9,13 +9,13 @@ use Rattle.law_family.specs.model_device.specs.PowerUp.{OnCard}
 use Rattle.law_family.specs.model_device.proofs.MapLemmas.{each_found, each_inserted, each_removed}
 use Rattle.law_family.specs.model_machine.specs.Chain.{with_pieces, changed_app}
 use Rattle.law_family.specs.model_card.specs.Items.{Fixed, Created, Deleted, Item, Plain, Atomic, moves, apps_after_change, apps_after_items, StopAt, at_stop}
-use Rattle.law_family.specs.model_card.specs.Manager.{Selected, SessionState, Route, WrongLength, WrongClass, ToSelect, ToManager, ToApplication, route}
+use Rattle.law_family.specs.model_card.specs.Manager.{Selected, SessionState, Route}
 use Rattle.law_family.specs.model_play.specs.DeckGrammar.{DeckLine}
 use Rattle.law_family.specs.model_play.specs.DeckGrammar as line
 use Rattle.law_family.specs.model_play.specs.Family.{ClosedPairs, Closed, routes_in, selects_in, command_of, live_in, is_own_command, is_own}
 use Rattle.law_family.specs.model_play.specs.Given.{apps_on, apps_in, is_power, first_apps}
 use Rattle.law_family.specs.model_play.specs.Laws.{creations_among}
-use Rattle.law_family.specs.model_play.specs.Play.{Armed, Live, Running, Unpowered, Muted, Warm, State, BeforePower, AfterPower, Step, FailedWrite, hit_of, power_moves, command_step, line_command, step, plays, first_failure, start}
+use Rattle.law_family.specs.model_play.specs.Play.{Armed, Live, Running, Warm, State, BeforePower, AfterPower, Step, FailedWrite, hit_of, power_moves, command_step, line_command, step, plays, first_failure, start}
 use Rattle.law_family.proofs.AfterPowerLines.{powered}
 use Rattle.law_family.proofs.PlayLaw.{isolation_law}
 use Rattle.law_closed.specs.Delegations.{can_delegate, NoneOutsideCan}
@@ -137,17 +137,10 @@ none_selects None = refl
 none_selects (Some s) = refl
 
 none_routes : (session_state : SessionState) (r : Route) → routes_in [] session_state r ≡ false
-none_routes session_state WrongLength = refl
-none_routes session_state WrongClass = refl
-none_routes session_state (ToSelect a) = refl
-none_routes session_state (ToManager a) = refl
-none_routes session_state (ToApplication a) = none_selects session_state.selected
+none_routes session_state r = grind (arith, none_selects)
 
 none_own_command : (v : Live) (o : Option (List ℕ)) → is_own_command [] v o ≡ false
-none_own_command (Running session_state) (Some b) = none_routes session_state (route b)
-none_own_command (Running session_state) None = refl
-none_own_command Unpowered o = refl
-none_own_command Muted o = refl
+none_own_command v o = grind (arith, none_routes)
 
 none_at_all : (ts : List Step) → EachCalls [] ts → NoPairs ts
 none_at_all [] h = tt

@@ -1,5 +1,5 @@
 -- Each delegation of a run comes from an application that was on the card when the run began, and that can delegate.
-use Rattle.std.proofs.Common.{◌≡◌, ℕ, zero, suc, Bool, true, false, cond, List, [], ◌∷◌, ◌++◌, Option, Some, None, Result, Ok, Err, refl, sym, ap, subst, ◌∙◌}
+use Rattle.std.proofs.Common.{◌≡◌, ℕ, zero, suc, Bool, true, false, cond, List, [], ◌∷◌, ◌++◌, Option, Some, None, Result, Ok, Err, refl, sym, ap, subst, ◌∙◌, arith}
 use Rattle.std.specs.Prelude.{⊤, ◌||◌, nat_lt, nat_le, bytes_eq, unwrap_or}
 use Rattle.std.specs.List.{AllByRecursion}
 use Rattle.law_family.specs.model_device.specs.Bytes.{lookup, insert}
@@ -13,7 +13,7 @@ use Rattle.law_family.specs.model_machine.specs.declared.machine.Abend.{Abend}
 use Rattle.law_family.specs.model_machine.specs.Apdu.{ApduParts}
 use Rattle.law_family.specs.model_machine.specs.Code.{instruction_at}
 use Rattle.law_family.specs.model_machine.specs.Frame.{Frame, la_of}
-use Rattle.law_family.specs.model_machine.specs.Primitives.{Then, Goes, Exits, Delegates, DelegateTo, Done, is_denied}
+use Rattle.law_family.specs.model_machine.specs.Primitives.{Then, Delegates, DelegateTo, Done, is_denied}
 use Rattle.law_family.specs.model_machine.specs.Row.{Does, causes, effect, first_cause, row_end, row}
 use Rattle.law_family.specs.model_machine.specs.Chain.{Outcome, Chain, Ran, Acted, Follows, Continues, Ends, code_in, with_pieces, changed_app, map_changed, chain_after_effect, chain_session, is_active, depth_of, called_app, chain_after_call, after_exit, follows, pair_of, row_turn, turn_of_fetch, frame_at, around, turn_of_chain, run_after_turn, run_of_chain, start_app, start, no_app, run}
 use Rattle.law_family.specs.law_rows.specs.Keeping.{Keeps}
@@ -91,10 +91,7 @@ calls_by m n None deny code at e d c has free =
 calls_by m n (Some a) deny code at e d c has free = record { app = a; found = e; can = can_by_facts a deny code at d c has free }
 
 calls : (m : List (List ℕ × App)) (ch : Chain) → ChainFits m ch → is_decoded_delegation (instruction_at (code_in (lookup ch.map ch.frame.name)) ch.frame.at) ≡ true → is_denied ch.frame.deny DelegateTo ≡ false → CanCall m ch.frame.name
-calls m ch h has free =
-    let n = ch.frame.name in
-    let code : code_by (facts (lookup m n)) ≡ code_in (lookup ch.map n) = sym (code_facts (lookup ch.map n) ∙ ap code_by (h.same n)) in
-    calls_by m n (lookup m n) ch.frame.deny (code_in (lookup ch.map n)) ch.frame.at refl h.frame code has free
+calls m ch h has free = grind (arith, code_facts, calls_by)
 
 -- ---- what follows a turn
 
@@ -112,18 +109,14 @@ exited_fits m s (f ∷ fs) same h = record { same = same; frame = h.0; below = h
 
 called_by : (m : List (List ℕ × App)) (s : Chain) (n : List ℕ) (b : Bool) (a : App) → lookup s.map n ≡ Some a → ChainFits m s → ChainFits m (called_app b s n a)
 called_by m s n true a e h = record { same = h.same; frame = h.frame; below = h.below }
-called_by m s n false a e h =
-    let is : Some (a.code, a.deny) ≡ facts (lookup m n) = sym (ap facts e) ∙ h.same n in
-    record { same = h.same; frame = subst (λ (z : Option (List ℕ × ℕ)). DeniedAs z a.deny) is refl; below = (h.frame, h.below) }
+called_by m s n false a e h = grind (arith, sym (ap facts e) ∙ h.same n)
 
 called_fits : (m : List (List ℕ × App)) (s : Chain) (n : List ℕ) (o : Option App) → lookup s.map n ≡ o → ChainFits m s → ChainFits m (chain_after_call s n o)
 called_fits m s n None e h = record { same = h.same; frame = h.frame; below = h.below }
 called_fits m s n (Some a) e h = called_by m s n (is_active n s.frame s.below || nat_le 4 (depth_of s)) a e h
 
 follows_fits : (m : List (List ℕ × App)) (s : Chain) (t : Then) → ChainFits m s → NextFits m (follows s t)
-follows_fits m s Goes h = h
-follows_fits m s Exits h = exited_fits m s s.below h.same h.below
-follows_fits m s (Delegates n) h = called_fits m s n (lookup s.map n) refl h
+follows_fits m s t h = grind (arith, exited_fits, called_fits)
 
 -- what follows in the first frame, if it does not delegate, is in the first frame
 abbrev NextFirst : List ℕ → Follows → Type 0
@@ -139,19 +132,13 @@ exited_first s n [] e = cond_first n (nat_lt 1024 (la_of s.public)) _ _
 exited_first s n (f ∷ fs) e = absurd (cc e)
 
 follows_first : (s : Chain) (n : List ℕ) (t : Then) → ((k : List ℕ) → t ≡ Delegates k → ⊥) → s.below ≡ [] → s.frame.name ≡ n → NextFirst n (follows s t)
-follows_first s n Goes never alone is = (alone, is)
-follows_first s n Exits never alone is = exited_first s n s.below alone
-follows_first s n (Delegates k) never alone is = absurd (never k refl)
+follows_first s n t never alone is = grind (arith, exited_first)
 
 pairs_none : (n : List ℕ) (t : Then) → ((k : List ℕ) → t ≡ Delegates k → ⊥) → pair_of n t ≡ []
-pairs_none n Goes never = refl
-pairs_none n Exits never = refl
-pairs_none n (Delegates k) never = absurd (never k refl)
+pairs_none n t never = grind arith
 
 pairs_call : (m : List (List ℕ × App)) (n : List ℕ) (t : Then) → ((k : List ℕ) → t ≡ Delegates k → CanCall m n) → AllByRecursion (λ p. CanCall m p.0) (pair_of n t)
-pairs_call m n Goes call = tt
-pairs_call m n Exits call = tt
-pairs_call m n (Delegates k) call = (call k refl, tt)
+pairs_call m n t call = grind arith
 
 -- ---- turns
 

@@ -1,20 +1,13 @@
 -- Two plays that give a closed family the same show it the same: both are the card of its own on what is given.
-use Rattle.std.proofs.Common.{◌≡◌, ℕ, List, sym, ap, ◌∙◌}
-use Rattle.law_family.specs.model_play.specs.Given.{Given, given_of_play}
+use Rattle.std.proofs.Common.{◌≡◌, ℕ, List, arith}
+use Rattle.law_family.specs.model_play.specs.Given.{given_of_play}
 use Rattle.law_family.specs.model_play.specs.Play.{Step, start}
-use Rattle.law_family.specs.model_play.specs.Solo.{solo}
-use Rattle.law_family.specs.model_play.specs.View.{View, view, solo_view, IsIsolated}
+use Rattle.law_family.specs.model_play.specs.View.{IsIsolated}
 use Rattle.law_family.proofs.PlayLaw.{isolation_law}
 use Rattle.law_closed.specs.Laws.{SeesTheSame, SameGivenLaw, front_of_play}
 
 seen_alike : (K m d : List (List ℕ)) (us vs : List Step) → IsIsolated K (start m) us → IsIsolated K (start d) vs → given_of_play K us ≡ given_of_play K vs → SeesTheSame K m d us vs
-seen_alike K m d us vs here there same =
-    let views : view K (start m) us ≡ view K (start d) vs = here.view ∙ ap (λ (g : Given). solo_view K g) same ∙ sym there.view in
-    record {
-      answers = ap (λ (v : View). v.answers) views;
-      rest = ap (λ (v : View). v.rest) views;
-      work = here.same_stop ∙ ap (λ (g : Given). (solo g).work) same ∙ sym there.same_stop;
-    }
+seen_alike K m d us vs here there same = grind arith
 
 pub same_given_law : SameGivenLaw
 same_given_law K ls m ws may js d vs may_there n k here there same =
