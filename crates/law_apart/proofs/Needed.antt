@@ -1,12 +1,12 @@
 -- The card of its own does the same without the losses of a selection that it does not have.
-use Rattle.std.proofs.Common.{◌≡◌, ℕ, Bool, true, false, cond, List, [], ◌∷◌, ◌++◌, Option, Some, None, refl, sym, ap, subst, ◌∙◌}
+use Rattle.std.proofs.Common.{◌≡◌, ℕ, cond, List, [], ◌∷◌, Option, Some, None, refl, sym, ap, ◌∙◌, arith}
 use Rattle.std.specs.Prelude.{is_some}
 use Rattle.law_family.specs.model_device.specs.Card.{App}
 use Rattle.law_family.specs.model_card.specs.Manager.{Selected}
-use Rattle.law_family.specs.model_play.specs.Given.{Event, Arrives, Departs, Commands, Dumps, Leaves, Given, given_of_play}
+use Rattle.law_family.specs.model_play.specs.Given.{Event, Leaves, Given, given_of_play}
 use Rattle.law_family.specs.model_play.specs.Play.{Step, start}
 use Rattle.law_family.specs.model_play.specs.Solo.{Heard, Solo, heard_before, hears, hears_all, solo}
-use Rattle.law_family.specs.model_play.specs.View.{View, IsIsolated, rest_of, view}
+use Rattle.law_family.specs.model_play.specs.View.{View, IsIsolated, rest_of}
 use Rattle.law_family.proofs.PlayLaw.{isolation_law}
 use Rattle.law_apart.specs.Needed.{needed, needed_first, needed_of, solo_at}
 use Rattle.law_apart.specs.Laws.{NeededLaw, SameNeededLaw, SeesTheSame, front_of_play}
@@ -27,11 +27,7 @@ loss_by map (Some x) es fs h = with_event (record { map = map; selected = Some x
 loss_by map None es fs h = sym (lost_nothing map es) ∙ with_event (record { map = map; selected = None }) Leaves es fs h
 
 first_by : (t : Solo) (e : Event) (es fs : List Event) → hears_all (hears t e).after es ≡ hears_all (hears t e).after fs → hears_all t (needed_first t e es) ≡ hears_all t (e ∷ fs)
-first_by t Leaves es fs h = loss_by t.map t.selected es fs h
-first_by t (Arrives n a) es fs h = with_event t (Arrives n a) es fs h
-first_by t (Departs n) es fs h = with_event t (Departs n) es fs h
-first_by t (Commands b budget s) es fs h = with_event t (Commands b budget s) es fs h
-first_by t (Dumps n) es fs h = with_event t (Dumps n) es fs h
+first_by t e es fs h = grind (arith, loss_by, with_event)
 
 needed_alike : (es : List Event) (t : Solo) → hears_all t (needed t es) ≡ hears_all t es
 unfolding needed
@@ -51,13 +47,7 @@ abbrev view_of : List (List ℕ) → Heard → View
 view_of K h = record { answers = h.answer; rest = rest_of K h.after.map }
 
 seen_alike : (K m d : List (List ℕ)) (us vs : List Step) → IsIsolated K (start m) us → IsIsolated K (start d) vs → solo (given_of_play K us) ≡ solo (given_of_play K vs) → SeesTheSame K m d us vs
-seen_alike K m d us vs here there same =
-    let views : view K (start m) us ≡ view K (start d) vs = here.view ∙ ap (λ (h : Heard). view_of K h) same ∙ sym there.view in
-    record {
-      answers = ap (λ (v : View). v.answers) views;
-      rest = ap (λ (v : View). v.rest) views;
-      work = here.same_stop ∙ ap (λ (h : Heard). h.work) same ∙ sym there.same_stop;
-    }
+seen_alike K m d us vs here there same = grind arith
 
 pub same_needed_law : SameNeededLaw
 same_needed_law K ls m ws may js d vs may_there n k here there same =

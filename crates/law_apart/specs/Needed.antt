@@ -1,5 +1,5 @@
 -- What a family is given of a play, without the losses of a selection that it does not have.
-use Rattle.std.specs.Prelude.{ℕ, cond, List, [], ◌∷◌, is_some, Option, None}
+use Rattle.std.specs.Prelude.{ℕ, cond, List, [], ◌∷◌, is_some, None}
 use Rattle.law_family.specs.model_device.specs.Card.{App}
 use Rattle.law_family.specs.model_play.specs.Given.{Event, Arrives, Departs, Commands, Dumps, Leaves, Given}
 use Rattle.law_family.specs.model_play.specs.Solo.{Solo, hears}
