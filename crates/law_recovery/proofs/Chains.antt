@@ -1,5 +1,5 @@
 -- Every chain of stops leads to one card.
-use Rattle.std.proofs.Common.{◌≡◌, ℕ, ◌-◌, ◌<◌, Bool, true, false, cond, List, [], ◌∷◌, Option, Some, None, refl, sym, ◌∙◌, ap, subst}
+use Rattle.std.proofs.Common.{◌≡◌, ℕ, ◌-◌, ◌<◌, Bool, true, false, cond, List, [], ◌∷◌, Option, Some, None, refl, sym, ◌∙◌, ap, subst, arith}
 use Rattle.std.specs.Prelude.{⊤, nat_le}
 use Rattle.std.proofs.lemmas.Bool.{leb-false}
 use Rattle.model_play.specs.model_device.specs.declared.device.Stop.{Stop}
@@ -9,16 +9,16 @@ use Rattle.model_play.specs.model_device.specs.Stopped.{stands}
 use Rattle.model_play.specs.model_device.specs.Card.{Card}
 use Rattle.model_play.specs.model_device.specs.Layout.{fault}
 use Rattle.model_play.specs.model_device.specs.PowerUp.{Base, OnCard, AtFault, base_after_migration, base_of}
-use Rattle.model_play.specs.model_card.specs.Items.{Item, moves, apps_after_items, card_done, StopAt, at_stop}
+use Rattle.model_play.specs.model_card.specs.Items.{Item, moves, apps_after_items, StopAt, at_stop}
 use Rattle.model_play.specs.model_card.specs.Commands.{Command}
 use Rattle.model_play.specs.DeckGrammar.{DeckLine}
 use Rattle.model_play.specs.DeckGrammar as line
 use Rattle.model_play.specs.Given.{apps_on, apps_in}
-use Rattle.model_play.specs.Play.{Armed, Unarmed, ArmedCut, Live, Running, Unpowered, Muted, Warm, State, BeforePower, AfterPower, FailedWrite, step, card_line, line_command, line_after, hit_of, power_moves, power_live, power_after, stopped_power, play_at_power, is_card_line, Step}
+use Rattle.model_play.specs.Play.{Armed, Unarmed, ArmedCut, Live, Warm, State, BeforePower, AfterPower, FailedWrite, step, card_line, line_after, hit_of, power_moves, power_live, power_after, stopped_power, play_at_power, is_card_line, Step}
 use Rattle.law_recovery.specs.Chains.{after_line, stopped_by, stopped_line, after_stops, base_in, base_with, items_in, whole_items_in}
 use Rattle.law_recovery.specs.Laws.{IsPowered, ChainLaw}
 use Rattle.law_recovery.proofs.Rule.{past_all}
-use Rattle.model_play.proofs.LineKinds.{past_power, StepKind, Early, Quiet, Powers, Sends, by_kind}
+use Rattle.model_play.proofs.LineKinds.{past_power, StepKind, by_kind}
 
 -- ---- power lines
 
@@ -113,12 +113,8 @@ nothing_done b c h = subst (λ (d : Base). Heals b d) (sym (no_items c)) h
 -- what is whole after a line of a running card
 command_leads : (s : Warm) (c : Card) (r : Command) (k : ℕ) (x : List ℕ) (o : Option StopAt) → (o ≡ None → moves r.items < k) → ((t : StopAt) → o ≡ Some t → (at_stop r.items t.at t.left).whole ≡ (at_stop r.items k x).whole)
     → LeadsTo (base_with (OnCard c) (at_stop r.items k x).whole) (AfterPower (line_after s c r o))
-command_leads s c r k x None past hit =
-    let all : (at_stop r.items k x).whole ≡ r.items = past_all r.items k x (past refl) in
-    (subst (λ (is : List Item). Heals (OnCard (card_done c r.items)) (OnCard (card_done c is))) (sym all) (healed (OnCard (card_done c r.items))), refl)
-command_leads s c r k x (Some t) past hit =
-    let whole = (at_stop r.items t.at t.left).whole in
-    (subst (λ (is : List Item). Heals (OnCard (card_done c whole)) (OnCard (card_done c is))) (hit t refl) (healed (OnCard (card_done c whole))), refl)
+command_leads s c r k x None past hit = grind (arith, past_all r.items k x (past refl))
+command_leads s c r k x (Some t) past hit = grind (arith, (at_stop r.items t.at t.left).whole)
 
 -- a cut that is armed
 cut_none : (k m : ℕ) (x : List ℕ) (b : Bool) → nat_le k m ≡ b → cond {A = Option StopAt} b (Some (record { kind = stop.Off; at = k; left = x })) None ≡ None → m < k
@@ -143,16 +139,7 @@ armed_by stop.Worn k x a = a
 
 card_leads : (n : ℕ) (l : DeckLine) (b : Base) (o : ℕ) (j : Journal) (v : Live) (g : ℕ) (a : Armed) (kind : Stop) (k : ℕ) (x : List ℕ)
     → LeadsTo (base_with b (at_stop (card_line n l (past_power b o j v g a) v b None).items k x).whole) (card_line n l (past_power b o j v g (armed_by kind k x a)) v b (failed_by kind k x)).after
-card_leads n l (OnCard c) o j (Running session_state) g a stop.Off k x =
-    let r = line_command c session_state g l in
-    let m : ℕ = moves r.items in
-    command_leads (past_power (OnCard c) o j (Running session_state) g (ArmedCut k x)) c r k x (hit_of (ArmedCut k x) m None) (λ e. cut_none k m x (nat_le k m) refl e) (λ t e. cut_some r.items k m x (nat_le k m) t e)
-card_leads n l (OnCard c) o j (Running session_state) g a stop.Worn k x =
-    let r = line_command c session_state g l in
-    command_leads (past_power (OnCard c) o j (Running session_state) g a) c r k x (Some (record { kind = stop.Worn; at = k; left = x })) (λ e. absurd (cc e)) (λ t e. failure_some r.items k x t e)
-card_leads n l (AtFault cause p) o j (Running session_state) g a kind k x = (healed (AtFault cause p), refl)
-card_leads n l b o j Unpowered g a kind k x = (nothing_done b b (healed b), refl)
-card_leads n l b o j Muted g a kind k x = (nothing_done b b (healed b), refl)
+card_leads n l b o j v g a kind k x = grind (arith, command_leads, past_power, cut_none, cut_some, failure_some, healed, nothing_done)
 
 -- a power line after the first one
 repowered : (n : ℕ) (s : Warm) (k : Stop) (t : StopAt) → LeadsTo (base_with s.base []) (stopped_by k (AfterPower s) (n, line.Power) t).after
@@ -207,11 +194,7 @@ none_on (OnCard c) = tt
 none_on (AtFault cause p) = refl
 
 kind_none : {z : State} {n : ℕ} {l : DeckLine} {u : Step} → StepKind None z n l u → NoneAtFault (base_in z) u.items
-kind_none (Early {m = m} p) = none_on (base_of (fault m) m)
-kind_none (Quiet {s = s} p q) = none_on s.base
-kind_none (Powers (BeforePower m b a)) = none_on (base_of (fault m) m)
-kind_none (Powers (AfterPower s)) = none_on s.base
-kind_none (Sends k c session_state) = tt
+kind_none h = grind (arith, none_on)
 
 none_in : (z : State) (l : ℕ × DeckLine) → NoneAtFault (base_in z) (items_in z l)
 none_in z l = kind_none (by_kind z l None)

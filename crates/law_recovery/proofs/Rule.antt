@@ -1,49 +1,28 @@
 -- The rule of stops: what a stop at a write makes of items.
-use Rattle.std.proofs.Common.{◌≡◌, ◌⊎◌, ℕ, ◌+◌, ◌-◌, ◌<◌, ◌≤◌, Bool, true, false, cond, List, [], ◌∷◌, ◌++◌, refl, ◌∙◌, ap, inl, inr, arith}
-use Rattle.std.specs.Prelude.{◌==◌, nat_le}
+use Rattle.std.proofs.Common.{◌≡◌, ◌⊎◌, ℕ, ◌+◌, ◌-◌, ◌<◌, ◌≤◌, Bool, true, false, List, [], ◌∷◌, ◌++◌, refl, ◌∙◌, ap, inl, inr, arith}
+use Rattle.std.specs.Prelude.{nat_le}
 use Rattle.std.proofs.lemmas.Bool.{leb-true, leb-false, lt-leb}
 use Rattle.std.proofs.lemmas.Bool.Decides.{eqb_tells}
 use Rattle.model_play.specs.model_device.specs.Image.{Two}
 use Rattle.model_play.specs.model_device.specs.Stopped.{cost}
-use Rattle.model_play.specs.model_card.specs.Items.{Change, Item, Plain, Atomic, weight, moves, in_flight, with_item, at_stop, Stopped}
+use Rattle.model_play.specs.model_card.specs.Items.{Change, Item, Plain, Atomic, weight, moves, at_stop}
 use Rattle.law_recovery.specs.Laws.{in_flight_whole, RuleLaw}
 
 -- ---- a stop in the first item, and one after it
-
-whole_cond : (b : Bool) (s t : Stopped) (w v : List Item) → (b ≡ true → s.whole ≡ w) → (b ≡ false → t.whole ≡ v) → (cond b s t).whole ≡ cond b w v
-whole_cond true s t w v h k = h refl
-whole_cond false s t w v h k = k refl
 
 -- the item in flight is the first
 first_plain : (is : List Item) (x : List ℕ) (k : ℕ) → k ≡ 1 → (at_stop (Plain ∷ is) k x).whole ≡ []
 first_plain is x k e = ap (λ (j : ℕ). (at_stop (Plain ∷ is) j x).whole) e
 
 first_atomic : (w : ℕ) (c : Change) (is : List Item) (x : List ℕ) (k : ℕ) → k ≤ cost Two w → (at_stop (Atomic w c ∷ is) k x).whole ≡ in_flight_whole (Atomic w c) k x
-first_atomic w c is x k h =
-    let e : nat_le k (cost Two w) ≡ true = elim (tests k (cost Two w)) [ inl own ↦ own.0 | inr other ↦ absurd (let more = other.1 in omega (arith, more, h)) ] in
-    ap (λ (b : Bool). (cond b (in_flight w c k x) (with_item (Atomic w c) (at_stop is (k - cost Two w) x))).whole) e
-  where
-    tests : (a b : ℕ) → ((nat_le a b ≡ true) × (a ≤ b)) ⊎ ((nat_le a b ≡ false) × (b < a))
-    tests a b = by (nat_le a b) refl
-      where
-        by : (t : Bool) → nat_le a b ≡ t → ((nat_le a b ≡ true) × (a ≤ b)) ⊎ ((nat_le a b ≡ false) × (b < a))
-        by true e = inl (e, leb-true a b e)
-        by false e = inr (e, leb-false a b e)
+first_atomic w c is x k h = grind (arith, leb-true, leb-false)
 
 -- the first item is whole, and the stop is in those after it
 later_plain : (is : List Item) (x : List ℕ) (k : ℕ) → 1 ≤ k → (at_stop (Plain ∷ is) (1 + k) x).whole ≡ Plain ∷ (at_stop is k x).whole
-later_plain is x k low =
-    let other : (1 + k == 1) ≡ false = elim (eqb_tells (1 + k) 1) [ inl own ↦ absurd (let same = own.1 in omega (arith, same, low)) | inr no-one ↦ no-one.0 ] in
-    let less : 1 + k - 1 ≡ k = omega arith in
-    ap (λ (b : Bool). (cond b (record { whole = []; owed = 0 }) (with_item Plain (at_stop is (1 + k - 1) x))).whole) other
-    ∙ ap (λ (j : ℕ). Plain ∷ (at_stop is j x).whole) less
+later_plain is x k low = grind (arith, eqb_tells)
 
 later_atomic : (w : ℕ) (c : Change) (is : List Item) (x : List ℕ) (k : ℕ) → 1 ≤ k → (at_stop (Atomic w c ∷ is) (cost Two w + k) x).whole ≡ Atomic w c ∷ (at_stop is k x).whole
-later_atomic w c is x k low =
-    let other : nat_le (cost Two w + k) (cost Two w) ≡ false = lt-leb (cost Two w + k) (cost Two w) (omega (arith, low)) in
-    let less : cost Two w + k - cost Two w ≡ k = omega arith in
-    ap (λ (b : Bool). (cond b (in_flight w c (cost Two w + k) x) (with_item (Atomic w c) (at_stop is (cost Two w + k - cost Two w) x))).whole) other
-    ∙ ap (λ (j : ℕ). Atomic w c ∷ (at_stop is j x).whole) less
+later_atomic w c is x k low = grind (arith, lt-leb)
 
 pub later_item : (i : Item) (is : List Item) (x : List ℕ) (k : ℕ) → 1 ≤ k → (at_stop (i ∷ is) (weight i + k) x).whole ≡ i ∷ (at_stop is k x).whole
 later_item Plain is x k low = later_plain is x k low

@@ -5,7 +5,7 @@ use Rattle.std.proofs.lemmas.Bool.Decides.{eqb_tells}
 use Rattle.model_play.specs.model_device.specs.Image.{Two, opening}
 use Rattle.model_play.specs.model_device.specs.Stopped.{opens_at, stands}
 use Rattle.model_play.specs.model_device.specs.PowerUp.{base_after_migration}
-use Rattle.model_play.specs.model_card.specs.Items.{Change, Item, Plain, Atomic, weight, moves, StopAt, at_stop}
+use Rattle.model_play.specs.model_card.specs.Items.{Change, Item, Atomic, weight, moves, StopAt, at_stop}
 use Rattle.model_play.specs.DeckGrammar.{DeckLine}
 use Rattle.model_play.specs.Play.{State, is_card_line, moves_of}
 use Rattle.law_recovery.specs.Chains.{after_chain, base_in, base_with, items_in, whole_items_in}
@@ -24,9 +24,7 @@ record Shows (is : List Item) (j : ℕ) (x f : List ℕ) : Type 0 where
 
 -- whether an atomic write stands depends on the word alone where the gate is opened
 apart_stands : (w j : ℕ) (x f : List ℕ) → j ≢ opens_at Two w → stands Two w j x ≡ stands Two w j f
-apart_stands w j x f h =
-    let other : (j == opens_at Two w) ≡ false = elim (eqb_tells j (opens_at Two w)) [ inl own ↦ absurd (h own.1) | inr no-one ↦ no-one.0 ] in
-    ap (λ (b : Bool). nat_lt (opens_at Two w) j || (b && bytes_eq x (opening Two))) other ∙ sym (ap (λ (b : Bool). nat_lt (opens_at Two w) j || (b && bytes_eq f (opening Two))) other)
+apart_stands w j x f h = grind (arith, eqb_tells)
 
 gate_stands : (w j : ℕ) (x : List ℕ) → bytes_eq x (opening Two) ≡ true → j ≡ opens_at Two w → stands Two w j x ≡ true
 gate_stands w j x opens e =
@@ -38,13 +36,7 @@ gate_stands w j x opens e =
     or_true false = refl
 
 past_stands : (w j : ℕ) (f : List ℕ) → opens_at Two w < j → stands Two w j f ≡ true
-past_stands w j f h =
-    let more : nat_lt (opens_at Two w) j ≡ true = by (nat_lt (opens_at Two w) j) refl in
-    ap (λ (b : Bool). b || ((j == opens_at Two w) && bytes_eq f (opening Two))) more
-  where
-    by : (b : Bool) → nat_lt (opens_at Two w) j ≡ b → nat_lt (opens_at Two w) j ≡ true
-    by true e = e
-    by false e = absurd (let less : j ≤ opens_at Two w = grind (arith, e) in omega (arith, less, h))
+past_stands w j f h = grind arith
 
 same_word : (w j : ℕ) (x f : List ℕ) → bytes_eq x (opening Two) ≡ bytes_eq f (opening Two) → stands Two w j x ≡ stands Two w j f
 same_word w j x f h = ap (λ (b : Bool). nat_lt (opens_at Two w) j || ((j == opens_at Two w) && b)) h
@@ -66,13 +58,7 @@ at_gate w c is j x f low opens e =
     }
 
 here : (i : Item) (is : List Item) (j : ℕ) (x f : List ℕ) (b : Bool) → bytes_eq x (opening Two) ≡ b → bytes_eq f (opening Two) ≡ false → 1 ≤ j → j ≤ weight i → Shows (i ∷ is) j x f
-here Plain is j x f b e shut low high = here_by Plain is j x f low high refl
-here (Atomic w c) is j x f false e shut low high = here_by (Atomic w c) is j x f low high (ap (λ (b : Bool). cond b (Atomic w c ∷ []) []) (same_word w j x f (e ∙ sym shut)))
-here (Atomic w c) is j x f true e shut low high =
-    elim (eqb_tells j (opens_at Two w)) [
-      | inl own ↦ at_gate w c is j x f low e own.1
-      | inr no-one ↦ here_by (Atomic w c) is j x f low high (ap (λ (b : Bool). cond b (Atomic w c ∷ []) []) (apart_stands w j x f no-one.1))
-    ]
+here i is j x f b e shut low high = grind (arith, here_by, same_word, eqb_tells, at_gate, apart_stands)
 
 -- ---- all items
 
