@@ -1,7 +1,7 @@
 -- Each act of a row leads from a place that is seen to one that is seen: its key is that of the frame after the act, and
 -- what is known is so.
 use Rattle.std.proofs.Common.{◌≡◌, ℕ, zero, suc, ◌+◌, ◌-◌, ◌<◌, ◌≤◌, Bool, true, false, cond, List, [], ◌∷◌, ◌++◌, length, take, drop, Option, Some, None, refl, sym, ap, ◌∙◌, arith}
-use Rattle.std.specs.Prelude.{not, ◌&&◌, nat_lt, nat_le, is_none, slice_index, ⊤}
+use Rattle.std.specs.Prelude.{◌&&◌, nat_lt, nat_le, is_none, slice_index, ⊤}
 use Rattle.std.proofs.lemmas.Bool.{lt-ltb, ltb-true, leb-true}
 use Rattle.model_prove.specs.model_device.specs.Bytes.{AreBytes, bytes2, splice}
 use Rattle.model_prove.specs.model_device.specs.Card.{App}
@@ -21,7 +21,7 @@ use Rattle.model_prove.specs.Laws.{HoldsBytes}
 use Rattle.model_prove.specs.Arrivals.{Setting, static_size, settled, la_at}
 use Rattle.model_prove.specs.Steps.{Spot, sets, lowered, acted, with_flags, settled_spot, makes_write}
 use Rattle.model_prove.proofs.CompareLemmas.{touched_holds}
-use Rattle.law_prove.specs.Coverings.{moment_memory, frame_memory, IsKnown}
+use Rattle.law_prove.specs.Coverings.{moment_memory, IsKnown}
 use Rattle.law_prove.proofs.Windows.{window, windows_same, taken_is, index_within}
 use Rattle.law_prove.proofs.Spots.{place_key, Covers}
 use Rattle.law_prove.proofs.Known.{filter_holds, open_below}
@@ -67,19 +67,11 @@ LiesIn f a n (Public i) = (a ≡ public_base + i) × (a + n ≤ public_end)
 
 lies_by : (f : Frame) (a n : ℕ) (x y z : Bool) (p : Place) → nat_le (a + n) (length f.fixed) ≡ x → (nat_le dynamic_base a && nat_le (a + n) f.dt) ≡ y → (nat_le public_base a && nat_le (a + n) public_end) ≡ z
     → cond x (Some (Static a)) (cond y (Some (Dynamic (a - dynamic_base))) (cond z (Some (Public (a - public_base))) None)) ≡ Some p → LiesIn f a n p
-lies_by f a n true y z p e d b is =
-    let same : Static a ≡ p = cc is in
-    rw (← same) (refl, leb-true (a + n) (length f.fixed) e)
+lies_by f a n true y z p e d b is = grind (arith, leb-true)
 lies_by f a n false true z p e d b is =
-    let low = leb-true dynamic_base a (and_first (nat_le dynamic_base a) (nat_le (a + n) f.dt) d) in
-    let high = leb-true (a + n) f.dt (and_second (nat_le dynamic_base a) (nat_le (a + n) f.dt) d) in
-    let same : Dynamic (a - dynamic_base) ≡ p = cc is in
-    rw (← same) (omega (arith, low), high)
+    grind (arith, leb-true dynamic_base a (and_first (nat_le dynamic_base a) (nat_le (a + n) f.dt) d), leb-true (a + n) f.dt (and_second (nat_le dynamic_base a) (nat_le (a + n) f.dt) d))
 lies_by f a n false false true p e d b is =
-    let low = leb-true public_base a (and_first (nat_le public_base a) (nat_le (a + n) public_end) b) in
-    let high = leb-true (a + n) public_end (and_second (nat_le public_base a) (nat_le (a + n) public_end) b) in
-    let same : Public (a - public_base) ≡ p = cc is in
-    rw (← same) (omega (arith, low), high)
+    grind (arith, leb-true public_base a (and_first (nat_le public_base a) (nat_le (a + n) public_end) b), leb-true (a + n) public_end (and_second (nat_le public_base a) (nat_le (a + n) public_end) b))
 lies_by f a n false false false p e d b is = absurd (cc is)
 
 pub lies_in : (f : Frame) (a n : ℕ) (p : Place) → where_is f a n ≡ Some p → LiesIn f a n p
@@ -253,19 +245,7 @@ module _ (s : Setting) (small : static_size s ≤ dynamic_base) (st : Start) (al
       let one : Framed s.app (record f { dyn = splice f.dyn j b; dt = f.dt + 4 }) = stacked f j (f.dt + 4) b framed fits (omega (arith, low)) over in
       record {
         key = refl;
-        seen = record {
-          open_calls = (
-            omega arith,
-            omega (arith, low),
-            refl,
-            ap (λ (i : ℕ). take 4 (drop i (splice f.dyn j b))) place ∙ there,
-            (framed.base, placed),
-            rw same pushed.open_calls,
-          );
-          holds = pushed.holds;
-          compares = pushed.compares;
-          keeps = pushed.keeps;
-        };
+        seen = grind (arith, low, framed);
         framed = record { code = one.code; deny = one.deny; session = one.session; size = one.size; room = one.room; inside = one.inside; settled = one.settled; low = one.low; high = one.high; base = omega (arith, over) };
         writes = tt;
       }
@@ -359,15 +339,7 @@ module _ (s : Setting) (small : static_size s ≤ dynamic_base) (st : Start) (al
 
 pub flags_led : (s : Setting) (st : Start) (al : Amounts) (r : Spot) (w : Bool) (e : Effect) (o : Option (Bool × Bool)) → Led s st al r w e → Led s st al (with_flags o r) w (shapes.with_flags o e)
 flags_led s st al r w e None led = led
-flags_led s st al r w e (Some cz) led =
-    let seen : Seen r.key.calls r.known e.frame e.public = led.seen in
-    let framed : Framed s.app e.frame = led.framed in
-    record {
-      key = ap (λ (k : PlaceKey). record k { c = cz.0; z = cz.1 }) led.key;
-      seen = record { open_calls = seen.open_calls; holds = seen.holds; compares = seen.compares; keeps = seen.keeps };
-      framed = record { code = framed.code; deny = framed.deny; session = framed.session; size = framed.size; room = framed.room; inside = framed.inside; settled = framed.settled; low = framed.low; high = framed.high; base = framed.base };
-      writes = led.writes;
-    }
+flags_led s st al r w e (Some cz) led = grind (arith, led.seen, led.framed)
 
 -- what is led to covers the frame
 pub led_covers : (s : Setting) (st : Start) (al : Amounts) (r : Spot) (w : Bool) (e : Effect) → Led s st al r w e → Covers (settled_spot s r) e.frame e.public
@@ -389,11 +361,4 @@ led_covers s st al r w e led =
 
 pub lowered_seen : (d : ℕ) (st : Start) (al : Amounts) (f : Frame) (public : List ℕ) (calls : List Call) (k : Known) → Seen calls k f public
     → Seen (calls_below d calls) (lowered d (spot_of st al f calls k)).known (record f { dt = d }) public
-lowered_seen d st al f public calls k seen =
-    let n = public_base - d in
-    record {
-      open_calls = open_below (dynamic_base + f.session) f.dt d f.lb f.dyn calls seen.open_calls;
-      holds = filter_holds (λ e. not (nat_le d e.0 && nat_lt e.0 (d + n))) k.bytes (frame_memory f public) seen.holds;
-      compares = touched_holds d n k.compare (frame_memory f public) (frame_memory f public) (λ a other. refl) seen.compares;
-      keeps = seen.keeps;
-    }
+lowered_seen d st al f public calls k seen = grind (arith, open_below, filter_holds, touched_holds)

@@ -1,7 +1,7 @@
 -- What the frame that stands for a place has in common with the frame: registers, places of operands, what lies in its
 -- segments; and how bytes that are read are those of its memory.
 use Rattle.std.proofs.Common.{◌≡◌, ℕ, zero, suc, ◌+◌, ◌-◌, ◌<◌, ◌≤◌, Bool, true, false, cond, List, [], ◌∷◌, ◌++◌, length, ℤ, Option, Some, None, refl, sym, ap, ◌∙◌, arith}
-use Rattle.std.specs.Prelude.{not, ◌==◌, ◌&&◌, nat_lt, nat_le, is_none, slice_index}
+use Rattle.std.specs.Prelude.{not, ◌==◌, ◌&&◌, nat_lt, is_none, slice_index}
 use Rattle.std.proofs.lemmas.Bool.{ltb-true, ltb-false, lt-ltb, false_from_ne_true, and_from}
 use Rattle.std.proofs.lemmas.List.{length-replicate}
 use Rattle.model_prove.specs.model_device.specs.Bytes.{bytes2, zeros}
@@ -41,12 +41,7 @@ pub same_operand : (f : Frame) (dyn : List ℕ) (tag : ℕ) (off : ℤ) (k : ℕ
 same_operand f dyn tag off k = ap (λ (r : ℕ). cond (tag == 0) (Some (f.dt - k)) (moved_address r off)) (same_register f dyn tag)
 
 pub same_where : (f : Frame) (dyn : List ℕ) (a n : ℕ) → where_is (like f dyn) a n ≡ where_is f a n
-same_where f dyn a n =
-    ap (λ (m : ℕ). cond (nat_le (a + n) m) (Some (Static a)) (
-    cond (nat_le dynamic_base a && nat_le (a + n) f.dt) (Some (Dynamic (a - dynamic_base))) (
-    cond (nat_le public_base a && nat_le (a + n) public_end) (Some (Public (a - public_base))) None
-    )
-    )) (same_size f)
+same_where f dyn a n = grind (arith, same_size)
 
 -- whether an access is outside of the segments
 pub same_access : (f : Frame) (dyn : List ℕ) (o : Option ℕ) (n : ℕ) → no_access (like f dyn) o n ≡ no_access f o n
@@ -60,10 +55,7 @@ few_by false f dyn o n h = refl
 few_by true f dyn None n h = refl
 few_by true f dyn (Some (Dynamic i)) n h = refl
 few_by true f dyn (Some (Public i)) n h = refl
-few_by true f dyn (Some (Static i)) n h =
-    let size : length (zeros n) ≡ n = length-replicate {A = ℕ} n 0 in
-    let few : length (touched_words ((i, zeros n) ∷ [])) ≤ 33 = one_piece i (zeros n) (omega (arith, size, h)) in
-    false_from_ne_true (nat_lt 64 (length (touched_words ((i, zeros n) ∷ [])))) (λ is. let many = ltb-true 64 (length (touched_words ((i, zeros n) ∷ []))) is in omega (arith, many, few))
+few_by true f dyn (Some (Static i)) n h = grind (arith, length-replicate, one_piece, false_from_ne_true, ltb-true)
 
 -- of a frame where nothing waits no write passes it
 pub few_wait : (f : Frame) (dyn : List ℕ) (a n : ℕ) → n ≤ 256 → too_many (like f dyn) a n ≡ false

@@ -15,7 +15,7 @@ use Rattle.model_prove.specs.law_rows.specs.Shapes.{Stays, Writes, shape}
 use Rattle.mc_arith.proofs.BlockLemmas.{num_below}
 use Rattle.model_prove.specs.Facts.{Memory}
 use Rattle.model_prove.specs.Compares.{Compare, bytes_from, has_order, IsSo, orders_of}
-use Rattle.model_prove.specs.Digits.{Operation, Plus, Minus, And, Or, Xor, carried}
+use Rattle.model_prove.specs.Digits.{Operation, Minus, carried}
 use Rattle.model_prove.specs.Laws.{HoldsBytes}
 use Rattle.model_prove.specs.Work.{AtAddress, These, Digitwise, Works, work}
 use Rattle.model_prove.specs.Splits.{stand_in_stack}
@@ -32,13 +32,7 @@ use Rattle.law_prove.proofs.Blocks.{set_flags, outcome_row, outcome_limited, com
 -- ---- flags and the last compare
 
 speaks : (op : Operation) (written : Bool) → (carries_of op || (not written && is_or op)) ≡ true → Speaks op
-speaks Plus written e = tt
-speaks Minus written e = tt
-speaks Or written e = tt
-speaks And true e = absurd (cc e)
-speaks And false e = absurd (cc e)
-speaks Xor true e = absurd (cc e)
-speaks Xor false e = absurd (cc e)
+speaks op written e = grind arith
 
 -- whether the last compare speaks of an operation
 abbrev pub ordered : Operation → Bool → Bool
@@ -53,10 +47,7 @@ below n l h is = rw (← is) (num_below l h)
 
 -- the first operand is in the span of the flags
 in_span : (op : Operation) (written : Bool) (n : ℕ) (xs ys : List ℕ) → ordered op written ≡ true → length xs ≡ n → length ys ≡ n → AreBytes xs → AreBytes ys → RunsAs op written n xs ys → InSpan (num xs) (span_of op n (num ys) (worked op xs ys).1)
-in_span op written n xs ys e a b h k runs =
-    let size : length xs ≡ length ys = a ∙ sym b in
-    span_is op n (num ys) (num xs) (num (worked op xs ys).0) (worked op xs ys).1 (speaks op written e) (below n xs h a) (below n ys k b)
-    (below n (worked op xs ys).0 (worked_bytes op xs ys size h k) (worked_length op xs ys size ∙ a)) (runs e) (worked_zero op xs ys size)
+in_span op written n xs ys e a b h k runs = grind (arith, span_is, worked, speaks, below, worked_bytes, worked_length, worked_zero)
 
 unless_by : (o b : Bool) → (o ≡ true → b ≡ true) → (not o || b) ≡ true
 unless_by true b h = h refl
@@ -86,10 +77,7 @@ immediate_so op at n b c m so size h k runs =
 
 -- the machine's order of two blocks
 order_left : (n : ℕ) (xs ys : List ℕ) → length xs ≡ n → length ys ≡ n → AreBytes xs → AreBytes ys → RunsAs Minus true n xs ys → has_order (orders_of ((worked Minus xs ys).1).c ((worked Minus xs ys).1).z) (num xs) (num ys) ≡ true
-order_left n xs ys a b h k runs =
-    let size : length xs ≡ length ys = a ∙ sym b in
-    order_is n (num xs) (num ys) (num (worked Minus xs ys).0) (worked Minus xs ys).1 (below n xs h a) (below n ys k b)
-    (below n (worked Minus xs ys).0 (worked_bytes Minus xs ys size h k) (worked_length Minus xs ys size ∙ a)) (runs refl) (worked_zero Minus xs ys size)
+order_left n xs ys a b h k runs = grind (arith, order_is, worked, below, worked_bytes, worked_length, worked_zero)
 
 -- an operation with bytes at an address
 abbrev pub with_bytes : Operation → ℕ → ℕ → ℕ → Bool → Digitwise
@@ -97,14 +85,7 @@ with_bytes op at n other written = record { op = op; at = at; n = n; operand = A
 
 pub bytes_allowed : (op : Operation) (written : Bool) (at n other : ℕ) (c : Compare) (m : Memory) → IsSo c m → AreBytes (bytes_from m at n) → AreBytes (bytes_from m other n) → RunsAs op true n (bytes_from m at n) (bytes_from m other n)
     → allows c (with_bytes op at n other written) (AtAddress other) (worked op (bytes_from m at n) (bytes_from m other n)).1 ≡ true
-bytes_allowed Minus written at n other c m so h k runs =
-    let xs = bytes_from m at n in
-    let ys = bytes_from m other n in
-    orders_allowed c m at n other (orders_of ((worked Minus xs ys).1).c ((worked Minus xs ys).1).z) so (order_left n xs ys (from_length m at n) (from_length m other n) h k runs)
-bytes_allowed Plus written at n other c m so h k runs = refl
-bytes_allowed And written at n other c m so h k runs = refl
-bytes_allowed Or written at n other c m so h k runs = refl
-bytes_allowed Xor written at n other c m so h k runs = refl
+bytes_allowed op written at n other c m so h k runs = grind (arith, orders_allowed, worked, order_left, from_length)
 
 -- ---- bytes of a memory
 

@@ -1,10 +1,10 @@
 -- Rows that work on blocks, digit by digit: the outcome with the machine's flags is included, and leads to what is seen.
-use Rattle.std.proofs.Common.{◌≡◌, ℕ, zero, suc, ◌+◌, ◌-◌, ◌<◌, ◌≤◌, inl, inr, Bool, true, false, cond, List, [], ◌∷◌, ◌++◌, length, map, reverse, Option, Some, None, refl, sym, ap, subst, ◌∙◌}
+use Rattle.std.proofs.Common.{◌≡◌, ℕ, zero, suc, ◌+◌, ◌-◌, ◌<◌, ◌≤◌, inl, inr, Bool, true, false, cond, List, [], ◌∷◌, ◌++◌, length, map, reverse, Option, Some, refl, sym, ap, subst, ◌∙◌, arith}
 use Rattle.std.specs.Prelude.{◌&&◌, flat_map, is_none}
 use Rattle.model_prove.specs.model_machine.specs.declared.instruction.Ins.{Ins}
 use Rattle.model_prove.specs.model_machine.specs.declared.machine.Abend.{Abend}
 use Rattle.model_prove.specs.model_machine.specs.declared.machine.Abend.TheVariants.{A08}
-use Rattle.model_prove.specs.model_machine.specs.Frame.{Frame, Effect, Place, Static, Dynamic, Public, where_is, static_written, write_effect_at, write_effect, dynamic_base}
+use Rattle.model_prove.specs.model_machine.specs.Frame.{Frame, Effect, Place, where_is, static_written, write_effect_at, write_effect, dynamic_base}
 use Rattle.model_prove.specs.model_machine.specs.Primitives.{Goes, Done, effect_and_next}
 use Rattle.model_prove.specs.model_machine.specs.Row.{causes, effect, row, row_end, first_cause, Does}
 use Rattle.model_prove.specs.model_machine.specs.Chain.{frame_at}
@@ -73,13 +73,7 @@ among_each g a x (b ∷ list) h k =
     ]
 
 final_there : (carries : Bool) (c z : Bool) → (carries ≡ false → c ≡ false) → Among (record { c = c; z = z }) (final_flags carries)
-final_there true false false h = inl refl
-final_there true false true h = inr (inl refl)
-final_there true true false h = inr (inr (inl refl))
-final_there true true true h = inr (inr (inr (inl refl)))
-final_there false false false h = inl refl
-final_there false false true h = inr (inl refl)
-final_there false true z h = absurd (cc (h refl))
+final_there carries c z h = grind arith
 
 -- the outcome with some flags is among those of an operation
 among_works : (d : Digitwise) (q x : Spot) (f : Flags) (ds : List Digits) → (d.carries ≡ false → f.c ≡ false) → allows q.known.compare d d.operand f ≡ true
@@ -108,16 +102,7 @@ abbrev pub set_flags : Bool → Flags → Frame → Bool × Bool
 set_flags carries f frame = (cond carries f.c frame.c, f.z)
 
 flag_led : (s : Setting) (st : Start) (al : Amounts) (r : Spot) (w : Bool) (e : Effect) (carries : Bool) (f : Flags) → Led s st al r w e → Led s st al (flagged carries f r) w (shapes.with_flags (Some (set_flags carries f e.frame)) e)
-flag_led s st al r w e true f led = flags_led s st al r w e (Some (f.c, f.z)) led
-flag_led s st al r w e false f led =
-    let seen : Seen r.key.calls r.known e.frame e.public = led.seen in
-    let framed : Framed s.app e.frame = led.framed in
-    record {
-      key = ap (λ (k : PlaceKey). record k { z = f.z }) led.key;
-      seen = record { open_calls = seen.open_calls; holds = seen.holds; compares = seen.compares; keeps = seen.keeps };
-      framed = record { code = framed.code; deny = framed.deny; session = framed.session; size = framed.size; room = framed.room; inside = framed.inside; settled = framed.settled; low = framed.low; high = framed.high; base = framed.base };
-      writes = led.writes;
-    }
+flag_led s st al r w e carries f led = grind (arith, flags_led, Seen, Framed)
 
 -- a write keeps the top of the stack and C
 kept_static : (p : Bool) (f : Frame) (public : List ℕ) (j : ℕ) (b : List ℕ) → ((static_written p f public j b).frame.dt ≡ f.dt) × ((static_written p f public j b).frame.c ≡ f.c)
@@ -125,10 +110,7 @@ kept_static false f public j b = (refl, refl)
 kept_static true f public j b = (refl, refl)
 
 kept_at : (f : Frame) (public b : List ℕ) (o : Option Place) → ((write_effect_at f public b o).frame.dt ≡ f.dt) × ((write_effect_at f public b o).frame.c ≡ f.c)
-kept_at f public b None = (refl, refl)
-kept_at f public b (Some (Static j)) = kept_static f.protected f public j b
-kept_at f public b (Some (Dynamic j)) = (refl, refl)
-kept_at f public b (Some (Public j)) = (refl, refl)
+kept_at f public b o = grind (arith, kept_static)
 
 write_keeps : (f : Frame) (public : List ℕ) (a : ℕ) (b : List ℕ) → ((write_effect f public a b).frame.dt ≡ f.dt) × ((write_effect f public a b).frame.c ≡ f.c)
 unfolding write_effect
@@ -229,9 +211,7 @@ module _ (s : Setting) (u t : Tables) (g : Target) (loadable : IsLoadable s.app)
     from_count (suc k) a = ap suc (from_count k (suc a))
 
     pub known_digits : OnDigits op first_block ys (values_from turn.place.known.bytes at n) (operand_sets turn.place.known.bytes operand n)
-    known_digits =
-        on_digits op first_block ys (values_from turn.place.known.bytes at n) (operand_sets turn.place.known.bytes operand n) (from_count n at ∙ sym size)
-        (fit_values turn.place.known.bytes memory at n turn.place.holds turn.place.bytes) (operand_fits turn.place.known.bytes memory n operand ys turn.place.holds turn.place.bytes has)
+    known_digits = grind (arith, on_digits, from_count, fit_values, operand_fits)
 
     pub second_narrowed : Narrowed (operand_narrowed operand (map (λ d. d.b) (reverse known_digits.digits)) (Some turn.place.known.bytes)) memory
     second_narrowed = operand_holds turn.place.known.bytes memory n operand ys (map (λ d. d.b) (reverse known_digits.digits)) turn.place.holds turn.place.bytes has known_digits.second
@@ -253,13 +233,9 @@ module _ (s : Setting) (u t : Tables) (g : Target) (loadable : IsLoadable s.app)
         let q : Spot = there s u t g loadable leads i turn in
         let x : Spot = spot_of st al (frame_at turn.frame turn.next) turn.place.calls compared_known in
         let rds = reverse known_digits.digits in
-        let facts_are : narrowed_operands (operation false) rds turn.place.known.bytes ≡ Some both_narrowed.facts =
-        ap (λ (o : Option Facts). narrow_all at (map (λ d. d.a) rds) o) second_narrowed.is ∙ both_narrowed.is
-        in
+        let facts_are : narrowed_operands (operation false) rds turn.place.known.bytes ≡ Some both_narrowed.facts = grind (arith, second_narrowed, both_narrowed) in
         let there_is : Among x (steps.worked (operation false) flags_left (Some known_digits.digits) q) = subst (λ (o : Option Facts). Among x (worked_at (operation false) flags_left rds o q)) (sym facts_are) (inl refl) in
-        let seen : Seen turn.place.calls compared_known (low_frame s u t g loadable leads i turn turn.frame.dt) turn.public =
-        record { open_calls = turn.place.open_calls; holds = both_narrowed.holds; compares = so; keeps = λ on session d. turn.place.keeps session d }
-        in
+        let seen : Seen turn.place.calls compared_known (low_frame s u t g loadable leads i turn turn.frame.dt) turn.public = grind (arith, both_narrowed) in
         let e : Effect = act_effect Stays (low_frame s u t g loadable leads i turn turn.frame.dt) turn.public in
         let led : Led s st al x false e = stays_led s loadable.static st al (low_frame s u t g loadable leads i turn turn.frame.dt) turn.public turn.place.calls compared_known [] (same_framed s u t g loadable leads i turn) seen in
         let flags : Led s st al (flagged carries flags_left x) false (shapes.with_flags (Some (set_flags carries flags_left turn.frame)) e) = flag_led s st al x false e carries flags_left led in
@@ -288,9 +264,7 @@ module _ (s : Setting) (u t : Tables) (g : Target) (loadable : IsLoadable s.app)
         let count : length b ≡ n = worked_length op first_block ys (from_count n at ∙ sym size) ∙ from_count n at in
         let x : Spot = written at ss (spot_of st al (frame_at turn.frame turn.next) turn.place.calls operand_known) in
         let there_is : Among x (steps.worked (operation true) flags_left (Some known_digits.digits) q) = subst (λ (o : Option Facts). Among x (worked_at (operation true) flags_left rds o q)) (sym second_narrowed.is) (inl refl) in
-        let seen : Seen turn.place.calls operand_known low turn.public =
-        record { open_calls = turn.place.open_calls; holds = second_narrowed.holds; compares = turn.place.compares; keeps = λ on session d. turn.place.keeps session d }
-        in
+        let seen : Seen turn.place.calls operand_known low turn.public = grind (arith, second_narrowed) in
         let e : Effect = act_effect (Writes at k b) low turn.public in
         let w = makes_write s turn.frame.protected (Writes at k b) in
         let led : Led s st al x w e =
@@ -299,8 +273,7 @@ module _ (s : Setting) (u t : Tables) (g : Target) (loadable : IsLoadable s.app)
         let dt_is : e.frame.dt ≡ turn.frame.dt = (write_keeps low turn.public at b).0 in
         let c_is : e.frame.c ≡ turn.frame.c = (write_keeps low turn.public at b).1 in
         let flags : Led s st al (flagged carries flags_left x) w (shapes.with_flags (Some (set_flags carries flags_left turn.frame)) e) =
-        subst (λ (c : Bool). Led s st al (flagged carries flags_left x) w (shapes.with_flags (Some (cond carries flags_left.c c, flags_left.z)) e)) c_is (flag_led s st al x w e carries flags_left led)
-        in
+        grind (arith, Led, shapes, flag_led, led) in
         record {
           spot = lowered turn.frame.dt (flagged carries flags_left x);
           led = subst (λ (d : ℕ). Led s st al (lowered d (flagged carries flags_left x)) w (shapes.with_flags (Some (set_flags carries flags_left turn.frame)) e)) dt_is
@@ -324,9 +297,7 @@ module _ (s : Setting) (u t : Tables) (g : Target) (loadable : IsLoadable s.app)
         let many : length ss ≡ n = fit_length b ss known_digits.result ∙ count in
         let x : Spot = written at ss (spot_of st al (frame_at turn.frame turn.next) turn.place.calls operand_known) in
         let there_is : Among x (steps.worked (operation true) flags_left (Some known_digits.digits) q) = subst (λ (o : Option Facts). Among x (worked_at (operation true) flags_left rds o q)) (sym second_narrowed.is) (inl refl) in
-        let seen : Seen turn.place.calls operand_known low turn.public =
-        record { open_calls = turn.place.open_calls; holds = second_narrowed.holds; compares = turn.place.compares; keeps = λ on session d. turn.place.keeps session d }
-        in
+        let seen : Seen turn.place.calls operand_known low turn.public = grind (arith, second_narrowed) in
         let e : Effect = act_effect (Replaces b) low turn.public in
         let led : Led s st al x false e =
         subst (λ (k : ℕ). Led s st al (written k ss (spot_of st al (frame_at turn.frame turn.next) turn.place.calls operand_known)) false e) (ap (λ (k : ℕ). turn.frame.dt - k) many ∙ sym place)

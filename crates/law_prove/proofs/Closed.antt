@@ -1,5 +1,5 @@
 -- What closed tables include: each outcome of each moment, and no broken rule.
-use Rattle.std.proofs.Common.{◌≡◌, ℕ, Bool, true, false, cond, List, [], ◌∷◌, ◌++◌, Option, Some, None, Result, Ok, Err, refl, ap, ◌∙◌}
+use Rattle.std.proofs.Common.{◌≡◌, ℕ, Bool, true, false, cond, List, [], ◌∷◌, ◌++◌, Option, Some, None, Result, Ok, Err, refl, ap, ◌∙◌, arith}
 use Rattle.std.specs.Prelude.{◌&&◌, unwrap_or}
 use Rattle.std.proofs.lemmas.Bool.{and_parts}
 use Rattle.model_prove.specs.model_rules.specs.Keeping.{Amounts, Break}
@@ -57,10 +57,7 @@ pub record MomentClosed (s : Setting) (cs : List Class) (t : Tables) (k : Moment
 
 closed_by : (s : Setting) (cs : List Class) (t : Tables) (n k : MomentKey) (g f : Facts) (b : Bool) (rest : Option Facts) → same_moments n k ≡ b → cond b (Some g) rest ≡ Some f
     → includes_all t (moment_arrivals s cs n g) ≡ true → keeps_ranges s.rules.ranges g ≡ true → (rest ≡ Some f → MomentClosed s cs t k f) → MomentClosed s cs t k f
-closed_by s cs t n k g f true rest is e outcomes ranges again =
-    let key : n ≡ k = moments_are n k is in
-    let facts : g ≡ f = ap (λ (z : Option Facts). unwrap_or z []) e in
-    rw (← key, ← facts) (record { outcomes = outcomes; ranges = ranges })
+closed_by s cs t n k g f true rest is e outcomes ranges again = grind (arith, moments_are n k is, ap (λ (z : Option Facts). unwrap_or z []) e)
 closed_by s cs t n k g f false rest is e outcomes ranges again = again e
 
 closed_in : (s : Setting) (cs : List Class) (t : Tables) (ms : List (MomentKey × Facts)) (k : MomentKey) (f : Facts) → moments_closed s cs t ms ≡ true → moment_at ms k ≡ Some f → MomentClosed s cs t k f

@@ -1,9 +1,8 @@
 -- What is known of a frame, and what of it stays if less is known: static bytes without protection, open calls.
-use Rattle.std.proofs.Common.{◌≡◌, ℕ, None, ◌-◌, ◌<◌, Bool, true, false, cond, List, [], ◌∷◌, length, refl, sym, ap, ◌∙◌}
-use Rattle.std.specs.Prelude.{nat_lt, filter, flat_map, slice_index}
+use Rattle.std.proofs.Common.{◌≡◌, ℕ, None, ◌-◌, ◌<◌, Bool, true, false, cond, List, [], ◌∷◌, length, refl, arith}
+use Rattle.std.specs.Prelude.{nat_lt, filter, flat_map}
 use Rattle.std.proofs.lemmas.Bool.{ltb-false, lt-ltb}
-use Rattle.model_prove.specs.model_device.specs.Pieces.{laid_pieces}
-use Rattle.model_prove.specs.model_machine.specs.Frame.{Frame, dynamic_base, floor, static_bytes}
+use Rattle.model_prove.specs.model_machine.specs.Frame.{Frame, floor}
 use Rattle.model_prove.specs.model_machine.specs.Primitives.{Around}
 use Rattle.model_prove.specs.Sets.{Set, is_in}
 use Rattle.model_prove.specs.Facts.{Facts, Memory, Holds}
@@ -19,11 +18,7 @@ use Rattle.law_prove.proofs.Parts.{memory_static}
 
 -- where nothing waits a static byte is read as power would leave it
 pub static_read : (f : Frame) (public session : List ℕ) (a : ℕ) → f.pieces ≡ [] → a < length f.fixed → frame_memory f public a ≡ moment_memory f.fixed session a
-static_read f public session a none low =
-    let e = lt-ltb a (length f.fixed) low in
-    memory_static (length f.fixed) (static_bytes f) f.dyn public a low
-    ∙ (ap (λ (ps : List (ℕ × List ℕ)). slice_index (laid_pieces f.fixed ps) a) none
-    ∙ sym (ap (λ (b : Bool). cond b (slice_index f.fixed a) (slice_index session (a - dynamic_base))) e))
+static_read f public session a none low = grind (arith, lt-ltb, memory_static)
 
 kept_by : (b : Bool) (e : ℕ × Set) (rest : Facts) (m : Memory) → is_in (m e.0) e.1 ≡ true → Holds rest m → Holds (cond b (e ∷ rest) rest) m
 kept_by true e rest m is h = (is, h)

@@ -11,7 +11,7 @@ use Rattle.model_prove.specs.model_machine.specs.declared.machine.Abend.{Abend}
 use Rattle.model_prove.specs.model_machine.specs.declared.machine.Abend.TheVariants.{A04, A06, A0A}
 use Rattle.model_prove.specs.model_machine.specs.Blocks.{is_zero, and_blocks, or_blocks, xor_blocks, not_block}
 use Rattle.model_prove.specs.model_machine.specs.Frame.{Frame, dynamic_base, top, is_under}
-use Rattle.model_prove.specs.model_machine.specs.Primitives.{Around, BitByte, BitWord, masked_bytes, later_causes}
+use Rattle.model_prove.specs.model_machine.specs.Primitives.{Around, masked_bytes, later_causes}
 use Rattle.model_prove.specs.model_machine.specs.Row.{causes}
 use Rattle.model_prove.specs.model_machine.specs.Chain.{frame_at}
 use Rattle.model_prove.specs.law_rows.specs.Shapes.{Stays, Replaces, Shape, shape, prim_shape}
@@ -23,8 +23,7 @@ use Rattle.model_prove.specs.Digits.{Operation, And, Or, Xor}
 use Rattle.model_prove.specs.Keys.{Tables}
 use Rattle.model_prove.specs.Work.{These, Works, work, mask_work}
 use Rattle.model_prove.specs.Arrivals.{Setting}
-use Rattle.model_prove.specs.Steps.{row_arrivals, instruction, allows, is_or}
-use Rattle.model_prove.specs.Splits.{stand_in}
+use Rattle.model_prove.specs.Steps.{row_arrivals, allows, is_or}
 use Rattle.model_prove.specs.Tables.{IsLoadable, includes_all}
 use Rattle.law_prove.specs.Coverings.{frame_memory}
 use Rattle.law_prove.specs.Laws.{LeadsInto, MaskLaw}
@@ -35,7 +34,7 @@ use Rattle.law_prove.proofs.Alike.{Sized, from_length, top_is}
 use Rattle.law_prove.proofs.Single.{going, Turn, RowCase, IsFetchedOnce, law_of, here, there, scene}
 use Rattle.law_prove.proofs.Plain.{above}
 use Rattle.law_prove.proofs.Moves.{turn_sized}
-use Rattle.law_prove.proofs.Worked.{worked, worked_zero, worked_and, worked_or, worked_xor, carries_of}
+use Rattle.law_prove.proofs.Worked.{worked, worked_and, worked_or, worked_xor, carries_of}
 use Rattle.law_prove.proofs.Arith.{ordered, immediate_allowed, immediate_so, memory_bytes_from}
 use Rattle.law_prove.proofs.Blocks.{Outcome, outcome_row, compared_outcome, replaced_outcome}
 use Rattle.law_prove.proofs.Prims.{asks_nobody}
@@ -95,10 +94,7 @@ module _ (s : Setting) (u t : Tables) (g : Target) (loadable : IsLoadable s.app)
       let tops : top turn.frame n ≡ block = top_is (frame_at turn.frame turn.next) turn.public n sized over in
       let count : length (top turn.frame n) ≡ n = ap (λ (b : List ℕ). length b) tops ∙ long in
       let k = turn.frame.dt - n - dynamic_base in
-      let same : splice turn.frame.dyn (turn.frame.dt - length block - dynamic_base) block ≡ turn.frame.dyn =
-      ap (λ (j : ℕ). splice turn.frame.dyn (turn.frame.dt - j - dynamic_base) block) long
-      ∙ (ap (λ (b : List ℕ). splice turn.frame.dyn k b) (sym tops) ∙ splice_self turn.frame.dyn k n count)
-      in
+      let same : splice turn.frame.dyn (turn.frame.dt - length block - dynamic_base) block ≡ turn.frame.dyn = grind (arith, long, splice_self) in
       let o : Outcome s u t g loadable leads i turn (going turn.frame.dt Stays (Some (turn.frame.c, (r.1).z))) =
       compared_outcome s u t g loadable leads i turn And (turn.frame.dt - n) n (These mask) mask (refl, size) size false refl f0
       (immediate_allowed And false (turn.frame.dt - n) n mask c m turn.place.compares size bytes are (λ e. absurd (cc e)))
@@ -154,17 +150,10 @@ module _ (i : Ins) (n k : ℕ) (mask : List ℕ) where
 -- ---- the laws
 
 three_bytes : (args : List ℕ) → length args ≡ 3 → (length (take 1 (drop 1 args)) ≡ 1) × (length (take 2 (drop 1 args)) ≡ 2)
-three_bytes [] e = absurd (omega (arith, e))
-three_bytes (a ∷ []) e = absurd (omega (arith, e))
-three_bytes (a ∷ b ∷ []) e = absurd (omega (arith, e))
-three_bytes (a ∷ b ∷ c ∷ rest) e = (refl, refl)
+three_bytes args e = grind arith
 
 byte_once : (args : List ℕ) → IsFetchedOnce (ins.Prim 2 1 args)
-byte_once args s u t g loadable leads turn e =
-    asks_nobody t
-    (instruction s (ins.Prim 2 1 args) (record { frame = frame_at (stand_in s.app (place_key turn.place.start turn.place.standing.allowances turn.frame turn.place.calls)).frame turn.next; public = blank })
-    (spot_of turn.place.start turn.place.standing.allowances turn.frame turn.place.calls turn.place.known) (spot_of turn.place.start turn.place.standing.allowances (frame_at turn.frame turn.next) turn.place.calls turn.place.known))
-    BitByte turn.place.start refl e
+byte_once args s u t g loadable leads turn e = grind (arith, asks_nobody, place_key, blank, spot_of)
 
 byte_case : (args : List ℕ) → RowCase (ins.Prim 2 1 args)
 unfolding causes shape later_causes prim_shape
@@ -173,11 +162,7 @@ byte_case args s u t g loadable leads turn includes =
     (three_bytes args turn.shaped.three).0 (taken 1 (drop 1 args) (bytes_after args 1 turn.shaped.bytes)) s u t g loadable leads turn includes
 
 word_once : (args : List ℕ) → IsFetchedOnce (ins.Prim 3 1 args)
-word_once args s u t g loadable leads turn e =
-    asks_nobody t
-    (instruction s (ins.Prim 3 1 args) (record { frame = frame_at (stand_in s.app (place_key turn.place.start turn.place.standing.allowances turn.frame turn.place.calls)).frame turn.next; public = blank })
-    (spot_of turn.place.start turn.place.standing.allowances turn.frame turn.place.calls turn.place.known) (spot_of turn.place.start turn.place.standing.allowances (frame_at turn.frame turn.next) turn.place.calls turn.place.known))
-    BitWord turn.place.start refl e
+word_once args s u t g loadable leads turn e = grind (arith, asks_nobody, place_key, blank, spot_of)
 
 word_case : (args : List ℕ) → RowCase (ins.Prim 3 1 args)
 unfolding causes shape later_causes prim_shape

@@ -1,13 +1,13 @@
 -- What may follow a moment between commands is a moment that closed tables have.
 use Rattle.std.proofs.Common.{◌≡◌, ℕ, zero, suc, ◌+◌, ◌-◌, ◌<◌, ◌≤◌, Bool, true, false, cond, not, List, [], ◌∷◌, length, None, Result, Ok, refl, sym, ap, ◌∙◌, arith}
-use Rattle.std.specs.Prelude.{◌&&◌, ◌||◌, nat_lt, nat_le, ◌==◌, map, flat_map, is_ok, slice_index}
+use Rattle.std.specs.Prelude.{◌||◌, nat_lt, nat_le, ◌==◌, map, flat_map, is_ok, slice_index}
 use Rattle.std.proofs.lemmas.Bool.{and_parts, and_from, leb-true, ltb-true, ltb-false, lt-ltb, le-leb, eqb-true, false_from_ne_true}
 use Rattle.model_prove.specs.model_device.specs.Bytes.{AreBytes, zeros}
 use Rattle.model_prove.specs.model_text.specs.Text.{◌>>=◌}
 use Rattle.model_prove.specs.model_machine.specs.Frame.{dynamic_base}
-use Rattle.model_prove.specs.model_rules.specs.Rules.{Range, Total}
+use Rattle.model_prove.specs.model_rules.specs.Rules.{Range}
 use Rattle.model_prove.specs.model_rules.specs.Happenings.{History, Session}
-use Rattle.model_prove.specs.model_rules.specs.Keeping.{Amounts, Break, Standing, with_allowances, after_event, standing_after, first_standing, is_in_range, are_in_ranges, are_totals, are_kept, keeps_rules}
+use Rattle.model_prove.specs.model_rules.specs.Keeping.{Amounts, Break, Standing, with_allowances, after_event, standing_after, first_standing, is_in_range, are_in_ranges, keeps_rules}
 use Rattle.model_prove.specs.Sets.{Set, is_in, numbers_from}
 use Rattle.model_prove.specs.Facts.{Facts, Memory, Holds, values_at, within, know_bytes}
 use Rattle.model_prove.specs.Keys.{Tables}
@@ -46,19 +46,13 @@ filtered_by false e rest k is h = h
 
 pub within_holds : (low high : ℕ) (f : Facts) (m k : Memory) → ((a : ℕ) → low ≤ a → a < high → m a ≡ k a) → Holds f m → Holds (within low high f) k
 within_holds low high [] m k same h = tt
-within_holds low high (e ∷ f) m k same h =
-    filtered_by (nat_le low e.0 && nat_lt e.0 high) e (within low high f) k
-    (λ is. let p = and_parts (nat_le low e.0) (nat_lt e.0 high) is in rw (← same e.0 (leb-true low e.0 p.0) (ltb-true e.0 high p.1)) h.0)
-    (within_holds low high f m k same h.1)
+within_holds low high (e ∷ f) m k same h = grind (arith, filtered_by, and_parts, leb-true, ltb-true, within_holds low high f m k same h.1)
 
 -- ---- static facts
 
 -- a static byte is the same whatever the session bytes are
 static_same : (fixed one other : List ℕ) (a : ℕ) → a < length fixed → moment_memory fixed one a ≡ moment_memory fixed other a
-static_same fixed one other a h =
-    let e = lt-ltb a (length fixed) h in
-    ap (λ (b : Bool). cond b (slice_index fixed a) (slice_index one (a - dynamic_base))) e
-    ∙ sym (ap (λ (b : Bool). cond b (slice_index fixed a) (slice_index other (a - dynamic_base))) e)
+static_same fixed one other a h = grind (arith, lt-ltb)
 
 static_holds : (s : Setting) (f : Facts) (fixed one other : List ℕ) → length fixed ≡ static_size s → Holds f (moment_memory fixed one) → Holds (static_facts s f) (moment_memory fixed other)
 static_holds s f fixed one other size h =
@@ -67,9 +61,7 @@ static_holds s f fixed one other size h =
 -- ---- zero session bytes
 
 zero_memory : (fixed : List ℕ) (n a : ℕ) → length fixed ≤ a → moment_memory fixed (zeros n) a ≡ 0
-zero_memory fixed n a h =
-    let e : nat_lt a (length fixed) ≡ false = false_from_ne_true (nat_lt a (length fixed)) (λ is. let low = ltb-true a (length fixed) is in omega (arith, low, h)) in
-    ap (λ (b : Bool). cond b (slice_index fixed a) (slice_index (zeros n) (a - dynamic_base))) e ∙ zero_at n (a - dynamic_base)
+zero_memory fixed n a h = grind (arith, false_from_ne_true, ltb-true, zero_at)
 
 zeros_in : (fixed : List ℕ) (n i a : ℕ) → length fixed ≤ a → AreIn (moment_memory fixed (zeros n)) a (map (λ v. v ∷ []) (zeros i))
 zeros_in fixed n zero a h = tt
@@ -194,9 +186,7 @@ module _ (s : Setting) (t : Tables) (loadable : IsLoadable s.app) (closed : is_c
       ((moment_closed s t (record { selected = false; allowances = m.standing.allowances }) m.facts closed m.there).ranges)
 
   kept_by : (h : History) (fixed : List ℕ) (x : Standing) → s.rules.totals ≡ [] → standing_after s.rules h ≡ Ok x → are_in_ranges fixed s.rules.ranges ≡ true → keeps_rules s.rules h fixed ≡ true
-  kept_by h fixed x none stands ranges =
-      ap (λ (z : Result Standing Break). are_kept s.rules z fixed) stands
-      ∙ and_from (are_in_ranges fixed s.rules.ranges) (are_totals fixed x.kept s.rules.totals) ranges (ap (λ (z : List Total). are_totals fixed x.kept z) none)
+  kept_by h fixed x none stands ranges = grind (arith, and_from)
 
   pub moments_covered : MomentsCovered s t
   moments_covered =

@@ -20,7 +20,7 @@ use Rattle.model_prove.specs.Steps.{sets}
 use Rattle.model_prove.specs.Arrivals.{Setting}
 use Rattle.model_prove.specs.Tables.{IsLoadable}
 use Rattle.model_prove.specs.Keys.{Tables}
-use Rattle.law_prove.specs.Coverings.{frame_memory, IsFrameOf}
+use Rattle.law_prove.specs.Coverings.{frame_memory}
 use Rattle.law_prove.specs.Laws.{MoveLaw}
 use Rattle.law_prove.proofs.Seen.{FitSets, fit_sets, fit_values}
 use Rattle.law_prove.proofs.Turns.{like, blank, nobody}
@@ -49,11 +49,7 @@ above_by f false n e = above f n e
 
 -- the segments of a turn's frame have their lengths
 pub turn_sized : (s : Setting) (u : Tables) (loadable : IsLoadable s.app) (i : Ins) (turn : Turn s u i) → Sized (frame_at turn.frame turn.next) turn.public
-turn_sized s u loadable i turn =
-    let frame : IsFrameOf s.app turn.frame = turn.place.frame in
-    let size : length turn.frame.fixed ≡ length s.app.fixed = frame.size in
-    let small : length s.app.fixed ≤ dynamic_base = loadable.static in
-    record { small = omega (arith, size, small); room = frame.room; high = frame.high; inside = frame.inside; whole = turn.whole }
+turn_sized s u loadable i turn = grind arith
 
 -- bytes that were copied have values of the sets of those that are read
 pub copied_fit : (f : Facts) (m : Memory) (from n k : ℕ) (b : List ℕ) → b ≡ bytes_from m from n → k ≡ n → FitSets (bytes_from m from n) (values_from f from n) → FitSets b (values_from f from k)

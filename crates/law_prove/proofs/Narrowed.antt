@@ -1,12 +1,12 @@
 -- The facts of operands narrowed to the digits of a way hold, and the last compare allows the flags of the machine.
-use Rattle.std.proofs.Common.{◌≡◌, ℕ, zero, suc, ◌+◌, ◌-◌, ◌*◌, ◌^◌, ◌<◌, ◌≤◌, Bool, true, false, cond, not, List, [], ◌∷◌, length, Option, Some, refl, sym, ap, ◌∙◌, arith}
-use Rattle.std.specs.Prelude.{◌&&◌, ◌||◌, ◌==◌, nat_lt, nat_le, min, max, ⊤}
+use Rattle.std.proofs.Common.{◌≡◌, ℕ, zero, suc, ◌+◌, ◌*◌, ◌^◌, ◌<◌, ◌≤◌, Bool, true, false, cond, not, List, [], ◌∷◌, length, Option, Some, refl, sym, ap, ◌∙◌, arith}
+use Rattle.std.specs.Prelude.{◌&&◌, ◌||◌, ◌==◌, nat_lt, nat_le, ⊤}
 use Rattle.std.proofs.lemmas.Bool.{and_parts, le-leb, leb-true, lt-ltb, ltb-true, eq-eqb, eqb-true, or_left}
 use Rattle.model_prove.specs.model_device.specs.Bytes.{num}
 use Rattle.model_prove.specs.Sets.{Set, is_in, common}
 use Rattle.model_prove.specs.Facts.{Facts, Memory, Holds, values_at, know, narrowed_to, narrow_all}
-use Rattle.model_prove.specs.Compares.{Compare, NoCompare, Bounds, Ordered, Orders, Span, bytes_from, has_order, IsSo, greatest, orders_of, have_common, span_added, span_subtracted, spans_meet, allows_span, allows_orders}
-use Rattle.model_prove.specs.Digits.{Operation, Plus, Minus, And, Or, Xor, Flags, carried}
+use Rattle.model_prove.specs.Compares.{Compare, Orders, Span, bytes_from, has_order, IsSo, greatest, orders_of, have_common, span_added, span_subtracted, spans_meet, allows_span, allows_orders}
+use Rattle.model_prove.specs.Digits.{Operation, Plus, Minus, Or, Flags, carried}
 use Rattle.model_prove.specs.Work.{Operand, AtAddress, These}
 use Rattle.model_prove.specs.Laws.{AreIn, HoldsBytes}
 use Rattle.model_prove.specs.Steps.{operand_sets, operand_narrowed, span_of}
@@ -77,21 +77,10 @@ cond_span true x s u h k = h refl
 cond_span false x s u h k = k refl
 
 added_in : (n k x r p : ℕ) (c z : Bool) → p ≡ 256 ^ n → x < p → k < p → r < p → r + carried c * p ≡ x + k → z ≡ (r == 0) → InSpan x (span_added n k c z)
-added_in n k x r p false true e a b d h is =
-    let zero_r = eqb-true r 0 (sym is) in
-    cond_span (k == 0) x (0, 0) (1, 0) (λ i. (omega arith, omega (arith, h, zero_r))) (λ i. absurd (grind (arith, h, zero_r, i)))
-added_in n k x r p false false e a b d h is =
-    cond_span (k == 0) x (1, greatest n) (0, greatest n - k) (λ i. (grind (arith, h, is, i), omega (arith, e, a))) (λ i. (omega arith, omega (arith, e, h, d)))
-added_in n k x r p true true e a b d h is =
-    let zero_r = eqb-true r 0 (sym is) in
-    cond_span (k == 0) x (1, 0) (256 ^ n - k, 256 ^ n - k) (λ i. absurd (grind (arith, h, zero_r, i, a))) (λ i. (omega (arith, e, h, zero_r), omega (arith, e, h, zero_r)))
-added_in n k x r p true false e a b d h is = (grind (arith, e, h, is, b), omega (arith, e, a))
+added_in n k x r p c z e a b d h is = grind (arith, eqb-true, cond_span)
 
 subtracted_in : (n k x r p : ℕ) (c z : Bool) → p ≡ 256 ^ n → x < p → k < p → r < p → r + k ≡ x + carried c * p → z ≡ (r == 0) → InSpan x (span_subtracted n k c z)
-subtracted_in n k x r p true true e a b d h is = let zero_r = eqb-true r 0 (sym is) in absurd (omega (arith, h, zero_r, b))
-subtracted_in n k x r p true false e a b d h is = cond_span (k == 0) x (1, 0) (0, k - 1) (λ i. absurd (grind (arith, h, d, i))) (λ i. (omega arith, omega (arith, h, d)))
-subtracted_in n k x r p false true e a b d h is = let zero_r = eqb-true r 0 (sym is) in (omega (arith, h, zero_r), omega (arith, h, zero_r))
-subtracted_in n k x r p false false e a b d h is = (grind (arith, h, is), omega (arith, e, a))
+subtracted_in n k x r p c z e a b d h is = grind (arith, eqb-true, cond_span)
 
 tested_in : (n x r p : ℕ) (z : Bool) → p ≡ 256 ^ n → x < p → r ≡ x → z ≡ (r == 0) → InSpan x (cond z (0, 0) (1, greatest n))
 tested_in n x r p true e a h is = let zero_r = eqb-true r 0 (sym is) in (omega arith, omega (arith, h, zero_r))
@@ -106,66 +95,26 @@ Speaks op = ⊥
 
 -- the first operand lies in the span of the flags
 pub span_is : (op : Operation) (n k x r : ℕ) (f : Flags) → Speaks op → x < 256 ^ n → k < 256 ^ n → r < 256 ^ n → IsRun op n x k r f → f.z ≡ (r == 0) → InSpan x (span_of op n k f)
-span_is Plus n k x r f s a b d h is = added_in n k x r (256 ^ n) f.c f.z refl a b d h is
-span_is Minus n k x r f s a b d h is = subtracted_in n k x r (256 ^ n) f.c f.z refl a b d h is
-span_is Or n k x r f s a b d h is = tested_in n x r (256 ^ n) f.z refl a h is
-span_is And n k x r f s a b d h is = absurd s
-span_is Xor n k x r f s a b d h is = absurd s
+span_is op n k x r f s a b d h is = grind (arith, added_in, subtracted_in, tested_in)
 
 span_by : (o : Bool) (l h x : ℕ) (s : Span) → (o ≡ true → (nat_le l x && nat_le x h) ≡ true) → InSpan x s → (not o || spans_meet l h s.0 s.1) ≡ true
-span_by false l h x s so i = refl
-span_by true l h x s so i =
-    let p = and_parts (nat_le l x) (nat_le x h) (so refl) in
-    let low = leb-true l x p.0 in
-    let high = leb-true x h p.1 in
-    let a = i.0 in
-    let b = i.1 in
-    le-leb (max l s.0) (min h s.1) (omega (arith, low, high, a, b))
+span_by o l h x s so i = grind (arith, and_parts, leb-true, le-leb)
 
 -- it allows the span of the machine's flags
 pub span_allowed : (c : Compare) (m : Memory) (a n : ℕ) (s : Span) → IsSo c m → InSpan (num (bytes_from m a n)) s → allows_span c a n s ≡ true
-span_allowed NoCompare m a n s so i = refl
-span_allowed (Ordered b k d o) m a n s so i = refl
-span_allowed (Bounds b k l h) m a n s so i =
-    span_by (a == b && n == k) l h (num (bytes_from m a n)) s
-    (λ e.
-    let p = and_parts (a == b) (n == k) e in
-    rw (eqb-true a b p.0, eqb-true n k p.1) so) i
+span_allowed c m a n s so i = grind (arith, span_by, and_parts, eqb-true)
 
 -- the order of two numbers is that of their subtraction's flags
 pub order_is : (n x y r : ℕ) (f : Flags) → x < 256 ^ n → y < 256 ^ n → r < 256 ^ n → IsRun Minus n x y r f → f.z ≡ (r == 0) → has_order (orders_of f.c f.z) x y ≡ true
-order_is n x y r f a b d h is = by f.c f.z h is
-  where
-    by : (c z : Bool) → r + y ≡ x + carried c * 256 ^ n → z ≡ (r == 0) → has_order (orders_of c z) x y ≡ true
-    by true z h is = or_left ((true && nat_lt x y) || ((not true && z) && x == y)) ((not true && not z) && nat_lt y x) (or_left (true && nat_lt x y) ((not true && z) && x == y) (lt-ltb x y (omega (arith, h, d))))
-    by false true h is =
-        let zero_r = eqb-true r 0 (sym is) in
-        or_left ((false && nat_lt x y) || ((not false && true) && x == y)) ((not false && not true) && nat_lt y x) (eq-eqb x y (omega (arith, h, zero_r)))
-    by false false h is = lt-ltb y x (grind (arith, h, is))
+order_is n x y r f a b d h is = grind (arith, or_left, lt-ltb, eqb-true, eq-eqb)
 
 both_orders : (x y : ℕ) (a b c d e f : Bool) → ((a && nat_lt x y) || (b && x == y) || (c && nat_lt y x)) ≡ true → ((d && nat_lt x y) || (e && x == y) || (f && nat_lt y x)) ≡ true
     → ((a && d) || (b && e) || (c && f)) ≡ true
-both_orders x y a b c d e f h k = by (nat_lt x y) (x == y) (nat_lt y x) refl refl refl h k
-  where
-    by : (p q r : Bool) → nat_lt x y ≡ p → (x == y) ≡ q → nat_lt y x ≡ r → ((a && p) || (b && q) || (c && r)) ≡ true → ((d && p) || (e && q) || (f && r)) ≡ true → ((a && d) || (b && e) || (c && f)) ≡ true
-    by true true r u v w h k = let i = ltb-true x y u in let j = eqb-true x y v in absurd (omega (arith, i, j))
-    by true false true u v w h k = let i = ltb-true x y u in let j = ltb-true y x w in absurd (omega (arith, i, j))
-    by false true true u v w h k = let i = eqb-true x y v in let j = ltb-true y x w in absurd (omega (arith, i, j))
-    by true false false u v w h k = grind (arith, h, k)
-    by false true false u v w h k = grind (arith, h, k)
-    by false false true u v w h k = grind (arith, h, k)
-    by false false false u v w h k = grind (arith, h, k)
+both_orders x y a b c d e f h k = grind (arith, ltb-true, eqb-true)
 
 orders_by : (o : Bool) (p q : Orders) (x y : ℕ) → (o ≡ true → has_order p x y ≡ true) → has_order q x y ≡ true → (not o || have_common p q) ≡ true
 orders_by false p q x y so i = refl
 orders_by true p q x y so i = both_orders x y p.less p.equal p.greater q.less q.equal q.greater (so refl) i
 
 pub orders_allowed : (c : Compare) (m : Memory) (a n d : ℕ) (p : Orders) → IsSo c m → has_order p (num (bytes_from m a n)) (num (bytes_from m d n)) ≡ true → allows_orders c a n d p ≡ true
-orders_allowed NoCompare m a n d p so i = refl
-orders_allowed (Bounds b k l h) m a n d p so i = refl
-orders_allowed (Ordered b k e o) m a n d p so i =
-    orders_by (a == b && n == k && d == e) o p (num (bytes_from m a n)) (num (bytes_from m d n))
-    (λ t.
-    let u = and_parts (a == b && n == k) (d == e) t in
-    let v = and_parts (a == b) (n == k) u.0 in
-    rw (eqb-true a b v.0, eqb-true n k v.1, eqb-true d e u.1) so) i
+orders_allowed c m a n d p so i = grind (arith, orders_by, and_parts, eqb-true)

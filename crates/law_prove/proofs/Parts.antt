@@ -1,5 +1,5 @@
 -- The memory of a frame by its parts, and what a splice into one of them changes.
-use Rattle.std.proofs.Common.{◌≡◌, ℕ, ◌+◌, ◌-◌, ◌<◌, ◌≤◌, ◌⊎◌, inl, inr, Bool, true, false, cond, List, length, refl, sym, ap, ◌∙◌, arith}
+use Rattle.std.proofs.Common.{◌≡◌, ℕ, ◌+◌, ◌-◌, ◌<◌, ◌≤◌, ◌⊎◌, Bool, true, false, cond, List, length, refl, sym, ap, ◌∙◌, arith}
 use Rattle.std.specs.Prelude.{nat_lt, slice_index}
 use Rattle.std.proofs.lemmas.Bool.{ltb-true, ltb-false, lt-ltb, false_from_ne_true}
 use Rattle.model_prove.specs.model_device.specs.Bytes.{splice}
@@ -17,18 +17,10 @@ memory_static size static dyn public a h =
     ap (λ (b : Bool). cond b (slice_index static a) (cond (nat_lt a dynamic_base) 0 (cond (nat_lt a public_base) (slice_index dyn (a - dynamic_base)) (slice_index public (a - public_base))))) (lt-ltb a size h)
 
 pub memory_dynamic : (size : ℕ) (static dyn public : List ℕ) (a : ℕ) → size ≤ dynamic_base → dynamic_base ≤ a → a < public_base → parts_memory size static dyn public a ≡ slice_index dyn (a - dynamic_base)
-memory_dynamic size static dyn public a small low high =
-    let y = slice_index dyn (a - dynamic_base) in
-    let z = slice_index public (a - public_base) in
-    ap (λ (b : Bool). cond b (slice_index static a) (cond (nat_lt a dynamic_base) 0 (cond (nat_lt a public_base) y z))) (not_lt a size (omega (arith, small, low)))
-    ∙ (ap (λ (b : Bool). cond b 0 (cond (nat_lt a public_base) y z)) (not_lt a dynamic_base low) ∙ ap (λ (b : Bool). cond b y z) (lt-ltb a public_base high))
+memory_dynamic size static dyn public a small low high = grind (arith, not_lt, lt-ltb)
 
 pub memory_public : (size : ℕ) (static dyn public : List ℕ) (a : ℕ) → size ≤ dynamic_base → public_base ≤ a → parts_memory size static dyn public a ≡ slice_index public (a - public_base)
-memory_public size static dyn public a small low =
-    let y = slice_index dyn (a - dynamic_base) in
-    let z = slice_index public (a - public_base) in
-    ap (λ (b : Bool). cond b (slice_index static a) (cond (nat_lt a dynamic_base) 0 (cond (nat_lt a public_base) y z))) (not_lt a size (omega (arith, small, low)))
-    ∙ (ap (λ (b : Bool). cond b 0 (cond (nat_lt a public_base) y z)) (not_lt a dynamic_base (omega (arith, low))) ∙ ap (λ (b : Bool). cond b y z) (not_lt a public_base low))
+memory_public size static dyn public a small low = grind (arith, not_lt)
 
 -- ---- what is written
 
@@ -42,19 +34,11 @@ static_same size st dyn segment b a fits x o =
     static_by (nat_lt x size) st b a x (cond (nat_lt x dynamic_base) 0 (cond (nat_lt x public_base) (slice_index dyn (x - dynamic_base)) (slice_index segment (x - public_base)))) fits o
 
 moved_by : (x base a j n : ℕ) → a ≡ base + j → base ≤ x → (x < a) ⊎ (a + n ≤ x) → (x - base < j) ⊎ (j + n ≤ x - base)
-moved_by x base a j n e low o =
-    elim o [
-      | inl h ↦ inl (omega (arith, e, low, h))
-      | inr h ↦ inr (omega (arith, e, low, h))
-    ]
+moved_by x base a j n e low o = grind arith
 
 dynamic_by : (p q r : Bool) (dyn b : List ℕ) (a j x u v : ℕ) → nat_lt x dynamic_base ≡ q → a ≡ dynamic_base + j → j ≤ length dyn → (x < a) ⊎ (a + length b ≤ x)
     → cond p u (cond q 0 (cond r (slice_index dyn (x - dynamic_base)) v)) ≡ cond p u (cond q 0 (cond r (slice_index (splice dyn j b) (x - dynamic_base)) v))
-dynamic_by true q r dyn b a j x u v e at fits o = refl
-dynamic_by false true r dyn b a j x u v e at fits o = refl
-dynamic_by false false false dyn b a j x u v e at fits o = refl
-dynamic_by false false true dyn b a j x u v e at fits o =
-    sym (index_beside dyn j b (x - dynamic_base) fits (moved_by x dynamic_base a j (length b) at (ltb-false x dynamic_base e) o))
+dynamic_by p q r dyn b a j x u v e at fits o = grind (arith, index_beside, moved_by, ltb-false)
 
 -- so does one into the dynamic bytes
 pub dynamic_same : (size : ℕ) (st dyn segment b : List ℕ) (a j : ℕ) → a ≡ dynamic_base + j → j ≤ length dyn → (x : ℕ) → (x < a) ⊎ (a + length b ≤ x) → parts_memory size st dyn segment x ≡ parts_memory size st (splice dyn j b) segment x
@@ -63,11 +47,7 @@ dynamic_same size st dyn segment b a j at fits x o =
 
 public_by : (p q r : Bool) (segment b : List ℕ) (a j x u v : ℕ) → nat_lt x public_base ≡ r → a ≡ public_base + j → j ≤ length segment → (x < a) ⊎ (a + length b ≤ x)
     → cond p u (cond q 0 (cond r v (slice_index segment (x - public_base)))) ≡ cond p u (cond q 0 (cond r v (slice_index (splice segment j b) (x - public_base))))
-public_by true q r segment b a j x u v e at fits o = refl
-public_by false true r segment b a j x u v e at fits o = refl
-public_by false false true segment b a j x u v e at fits o = refl
-public_by false false false segment b a j x u v e at fits o =
-    sym (index_beside segment j b (x - public_base) fits (moved_by x public_base a j (length b) at (ltb-false x public_base e) o))
+public_by p q r segment b a j x u v e at fits o = grind (arith, index_beside, moved_by, ltb-false)
 
 -- and one into the public segment
 pub public_same : (size : ℕ) (st dyn segment b : List ℕ) (a j : ℕ) → a ≡ public_base + j → j ≤ length segment → (x : ℕ) → (x < a) ⊎ (a + length b ≤ x) → parts_memory size st dyn segment x ≡ parts_memory size st dyn (splice segment j b) x
@@ -80,13 +60,7 @@ pub static_new : (size : ℕ) (st dyn segment b : List ℕ) (a k : ℕ) → a �
 static_new size st dyn segment b a k fits inside h = memory_static size (splice st a b) dyn segment (a + k) (omega (arith, inside, h)) ∙ index_within st a b k fits h
 
 pub dynamic_new : (size : ℕ) (st dyn segment b : List ℕ) (a j k : ℕ) → a ≡ dynamic_base + j → size ≤ dynamic_base → j ≤ length dyn → j + length b ≤ 512 → k < length b → parts_memory size st (splice dyn j b) segment (a + k) ≡ slice_index b k
-dynamic_new size st dyn segment b a j k at low fits inside h =
-    let place : a + k - dynamic_base ≡ j + k = omega (arith, at) in
-    memory_dynamic size st (splice dyn j b) segment (a + k) low (omega (arith, at)) (omega (arith, at, inside, h))
-    ∙ (ap (λ (x : ℕ). slice_index (splice dyn j b) x) place ∙ index_within dyn j b k fits h)
+dynamic_new size st dyn segment b a j k at low fits inside h = grind (arith, memory_dynamic, index_within)
 
 pub public_new : (size : ℕ) (st dyn segment b : List ℕ) (a j k : ℕ) → a ≡ public_base + j → size ≤ dynamic_base → j ≤ length segment → k < length b → parts_memory size st dyn (splice segment j b) (a + k) ≡ slice_index b k
-public_new size st dyn segment b a j k at low fits h =
-    let place : a + k - public_base ≡ j + k = omega (arith, at) in
-    memory_public size st dyn (splice segment j b) (a + k) low (omega (arith, at))
-    ∙ (ap (λ (x : ℕ). slice_index (splice segment j b) x) place ∙ index_within segment j b k fits h)
+public_new size st dyn segment b a j k at low fits h = grind (arith, memory_public, index_within)

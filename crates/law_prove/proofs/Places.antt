@@ -1,6 +1,6 @@
 -- Where a frame begins by a delegation, and where the budget ends at a place, closed tables have what follows.
 use Rattle.std.proofs.Common.{◌≡◌, ℕ, zero, suc, ◌+◌, ◌-◌, ◌<◌, ◌≤◌, Bool, true, false, cond, List, [], ◌∷◌, ◌++◌, length, take, Option, Some, None, Result, Ok, Err, refl, sym, ap, subst, ◌∙◌, arith}
-use Rattle.std.specs.Prelude.{◌&&◌, nat_lt, map, unwrap_or, slice_index}
+use Rattle.std.specs.Prelude.{◌&&◌, map, unwrap_or, slice_index}
 use Rattle.std.proofs.lemmas.Bool.{and_parts, ltb-true, lt-ltb, false_from_ne_true}
 use Rattle.std.proofs.lemmas.List.{length-replicate, length-append, get_or-take}
 use Rattle.model_prove.specs.model_device.specs.Bytes.{AreBytes, zeros}
@@ -11,7 +11,7 @@ use Rattle.model_prove.specs.model_machine.specs.declared.machine.Abend.TheVaria
 use Rattle.model_prove.specs.model_machine.specs.declared.instruction.Ins.{Ins}
 use Rattle.model_prove.specs.model_machine.specs.declared.instruction.DecodeFault.{DecodeFault}
 use Rattle.model_prove.specs.model_machine.specs.declared.instruction.DecodeFault.TheVariants.{Undefined, Past}
-use Rattle.model_prove.specs.model_machine.specs.Frame.{Frame, dynamic_base, dynamic_end, public_base, session_of, static_bytes, new_frame}
+use Rattle.model_prove.specs.model_machine.specs.Frame.{Frame, dynamic_base, session_of, new_frame}
 use Rattle.model_prove.specs.model_machine.specs.Chain.{Outcome, Abended}
 use Rattle.model_prove.specs.model_machine.specs.Code.{instruction_at}
 use Rattle.model_prove.specs.model_play.specs.Transcript.{outcome_text}
@@ -24,7 +24,7 @@ use Rattle.model_prove.specs.model_rules.specs.Happenings.{Event, History, Faile
 use Rattle.model_prove.specs.model_rules.specs.Keeping.{Amounts, Break, Standing, after_occasion, OnAnswer, with_allowances, after_abend, after_event, standing_after}
 use Rattle.model_prove.specs.model_rules.specs.Law.{domain_of_rules}
 use Rattle.model_prove.specs.Facts.{Facts, Memory, Holds, follow}
-use Rattle.model_prove.specs.Compares.{Compare, NoCompare, Bounds, Ordered, IsSo}
+use Rattle.model_prove.specs.Compares.{Compare, NoCompare, IsSo}
 use Rattle.model_prove.specs.Keys.{Start, Delegated, OfClass, PlaceKey, Known, Tables, same_places, compare_follows, known_follows}
 use Rattle.model_prove.specs.Laws.{HoldsBytes}
 use Rattle.model_prove.specs.Arrivals.{Setting, AtPlace, static_size, session_facts, in_session, abended, fails_unless, after_answer, result_patterns}
@@ -60,10 +60,7 @@ place_included t k known e = has_place t k known (place_at t.places k) refl (and
 -- the outcomes of a place of the tables are included
 places_by : (s : Setting) (t : Tables) (n k : PlaceKey) (g f : Known) (b : Bool) (rest : Option Known) → same_places n k ≡ b → cond b (Some g) rest ≡ Some f → includes_all t (place_arrivals s n g) ≡ true
     → (rest ≡ Some f → includes_all t (place_arrivals s k f) ≡ true) → includes_all t (place_arrivals s k f) ≡ true
-places_by s t n k g f true rest is e outcomes again =
-    let key : n ≡ k = places_are n k is in
-    let facts : g ≡ f = ap (λ (z : Option Known). unwrap_or z g) e in
-    rw (← key, ← facts) outcomes
+places_by s t n k g f true rest is e outcomes again = grind (arith, places_are n k is, ap (λ (z : Option Known). unwrap_or z g) e)
 places_by s t n k g f false rest is e outcomes again = again e
 
 pub places_in : (s : Setting) (t : Tables) (ps : List (PlaceKey × Known)) (k : PlaceKey) (f : Known) → places_closed s t ps ≡ true → place_at ps k ≡ Some f → includes_all t (place_arrivals s k f) ≡ true
@@ -87,9 +84,7 @@ of_closed i law r g t loadable closed = law r g t t loadable (closed_leads (reco
 -- ---- what follows of what is known
 
 pub compares_so : (c d : Compare) (m : Memory) → compare_follows c d ≡ true → c ≡ NoCompare → IsSo d m
-compares_so c NoCompare m e none = tt
-compares_so c (Bounds a n l h) m e none = absurd (cc (sym (ap (λ (z : Compare). compare_follows z (Bounds a n l h)) none) ∙ e))
-compares_so c (Ordered a n b o) m e none = absurd (cc (sym (ap (λ (z : Compare). compare_follows z (Ordered a n b o)) none) ∙ e))
+compares_so c d m e none = grind arith
 
 pub holds_both : (f g : Facts) (m : Memory) → Holds f m → Holds g m → Holds (f ++ g) m
 holds_both [] g m x y = y
@@ -114,16 +109,7 @@ begun_frame s g fixed = new_frame g.name (length s.app.code) s.app.deny fixed (z
 module _ (s : Setting) (t : Tables) (g : Target) (loadable : IsLoadable s.app) where
   -- the session bytes of a frame are those of the moment after its command
   pub session_same : (f : Frame) (public : List ℕ) (a : ℕ) → IsFrameOf s.app f → dynamic_base ≤ a → a < dynamic_base + s.app.session → frame_memory f public a ≡ moment_memory f.fixed (session_of f) a
-  session_same f public a fits low high =
-      let size : length f.fixed ≡ length s.app.fixed = fits.size in
-      let static : length s.app.fixed ≤ dynamic_base = loadable.static in
-      let room : dynamic_base + s.app.session ≤ dynamic_end = loadable.session in
-      let count : f.session ≡ s.app.session = fits.session in
-      let past : nat_lt a (length f.fixed) ≡ false = false_from_ne_true (nat_lt a (length f.fixed)) (λ is. let less = ltb-true a (length f.fixed) is in omega (arith, less, low, size, static)) in
-      let u = slice_index f.fixed a in
-      let v = slice_index (session_of f) (a - dynamic_base) in
-      memory_dynamic (length f.fixed) (static_bytes f) f.dyn public a (omega (arith, size, static)) low (omega (arith, high, room))
-      ∙ (sym (get_or-take f.session f.dyn (a - dynamic_base) 0 (omega (arith, low, high, count))) ∙ sym (ap (λ (b : Bool). cond b u v) past))
+  session_same f public a fits low high = grind (arith, false_from_ne_true, ltb-true, memory_dynamic, get_or-take)
 
   session_bytes : (f : Frame) → AreBytes f.dyn → AreBytes (session_of f)
   session_bytes f h = taken f.session f.dyn h
@@ -171,9 +157,7 @@ module _ (s : Setting) (u t : Tables) (g : Target) (loadable : IsLoadable s.app)
   fails_by e h f public p cause (Some number) k start allowances is includes = absurd (cc includes)
   fails_by e h f public p cause None k start allowances is includes =
       let known = p.known in
-      let there : includes_all t (abended s p.start p.standing.allowances known cause) ≡ true =
-      rw (← start, ← allowances) includes
-      in
+      let there : includes_all t (abended s p.start p.standing.allowances known cause) ≡ true = grind arith in
       record {
         ends = abend_arrives s t g loadable e (Failed f.at cause ∷ h) f public p.start p.standing known cause p.starts (failed_stands h f.at cause p.standing is p.stands) p.keeps p.holds p.frame p.dynamic there;
         stops = λ any. absurd any;
@@ -206,19 +190,11 @@ module _ (s : Setting) (t : Tables) (g : Target) (loadable : IsLoadable s.app) (
 
   -- its static bytes are those of the moment
   begun_static : (fixed session public : List ℕ) (a : ℕ) → a < length fixed → moment_memory fixed session a ≡ frame_memory (begun_frame s g fixed) public a
-  begun_static fixed session public a h =
-      let f = begun_frame s g fixed in
-      ap (λ (b : Bool). cond b (slice_index fixed a) (slice_index session (a - dynamic_base))) (lt-ltb a (length fixed) h)
-      ∙ sym (memory_static (length fixed) fixed f.dyn public a h)
+  begun_static fixed session public a h = grind (arith, lt-ltb, memory_static)
 
   -- its session bytes are zero
   begun_zero : (fixed public : List ℕ) (a : ℕ) → length fixed ≡ static_size s → dynamic_base ≤ a → a < dynamic_base + s.app.session → frame_memory (begun_frame s g fixed) public a ≡ 0
-  begun_zero fixed public a size low high =
-      let static : length s.app.fixed ≤ dynamic_base = loadable.static in
-      let room : dynamic_base + s.app.session ≤ dynamic_end = loadable.session in
-      let f = begun_frame s g fixed in
-      memory_dynamic (length fixed) fixed f.dyn public a (omega (arith, size, static)) low (omega (arith, high, room))
-      ∙ append_zero s.app.session (512 - length (zeros s.app.session)) (a - dynamic_base)
+  begun_zero fixed public a size low high = grind (arith, memory_dynamic, append_zero)
 
   begun_holds : (f : Facts) (fixed public : List ℕ) → length fixed ≡ static_size s → Holds f (moment_memory fixed []) → Holds (with_zero_session s f) (frame_memory (begun_frame s g fixed) public)
   begun_holds f fixed public size h =
@@ -230,35 +206,10 @@ module _ (s : Setting) (t : Tables) (g : Target) (loadable : IsLoadable s.app) (
       (within_holds 0 (static_size s) f (moment_memory fixed []) k (λ a low high. begun_static fixed [] public a (rw size high)) h)
 
   begun_bytes : (fixed public : List ℕ) → AreBytes fixed → AreBytes public → HoldsBytes (frame_memory (begun_frame s g fixed) public)
-  begun_bytes fixed public static others a =
-      let f = begun_frame s g fixed in
-      let y = slice_index f.dyn (a - dynamic_base) in
-      let z = slice_index public (a - public_base) in
-      cond_small (nat_lt a (length fixed)) (slice_index fixed a) (cond (nat_lt a dynamic_base) 0 (cond (nat_lt a public_base) y z)) (indexed fixed a static)
-      (cond_small (nat_lt a dynamic_base) 0 (cond (nat_lt a public_base) y z) (omega arith)
-      (cond_small (nat_lt a public_base) y z (indexed f.dyn (a - dynamic_base) (zeros_append s.app.session (512 - length (zeros s.app.session)))) (indexed public (a - public_base) others)))
+  begun_bytes fixed public static others a = grind (arith, cond_small, indexed, zeros_append)
 
   begun_fits : (fixed : List ℕ) → length fixed ≡ static_size s → AreBytes fixed → IsFrameOf s.app (begun_frame s g fixed)
-  begun_fits fixed size static =
-      let n = s.app.session in
-      let count : length (zeros n) ≡ n = length-replicate {A = ℕ} n 0 in
-      let room : dynamic_base + n ≤ dynamic_end = loadable.session in
-      let filled : length (zeros (512 - length (zeros n))) ≡ 512 - length (zeros n) = length-replicate {A = ℕ} (512 - length (zeros n)) 0 in
-      let whole : length (zeros n ++ zeros (512 - length (zeros n))) ≡ length (zeros n) + length (zeros (512 - length (zeros n))) = length-append (zeros n) (zeros (512 - length (zeros n))) in
-      record {
-        code = refl;
-        deny = refl;
-        session = count;
-        size = size;
-        room = omega (arith, count, room, filled, whole);
-        static = static;
-        pieces = tt;
-        inside = tt;
-        settled = λ e. refl;
-        low = omega arith;
-        high = omega (arith, count, room);
-        base = omega (arith, count, room);
-      }
+  begun_fits fixed size static = grind (arith, length-replicate, length-append)
 
   pub is_entered : (h : History) (fixed public : List ℕ) → IsMoment s t false h fixed [] → AreBytes public → IsPlace s t ByDelegation h (begun_frame s g fixed) public
   is_entered h fixed public m others =
@@ -288,9 +239,7 @@ module _ (s : Setting) (t : Tables) (g : Target) (loadable : IsLoadable s.app) (
         there = rw (← count) has.there;
         holds = follow_holds f l.bytes k q.0 holds bytes;
         compares = compares_so NoCompare l.compare k p.1 refl;
-        keeps = λ session d. follow_holds (static_facts s f) l.kept (moment_memory fixed session) q.1
-            (within_holds 0 (static_size s) f k (moment_memory fixed session) (λ b low high. sym (begun_static fixed session public b (rw m.size high))) holds)
-            (memory_bytes fixed session m.static d);
+        keeps = grind (arith, follow_holds, within_holds, begun_static, memory_bytes);
         frame = begun_fits fixed m.size m.static;
         bytes = bytes;
         dynamic = zeros_append n (512 - length (zeros n));

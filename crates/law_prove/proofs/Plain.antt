@@ -13,7 +13,7 @@ use Rattle.model_prove.specs.model_machine.specs.Frame.{Frame, moved_address, dy
 use Rattle.model_prove.specs.model_machine.specs.Row.{causes, holds, no_place, operand, address_or_zero}
 use Rattle.model_prove.specs.model_machine.specs.Chain.{frame_at}
 use Rattle.model_prove.specs.law_rows.specs.Shapes.{Stays, Answers, Jumps, Calls, Pushes, shape}
-use Rattle.model_prove.specs.Splits.{stand_in, stand_in_stack, Scene, few_combinations, top_places}
+use Rattle.model_prove.specs.Splits.{stand_in_stack, Scene, few_combinations, top_places}
 use Rattle.model_prove.specs.Steps.{Spot, sets, inside, by_choices}
 use Rattle.model_prove.specs.Arrivals.{Setting}
 use Rattle.model_prove.specs.Tables.{IsLoadable, includes_all}
@@ -146,20 +146,10 @@ taken_once s t i f z here there true e includes = absurd (cc e)
 taken_once s t i f z here there false e includes = includes
 
 jump_once : (k to : ℕ) → (k == 0) ≡ false → IsFetchedOnce (ins.Jump k to)
-jump_once k to other s u t g loadable leads turn includes =
-    let p : Spot = spot_of turn.place.start turn.place.standing.allowances turn.frame turn.place.calls turn.place.known in
-    let q : Spot = spot_of turn.place.start turn.place.standing.allowances (frame_at turn.frame turn.next) turn.place.calls turn.place.known in
-    let e : Scene = stand_in s.app p.key in
-    let z : Scene = record e { frame = frame_at e.frame turn.next } in
-    taken_once s t (ins.Jump k to) z.frame z p q (k == 0) other includes
+jump_once k to other s u t g loadable leads turn includes = grind (arith, spot_of, taken_once)
 
 call_once : (k to : ℕ) → (k == 0) ≡ false → IsFetchedOnce (ins.Call k to)
-call_once k to other s u t g loadable leads turn includes =
-    let p : Spot = spot_of turn.place.start turn.place.standing.allowances turn.frame turn.place.calls turn.place.known in
-    let q : Spot = spot_of turn.place.start turn.place.standing.allowances (frame_at turn.frame turn.next) turn.place.calls turn.place.known in
-    let e : Scene = stand_in s.app p.key in
-    let z : Scene = record e { frame = frame_at e.frame turn.next } in
-    taken_once s t (ins.Call k to) z.frame z p q (k == 0) other includes
+call_once k to other s u t g loadable leads turn includes = grind (arith, spot_of, taken_once)
 
 jump_case : (k to : ℕ) → (k == 0) ≡ false → RowCase (ins.Jump k to)
 unfolding causes shape

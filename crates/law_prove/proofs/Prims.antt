@@ -1,5 +1,5 @@
 -- Primitives of one outcome that no byte decides: LOADCCR, which pushes the flags, and the change of protection.
-use Rattle.std.proofs.Common.{◌≡◌, ℕ, ◌+◌, ◌-◌, ◌<◌, ◌≤◌, ◌⊎◌, inl, inr, Bool, true, false, cond, List, [], ◌∷◌, ◌++◌, length, Some, None, refl, sym, ap, subst, ◌∙◌, arith}
+use Rattle.std.proofs.Common.{◌≡◌, ℕ, ◌+◌, ◌-◌, ◌≤◌, Bool, true, false, cond, List, [], ◌∷◌, ◌++◌, length, Some, None, refl, ap, subst, arith}
 use Rattle.std.specs.Prelude.{◌&&◌, ◌||◌, ◌==◌, nat_lt, nat_le, flat_map, slice_index}
 use Rattle.std.proofs.lemmas.Bool.{lt-ltb}
 use Rattle.model_prove.specs.model_device.specs.Bytes.{AreBytes}
@@ -8,9 +8,8 @@ use Rattle.model_prove.specs.model_machine.specs.declared.instruction.Ins.{Ins}
 use Rattle.model_prove.specs.model_machine.specs.declared.instruction.Ins.TheVariants as ins
 use Rattle.model_prove.specs.model_machine.specs.declared.machine.Abend.TheVariants.{A05, A06, A0A}
 use Rattle.model_prove.specs.model_machine.specs.Frame.{Frame, Effect, dynamic_base, dynamic_end, public_base, static_bytes, pending_change}
-use Rattle.model_prove.specs.model_machine.specs.Primitives.{Around, Primitive, LoadCcr, SetProtection, is_denied, later_causes}
+use Rattle.model_prove.specs.model_machine.specs.Primitives.{Around, Primitive, SetProtection, is_denied, later_causes}
 use Rattle.model_prove.specs.model_machine.specs.Row.{causes}
-use Rattle.model_prove.specs.model_machine.specs.Chain.{frame_at}
 use Rattle.model_prove.specs.law_rows.specs.Shapes.{Pushes, Protects, prim_shape, shape}
 use Rattle.model_prove.specs.law_rows.proofs.Keeping.{length_laid}
 use Rattle.model_prove.specs.model_rules.specs.Keeping.{Amounts}
@@ -19,8 +18,7 @@ use Rattle.model_prove.specs.Compares.{IsSo, touched}
 use Rattle.model_prove.specs.Keys.{Start, Delegated, OfClass, Call, Known, Tables}
 use Rattle.model_prove.specs.Laws.{HoldsBytes}
 use Rattle.model_prove.specs.Arrivals.{Setting, Arrival, static_size}
-use Rattle.model_prove.specs.Steps.{Spot, arounds, instruction, sets}
-use Rattle.model_prove.specs.Splits.{stand_in}
+use Rattle.model_prove.specs.Steps.{Spot, arounds, sets}
 use Rattle.model_prove.specs.Tables.{includes_all}
 use Rattle.model_prove.proofs.CompareLemmas.{touched_holds}
 use Rattle.law_prove.specs.Coverings.{parts_memory, moment_memory, frame_memory, IsFrameOf}
@@ -46,11 +44,7 @@ asks_nobody t f p (OfClass class) same e = e
 -- ---- the flags
 
 load_ccr_once : (args : List ℕ) → IsFetchedOnce (ins.Prim 0 2 args)
-load_ccr_once args s u t g loadable leads turn e =
-    asks_nobody t
-    (instruction s (ins.Prim 0 2 args) (record { frame = frame_at (stand_in s.app (place_key turn.place.start turn.place.standing.allowances turn.frame turn.place.calls)).frame turn.next; public = blank })
-    (spot_of turn.place.start turn.place.standing.allowances turn.frame turn.place.calls turn.place.known) (spot_of turn.place.start turn.place.standing.allowances (frame_at turn.frame turn.next) turn.place.calls turn.place.known))
-    LoadCcr turn.place.start refl e
+load_ccr_once args s u t g loadable leads turn e = grind (arith, asks_nobody, place_key, blank, spot_of)
 
 load_ccr_case : (args : List ℕ) → RowCase (ins.Prim 0 2 args)
 unfolding causes shape later_causes prim_shape
@@ -64,14 +58,10 @@ load_ccr_case args s u t g loadable leads turn includes =
 
 -- past the static bytes these do not matter
 static_beyond : (size : ℕ) (one other dyn segment : List ℕ) (a : ℕ) → size ≤ a → parts_memory size one dyn segment a ≡ parts_memory size other dyn segment a
-static_beyond size one other dyn segment a h =
-    let rest = cond (nat_lt a dynamic_base) 0 (cond (nat_lt a public_base) (slice_index dyn (a - dynamic_base)) (slice_index segment (a - public_base))) in
-    ap (λ (b : Bool). cond b (slice_index one a) rest) (not_lt a size h) ∙ sym (ap (λ (b : Bool). cond b (slice_index other a) rest) (not_lt a size h))
+static_beyond size one other dyn segment a h = grind (arith, not_lt)
 
 commit_writes : (p : Bool) (f : Frame) (ps : List (ℕ × List ℕ)) → (p ≡ false → ps ≡ []) → WritesIf (p && true) (pending_change f ps)
-commit_writes p f [] none = tt
-commit_writes true f (q ∷ ps) none = refl
-commit_writes false f (q ∷ ps) none = absurd (cc (none refl))
+commit_writes p f ps none = grind arith
 
 -- the frame after a change of protection that drops what waits
 abbrev dropped : Frame → Bool → Frame
@@ -84,41 +74,14 @@ module _ (s : Setting) (st : Start) (al : Amounts) (f : Frame) (public : List �
 
   committed_led : Led s st al (record { key = record (place_key st al f calls) { protected = on }; known = record k { kept = within 0 (static_size s) k.bytes } }) (f.protected && true)
       (record { frame = record f { fixed = static_bytes f; pieces = []; protected = on }; public = public; changes = pending_change f f.pieces })
-  committed_led =
-      let size : length f.fixed ≡ static_size s = framed.size in
-      record {
-        key = refl;
-        seen = record {
-          open_calls = seen.open_calls;
-          holds = rw kept_size seen.holds;
-          compares = rw kept_size seen.compares;
-          keeps = λ up session d. within_holds 0 (static_size s) k.bytes (frame_memory f public) (moment_memory (static_bytes f) session)
-              (λ a low high.
-              let inside : a < length f.fixed = rw size high in
-              memory_static (length f.fixed) (static_bytes f) f.dyn public a inside
-              ∙ sym (ap (λ (b : Bool). cond b (slice_index (static_bytes f) a) (slice_index session (a - dynamic_base))) (lt-ltb a (length (static_bytes f)) (omega (arith, inside, kept_size))))) seen.holds;
-        };
-        framed = record { code = framed.code; deny = framed.deny; session = framed.session; size = kept_size ∙ size; room = framed.room; inside = tt; settled = λ off. refl; low = framed.low; high = framed.high; base = framed.base };
-        writes = commit_writes f.protected f f.pieces framed.settled;
-      }
+  committed_led = grind (arith, kept_size, within_holds, memory_static, lt-ltb, commit_writes)
 
   -- what power leaves is what is read
   same_memory : f.pieces ≡ [] → frame_memory f public ≡ frame_memory (dropped f on) public
   same_memory none = ap (λ (ps : List (ℕ × List ℕ)). parts_memory (length f.fixed) (laid_pieces f.fixed ps) f.dyn public) none
 
   dropped_compare : (p : Bool) → f.protected ≡ p → IsSo (cond p (touched 0 (static_size s) k.compare) k.compare) (frame_memory (dropped f on) public)
-  dropped_compare true e =
-      touched_holds 0 (static_size s) k.compare (frame_memory f public) (frame_memory (dropped f on) public)
-      (λ a o. static_beyond (length f.fixed) (static_bytes f) f.fixed f.dyn public a (beyond a o)) seen.compares
-    where
-      beyond : (a : ℕ) → (a < 0) ⊎ (0 + static_size s ≤ a) → length f.fixed ≤ a
-      beyond a o =
-          let size : length f.fixed ≡ static_size s = framed.size in
-          elim o [
-            | inl h ↦ absurd (omega (arith, h))
-            | inr h ↦ omega (arith, h, size)
-          ]
-  dropped_compare false e = rw (← same_memory (framed.settled e)) seen.compares
+  dropped_compare p e = grind (arith, touched_holds, static_beyond, same_memory)
 
   dropped_led : Led s st al (record { key = record (place_key st al f calls) { protected = on }; known = record k { bytes = k.kept ++ within (static_size s) 65536 k.bytes; compare = cond f.protected (touched 0 (static_size s) k.compare) k.compare } }) (f.protected && false)
       (record { frame = dropped f on; public = public; changes = None })
@@ -147,11 +110,7 @@ protects_by true s st al f public calls k framed seen always bytes on = committe
 protects_by false s st al f public calls k framed seen always bytes on = dropped_led s st al f public calls k framed seen always bytes on
 
 protection_once : (args : List ℕ) → IsFetchedOnce (ins.Prim 1 3 args)
-protection_once args s u t g loadable leads turn e =
-    asks_nobody t
-    (instruction s (ins.Prim 1 3 args) (record { frame = frame_at (stand_in s.app (place_key turn.place.start turn.place.standing.allowances turn.frame turn.place.calls)).frame turn.next; public = blank })
-    (spot_of turn.place.start turn.place.standing.allowances turn.frame turn.place.calls turn.place.known) (spot_of turn.place.start turn.place.standing.allowances (frame_at turn.frame turn.next) turn.place.calls turn.place.known))
-    SetProtection turn.place.start refl e
+protection_once args s u t g loadable leads turn e = grind (arith, asks_nobody, place_key, blank, spot_of)
 
 protection_case : (args : List ℕ) → RowCase (ins.Prim 1 3 args)
 unfolding causes shape later_causes prim_shape

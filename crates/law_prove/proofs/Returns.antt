@@ -47,9 +47,7 @@ two_are v h = let e : (v / 256 % 256) * 256 + (v % 256 * 1 + 0) ≡ v = omega (a
 
 -- the four bytes of a call are LB and the place
 saved_in : (dyn : List ℕ) (k lb at : ℕ) → k + 4 ≤ length dyn → take 4 (drop k dyn) ≡ bytes2 lb ++ bytes2 at → (window dyn k 2 ≡ bytes2 lb) × (window dyn (suc (suc k)) 2 ≡ bytes2 at)
-saved_in dyn k lb at fits is =
-    let four : window dyn k 4 ≡ bytes2 lb ++ bytes2 at = sym (taken_is dyn k 4 fits) ∙ is in
-    (ap (λ (l : List ℕ). take 2 l) four, ap (λ (l : List ℕ). drop 2 l) four)
+saved_in dyn k lb at fits is = grind (arith, sym (taken_is dyn k 4 fits) ∙ is)
 
 -- the saved LB and place below the end of a call
 saved_are : (dyn : List ℕ) (lb base at : ℕ) → length dyn ≡ 512 → dynamic_base + 4 ≤ lb → lb ≤ dynamic_end → take 4 (drop (lb - 4 - dynamic_base) dyn) ≡ bytes2 base ++ bytes2 at → base < 65536 → at < 65536
@@ -97,9 +95,7 @@ module _ (s : Setting) (small : static_size s ≤ dynamic_base) (st : Start) (al
       let words : take 4 (drop (f.lb - 4 - dynamic_base) f.dyn) ≡ bytes2 c.lb ++ bytes2 c.at = rw (← is) o.3 in
       let saved = saved_are f.dyn f.lb c.lb c.at room (omega (arith, low)) (omega (arith, high, end)) words o.4.0 o.4.1 in
       let back : Frame = record f { lb = c.lb; at = c.at } in
-      let before : Seen cs k back public =
-      record { open_calls = open_wider (dynamic_base + f.session) (c.dt - 4) f.dt c.lb f.dyn cs (omega (arith, under)) o.5; holds = seen.holds; compares = seen.compares; keeps = seen.keeps }
-      in
+      let before : Seen cs k back public = grind (arith, open_wider) in
       let moved : Frame = record back { dyn = splice f.dyn j b; dt = f.dt } in
       let known : Known = (written to ss (spot_of st al back cs k)).known in
       let laid : Seen (calls_after_write to (length ss) cs) known moved public = stack_seen to j f.dt b ss cs k back public at (omega (arith, size, small)) room end fits (omega arith) fit before in
@@ -162,9 +158,7 @@ saved_same floor top lb dyn (c ∷ cs) some low high room other o =
 -- ---- rows
 
 both_of : (p q : Bool) → not (p && q) ≡ false → (p ≡ true) × (q ≡ true)
-both_of true true e = (refl, refl)
-both_of true false e = absurd (cc e)
-both_of false q e = absurd (cc e)
+both_of p q e = grind arith
 
 module _ (i : Ins) (less more : ℕ) where
   -- the row returns over `less` bytes below the call, and leaves `more` bytes
@@ -216,9 +210,7 @@ module _ (i : Ins) (less more : ℕ) where
         let sized : Sized frame turn.public = turn_sized s u loadable i turn in
         let other : Sized l blank = like_sized frame turn.public turn.place.calls sized turn.place.open_calls in
         let m : Memory = frame_memory turn.frame turn.public in
-        let same : saved_address l 2 ≡ saved_address frame 2 =
-        saved_same (dynamic_base + turn.frame.session) d turn.frame.lb turn.frame.dyn turn.place.calls some (omega arith) turn.place.frame.high turn.place.frame.room other.room turn.place.open_calls
-        in
+        let same : saved_address l 2 ≡ saved_address frame 2 = grind (arith, saved_same, some) in
         let ss : List Set = values_from turn.place.known.bytes (d - more) more in
         subst (λ (e : RowEnd). IsRowCovered s u t g loadable leads i turn e) (row_is s u t g loadable leads i turn cs form_of (is.cause frame turn.public turn.around) (is.form frame turn.public turn.around))
         (walked s u t g loadable leads turn.entry turn.history turn.frame turn.public turn.depth turn.place turn.deep i (there s u t g loadable leads i turn) cs form_of AsShaped (meaning form_of frame turn.public)

@@ -1,5 +1,5 @@
 -- What is known at a place stays so after bytes were written: of the stack, of the public segment, of static bytes.
-use Rattle.std.proofs.Common.{◌≡◌, ℕ, zero, suc, ◌+◌, ◌-◌, ◌<◌, ◌≤◌, ◌⊎◌, inl, inr, Bool, true, false, cond, List, [], ◌∷◌, ◌++◌, length, take, drop, refl, sym, ap, ◌∙◌, arith}
+use Rattle.std.proofs.Common.{◌≡◌, ℕ, zero, suc, ◌+◌, ◌-◌, ◌<◌, ◌≤◌, ◌⊎◌, Bool, true, false, cond, List, [], ◌∷◌, ◌++◌, length, take, drop, refl, sym, ap, ◌∙◌, arith}
 use Rattle.std.specs.Prelude.{◌&&◌, nat_lt, slice_index, ⊤}
 use Rattle.std.proofs.lemmas.Bool.{ltb-false}
 use Rattle.model_prove.specs.model_device.specs.Bytes.{AreBytes, bytes2, splice}
@@ -110,20 +110,14 @@ seen_changed a b ss calls more k f g public segment fit same new open_calls keep
 -- ---- open calls
 
 meet_by : (x a n m : ℕ) (p q : Bool) → nat_lt x (a + m) ≡ p → nat_lt a (x + n) ≡ q → (p && q) ≡ false → (x + n ≤ a) ⊎ (a + m ≤ x)
-meet_by x a n m true true e d h = absurd (cc h)
-meet_by x a n m true false e d h = let low = ltb-false a (x + n) d in inl (omega (arith, low))
-meet_by x a n m false q e d h = let high = ltb-false x (a + m) e in inr (omega (arith, high))
+meet_by x a n m p q e d h = grind (arith, ltb-false)
 
 -- bytes that have none in common lie apart
 pub lie_apart : (x n a m : ℕ) → meet x n a m ≡ false → (x + n ≤ a) ⊎ (a + m ≤ x)
 lie_apart x n a m h = meet_by x a n m (nat_lt x (a + m)) (nat_lt a (x + n)) refl refl h
 
 beside : (x i j n a m base : ℕ) → a ≡ base + j → x ≡ base + i → (x + 4 ≤ a) ⊎ (a + m ≤ x) → (k : ℕ) → k < 4 → (i + k < j) ⊎ (j + m ≤ i + k)
-beside x i j n a m base at is o k low =
-    elim o [
-      | inl h ↦ inl (omega (arith, at, is, h, low))
-      | inr h ↦ inr (omega (arith, at, is, h, low))
-    ]
+beside x i j n a m base at is o k low = grind arith
 
 -- what a call has saved stays if it lies apart from what is written
 saved_stays : (x a j : ℕ) (dyn b : List ℕ) → a ≡ dynamic_base + j → dynamic_base ≤ x → x + 4 ≤ dynamic_end → length dyn ≡ 512 → j + length b ≤ 512 → meet x 4 a (length b) ≡ false
@@ -133,9 +127,7 @@ saved_stays x a j dyn b at low high room fits apart =
     let is : x ≡ dynamic_base + i = omega (arith, low) in
     let same : length (splice dyn j b) ≡ length dyn = length_splice dyn j b (omega (arith, room, fits)) in
     let o = lie_apart x 4 a (length b) apart in
-    let four : window (splice dyn j b) i 4 ≡ window dyn i 4 =
-    windows_same (splice dyn j b) dyn i i 4 (λ k less. index_beside dyn j b (i + k) (omega (arith, room, fits)) (beside x i j 4 a (length b) dynamic_base at is o k less))
-    in
+    let four : window (splice dyn j b) i 4 ≡ window dyn i 4 = grind (arith, windows_same, index_beside, beside) in
     taken_is (splice dyn j b) i 4 (omega (arith, same, room, high)) ∙ (four ∙ sym (taken_is dyn i 4 (omega (arith, room, high))))
 
 written_by : (x : Bool) (floor top lb : ℕ) (dyn after : List ℕ) (c : Call) (cs : List Call) → c.dt ≤ top → floor + 4 ≤ c.dt → c.dt ≡ lb
@@ -196,9 +188,7 @@ pub static_seen : (a : ℕ) (b : List ℕ) (ss : List Set) (calls : List Call) (
 static_seen a b ss calls k f fixed pieces public size is whole fits keeps fit seen =
     let g : Frame = record f { fixed = fixed; pieces = pieces } in
     let there : a ≤ length (static_bytes f) = omega (arith, whole, fits) in
-    let memory : (x : ℕ) → parts_memory (length f.fixed) (splice (static_bytes f) a b) f.dyn public x ≡ frame_memory g public x =
-    λ x. ap (λ (l : List ℕ). parts_memory (length f.fixed) l f.dyn public x) (sym is) ∙ ap (λ (n : ℕ). parts_memory n (laid_pieces fixed pieces) f.dyn public x) (sym size)
-    in
+    let memory : (x : ℕ) → parts_memory (length f.fixed) (splice (static_bytes f) a b) f.dyn public x ≡ frame_memory g public x = grind arith in
     seen_changed a b ss calls (calls_after_write a (length ss) calls) k f g public public fit
     (λ x o. static_same (length f.fixed) (static_bytes f) f.dyn public b a there x o ∙ memory x)
     (λ i less. sym (memory (a + i)) ∙ static_new (length f.fixed) (static_bytes f) f.dyn public b a i there fits less)

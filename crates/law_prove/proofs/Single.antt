@@ -1,5 +1,5 @@
 -- Rows of one outcome: their causes and their shape are the same in the frame that stands for the place, but for bytes.
-use Rattle.std.proofs.Common.{◌≡◌, ℕ, ◌+◌, ◌<◌, ◌≤◌, Bool, true, false, cond, List, [], ◌∷◌, ◌++◌, length, Option, Ok, sym, ap, subst, ◌∙◌, arith}
+use Rattle.std.proofs.Common.{◌≡◌, ℕ, ◌+◌, ◌<◌, ◌≤◌, Bool, true, false, List, [], ◌∷◌, ◌++◌, length, Option, Ok, sym, ap, subst, ◌∙◌, arith}
 use Rattle.std.specs.Prelude.{◌&&◌, is_none}
 use Rattle.model_prove.specs.model_device.specs.Bytes.{AreBytes}
 use Rattle.model_prove.specs.model_machine.specs.declared.instruction.Ins.{Ins}
@@ -23,10 +23,10 @@ use Rattle.model_prove.specs.Facts.{values_from}
 use Rattle.model_prove.specs.Keys.{Call, Known, Tables, calls_below}
 use Rattle.model_prove.specs.Splits.{stand_in, stand_in_stack}
 use Rattle.model_prove.specs.Work.{Work, AsShaped, Copies, work}
-use Rattle.model_prove.specs.Arrivals.{Setting, Arrival, fails}
+use Rattle.model_prove.specs.Arrivals.{Setting}
 use Rattle.model_prove.specs.Steps.{Spot, lowered, acted, with_flags, settled_spot, makes_write, may_wait_too_long, follows, row_arrivals, caused, fetched, is_return, no_calls, returned_sets, shaped_bytes}
 use Rattle.model_prove.specs.Tables.{IsLoadable, includes_all}
-use Rattle.law_prove.specs.Coverings.{IsFrameOf, IsPlace, covering_of}
+use Rattle.law_prove.specs.Coverings.{IsPlace, covering_of}
 use Rattle.law_prove.specs.Laws.{LeadsInto, LeadLaw}
 use Rattle.law_prove.proofs.Closed.{included_first, included_second}
 use Rattle.law_prove.proofs.Spots.{place_key}
@@ -41,18 +41,12 @@ going d a fl = record { dt = d; act = a; flags = fl; next = Goes }
 -- the only outcome of a row that does what its shape says
 pub one_shaped : (s : Setting) (t : Tables) (i : Ins) (d : ℕ) (a : Act) (fl : Option (Bool × Bool)) (p q : Spot) → includes_all t (row_arrivals false s i (going d a fl) AsShaped p q) ≡ true
     → includes_all t (follows s i (makes_write s p.key.protected a) Goes p (settled_spot s (with_flags fl (acted s a (returned_sets a q.known.bytes q.key.dt) (lowered d q))))) ≡ true
-one_shaped s t i d a fl p q includes =
-    let w = makes_write s p.key.protected a in
-    let one : List Arrival = follows s i w Goes p (settled_spot s (with_flags fl (acted s a (returned_sets a q.known.bytes q.key.dt) (lowered d q)))) in
-    included_first t one [] (included_second t (cond (may_wait_too_long s p.key.protected a) (fails s p.key p.known A08) []) (one ++ []) includes)
+one_shaped s t i d a fl p q includes = grind (arith, included_first, included_second)
 
 -- of a row that copies bytes
 pub one_copied : (s : Setting) (t : Tables) (i : Ins) (d : ℕ) (a : Act) (fl : Option (Bool × Bool)) (from : ℕ) (p q : Spot) → includes_all t (row_arrivals false s i (going d a fl) (Copies from) p q) ≡ true
     → includes_all t (follows s i (makes_write s p.key.protected a) Goes p (settled_spot s (with_flags fl (acted s a (values_from q.known.bytes from (length (shaped_bytes a))) (lowered d q))))) ≡ true
-one_copied s t i d a fl from p q includes =
-    let w = makes_write s p.key.protected a in
-    let one : List Arrival = follows s i w Goes p (settled_spot s (with_flags fl (acted s a (values_from q.known.bytes from (length (shaped_bytes a))) (lowered d q)))) in
-    included_first t one [] (included_second t (cond (may_wait_too_long s p.key.protected a) (fails s p.key p.known A08) []) (one ++ []) includes)
+one_copied s t i d a fl from p q includes = grind (arith, included_first, included_second)
 
 -- an instruction at a place of the tables, in a play
 pub record Turn (s : Setting) (t : Tables) (i : Ins) : Type 0 where
@@ -157,9 +151,7 @@ module _ (s : Setting) (u t : Tables) (g : Target) (loadable : IsLoadable s.app)
   low_seen d = lowered_at s u t g loadable leads turn.entry turn.history turn.frame turn.public turn.depth turn.place turn.deep i turn.next d
 
   pub low_framed : (d : ℕ) → dynamic_base + turn.frame.session ≤ d → d ≤ dynamic_end → Framed s.app (low_frame d)
-  low_framed d low high =
-      let frame : IsFrameOf s.app turn.frame = turn.place.frame in
-      record { code = frame.code; deny = frame.deny; session = frame.session; size = frame.size; room = frame.room; inside = frame.inside; settled = frame.settled; low = low; high = high; base = frame.base }
+  low_framed d low high = grind (arith, turn.place.frame)
 
   -- at the top that it had
   pub same_framed : Framed s.app (low_frame turn.frame.dt)

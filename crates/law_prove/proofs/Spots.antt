@@ -1,20 +1,20 @@
 -- A spot that covers the frame after an instruction, and is among the outcomes that closed tables include, is one of their
 -- places; and the event of an instruction that was done breaks nothing.
-use Rattle.std.proofs.Common.{◌≡◌, ℕ, ◌+◌, zero, suc, ◌≤◌, Bool, true, false, List, [], ◌∷◌, Some, Result, Ok, refl, ap, ◌∙◌, arith}
-use Rattle.std.specs.Prelude.{◌&&◌, ◌||◌, ◌==◌, not, nat_le, nat_lt, flat_map}
+use Rattle.std.proofs.Common.{◌≡◌, ℕ, ◌+◌, ◌≤◌, Bool, true, false, List, [], ◌∷◌, Some, Result, Ok, ap, ◌∙◌, arith}
+use Rattle.std.specs.Prelude.{◌&&◌, ◌||◌, not, nat_le, flat_map}
 use Rattle.std.proofs.lemmas.Bool.{and_parts, and_from, eqb-true, leb-true, le-leb}
-use Rattle.model_prove.specs.model_device.specs.Bytes.{AreBytes, num}
+use Rattle.model_prove.specs.model_device.specs.Bytes.{AreBytes}
 use Rattle.model_prove.specs.model_text.specs.Text.{◌>>=◌}
 use Rattle.model_prove.specs.model_machine.specs.declared.instruction.Ins.{Ins}
 use Rattle.model_prove.specs.model_machine.specs.Frame.{Frame, dynamic_base}
 use Rattle.model_prove.specs.law_promise.specs.History.{Deed}
-use Rattle.model_prove.specs.law_promise.specs.Outline.{Entry, BySelection, ByDelegation}
+use Rattle.model_prove.specs.law_promise.specs.Outline.{Entry}
 use Rattle.model_prove.specs.law_promise.specs.Domain.{FitsDepth}
 use Rattle.model_prove.specs.model_rules.specs.Happenings.{Event, History, Did}
 use Rattle.model_prove.specs.model_rules.specs.Keeping.{Amounts, Break, Standing, after_occasion, OnTurn, line_of, line_of_deed, after_deed, with_allowances, after_event, standing_after}
 use Rattle.model_prove.specs.Facts.{Memory, Holds, follow}
-use Rattle.model_prove.specs.Compares.{Compare, NoCompare, Bounds, Ordered, Orders, bytes_from, has_order, IsSo}
-use Rattle.model_prove.specs.Keys.{Start, Delegated, OfClass, Call, PlaceKey, Known, Tables, compare_follows}
+use Rattle.model_prove.specs.Compares.{Compare, Orders, has_order, IsSo}
+use Rattle.model_prove.specs.Keys.{Start, Call, PlaceKey, Known, Tables, compare_follows}
 use Rattle.model_prove.specs.Arrivals.{Setting, Arrival, AtPlace, arrive, depths, after_turn}
 use Rattle.model_prove.specs.Steps.{Spot}
 use Rattle.model_prove.specs.Tables.{includes_all}
@@ -28,53 +28,21 @@ use Rattle.law_prove.proofs.Closed.{included_first, included_second, Arrives, ar
 -- ---- the last compare
 
 or_both : (a b x y : Bool) → (a ≡ true → x ≡ true) → (b ≡ true → y ≡ true) → (a || b) ≡ true → (x || y) ≡ true
-or_both true b x y f g e = ap (λ (z : Bool). z || y) (f refl)
-or_both false b true y f g e = refl
-or_both false b false y f g e = g e
+or_both a b x y f g e = grind arith
 
 and_first : (a x l : Bool) → (not a || x) ≡ true → (a && l) ≡ true → (x && l) ≡ true
 and_first true x l i e = ap (λ (z : Bool). z && l) i ∙ e
 and_first false x l i e = absurd (cc e)
 
 wider_orders : (o p : Orders) (x y : ℕ) → (not o.less || p.less) ≡ true → (not o.equal || p.equal) ≡ true → (not o.greater || p.greater) ≡ true → has_order o x y ≡ true → has_order p x y ≡ true
-wider_orders o p x y l e g h =
-    or_both ((o.less && nat_lt x y) || (o.equal && x == y)) (o.greater && nat_lt y x) ((p.less && nat_lt x y) || (p.equal && x == y)) (p.greater && nat_lt y x)
-    (or_both (o.less && nat_lt x y) (o.equal && x == y) (p.less && nat_lt x y) (p.equal && x == y) (and_first o.less p.less (nat_lt x y) l) (and_first o.equal p.equal (x == y) e))
-    (and_first o.greater p.greater (nat_lt y x) g) h
+wider_orders o p x y l e g h = grind (arith, or_both, and_first)
 
 wider_bounds : (l h k i v : ℕ) → nat_le k l ≡ true → nat_le h i ≡ true → (nat_le l v && nat_le v h) ≡ true → (nat_le k v && nat_le v i) ≡ true
-wider_bounds l h k i v low high e =
-    let p = and_parts (nat_le l v) (nat_le v h) e in
-    let a = leb-true k l low in
-    let b = leb-true h i high in
-    let c = leb-true l v p.0 in
-    let d = leb-true v h p.1 in
-    and_from (nat_le k v) (nat_le v i) (le-leb k v (omega (arith, a, c))) (le-leb v i (omega (arith, b, d)))
+wider_bounds l h k i v low high e = grind (arith, and_parts, leb-true, and_from, le-leb)
 
 -- what a compare says follows from one that says as much or more
 pub compare_so : (c d : Compare) (m : Memory) → compare_follows c d ≡ true → IsSo c m → IsSo d m
-compare_so c NoCompare m e x = tt
-compare_so NoCompare (Bounds a n l h) m e x = absurd (cc e)
-compare_so NoCompare (Ordered a n b o) m e x = absurd (cc e)
-compare_so (Bounds a n l h) (Ordered b k c p) m e x = absurd (cc e)
-compare_so (Ordered a n b o) (Bounds c k l h) m e x = absurd (cc e)
-compare_so (Bounds a n l h) (Bounds b k low high) m e x =
-    let p2 = and_parts (a == b && n == k && nat_le low l) (nat_le h high) e in
-    let p1 = and_parts (a == b && n == k) (nat_le low l) p2.0 in
-    let p0 = and_parts (a == b) (n == k) p1.0 in
-    let at : a ≡ b = eqb-true a b p0.0 in
-    let count : n ≡ k = eqb-true n k p0.1 in
-    rw (← at, ← count) (wider_bounds l h low high (num (bytes_from m a n)) p1.1 p2.1 x)
-compare_so (Ordered a n b o) (Ordered c k d p) m e x =
-    let p4 = and_parts (a == c && n == k && b == d && (not o.less || p.less) && (not o.equal || p.equal)) (not o.greater || p.greater) e in
-    let p3 = and_parts (a == c && n == k && b == d && (not o.less || p.less)) (not o.equal || p.equal) p4.0 in
-    let p2 = and_parts (a == c && n == k && b == d) (not o.less || p.less) p3.0 in
-    let p1 = and_parts (a == c && n == k) (b == d) p2.0 in
-    let p0 = and_parts (a == c) (n == k) p1.0 in
-    let at : a ≡ c = eqb-true a c p0.0 in
-    let count : n ≡ k = eqb-true n k p0.1 in
-    let other : b ≡ d = eqb-true b d p1.1 in
-    rw (← at, ← count, ← other) (wider_orders o p (num (bytes_from m a n)) (num (bytes_from m b n)) p2.1 p3.1 p4.1 x)
+compare_so c d m e x = grind (arith, and_parts, eqb-true, wider_bounds, wider_orders)
 
 -- ---- the event of an instruction that was done
 
@@ -86,20 +54,11 @@ did_stands s h d x b is e =
 
 -- the outcomes of each depth are among those of a turn
 three : (t : Tables) (f : ℕ → List Arrival) → includes_all t (flat_map f (2 ∷ 3 ∷ 4 ∷ [])) ≡ true → (depth : ℕ) → 2 ≤ depth → depth ≤ 4 → includes_all t (f depth) ≡ true
-three t f e zero low high = absurd (omega (arith, low))
-three t f e (suc zero) low high = absurd (omega (arith, low))
-three t f e (suc (suc zero)) low high = included_first t (f 2) (flat_map f (3 ∷ 4 ∷ [])) e
-three t f e (suc (suc (suc zero))) low high = included_first t (f 3) (flat_map f (4 ∷ [])) (included_second t (f 2) (flat_map f (3 ∷ 4 ∷ [])) e)
-three t f e (suc (suc (suc (suc zero)))) low high =
-    included_first t (f 4) [] (included_second t (f 3) (flat_map f (4 ∷ [])) (included_second t (f 2) (flat_map f (3 ∷ 4 ∷ [])) e))
-three t f e (suc (suc (suc (suc (suc n))))) low high = absurd (omega (arith, high))
+three t f e depth low high = grind (arith, included_first, included_second)
 
 -- so are those of the depth that a frame has
 at_depth : (s : Setting) (t : Tables) (f : ℕ → List Arrival) (e : Entry Event) (start : Start) (depth : ℕ) → StartsAs s.rules e start → FitsDepth e depth → includes_all t (flat_map f (depths start)) ≡ true → includes_all t (f depth) ≡ true
-at_depth s t f (BySelection bytes apdu before) (OfClass class) depth starts fits e = rw fits (included_first t (f 1) [] e)
-at_depth s t f ByDelegation Delegated depth starts fits e = three t f e depth fits.0 fits.1
-at_depth s t f (BySelection bytes apdu before) Delegated depth starts fits e = absurd starts
-at_depth s t f ByDelegation (OfClass class) depth starts fits e = absurd starts
+at_depth s t f e start depth starts fits e' = grind (arith, included_first, three)
 
 -- a turn at this depth breaks nothing, and what follows it is included
 pub turn_arrives : (s : Setting) (t : Tables) (e : Entry Event) (key : PlaceKey) (i : Ins) (dt : ℕ) (c z : Bool) (next : Amounts → List Arrival) (depth : ℕ) → StartsAs s.rules e key.start → FitsDepth e depth

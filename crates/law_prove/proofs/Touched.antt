@@ -1,5 +1,5 @@
 -- Pieces within 512 bytes touch at most 64 words.
-use Rattle.std.proofs.Common.{◌≡◌, ℕ, suc, ◌+◌, ◌-◌, ◌<◌, ◌≤◌, Bool, true, false, cond, List, [], ◌∷◌, length, refl, arith}
+use Rattle.std.proofs.Common.{◌≡◌, ℕ, suc, ◌+◌, ◌-◌, ◌<◌, ◌≤◌, Bool, cond, List, [], ◌∷◌, length, refl, arith}
 use Rattle.std.specs.Prelude.{◌==◌, nat_lt, ⊤}
 use Rattle.std.proofs.lemmas.Bool.{eqb-false, ltb-true, ltb-false}
 use Rattle.model_prove.specs.model_device.specs.Bytes.{down}
@@ -17,12 +17,7 @@ few_between least most (n ∷ ns) h = let low = h.0 in let high = h.1 in omega (
 
 number_by : (b c : Bool) (k n : ℕ) (least most : ℕ) (ns ms : List ℕ) → (k == n) ≡ b → nat_lt k n ≡ c → least ≤ k → k < most → Between least most (n ∷ ns) → (suc n ≤ k → Between (suc n) most ms)
     → Between least most (cond b (n ∷ ns) (cond c (k ∷ n ∷ ns) (n ∷ ms)))
-number_by true c k n least most ns ms e l low high h rest = h
-number_by false true k n least most ns ms e l low high h rest = let less = ltb-true k n l in (low, high, (omega (arith, less), h.1, h.2))
-number_by false false k n least most ns ms e l low high h rest =
-    let more = ltb-false k n l in
-    let other = eqb-false k n e in
-    (h.0, h.1, rest (omega (arith, more, other)))
+number_by b c k n least most ns ms e l low high h rest = grind (arith, ltb-true, ltb-false, eqb-false)
 
 number_between : (k least most : ℕ) (ns : List ℕ) → least ≤ k → k < most → Between least most ns → Between least most (with_number k ns)
 number_between k least most [] low high h = (low, high, tt)
@@ -37,8 +32,7 @@ words_between at (c ∷ b) ns fits h =
 touched_between : (n : ℕ) (ps : List (ℕ × List ℕ)) (ns : List ℕ) → n ≤ 512 → PiecesWithin n ps → Between 0 64 ns → Between 0 64 (with_touched ns ps)
 touched_between n [] ns low inside h = h
 touched_between n (p ∷ ps) ns low inside h =
-    let one : p.0 + length p.1 ≤ n = inside.0 in
-    touched_between n ps (with_words p.0 p.1 ns) low inside.1 (words_between p.0 p.1 ns (omega (arith, one, low)) h)
+    touched_between n ps (with_words p.0 p.1 ns) low inside.1 (words_between p.0 p.1 ns (omega (arith, inside.0, low)) h)
 
 pub few_touched : (n : ℕ) (ps : List (ℕ × List ℕ)) → n ≤ 512 → PiecesWithin n ps → length (touched_words ps) ≤ 64
 unfolding touched_words

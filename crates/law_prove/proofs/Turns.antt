@@ -1,17 +1,17 @@
 -- From an instruction at a place of tables to what follows it in those that they lead into: the first cause that holds,
 -- the event, the next place, and the stops of its write.
 use Rattle.std.proofs.Common.{◌≡◌, ℕ, ◌-◌, ◌≤◌, Bool, true, false, cond, List, [], ◌∷◌, ◌++◌, length, Option, Some, None, Result, Ok, refl, sym, ap, subst, ◌∙◌, arith}
-use Rattle.std.specs.Prelude.{◌&&◌, nat_lt, flat_map, slice_index}
+use Rattle.std.specs.Prelude.{◌&&◌, flat_map}
 use Rattle.std.specs.List.{AllByRecursion}
 use Rattle.std.proofs.lemmas.Bool.{and_parts}
 use Rattle.model_prove.specs.model_device.specs.Bytes.{AreBytes, zeros}
 use Rattle.model_prove.specs.model_device.specs.Card.{App}
 use Rattle.model_prove.specs.model_machine.specs.declared.instruction.Ins.{Ins}
 use Rattle.model_prove.specs.model_machine.specs.declared.machine.Abend.{Abend}
-use Rattle.model_prove.specs.model_machine.specs.declared.machine.Abend.TheVariants.{A07, A08}
+use Rattle.model_prove.specs.model_machine.specs.declared.machine.Abend.TheVariants.{A08}
 use Rattle.model_prove.specs.model_machine.specs.declared.instruction.DecodeFault.{DecodeFault}
 use Rattle.model_prove.specs.model_machine.specs.Code.{Decodes, DecodesTo, instruction_at}
-use Rattle.model_prove.specs.model_machine.specs.Frame.{Frame, Effect, dynamic_base, public_base, public_end, static_bytes}
+use Rattle.model_prove.specs.model_machine.specs.Frame.{Frame, Effect, public_base, public_end}
 use Rattle.model_prove.specs.model_machine.specs.Primitives.{Around, Done, Goes, effect_and_next}
 use Rattle.model_prove.specs.model_machine.specs.Row.{effect, first_cause, Does, row_end}
 use Rattle.model_prove.specs.model_machine.specs.Chain.{frame_at}
@@ -33,7 +33,7 @@ use Rattle.model_prove.specs.Keys.{Start, Delegated, OfClass, Call, PlaceKey, Ta
 use Rattle.model_prove.specs.Splits.{stand_in, stand_in_stack}
 use Rattle.model_prove.specs.Laws.{HoldsBytes}
 use Rattle.model_prove.specs.Work.{Work}
-use Rattle.model_prove.specs.Arrivals.{Setting, Arrival, static_size, idle, stopped, abended, fails, after_session, after_turn}
+use Rattle.model_prove.specs.Arrivals.{Setting, Arrival, static_size, idle, stopped, fails, after_session, after_turn}
 use Rattle.model_prove.specs.Steps.{Spot, lowered, acted, with_flags, settled_spot, makes_write, may_wait_too_long, stops, stop_before, arrived, follows, row_arrivals, caused, instruction, arounds, fetched, is_return, no_calls, spots}
 use Rattle.model_prove.specs.Tables.{IsLoadable, includes, includes_all}
 use Rattle.law_prove.specs.Coverings.{moment_memory, frame_memory, StartsAs, IsFrameOf, IsPlace, covering_of}
@@ -49,45 +49,13 @@ use Rattle.law_prove.proofs.Acts.{spot_of, Framed, WritesIf, Led, flags_led, led
 -- ---- frames of bytes
 
 pub frame_of : (a : App) (f : Frame) → Framed a f → IsByteFrame f → IsFrameOf a f
-frame_of a f framed bytes =
-    record {
-      code = framed.code;
-      deny = framed.deny;
-      session = framed.session;
-      size = framed.size;
-      room = framed.room;
-      static = bytes.static;
-      pieces = bytes.pieces;
-      inside = framed.inside;
-      settled = framed.settled;
-      low = framed.low;
-      high = framed.high;
-      base = framed.base;
-    }
+frame_of a f framed bytes = grind arith
 
 pub framed_of : (a : App) (f : Frame) → IsFrameOf a f → Framed a f
-framed_of a f frame =
-    record {
-      code = frame.code;
-      deny = frame.deny;
-      session = frame.session;
-      size = frame.size;
-      room = frame.room;
-      inside = frame.inside;
-      settled = frame.settled;
-      low = frame.low;
-      high = frame.high;
-      base = frame.base;
-    }
+framed_of a f frame = grind arith
 
 pub memory_of_bytes : (f : Frame) (public : List ℕ) → IsByteFrame f → AreBytes public → HoldsBytes (frame_memory f public)
-memory_of_bytes f public bytes others a =
-    let x = slice_index (static_bytes f) a in
-    let y = slice_index f.dyn (a - dynamic_base) in
-    let z = slice_index public (a - public_base) in
-    cond_small (nat_lt a (length f.fixed)) x (cond (nat_lt a dynamic_base) 0 (cond (nat_lt a public_base) y z)) (indexed (static_bytes f) a (laid f.pieces f.fixed bytes.pieces bytes.static))
-    (cond_small (nat_lt a dynamic_base) 0 (cond (nat_lt a public_base) y z) (omega arith)
-    (cond_small (nat_lt a public_base) y z (indexed f.dyn (a - dynamic_base) bytes.stack) (indexed public (a - public_base) others)))
+memory_of_bytes f public bytes others a = grind (arith, cond_small, indexed, laid)
 
 caller_of : (o : Option (List ℕ)) → IsDelegator o → IsCaller o
 caller_of None h = tt
@@ -114,13 +82,7 @@ nobody = record { case = 1; delegator = None }
 -- what stands for a place is like its frame
 pub stand_in_like : (a : App) (f : Frame) (st : Start) (al : Amounts) (calls : List Call) (next : ℕ) → Framed a f
     → frame_at (stand_in a (place_key st al f calls)).frame next ≡ like (frame_at f next) (stand_in_stack calls)
-stand_in_like a f st al calls next framed =
-    let d = stand_in_stack calls in
-    let one : Frame = frame_at f next in
-    ap (λ (n : ℕ). record one { name = []; code_len = n; session = a.session; deny = a.deny; fixed = zeros (length a.fixed); pieces = []; dyn = d }) (sym framed.code)
-    ∙ (ap (λ (n : ℕ). record one { name = []; session = n; deny = a.deny; fixed = zeros (length a.fixed); pieces = []; dyn = d }) (sym framed.session)
-    ∙ (ap (λ (n : ℕ). record one { name = []; deny = n; fixed = zeros (length a.fixed); pieces = []; dyn = d }) (sym framed.deny)
-    ∙ ap (λ (n : ℕ). record one { name = []; fixed = zeros n; pieces = []; dyn = d }) (sym framed.size)))
+stand_in_like a f st al calls next framed = grind arith
 
 -- the only outcome of what was fetched, in the scene of a frame, where no byte decides
 abbrev pub only : Setting → Ins → Frame → Spot → Spot → List Arrival
@@ -154,13 +116,7 @@ module _ (s : Setting) (u t : Tables) (g : Target) (loadable : IsLoadable s.app)
         → Covers q d.effect.frame d.effect.public → IsFrameOf s.app d.effect.frame
         → includes_all t (stop_before w s before_it) ≡ true → includes_all t (stops w s before_it q x.allowances) ≡ true
         → WriteCovered (domain_of_rules g (covering_of s t)) e h k f d c
-    writes_covered k d q w x None is stands same covers frame first second = tt
-    writes_covered k d q w x (Some ps) is stands same covers frame first second = (
-      stopped_arrives e h f.fixed p.start p.standing p.known.kept p.starts p.stands p.keeps p.frame.size p.frame.static
-          (subst (λ (b : Bool). includes_all t (stop_before b s before_it) ≡ true) is first),
-      stopped_arrives e k d.effect.frame.fixed p.start x q.known.kept p.starts stands covers.keeps frame.size frame.static
-          (subst (λ (b : Bool). includes_all t (stops b s before_it q x.allowances) ≡ true) is second),
-    )
+    writes_covered k d q w x c is stands same covers frame first second = grind (arith, stopped_arrives)
 
     -- the next place, after the event
     pub goes_covered : (d : Effect) (q : Spot) (w : Bool) → q.key.start ≡ p.start → Covers q d.frame d.public → IsFrameOf s.app d.frame → HoldsBytes (frame_memory d.frame d.public) → AreBytes d.frame.dyn → WritesIf w d.changes
@@ -210,8 +166,7 @@ module _ (s : Setting) (u t : Tables) (g : Target) (loadable : IsLoadable s.app)
           let rest : List Arrival = flat_map (λ r. follows s i (makes_write s f.protected m.act) m.next before_it (settled_spot s r)) (spots s m w q) in
           let all : includes_all t (row_arrivals false s i m w before_it q) ≡ true = subst (λ (b : Bool). includes_all t (row_arrivals (b && no_calls p.calls) s i m w before_it q) ≡ true) other includes in
           let one : includes_all t (cond (may_wait_too_long s f.protected m.act) (fails s (place_key p.start p.standing.allowances f p.calls) p.known A08) []) ≡ true =
-          included_first t (cond (may_wait_too_long s f.protected m.act) (fails s (place_key p.start p.standing.allowances f p.calls) p.known A08) []) rest all
-          in
+          grind (arith, included_first, place_key) in
           fails_by s u t g loadable leads e h f public p A08 s.rules.abends (place_key p.start p.standing.allowances f p.calls) refl refl refl
           (subst (λ (b : Bool). includes_all t (cond b (fails s (place_key p.start p.standing.allowances f p.calls) p.known A08) []) ≡ true) (waits refl refl) one)
       limit_by false false m w d other waits less includes done = done refl includes
@@ -236,24 +191,13 @@ module _ (s : Setting) (u t : Tables) (g : Target) (loadable : IsLoadable s.app)
   pub included_at : (e : Entry Event) (h : History) (f : Frame) (public : List ℕ) (i : Ins) (next : ℕ) (p : IsPlace s u e h f public) → instruction_at s.app.code f.at ≡ Ok (i, next)
       → includes_all t (fetched s (spot_of p.start p.standing.allowances f p.calls p.known) (Ok (i, next))) ≡ true
   included_at e h f public i next p at =
-      let here : Spot = spot_of p.start p.standing.allowances f p.calls p.known in
-      let all = leads here.key p.known p.there in
-      subst (λ (z : Result (Ins × ℕ) DecodeFault). includes_all t (fetched s here z) ≡ true) at
-      (included_second t (abended s p.start p.standing.allowances p.known A07) (fetched s here (instruction_at s.app.code f.at)) all)
+      grind (arith, spot_of p.start p.standing.allowances f p.calls p.known, leads (spot_of p.start p.standing.allowances f p.calls p.known).key p.known p.there)
 
   -- if no byte decides, its outcome is the instruction's in a scene like the frame
   pub only_one : (e : Entry Event) (h : History) (f : Frame) (public : List ℕ) (i : Ins) (next : ℕ) (p : IsPlace s u e h f public)
       → includes_all t ((only s i (frame_at (stand_in s.app (place_key p.start p.standing.allowances f p.calls)).frame next) (spot_of p.start p.standing.allowances f p.calls p.known) (spot_of p.start p.standing.allowances (frame_at f next) p.calls p.known) ++ []) ++ []) ≡ true
       → includes_all t (instruction s i (record { frame = like (frame_at f next) (stand_in_stack p.calls); public = blank }) (spot_of p.start p.standing.allowances f p.calls p.known) (spot_of p.start p.standing.allowances (frame_at f next) p.calls p.known) nobody) ≡ true
-  only_one e h f public i next p includes =
-      let p0 : Spot = spot_of p.start p.standing.allowances f p.calls p.known in
-      let q0 : Spot = spot_of p.start p.standing.allowances (frame_at f next) p.calls p.known in
-      let scene : Frame = frame_at (stand_in s.app (place_key p.start p.standing.allowances f p.calls)).frame next in
-      let all = only s i scene p0 q0 in
-      let one : includes_all t (instruction s i (record { frame = scene; public = blank }) p0 q0 nobody) ≡ true =
-      around_none t (instruction s i (record { frame = scene; public = blank }) p0 q0) p.start (included_first t all [] (included_first t (all ++ []) [] includes))
-      in
-      rw (← stand_in_like s.app f p.start p.standing.allowances p.calls next (framed_of s.app f p.frame)) one
+  only_one e h f public i next p includes = grind (arith, spot_of, place_key, around_none, included_first, stand_in_like, framed_of)
 
   -- ---- bytes
 
@@ -274,11 +218,6 @@ module _ (s : Setting) (u t : Tables) (g : Target) (loadable : IsLoadable s.app)
     pub seen_at : Seen p.calls p.known (frame_at f next) public
     seen_at = record { open_calls = p.open_calls; holds = p.holds; compares = p.compares; keeps = λ on session d. p.keeps session d }
 
-    pub framed_at : Framed s.app (frame_at f next)
-    framed_at =
-        let frame : IsFrameOf s.app f = p.frame in
-        record { code = frame.code; deny = frame.deny; session = frame.session; size = frame.size; room = frame.room; inside = frame.inside; settled = frame.settled; low = frame.low; high = frame.high; base = frame.base }
-
     -- the place after a shape's act, whose bytes have values of these sets
     abbrev pub after_act : Shape → List Set → Spot
     after_act m ss = with_flags m.flags (acted s m.act ss (lowered m.dt (spot_of p.start p.standing.allowances (frame_at f next) p.calls p.known)))
@@ -290,9 +229,7 @@ module _ (s : Setting) (u t : Tables) (g : Target) (loadable : IsLoadable s.app)
         → RowCovered (domain_of_rules g (covering_of s t)) e h f public depth i (Does (effect_and_next (shape_effect m (frame_at f next) public)))
     moved_covered m ss led bytes includes =
         let d : Effect = shape_effect m (frame_at f next) public in
-        let all : Led s p.start p.standing.allowances (after_act m ss) (makes_write s f.protected m.act) d =
-        flags_led s p.start p.standing.allowances (acted s m.act ss (lowered m.dt (spot_of p.start p.standing.allowances (frame_at f next) p.calls p.known))) (makes_write s f.protected m.act) (act_effect m.act (record (frame_at f next) { dt = m.dt }) public) m.flags led
-        in
+        let all : Led s p.start p.standing.allowances (after_act m ss) (makes_write s f.protected m.act) d = grind (arith, flags_led, spot_of) in
         goes_covered e h f public depth p deep i d (settled_spot s (after_act m ss)) (makes_write s f.protected m.act) (ap (λ (k : PlaceKey). k.start) all.key)
         (led_covers s p.start p.standing.allowances (after_act m ss) (makes_write s f.protected m.act) d all) (frame_of s.app d.frame all.framed bytes.frame)
         (memory_of_bytes d.frame d.public bytes.frame bytes.public) bytes.frame.stack all.writes includes

@@ -1,5 +1,5 @@
 -- Windows of lists: n elements from a place on, one by one, and what a splice leaves of them.
-use Rattle.std.proofs.Common.{◌≡◌, ℕ, zero, suc, ◌+◌, ◌-◌, ◌<◌, ◌≤◌, ◌⊎◌, inl, inr, List, [], ◌∷◌, ◌++◌, length, take, drop, get_or, refl, sym, ap, ◌∙◌, arith}
+use Rattle.std.proofs.Common.{◌≡◌, ℕ, zero, suc, ◌+◌, ◌<◌, ◌≤◌, ◌⊎◌, List, [], ◌∷◌, length, take, drop, refl, sym, ap, ◌∙◌, arith}
 use Rattle.std.specs.Prelude.{slice_index}
 use Rattle.std.proofs.lemmas.List.{length-append, length-take-le, get_or-drop, get_or-append_right, get_or_append_left, get_or-take}
 use Rattle.model_prove.specs.model_device.specs.Bytes.{splice}
@@ -12,9 +12,7 @@ window l i (suc n) = slice_index l i ∷ window l (suc i) n
 pub window_at : (l : List ℕ) (i n k : ℕ) → k < n → slice_index (window l i n) k ≡ slice_index l (i + k)
 window_at l i zero k h = absurd (omega (arith, h))
 window_at l i (suc n) zero h = let e : i ≡ i + 0 = omega arith in ap (λ (j : ℕ). slice_index l j) e
-window_at l i (suc n) (suc k) h =
-    let e : suc i + k ≡ i + suc k = omega arith in
-    window_at l (suc i) n k (omega (arith, h)) ∙ ap (λ (j : ℕ). slice_index l j) e
+window_at l i (suc n) (suc k) h = window_at l (suc i) n k (omega (arith, h)) ∙ ap (λ (j : ℕ). slice_index l j) (omega arith)
 
 -- bytes that are the same one by one
 pub windows_same : (l m : List ℕ) (i j n : ℕ) → ((k : ℕ) → k < n → slice_index l (i + k) ≡ slice_index m (j + k)) → window l i n ≡ window m j n
@@ -47,29 +45,14 @@ taken_is (x ∷ l) (suc i) n h = taken_is l i n (omega (arith, h)) ∙ sym (wind
 -- ---- splices
 
 pub index_after : (l : List ℕ) (at : ℕ) (b : List ℕ) (i : ℕ) → at ≤ length l → at + length b ≤ i → slice_index (splice l at b) i ≡ slice_index l i
-index_after l at b i fits h =
-    let n = at + length b in
-    let size : length (take at l ++ b) ≡ n = omega (arith, length-append (take at l) b, length-take-le at l fits) in
-    let place : n + (i - n) ≡ i = omega arith in
-    get_or-append_right (take at l ++ b) (drop n l) n i 0 size h ∙ (get_or-drop n l (i - n) 0 ∙ ap (λ (k : ℕ). get_or l k 0) place)
+index_after l at b i fits h = grind (arith, length-append, length-take-le, get_or-append_right, get_or-drop)
 
 pub index_within : (l : List ℕ) (at : ℕ) (b : List ℕ) (k : ℕ) → at ≤ length l → k < length b → slice_index (splice l at b) (at + k) ≡ slice_index b k
-index_within l at b k fits h =
-    let size : at + k < length (take at l ++ b) = omega (arith, length-append (take at l) b, length-take-le at l fits) in
-    let low : at ≤ at + k = omega arith in
-    let place : at + k - at ≡ k = omega arith in
-    get_or_append_left (take at l ++ b) (drop (at + length b) l) 0 (at + k) size ∙ (get_or-append_right (take at l) b at (at + k) 0 (length-take-le at l fits) low ∙ ap (λ (j : ℕ). get_or b j 0) place)
+index_within l at b k fits h = grind (arith, length-append, length-take-le, get_or_append_left, get_or-append_right)
 
 pub index_before : (l : List ℕ) (at : ℕ) (b : List ℕ) (i : ℕ) → at ≤ length l → i < at → slice_index (splice l at b) i ≡ slice_index l i
-index_before l at b i fits h =
-    let size : i < length (take at l ++ b) = omega (arith, length-append (take at l) b, length-take-le at l fits) in
-    let first : i < length (take at l) = omega (arith, length-take-le at l fits) in
-    get_or_append_left (take at l ++ b) (drop (at + length b) l) 0 i size ∙ (get_or_append_left (take at l) b 0 i first ∙ get_or-take at l i 0 h)
+index_before l at b i fits h = grind (arith, length-append, length-take-le, get_or_append_left, get_or-take)
 
 -- a byte beside what was written
 pub index_beside : (l : List ℕ) (at : ℕ) (b : List ℕ) (i : ℕ) → at ≤ length l → (i < at) ⊎ (at + length b ≤ i) → slice_index (splice l at b) i ≡ slice_index l i
-index_beside l at b i fits o =
-    elim o [
-      | inl low ↦ index_before l at b i fits low
-      | inr high ↦ index_after l at b i fits high
-    ]
+index_beside l at b i fits o = grind (arith, index_before, index_after)

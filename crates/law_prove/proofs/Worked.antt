@@ -1,6 +1,6 @@
 -- Operations on blocks, highest byte first: what a way through their digits leads to, and that the result is the machine's.
-use Rattle.std.proofs.Common.{◌≡◌, ℕ, zero, suc, ◌+◌, ◌*◌, ◌^◌, ◌<◌, ◌≤◌, Bool, true, false, cond, List, [], ◌∷◌, ◌++◌, length, map, reverse, Option, Some, None, refl, sym, ap, subst, ◌∙◌, arith}
-use Rattle.std.specs.Prelude.{◌&&◌, ◌==◌, nat_lt, nat_le, bit_and, bit_or, bit_xor}
+use Rattle.std.proofs.Common.{◌≡◌, ℕ, zero, suc, ◌+◌, ◌*◌, ◌^◌, ◌<◌, Bool, true, false, cond, List, [], ◌∷◌, ◌++◌, length, map, reverse, Option, Some, None, refl, sym, ap, subst, ◌∙◌, arith}
+use Rattle.std.specs.Prelude.{◌&&◌, ◌==◌, bit_and, bit_or, bit_xor}
 use Rattle.std.specs.List.{AllByRecursion}
 use Rattle.std.proofs.lemmas.Bool.{eqb-true, eqb-false, eq-eqb, false_from_ne_true}
 use Rattle.std.proofs.lemmas.List.{map-append, reverse-append, reverse-reverse, length-append}
@@ -46,21 +46,12 @@ flipped x xs = reverse-append (x ∷ []) xs
 pub run_flags : (op : Operation) (xs ys : List ℕ) → (run op (reverse (byte_pairs xs ys)) first_flags).1 ≡ (worked op xs ys).1
 run_flags op [] ys = refl
 run_flags op (x ∷ xs) [] = refl
-run_flags op (x ∷ xs) (y ∷ ys) =
-    ap (λ (ps : List (ℕ × ℕ)). (run op ps first_flags).1) (flipped (x, y) (byte_pairs xs ys))
-    ∙ (last_flags op (reverse (byte_pairs xs ys)) (x, y) first_flags ∙ ap (λ (f : Flags). flags_after op x y f) (run_flags op xs ys))
+run_flags op (x ∷ xs) (y ∷ ys) = grind (arith, flipped, last_flags, run_flags op xs ys)
 
 pub run_digits : (op : Operation) (xs ys : List ℕ) → (run op (reverse (byte_pairs xs ys)) first_flags).0 ≡ reverse (worked op xs ys).0
 run_digits op [] ys = refl
 run_digits op (x ∷ xs) [] = refl
-run_digits op (x ∷ xs) (y ∷ ys) =
-    let ps = reverse (byte_pairs xs ys) in
-    let rest = worked op xs ys in
-    ap (λ (ps : List (ℕ × ℕ)). (run op ps first_flags).0) (flipped (x, y) (byte_pairs xs ys))
-    ∙ (last_digit op ps (x, y) first_flags
-    ∙ (ap (λ (f : Flags). (run op ps first_flags).0 ++ (digit op x y f.c).0 ∷ []) (run_flags op xs ys)
-    ∙ (ap (λ (l : List ℕ). l ++ (digit op x y (rest.1).c).0 ∷ []) (run_digits op xs ys)
-    ∙ sym (flipped (digit op x y (rest.1).c).0 rest.0))))
+run_digits op (x ∷ xs) (y ∷ ys) = grind (arith, flipped, last_digit, run_flags, run_digits op xs ys)
 
 -- ---- lists turned around
 
@@ -195,9 +186,7 @@ pairs_count (s ∷ ss) (t ∷ ts) l = ap suc (pairs_count ss ts (omega (arith, l
 
 flipped_length : {A : Type 0} (xs : List A) → length (reverse xs) ≡ length xs
 flipped_length [] = refl
-flipped_length (x ∷ xs) =
-    let more : length (reverse xs ++ x ∷ []) ≡ length (reverse xs) + 1 = length-append (reverse xs) (x ∷ []) in
-    ap (λ (l : List _). length l) (flipped x xs) ∙ (more ∙ omega (arith, flipped_length xs))
+flipped_length (x ∷ xs) = grind (arith, length-append, flipped, flipped_length xs)
 
 pair_length : (xs ys : List ℕ) → length xs ≡ length ys → length (byte_pairs xs ys) ≡ length xs
 pair_length [] ys l = refl
@@ -213,11 +202,7 @@ on_digits op xs ys ss ts l a b =
     let ds : List Digits = law.0 in
     let lie : LieOn ps (reverse (worked op xs ys).0) ds = rw (← run_digits op xs ys) law.2 in
     let to : digits_to (worked op xs ys).1 (map (arcs op) qs) ≡ Some ds = rw (← run_flags op xs ys) law.1 in
-    let count : length ds ≡ length ps =
-    way_digits (length (map (arcs op) qs)) (ways (worked op xs ys).1 (map (arcs op) qs)) first_flags ds (ways_digits (worked op xs ys).1 (map (arcs op) qs)) to
-    ∙ (length_map (arcs op) qs ∙ (flipped_length (pairs_of ss ts) ∙ (pairs_count ss ts (fit_length xs ss a ∙ (l ∙ sym (fit_length ys ts b)))
-    ∙ (fit_length xs ss a ∙ (sym (pair_length xs ys l) ∙ sym (flipped_length (byte_pairs xs ys)))))))
-    in
+    let count : length ds ≡ length ps = grind (arith, way_digits, ways_digits, length_map, flipped_length, pairs_count, fit_length, pair_length) in
     record {
       digits = ds;
       is = to;
@@ -237,12 +222,7 @@ pub not_zero : (n : ℕ) → 0 < n → (n == 0) ≡ false
 not_zero n h = false_from_ne_true (n == 0) (λ is. let none = eqb-true n 0 is in omega (arith, none, h))
 
 zero_more : (r p v : ℕ) (x y : Bool) → 0 < p → (r == 0) ≡ x → (v == 0) ≡ y → (y && x) ≡ (r * p + v == 0)
-zero_more r p v true true h e d = let a = eqb-true r 0 e in let b = eqb-true v 0 d in sym (eq-eqb (r * p + v) 0 (grind (arith, a, b)))
-zero_more r p v x false h e d = let other = eqb-false v 0 d in sym (not_zero (r * p + v) (omega (arith, other)))
-zero_more r p v false true h e d =
-    let other = eqb-false r 0 e in
-    let more : 1 * p ≤ r * p = times_at_most p 1 r (omega (arith, other)) in
-    sym (not_zero (r * p + v) (omega (arith, more, h)))
+zero_more r p v x y h e d = grind (arith, eqb-true, eq-eqb, eqb-false, not_zero, times_at_most)
 
 -- whether all bytes are zero
 pub worked_zero : (op : Operation) (xs ys : List ℕ) → length xs ≡ length ys → ((worked op xs ys).1).z ≡ is_zero (worked op xs ys).0
@@ -255,15 +235,10 @@ worked_zero op (x ∷ xs) (y ∷ ys) l =
     ∙ zero_more r (256 ^ length rest.0) (num rest.0) (r == 0) (num rest.0 == 0) (pow_positive (length rest.0)) refl refl
 
 sum_digit : (x y : ℕ) (c : Bool) → x < 256 → y < 256 → (digit Plus x y c).0 + 256 * carried (digit Plus x y c).1 ≡ x + y + carried c
-sum_digit x y c a b = by (nat_le 256 (x + y + carried c)) refl
-  where
-    by : (o : Bool) → nat_le 256 (x + y + carried c) ≡ o → (digit Plus x y c).0 + 256 * carried o ≡ x + y + carried c
-    by o e = grind (arith, a, b, e)
+sum_digit x y c a b = grind arith
 
 sum_step : (x y r p a b v c d : ℕ) → r + 256 * d ≡ x + y + c → v + c * p ≡ a + b → r * p + v + d * (256 * p) ≡ (x * p + a) + (y * p + b)
-sum_step x y r p a b v c d h k =
-    let e : (r + 256 * d) * p ≡ (x + y + c) * p = ap (λ (z : ℕ). z * p) h in
-    grind (arith, e, k)
+sum_step x y r p a b v c d h k = grind (arith, ap (λ (z : ℕ). z * p) h)
 
 -- a sum, with its carry
 pub worked_sum : (xs ys : List ℕ) → length xs ≡ length ys → AreBytes xs → AreBytes ys → num (worked Plus xs ys).0 + carried ((worked Plus xs ys).1).c * 256 ^ length xs ≡ num xs + num ys
@@ -285,19 +260,10 @@ worked_sum (x ∷ xs) (y ∷ ys) l a b =
     ∙ (step ∙ ap (λ (k : ℕ). (x * 256 ^ length xs + num xs) + (y * 256 ^ k + num ys)) same))
 
 difference_digit : (x y : ℕ) (c : Bool) → x < 256 → y < 256 → (digit Minus x y c).0 + (y + carried c) ≡ x + 256 * carried (digit Minus x y c).1
-difference_digit x y true a b = by (nat_lt x (y + 1)) refl
-  where
-    by : (o : Bool) → nat_lt x (y + 1) ≡ o → (digit Minus x y true).0 + (y + 1) ≡ x + 256 * carried o
-    by o e = grind (arith, a, b, e)
-difference_digit x y false a b = by (nat_lt x (y + 0)) refl
-  where
-    by : (o : Bool) → nat_lt x (y + 0) ≡ o → (digit Minus x y false).0 + (y + 0) ≡ x + 256 * carried o
-    by o e = grind (arith, a, b, e)
+difference_digit x y c a b = grind arith
 
 difference_step : (x y r p a b v c d : ℕ) → r + (y + c) ≡ x + 256 * d → v + b ≡ a + c * p → (r * p + v) + (y * p + b) ≡ (x * p + a) + d * (256 * p)
-difference_step x y r p a b v c d h k =
-    let e : (r + (y + c)) * p ≡ (x + 256 * d) * p = ap (λ (z : ℕ). z * p) h in
-    grind (arith, e, k)
+difference_step x y r p a b v c d h k = grind (arith, ap (λ (z : ℕ). z * p) h)
 
 -- a difference, with its borrow
 pub worked_difference : (xs ys : List ℕ) → length xs ≡ length ys → AreBytes xs → AreBytes ys → num (worked Minus xs ys).0 + num ys ≡ num xs + carried ((worked Minus xs ys).1).c * 256 ^ length xs
@@ -351,11 +317,7 @@ worked_clear Or (x ∷ xs) (y ∷ ys) e = worked_clear Or xs ys e
 worked_clear Xor (x ∷ xs) (y ∷ ys) e = worked_clear Xor xs ys e
 
 digit_bytes : (op : Operation) (x y : ℕ) (c : Bool) (rest : List ℕ) → carries_of op ≡ true → AreBytes rest → AreBytes ((digit op x y c).0 ∷ rest)
-digit_bytes Plus x y c rest e h = (omega arith, h)
-digit_bytes Minus x y c rest e h = (omega arith, h)
-digit_bytes And x y c rest e h = absurd (cc e)
-digit_bytes Or x y c rest e h = absurd (cc e)
-digit_bytes Xor x y c rest e h = absurd (cc e)
+digit_bytes op x y c rest e h = grind arith
 
 carried_bytes : (op : Operation) (xs ys : List ℕ) → carries_of op ≡ true → AreBytes (worked op xs ys).0
 carried_bytes op [] ys e = tt
