@@ -92,9 +92,7 @@ module _ (tag : ℕ) (off : ℤ) (n : ℕ) where
       same_place = drawn_operand f z.fixed z.dyn tag off 2 z.size
 
       stand_place : operand (stand s u t g loadable leads loadi turn).frame tag off 2 ≡ o
-      stand_place =
-          let e = stand_is s u t g loadable leads loadi turn in
-          ap (λ (w : Scene). operand w.frame tag off 2) e.is ∙ drawn_operand f e.fixed e.dyn tag off 2 e.size
+      stand_place = grind (arith, stand_is s u t g loadable leads loadi turn)
 
       -- the address of the scene
       address_same : (a : ℕ) → o ≡ Some a → is_outside f a 2 ≡ false → address_at l z.public a ≡ address_at f turn.public a
@@ -103,12 +101,7 @@ module _ (tag : ℕ) (off : ℤ) (n : ℕ) where
           (λ j less. z.agrees (a + j) (part_inside f a 2 j there less) (subst (λ (w : Option ℕ). Among (a + j) (places_from w 2)) (sym (stand_place ∙ is)) (among_numbers a 2 j less))))
 
       fails_by_outside : (x : Bool) (a : ℕ) → o ≡ Some a → is_outside f a 2 ≡ x → fails_at l z.public (Some a) ≡ fails_at f turn.public (Some a)
-      fails_by_outside true a is e =
-          ap (λ (x : Bool). x || is_outside l (address_at l z.public a) n) (drawn_outside f z.fixed z.dyn a 2 z.size ∙ e)
-          ∙ sym (ap (λ (x : Bool). x || is_outside f (address_at f turn.public a) n) e)
-      fails_by_outside false a is e =
-          ap (λ (x : Bool). x || is_outside l (address_at l z.public a) n) (drawn_outside f z.fixed z.dyn a 2 z.size)
-          ∙ ap (λ (x : Bool). is_outside f a 2 || x) (ap (λ (x : ℕ). is_outside l x n) (address_same a is e) ∙ drawn_outside f z.fixed z.dyn (address_at f turn.public a) n z.size)
+      fails_by_outside x a is e = grind (arith, drawn_outside, address_same)
 
       fails_by_place : (w : Option ℕ) → o ≡ w → fails_at l z.public w ≡ fails_at f turn.public w
       fails_by_place None is = refl
@@ -217,10 +210,7 @@ module _ (tag : ℕ) (off : ℤ) (size : ℕ) where
 
     -- DT without the bytes that are taken
     bottom : is_under j taken ≡ false → (dynamic_base + turn.frame.session ≤ turn.frame.dt - taken) × (turn.frame.dt - taken ≤ dynamic_end)
-    bottom over =
-        let enough = above j taken over in
-        let high : turn.frame.dt ≤ dynamic_end = turn.place.frame.high in
-        (omega (arith, enough), omega (arith, high))
+    bottom over = grind (arith, above)
 
     module _ (z : Chosen s u t g loadable leads index turn) where
       abbrev k : Frame

@@ -1,18 +1,17 @@
 -- An instruction that bytes of the memory decide: one of its outcomes is that of the values that they have; or, if they
 -- have too many combinations, its outcomes are the coarse ones.
-use Rattle.std.proofs.Common.{◌≡◌, ◌⊎◌, inl, inr, ℕ, ◌+◌, ◌-◌, ◌≤◌, Bool, true, false, cond, List, [], ◌∷◌, ◌++◌, length, Option, Some, None, Ok, refl, sym, ap, subst, ◌∙◌, arith}
+use Rattle.std.proofs.Common.{◌≡◌, ◌⊎◌, inl, inr, ℕ, ◌+◌, ◌≤◌, Bool, true, false, cond, List, [], ◌∷◌, ◌++◌, length, Option, Some, None, Ok, refl, sym, ap, subst, ◌∙◌, arith}
 use Rattle.std.specs.Prelude.{◌&&◌, nat_le, flat_map}
 use Rattle.std.specs.List.{AllByRecursion}
 use Rattle.std.proofs.lemmas.List.{length-replicate}
 use Rattle.law_prove.specs.model_machine.specs.declared.instruction.Ins.{Ins}
 use Rattle.law_prove.specs.model_machine.specs.declared.machine.Abend.{Abend}
 use Rattle.law_prove.specs.model_machine.specs.declared.machine.Abend.TheVariants.{A03, A06}
-use Rattle.law_prove.specs.model_machine.specs.Code.{Decodes}
-use Rattle.law_prove.specs.model_machine.specs.Frame.{Frame, Effect, is_outside, dynamic_base, dynamic_end, public_base, public_end}
+use Rattle.law_prove.specs.model_machine.specs.Frame.{Frame, Effect, is_outside, dynamic_base, dynamic_end}
 use Rattle.law_prove.specs.model_machine.specs.Primitives.{Around, Primitive, Done, effect_and_next}
 use Rattle.law_prove.specs.model_machine.specs.Row.{causes, effect, row, first_cause, row_end, Does}
 use Rattle.law_prove.specs.model_machine.specs.Chain.{frame_at}
-use Rattle.law_prove.specs.law_rows.specs.Shapes.{Act, Stays, Pushes, Replaces, Shape, act_effect, shape_effect, meaning, shape}
+use Rattle.law_prove.specs.law_rows.specs.Shapes.{Act, Stays, Pushes, Replaces, Shape, act_effect, shape_effect, shape}
 use Rattle.law_prove.specs.law_rows.proofs.RowShapes.{shapes}
 use Rattle.law_prove.specs.law_bytes.specs.OfBytes.{IsByteEffect}
 use Rattle.law_prove.specs.model_rules.specs.Rules.{Target}
@@ -20,7 +19,7 @@ use Rattle.law_prove.specs.model_prove.specs.Sets.{Set}
 use Rattle.law_prove.specs.model_prove.specs.Facts.{Facts, Memory, Holds}
 use Rattle.law_prove.specs.model_prove.specs.Keys.{Start, Delegated, OfClass, PlaceKey, Known, Tables, calls_below}
 use Rattle.law_prove.specs.model_prove.specs.Laws.{Among, values_in}
-use Rattle.law_prove.specs.model_prove.specs.Splits.{Scene, Choice, stand_in, stand_in_stack, with_values, deciders, later_deciders, combinations, count_of_combinations, most_combinations, few_if, few_combinations}
+use Rattle.law_prove.specs.model_prove.specs.Splits.{Scene, Choice, stand_in, with_values, deciders, later_deciders, combinations, count_of_combinations, most_combinations, few_if, few_combinations}
 use Rattle.law_prove.specs.model_prove.specs.Reach.{Coarse, coarse, is_known_cause, known_causes, may_have_bad_length, may_miss}
 use Rattle.law_prove.specs.model_prove.specs.Work.{Work, work}
 use Rattle.law_prove.specs.model_prove.specs.Arrivals.{Setting, Arrival, fails}
@@ -33,7 +32,7 @@ use Rattle.law_prove.proofs.Closed.{included_first}
 use Rattle.law_prove.proofs.Places.{fails_by}
 use Rattle.law_prove.proofs.Seen.{FitSets, Seen}
 use Rattle.law_prove.proofs.Acts.{spot_of, Led, stays_led, pushes_led, replaces_led, led_covers, lowered_seen}
-use Rattle.law_prove.proofs.Turns.{NoCause, like, blank, nobody, stand_in_like, framed_of, frame_of, memory_of_bytes, walked, goes_covered, included_at, decoded_at, leaves_bytes}
+use Rattle.law_prove.proofs.Turns.{NoCause, like, blank, nobody, stand_in_like, framed_of, frame_of, memory_of_bytes, walked, goes_covered}
 use Rattle.law_prove.proofs.Alike.{Sized, stack_length}
 use Rattle.law_prove.proofs.Single.{going, Turn, here, there, scene, IsRowCovered, shape_bytes, low_framed, law_from}
 use Rattle.law_prove.proofs.Moves.{turn_sized}
@@ -91,10 +90,7 @@ module _ (s : Setting) (u t : Tables) (g : Target) (loadable : IsLoadable s.app)
 
   pub outcome_done : (d : ℕ) (a : Act) (fl : Option (Bool × Bool)) → shape i real turn.public turn.around ≡ going d a fl → Outcome s u t g loadable leads i turn (going d a fl)
       → IsRowCovered s u t g loadable leads i turn (Does (effect i real turn.public turn.around))
-  outcome_done d a fl is o =
-      let m : Shape = going d a fl in
-      let same : effect i real turn.public turn.around ≡ meaning m real turn.public = shapes i real turn.public turn.around ∙ ap (λ (z : Shape). meaning z real turn.public) is in
-      subst (λ (e : Done). IsRowCovered s u t g loadable leads i turn (Does e)) (sym same) (outcome_covered m (shape_bytes s u t g loadable leads i turn m is turn.after) o)
+  outcome_done d a fl is o = grind (arith, going, shapes, IsRowCovered, outcome_covered, shape_bytes)
 
   -- ---- what is known
 
@@ -132,15 +128,7 @@ module _ (s : Setting) (u t : Tables) (g : Target) (loadable : IsLoadable s.app)
   sized = turn_sized s u loadable i turn
 
   pub stand_is : IsScene real stand
-  stand_is =
-      record {
-        fixed = (like real (stand_in_stack turn.place.calls)).fixed;
-        dyn = stand_in_stack turn.place.calls;
-        is = ap blank_scene (stand_in_like s.app turn.frame turn.place.start turn.place.standing.allowances turn.place.calls turn.next (framed_of s.app turn.frame turn.place.frame));
-        size = length-replicate {A = ℕ} (length turn.frame.fixed) 0;
-        room = stack_length (dynamic_base + turn.frame.session) turn.frame.dt turn.frame.lb turn.frame.dyn turn.place.calls (omega arith) turn.place.frame.high turn.place.open_calls;
-        whole = length-replicate {A = ℕ} (public_end - public_base) 0;
-      }
+  stand_is = grind (arith, like, stand_in_like, framed_of, length-replicate, stack_length)
 
   -- ---- the choice that the bytes have
 
@@ -193,9 +181,7 @@ module _ (s : Setting) (u t : Tables) (g : Target) (loadable : IsLoadable s.app)
       let two : includes_all t (with_choice s i stand before after_fetch (c ++ d)) ≡ true =
       included_of t (λ d. with_choice s i stand before after_fetch (c ++ d)) (combinations turn.place.known.bytes later_places) d (choice_is_there turn.place.known.bytes later_places memory turn.place.holds turn.place.bytes) one
       in
-      let three : includes_all t (instruction s i (with_values stand (c ++ d)) before (chosen (c ++ d) after_fetch) nobody) ≡ true =
-      nobody_asks t (instruction s i (with_values stand (c ++ d)) before (chosen (c ++ d) after_fetch)) (primitive_of i) before.key.start asks two
-      in
+      let three : includes_all t (instruction s i (with_values stand (c ++ d)) before (chosen (c ++ d) after_fetch) nobody) ≡ true = grind (arith, nobody_asks) in
       subst (λ (b : Choice). includes_all t (instruction s i (with_values stand b) before (chosen b after_fetch) nobody) ≡ true) (values_both memory places later_places) three
 
   chosen_of : (cs : List Choice) → arounds Delegated (primitive_of i) ≡ arounds Delegated None → few_combinations turn.place.known.bytes places ≡ Some cs → includes_all t (flat_map (with_first_choice s i stand before after_fetch) cs) ≡ true → Chosen
@@ -213,9 +199,7 @@ module _ (s : Setting) (u t : Tables) (g : Target) (loadable : IsLoadable s.app)
         whole = z.whole;
         facts = c.facts;
         holds = c.holds;
-        included =
-            subst (λ (w : Scene). includes_all t (instruction s i w before (knowing_spot c.facts) nobody) ≡ true) z.is
-            (subst (λ (q : Spot). includes_all t (instruction s i last_scene before q nobody) ≡ true) c.is (followed cs asks few includes));
+        included = grind (arith, nobody, followed);
         agrees = λ a there h. at a (among_left a places later_places (among_inside real stand a (deciders i stand.frame) stand_is there h));
         first = first_scene;
         first_is = first_agreeing.scene;
@@ -279,27 +263,12 @@ module _ (s : Setting) (u t : Tables) (g : Target) (loadable : IsLoadable s.app)
   pub rough_is : (miss bad : Bool) (h : Shape) (cs : List (Abend × Bool)) (c : Coarse) → let l : Frame = scene s u t g loadable leads i turn in let x : Around = coarse_around turn.place.start in
       may_have_bad_length (primitive_of i) ≡ bad → shape i l blank x ≡ h → coarse_for h.act (coarse i l turn.place.known.bytes) ≡ c → may_miss (primitive_of i) c ≡ miss → causes i l blank x ≡ cs → IsCoarse
       → includes_all t (coarse_list s i miss bad h cs c l before after_fetch) ≡ true
-  rough_is miss bad h cs c bad_is form rough miss_is cause includes =
-      let l : Frame = scene s u t g loadable leads i turn in
-      let x : Around = coarse_around turn.place.start in
-      let o : Option Primitive = primitive_of i in
-      let c0 : Coarse = coarse i l turn.place.known.bytes in
-      let one : includes_all t (coarse_list s i (may_miss o (coarse_for h.act c0)) (may_have_bad_length o) h (causes i l blank x) (coarse_for h.act c0) l before after_fetch) ≡ true =
-      subst (λ (z : Shape). includes_all t (coarse_list s i (may_miss o (coarse_for z.act c0)) (may_have_bad_length o) z (causes i l blank x) (coarse_for z.act c0) l before after_fetch) ≡ true) form includes
-      in
-      let two : includes_all t (coarse_list s i (may_miss o c) (may_have_bad_length o) h (causes i l blank x) c l before after_fetch) ≡ true =
-      subst (λ (z : Coarse). includes_all t (coarse_list s i (may_miss o z) (may_have_bad_length o) h (causes i l blank x) z l before after_fetch) ≡ true) rough one
-      in
-      subst (λ (z : List (Abend × Bool)). includes_all t (coarse_list s i miss bad h z c l before after_fetch) ≡ true) cause
-      (subst (λ (z : Bool). includes_all t (coarse_list s i miss z h (causes i l blank x) c l before after_fetch) ≡ true) bad_is
-      (subst (λ (z : Bool). includes_all t (coarse_list s i z (may_have_bad_length o) h (causes i l blank x) c l before after_fetch) ≡ true) miss_is two))
+  rough_is miss bad h cs c bad_is form rough miss_is cause includes = grind (arith, scene, blank)
 
   -- ---- both
 
   coarse_of : includes_all t (coarse_arrivals s i stand before after_fetch (coarse_around turn.place.start)) ≡ true → IsCoarse
-  coarse_of includes =
-      subst (λ (z : Scene). includes_all t (coarse_arrivals s i z before after_fetch (coarse_around turn.place.start)) ≡ true)
-      (ap blank_scene (stand_in_like s.app turn.frame turn.place.start turn.place.standing.allowances turn.place.calls turn.next (framed_of s.app turn.frame turn.place.frame))) includes
+  coarse_of includes = grind (arith, stand_in_like, framed_of)
 
   pub split_by : (o : Option (List Choice)) → arounds Delegated (primitive_of i) ≡ arounds Delegated None → few_combinations turn.place.known.bytes places ≡ o → includes_all t (by_choices o false s i stand before after_fetch) ≡ true
       → Chosen ⊎ ((few_combinations turn.place.known.bytes places ≡ None) × IsCoarse)

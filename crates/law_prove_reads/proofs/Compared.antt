@@ -1,5 +1,5 @@
 -- The primitives that compare the bytes at two addresses from the stack.
-use Rattle.std.proofs.Common.{◌≡◌, inl, inr, ℕ, ◌+◌, ◌-◌, ◌*◌, ◌^◌, ◌<◌, ◌≤◌, Bool, true, false, cond, List, [], ◌∷◌, ◌++◌, length, map, reverse, Option, Some, None, refl, sym, ap, subst, ◌∙◌, arith}
+use Rattle.std.proofs.Common.{◌≡◌, inl, ℕ, ◌+◌, ◌-◌, ◌*◌, ◌^◌, ◌<◌, ◌≤◌, Bool, true, false, cond, List, [], ◌∷◌, ◌++◌, length, map, reverse, Option, Some, None, refl, sym, ap, subst, ◌∙◌, arith}
 use Rattle.std.specs.Prelude.{not, ◌==◌, ◌&&◌, ◌||◌, flat_map, slice_index}
 use Rattle.std.specs.List.{AllByRecursion}
 use Rattle.std.proofs.lemmas.Bool.{eqb-true}
@@ -14,7 +14,6 @@ use Rattle.law_prove.specs.model_machine.specs.Primitives.{Around, Goes, in_rang
 use Rattle.law_prove.specs.model_machine.specs.Row.{causes, row, first_cause}
 use Rattle.law_prove.specs.model_machine.specs.Chain.{frame_at}
 use Rattle.law_prove.specs.law_rows.specs.Shapes.{Stays, Shape, act_effect, shape, prim_shape}
-use Rattle.mc_arith.specs.Carry.{carry_of}
 use Rattle.mc_arith.proofs.BlockLemmas.{num_below}
 use Rattle.mc_arith.proofs.ResultLemmas.{difference_is}
 use Rattle.law_prove.specs.model_rules.specs.Rules.{Target}
@@ -25,7 +24,7 @@ use Rattle.law_prove.specs.model_prove.specs.Digits.{Minus, Flags, Digits, arcs,
 use Rattle.law_prove.specs.model_prove.specs.Keys.{Known, Tables, calls_below}
 use Rattle.law_prove.specs.model_prove.specs.Laws.{Among}
 use Rattle.law_prove.specs.model_prove.specs.Splits.{Scene, deciders}
-use Rattle.law_prove.specs.model_prove.specs.Reach.{Coarse, Compares, coarse, known_causes, is_known_cause, may_have_bad_length, may_miss}
+use Rattle.law_prove.specs.model_prove.specs.Reach.{Compares, coarse, known_causes, is_known_cause, may_have_bad_length, may_miss}
 use Rattle.law_prove.specs.model_prove.specs.Work.{AtAddress, Digitwise, Work, Works, work}
 use Rattle.law_prove.specs.model_prove.specs.Arrivals.{Setting, Arrival, fails}
 use Rattle.law_prove.specs.model_prove.specs.Steps.{Spot, lowered, flagged, final_flags, works_to, worked_at, narrowed_operands, operand_narrowed, pairs_of, allows, compare_after, uncompared, order_flags, settled_spot, follows, row_arrivals, primitive_of, is_return, no_calls, coarse_for, coarse_done}
@@ -42,7 +41,7 @@ use Rattle.law_prove.proofs.Plain.{above}
 use Rattle.law_prove.proofs.Worked.{worked, worked_length, worked_zero, worked_bytes, worked_difference, OnDigits, on_digits}
 use Rattle.law_prove.proofs.Narrowed.{Narrowed, narrow_holds, fit_are, operand_holds, order_is}
 use Rattle.law_prove.proofs.Arith.{RunsAs, with_bytes, bytes_allowed, memory_bytes_from}
-use Rattle.law_prove.proofs.Blocks.{Outcome, included_of, among_left, among_right, among_mapped, among_each}
+use Rattle.law_prove.proofs.Blocks.{Outcome, included_of, among_mapped, among_each}
 use Rattle.law_prove_reads.specs.Laws.{BlockLaw}
 use Rattle.law_prove_reads.proofs.Scenes.{drawn, scene_of, drawn_outside}
 use Rattle.law_prove_reads.proofs.Reading.{read_any, number_alike, top_alike, part_alike, first_same}
@@ -69,20 +68,13 @@ difference_left xs ys l h k =
 
 -- a difference with a borrow is not zero
 borrow_by : (c z : Bool) (r x y p : ℕ) → r + y ≡ x + carried c * p → y < p → z ≡ (r == 0) → c ≡ true → z ≡ false
-borrow_by true true r x y p h low is e = let none = eqb-true r 0 (sym is) in absurd (omega (arith, h, low, none))
-borrow_by true false r x y p h low is e = refl
-borrow_by false z r x y p h low is e = absurd (cc e)
+borrow_by c z r x y p h low is e = grind (arith, eqb-true)
 
 no_zero_borrow : (xs ys : List ℕ) → length xs ≡ length ys → AreBytes xs → AreBytes ys → ((worked Minus xs ys).1).c ≡ true → ((worked Minus xs ys).1).z ≡ false
-no_zero_borrow xs ys l h k e =
-    let r = worked Minus xs ys in
-    borrow_by (r.1).c (r.1).z (num r.0) (num xs) (num ys) (256 ^ length xs) (worked_difference xs ys l h k) (subst (λ (n : ℕ). num ys < 256 ^ n) (sym l) (num_below ys k)) (worked_zero Minus xs ys l) e
+no_zero_borrow xs ys l h k e = grind (arith, worked, borrow_by, worked_difference, num_below, worked_zero)
 
 order_there : (c z : Bool) → (c ≡ true → z ≡ false) → Among (record { c = c; z = z }) order_flags
-order_there true true h = absurd (cc (h refl))
-order_there true false h = inl refl
-order_there false true h = inr (inl refl)
-order_there false false h = inr (inr (inl refl))
+order_there c z h = grind arith
 
 -- ---- lists of outcomes
 
@@ -130,9 +122,7 @@ module _ (at n other : ℕ) where
     below l h is = subst (λ (k : ℕ). num l < 256 ^ k) is (num_below l h)
 
     ordered : has_order (orders_of fl.c fl.z) (num xs) (num ys) ≡ true
-    ordered =
-        order_is n (num xs) (num ys) (num (worked Minus xs ys).0) fl (below xs first_bytes (from_length m at n)) (below ys second_bytes (from_length m other n))
-        (below (worked Minus xs ys).0 (worked_bytes Minus xs ys same_length first_bytes second_bytes) (worked_length Minus xs ys same_length ∙ from_length m at n)) (runs refl) (worked_zero Minus xs ys same_length)
+    ordered = grind (arith, order_is, worked, below, first_bytes, from_length, second_bytes, worked_bytes, same_length, worked_length, runs, worked_zero)
 
     -- a row that leaves the frame but for its stack and its flags
     stays_with : (k : Known) (c z : Bool) (d : ℕ) → Seen turn.place.calls k (real s u t g loadable leads i turn) turn.public → dynamic_base + turn.frame.session ≤ d → d ≤ dynamic_end
@@ -155,9 +145,7 @@ module _ (at n other : ℕ) where
         let f = real s u t g loadable leads i turn in
         let p : Spot = before s u t g loadable leads i turn in
         let q : Spot = knowing_spot s u t g loadable leads i turn facts in
-        let digits : OnDigits Minus xs ys (values_from facts at n) (values_from facts other n) =
-        on_digits Minus xs ys (values_from facts at n) (values_from facts other n) same_length (fit_values facts m at n holds turn.place.bytes) (fit_values facts m other n holds turn.place.bytes)
-        in
+        let digits : OnDigits Minus xs ys (values_from facts at n) (values_from facts other n) = grind (arith, on_digits, same_length, fit_values) in
         let rds = reverse digits.digits in
         let second : Narrowed (operand_narrowed (AtAddress other) (map (λ d. d.b) rds) (Some facts)) m = operand_holds facts m n (AtAddress other) ys (map (λ d. d.b) rds) holds turn.place.bytes refl digits.second in
         let both : Narrowed (narrow_all at (map (λ d. d.a) rds) (Some second.facts)) m = narrow_holds at (map (λ d. d.a) rds) second.facts m second.holds turn.place.bytes (fit_are m at n (map (λ d. d.a) rds) digits.first) in
@@ -236,26 +224,14 @@ module _ (i : Ins) (k : ℕ) (enough_bytes : 4 ≤ k) (own bad : Bool) (count : 
     mem = memory s u t g loadable leads i turn
 
     low_sized : Sized low turn.public
-    low_sized =
-        let z = sized s u t g loadable leads i turn in
-        let high : turn.frame.dt ≤ dynamic_end = z.high in
-        record { small = z.small; room = z.room; high = omega (arith, high); inside = z.inside; whole = z.whole }
+    low_sized = grind (arith, sized)
 
     bottom : is_under f k ≡ false → (dynamic_base + turn.frame.session ≤ f.dt - k) × (f.dt - k ≤ dynamic_end)
-    bottom over =
-        let enough = above f k over in
-        let high : turn.frame.dt ≤ dynamic_end = turn.place.frame.high in
-        (omega (arith, enough), omega (arith, high))
+    bottom over = grind (arith, above)
 
     -- the machine's flags
     flags_are : either_outside low n a c ≡ false → let fl : Flags = (worked Minus (bytes_from mem a n) (bytes_from mem c n)).1 in shape i f turn.public turn.around ≡ going (f.dt - k) Stays (Some (fl.c, fl.z))
-    flags_are out =
-        let there = neither (is_outside low a n) (is_outside low c n) out in
-        let d = f.dt - k in
-        is.form f turn.public turn.around
-        ∙ (ap (λ (v : List ℕ). going d Stays (Some (both_flags (sub_blocks v (bytes_at low turn.public c n))))) (read_any low turn.public a n low_sized there.0)
-        ∙ (ap (λ (v : List ℕ). going d Stays (Some (both_flags (sub_blocks (bytes_from mem a n) v)))) (read_any low turn.public c n low_sized there.1)
-        ∙ ap (λ (v : Bool × Bool). going d Stays (Some v)) (difference_left (bytes_from mem a n) (bytes_from mem c n) (from_length mem a n ∙ sym (from_length mem c n)) (memory_bytes_from mem a n turn.place.bytes) (memory_bytes_from mem c n turn.place.bytes))))
+    flags_are out = grind (arith, neither, going, read_any, low_sized, difference_left, from_length, memory_bytes_from)
 
     module _ (z : Chosen s u t g loadable leads i turn) where
       abbrev l : Frame
@@ -281,25 +257,14 @@ module _ (i : Ins) (k : ℕ) (enough_bytes : 4 ≤ k) (own bad : Bool) (count : 
       count_same over = is.counts l f (numbers over)
 
       outside_same : is_under f k ≡ false → either_outside (frame_after_pop l k) (count l) (number_below_top l 4) (number_below_top l 2) ≡ either_outside low n a c
-      outside_same over =
-          let g = frame_after_pop l k in
-          ap (λ (v : ℕ). either_outside g v (number_below_top l 4) (number_below_top l 2)) (count_same over)
-          ∙ (ap (λ (v : ℕ). either_outside g n v (number_below_top l 2)) (first_number over)
-          ∙ (ap (λ (v : ℕ). either_outside g n a v) (second_number over)
-          ∙ (ap (λ (x : Bool). x || is_outside g c n) (drawn_outside low z.fixed z.dyn a n z.size) ∙ ap (λ (x : Bool). is_outside low a n || x) (drawn_outside low z.fixed z.dyn c n z.size))))
+      outside_same over = grind (arith, count_same, first_number, second_number, drawn_outside)
 
       later_same : is_under f k ≡ false → later (count l) (either_outside (frame_after_pop l k) (count l) (number_below_top l 4) (number_below_top l 2)) ≡ later n (either_outside low n a c)
       later_same over =
           ap (λ (x : Bool). later (count l) x) (outside_same over) ∙ ap (λ (v : ℕ). later v (either_outside low n a c)) (count_same over)
 
       cause_same : first_cause (causes i l z.public nobody) ≡ first_cause (causes i f turn.public turn.around)
-      cause_same =
-          let x = either_outside (frame_after_pop l k) (count l) (number_below_top l 4) (number_below_top l 2) in
-          let y = either_outside low n a c in
-          ap first_cause (is.cause l z.public nobody)
-          ∙ (first_same A06 own ((A0A, false) ∷ (A04, is_under f k) ∷ later (count l) x) ((A0A, false) ∷ (A04, is_under f k) ∷ later n y)
-          (λ fine. first_same A04 (is_under f k) (later (count l) x) (later n y) (λ over. ap first_cause (later_same over)))
-          ∙ sym (ap first_cause (is.cause f turn.public turn.around)))
+      cause_same = grind (arith, nobody, first_same, later_same)
 
       few_compared : IsRowCovered s u t g loadable leads i turn (row i (frame_at turn.frame turn.next) turn.public turn.around)
       few_compared =
@@ -314,14 +279,8 @@ module _ (i : Ins) (k : ℕ) (enough_bytes : 4 ≤ k) (own bad : Bool) (count : 
           let d = f.dt - k in
           let fl0 = both_flags (sub_blocks (bytes_at (frame_after_pop l k) z.public (number_below_top l 4) (count l)) (bytes_at (frame_after_pop l k) z.public (number_below_top l 2) (count l))) in
           let h : Shape = going d Stays (Some fl0) in
-          let one : includes_all t (row_arrivals false s i h (work i l z.public) p q) ≡ true =
-          subst (λ (h : Shape). includes_all t (row_arrivals (is_return h.act && no_calls turn.place.calls) s i h (work i l z.public) p q) ≡ true) (is.form l z.public nobody) all
-          in
-          let works : work i l z.public ≡ Works (taken a n c) =
-          is.task l z.public
-          ∙ (ap (λ (v : ℕ). Works (taken v (count l) (number_below_top l 2))) (first_number over)
-          ∙ (ap (λ (v : ℕ). Works (taken a v (number_below_top l 2))) (count_same over) ∙ ap (λ (v : ℕ). Works (taken a n v)) (second_number over)))
-          in
+          let one : includes_all t (row_arrivals false s i h (work i l z.public) p q) ≡ true = grind (arith, nobody) in
+          let works : work i l z.public ≡ Works (taken a n c) = grind (arith, first_number, count_same, second_number) in
           let fl : Flags = (worked Minus (bytes_from mem a n) (bytes_from mem c n)).1 in
           outcome_done s u t g loadable leads i turn d Stays (Some (fl.c, fl.z)) (flags_are out)
           (compared_outcome a n c s u t g loadable leads i turn z.facts z.holds (Some fl0) d bounds.0 bounds.1 (subst (λ (w : Work). includes_all t (row_arrivals false s i h w p q) ≡ true) works one)))
@@ -339,16 +298,12 @@ module _ (i : Ins) (k : ℕ) (enough_bytes : 4 ≤ k) (own bad : Bool) (count : 
         let ds : List (Abend × Bool) = compare_causes (is_under f k) (count l) x in
         let cs : List (Abend × Bool) = compare_causes (is_under f k) n y in
         let done : List Arrival = coarse_done (first_cause (known_causes bad ds)) s i (record l { dt = d }) h Compares p q in
-        let includes : includes_all t (coarse_list s i true bad h ds Compares l p q) ≡ true =
-        rough_is s u t g loadable leads i turn true bad h ds Compares is.length_bad (is.form l blank _) (ap (λ (c : Coarse). coarse_for Stays c) (is.rough l turn.place.known.bytes)) is.misses (is.cause l blank _) rough
-        in
+        let includes : includes_all t (coarse_list s i true bad h ds Compares l p q) ≡ true = grind (arith, rough_is, blank, rough) in
         let three : List Arrival = fails s p.key p.known A03 in
         let six : List Arrival = cond bad (fails s p.key p.known A06) [] in
         let both : includes_all t (three ++ six) ≡ true = included_first t (three ++ six) done includes in
         let misses : includes_all t three ≡ true = included_first t three six both in
-        let length_fails : bad ≡ true → includes_all t (fails s p.key p.known A06) ≡ true =
-        λ e. subst (λ (b : Bool). includes_all t (cond b (fails s p.key p.known A06) []) ≡ true) e (included_second t three six both)
-        in
+        let length_fails : bad ≡ true → includes_all t (fails s p.key p.known A06) ≡ true = grind (arith, included_second) in
         coarse_row s u t g loadable leads i turn bad h Compares (record l { dt = d }) cs (is.cause f turn.public turn.around)
         (is.unknown (λ c. includes_all t (fails s p.key p.known c)) (is_under f k) y n misses length_fails)
         (subst (λ (cs : List (Abend × Bool)). includes_all t (coarse_done (first_cause cs) s i (record l { dt = d }) h Compares p q) ≡ true) (is.knows (is_under f k) x y (count l) n) (included_second t (three ++ six) done includes))

@@ -1,5 +1,5 @@
 -- A pair of set and number that is no primitive abends, whatever bytes there are.
-use Rattle.std.proofs.Common.{◌≡◌, ℕ, List, [], ◌∷◌, Option, Some, None, sym, ap, subst, ◌∙◌}
+use Rattle.std.proofs.Common.{◌≡◌, ℕ, List, [], ◌∷◌, Option, Some, None, sym, ap, subst, ◌∙◌, arith}
 use Rattle.law_prove.specs.model_machine.specs.declared.instruction.Ins.{Ins}
 use Rattle.law_prove.specs.model_machine.specs.declared.instruction.Ins.TheVariants as ins
 use Rattle.law_prove.specs.model_machine.specs.Frame.{Frame}
@@ -8,9 +8,9 @@ use Rattle.law_prove.specs.model_machine.specs.Row.{causes, row, first_cause}
 use Rattle.law_prove.specs.model_machine.specs.Chain.{frame_at}
 use Rattle.law_prove.specs.model_rules.specs.Rules.{Target}
 use Rattle.law_prove.specs.model_prove.specs.Keys.{Delegated, Tables}
-use Rattle.law_prove.specs.model_prove.specs.Splits.{pair_deciders, few_combinations}
+use Rattle.law_prove.specs.model_prove.specs.Splits.{few_combinations}
 use Rattle.law_prove.specs.model_prove.specs.Arrivals.{Setting}
-use Rattle.law_prove.specs.model_prove.specs.Steps.{inside, arounds}
+use Rattle.law_prove.specs.model_prove.specs.Steps.{arounds}
 use Rattle.law_prove.specs.model_prove.specs.Tables.{IsLoadable}
 use Rattle.law_prove.specs.Laws.{LeadsInto}
 use Rattle.law_prove.proofs.Turns.{NoCause, nobody}
@@ -25,9 +25,7 @@ module _ (set number : ℕ) (args : List ℕ) (unknown : primitive set number �
 
   module _ (s : Setting) (u t : Tables) (g : Target) (loadable : IsLoadable s.app) (leads : LeadsInto s u t) (turn : Turn s u pair) where
     none_decides : few_combinations turn.place.known.bytes (places s u t g loadable leads pair turn) ≡ Some ([] ∷ [])
-    none_decides =
-        let z = stand s u t g loadable leads pair turn in
-        ap (λ (o : Option Primitive). few_combinations turn.place.known.bytes (inside z (pair_deciders o args z.frame))) unknown
+    none_decides = grind (arith, stand)
 
     pair_covered : Chosen s u t g loadable leads pair turn → IsRowCovered s u t g loadable leads pair turn (row pair (frame_at turn.frame turn.next) turn.public turn.around)
     unfolding causes

@@ -1,10 +1,10 @@
 -- What a scene reads is what the frame reads, where it has the bytes of its memory.
 use Rattle.std.proofs.Common.{◌≡◌, ℕ, zero, suc, ◌+◌, ◌-◌, ◌<◌, ◌≤◌, Bool, true, false, cond, List, [], ◌∷◌, length, ℤ, Option, Some, None, refl, sym, ap, subst, ◌∙◌, arith}
-use Rattle.std.specs.Prelude.{not, ◌==◌, ◌&&◌, nat_le, is_none}
+use Rattle.std.specs.Prelude.{not, ◌==◌, ◌&&◌, is_none}
 use Rattle.std.proofs.lemmas.Bool.{le-leb, and_from, eqb-true}
 use Rattle.law_prove.specs.model_device.specs.Bytes.{num}
 use Rattle.law_prove.specs.model_machine.specs.declared.machine.Abend.{Abend}
-use Rattle.law_prove.specs.model_machine.specs.Frame.{Frame, Place, Static, Dynamic, Public, where_is, is_outside, moved_address, resolve, dynamic_base, public_base, public_end, stack_bytes, bytes_in, bytes_at}
+use Rattle.law_prove.specs.model_machine.specs.Frame.{Frame, Place, where_is, is_outside, moved_address, resolve, dynamic_base, public_base, public_end, stack_bytes, bytes_in, bytes_at}
 use Rattle.law_prove.specs.model_machine.specs.Primitives.{number_below_top}
 use Rattle.law_prove.specs.model_machine.specs.Row.{operand, first_cause}
 use Rattle.law_prove.specs.model_prove.specs.Sets.{numbers_from}
@@ -25,31 +25,13 @@ in_first true y z p q r e = refl
 in_first false y z p q r e = absurd (cc e)
 
 in_second : (x y z : Bool) (p q r : Place) → y ≡ true → is_none (cond x (Some p) (cond y (Some q) (cond z (Some r) None))) ≡ false
-in_second true y z p q r e = refl
-in_second false true z p q r e = refl
-in_second false false z p q r e = absurd (cc e)
+in_second x y z p q r e = grind arith
 
 in_third : (x y z : Bool) (p q r : Place) → z ≡ true → is_none (cond x (Some p) (cond y (Some q) (cond z (Some r) None))) ≡ false
-in_third true y z p q r e = refl
-in_third false true z p q r e = refl
-in_third false false true p q r e = refl
-in_third false false false p q r e = absurd (cc e)
+in_third x y z p q r e = grind arith
 
 part_in : (f : Frame) (a n j : ℕ) (p : Place) → LiesIn f a n p → j < n → is_none (where_is f (a + j) 1) ≡ false
-part_in f a n j (Static i) lies less =
-    let fits : a + n ≤ length f.fixed = lies.1 in
-    in_first (nat_le (a + j + 1) (length f.fixed)) (nat_le dynamic_base (a + j) && nat_le (a + j + 1) f.dt) (nat_le public_base (a + j) && nat_le (a + j + 1) public_end) (Static (a + j)) (Dynamic (a + j - dynamic_base)) (Public (a + j - public_base))
-    (le-leb (a + j + 1) (length f.fixed) (omega (arith, fits, less)))
-part_in f a n j (Dynamic i) lies less =
-    let at : a ≡ dynamic_base + i = lies.0 in
-    let fits : a + n ≤ f.dt = lies.1 in
-    in_second (nat_le (a + j + 1) (length f.fixed)) (nat_le dynamic_base (a + j) && nat_le (a + j + 1) f.dt) (nat_le public_base (a + j) && nat_le (a + j + 1) public_end) (Static (a + j)) (Dynamic (a + j - dynamic_base)) (Public (a + j - public_base))
-    (and_from (nat_le dynamic_base (a + j)) (nat_le (a + j + 1) f.dt) (le-leb dynamic_base (a + j) (omega (arith, at))) (le-leb (a + j + 1) f.dt (omega (arith, fits, less))))
-part_in f a n j (Public i) lies less =
-    let at : a ≡ public_base + i = lies.0 in
-    let fits : a + n ≤ public_end = lies.1 in
-    in_third (nat_le (a + j + 1) (length f.fixed)) (nat_le dynamic_base (a + j) && nat_le (a + j + 1) f.dt) (nat_le public_base (a + j) && nat_le (a + j + 1) public_end) (Static (a + j)) (Dynamic (a + j - dynamic_base)) (Public (a + j - public_base))
-    (and_from (nat_le public_base (a + j)) (nat_le (a + j + 1) public_end) (le-leb public_base (a + j) (omega (arith, at))) (le-leb (a + j + 1) public_end (omega (arith, fits, less))))
+part_in f a n j p lies less = grind (arith, in_first, le-leb, in_second, and_from, in_third)
 
 part_by : (f : Frame) (a n j : ℕ) (o : Option Place) → where_is f a n ≡ o → is_none o ≡ false → j < n → is_none (where_is f (a + j) 1) ≡ false
 part_by f a n j None is there less = absurd (cc there)
@@ -76,25 +58,11 @@ part_inside f a n j there less = one_inside f (a + j) (part_by f a n j (where_is
 
 -- bytes of the stack above its base are in it
 pub stack_inside : (f : Frame) (a : ℕ) → dynamic_base ≤ a → a < f.dt → is_outside f a 1 ≡ false
-stack_inside f a low high =
-    in_second (nat_le (a + 1) (length f.fixed)) (nat_le dynamic_base a && nat_le (a + 1) f.dt) (nat_le public_base a && nat_le (a + 1) public_end) (Static a) (Dynamic (a - dynamic_base)) (Public (a - public_base))
-    (and_from (nat_le dynamic_base a) (nat_le (a + 1) f.dt) (le-leb dynamic_base a low) (le-leb (a + 1) f.dt (omega (arith, high))))
+stack_inside f a low high = grind (arith, in_second, and_from, le-leb)
 
 -- what lies in a segment of a frame with fewer bytes of the stack lies in one of the frame
 deeper_in : (f : Frame) (d a n : ℕ) (p : Place) → d ≤ f.dt → LiesIn (record f { dt = d }) a n p → is_none (where_is f a n) ≡ false
-deeper_in f d a n (Static i) low lies =
-    let fits : a + n ≤ length f.fixed = lies.1 in
-    in_first (nat_le (a + n) (length f.fixed)) (nat_le dynamic_base a && nat_le (a + n) f.dt) (nat_le public_base a && nat_le (a + n) public_end) (Static a) (Dynamic (a - dynamic_base)) (Public (a - public_base)) (le-leb (a + n) (length f.fixed) fits)
-deeper_in f d a n (Dynamic i) low lies =
-    let at : a ≡ dynamic_base + i = lies.0 in
-    let fits : a + n ≤ d = lies.1 in
-    in_second (nat_le (a + n) (length f.fixed)) (nat_le dynamic_base a && nat_le (a + n) f.dt) (nat_le public_base a && nat_le (a + n) public_end) (Static a) (Dynamic (a - dynamic_base)) (Public (a - public_base))
-    (and_from (nat_le dynamic_base a) (nat_le (a + n) f.dt) (le-leb dynamic_base a (omega (arith, at))) (le-leb (a + n) f.dt (omega (arith, fits, low))))
-deeper_in f d a n (Public i) low lies =
-    let at : a ≡ public_base + i = lies.0 in
-    let fits : a + n ≤ public_end = lies.1 in
-    in_third (nat_le (a + n) (length f.fixed)) (nat_le dynamic_base a && nat_le (a + n) f.dt) (nat_le public_base a && nat_le (a + n) public_end) (Static a) (Dynamic (a - dynamic_base)) (Public (a - public_base))
-    (and_from (nat_le public_base a) (nat_le (a + n) public_end) (le-leb public_base a (omega (arith, at))) (le-leb (a + n) public_end fits))
+deeper_in f d a n p low lies = grind (arith, in_first, le-leb, in_second, and_from, in_third)
 
 deeper_by : (f : Frame) (d a n : ℕ) (o : Option Place) → d ≤ f.dt → where_is (record f { dt = d }) a n ≡ o → is_none o ≡ false → is_none (where_is f a n) ≡ false
 deeper_by f d a n None low is there = absurd (cc there)
@@ -133,9 +101,7 @@ module _ (f : Frame) (public fixed dyn segment : List ℕ) (sized : Sized f publ
   other = drawn f fixed dyn
 
   pub scene_sized : Sized other segment
-  scene_sized =
-      let small : length f.fixed ≤ dynamic_base = sized.small in
-      record { small = omega (arith, small, size); room = room; high = sized.high; inside = tt; whole = omega (arith, whole) }
+  scene_sized = grind arith
 
   -- bytes at an address in a segment
   pub read_alike : (a n : ℕ) → is_outside f a n ≡ false → Alike (scene_of f fixed dyn segment) (frame_memory f public) a n → bytes_at other segment a n ≡ bytes_at f public a n
@@ -159,8 +125,7 @@ top_alike z m f n enough agrees j less =
 -- so are those between
 pub part_alike : (z : Scene) (m : Memory) (d n k w : ℕ) → n ≤ d → w ≤ k → k ≤ n → Alike z m (d - n) n → Alike z m (d - k) w
 part_alike z m d n k w low less in_it alike j under =
-    let place : d - n + (n - k + j) ≡ d - k + j = omega (arith, low, in_it) in
-    subst (λ (a : ℕ). scene_memory z a ≡ m a) place (alike (n - k + j) (omega (arith, in_it, less, under)))
+    subst (λ (a : ℕ). scene_memory z a ≡ m a) (omega (arith, low, in_it)) (alike (n - k + j) (omega (arith, in_it, less, under)))
 
 -- ---- causes
 

@@ -1,6 +1,6 @@
 -- Scenes: the frame that stands for a place, with bytes of the memory put in, has these bytes and the registers.
 use Rattle.std.proofs.Common.{◌≡◌, ◌⊎◌, inl, inr, ℕ, zero, suc, ◌+◌, ◌-◌, ◌<◌, ◌≤◌, Bool, true, false, cond, List, [], ◌∷◌, ◌++◌, length, Option, Some, None, refl, sym, ap, subst, ◌∙◌, arith}
-use Rattle.std.specs.Prelude.{not, ◌==◌, ◌&&◌, nat_lt, nat_le, is_none, slice_index}
+use Rattle.std.specs.Prelude.{not, ◌==◌, ◌&&◌, nat_lt, is_none, slice_index}
 use Rattle.std.specs.List.{AllByRecursion}
 use Rattle.std.proofs.lemmas.Bool.{lt-ltb}
 use Rattle.law_prove.specs.model_device.specs.Bytes.{splice}
@@ -16,7 +16,7 @@ use Rattle.law_prove.specs.model_prove.proofs.ChangeLemmas.{written_holds}
 use Rattle.law_prove.specs.model_prove.proofs.SetLemmas.{is_first}
 use Rattle.law_prove.specs.Coverings.{parts_memory, frame_memory}
 use Rattle.law_prove.proofs.Parts.{not_lt, memory_dynamic, static_same, static_new, dynamic_same, dynamic_new, public_same, public_new}
-use Rattle.law_prove.proofs.Windows.{window, taken_is}
+use Rattle.law_prove.proofs.Windows.{taken_is}
 use Rattle.law_prove.proofs.Acts.{LiesIn, lies_in}
 use Rattle.law_prove.proofs.Alike.{Sized, bytes_window}
 
@@ -107,20 +107,8 @@ module _ (f : Frame) (fixed dyn public : List ℕ) (small : length f.fixed ≤ d
       let fits : a + 1 ≤ length f.fixed = lies.1 in
       let is : nat_lt a (length fixed) ≡ true = lt-ltb a (length fixed) (omega (arith, fits, size)) in
       subst (λ (b : Bool). Redrawn f old (cond {A = Scene} b one (cond {A = Scene} (nat_lt a public_base) two three)) a v) (sym is) (redrawn_static fits)
-  redrawn_in (Dynamic i) lies =
-      let at : a ≡ dynamic_base + i = lies.0 in
-      let fits : a + 1 ≤ f.dt = lies.1 in
-      let first : nat_lt a (length fixed) ≡ false = not_lt a (length fixed) (omega (arith, at, small, size)) in
-      let second : nat_lt a public_base ≡ true = lt-ltb a public_base (omega (arith, fits, high)) in
-      subst (λ (b : Bool). Redrawn f old (cond {A = Scene} b one (cond {A = Scene} (nat_lt a public_base) two three)) a v) (sym first)
-      (subst (λ (b : Bool). Redrawn f old (cond {A = Scene} b two three) a v) (sym second) (redrawn_dynamic (omega (arith, at)) fits))
-  redrawn_in (Public i) lies =
-      let at : a ≡ public_base + i = lies.0 in
-      let fits : a + 1 ≤ public_end = lies.1 in
-      let first : nat_lt a (length fixed) ≡ false = not_lt a (length fixed) (omega (arith, at, small, size)) in
-      let second : nat_lt a public_base ≡ false = not_lt a public_base (omega (arith, at)) in
-      subst (λ (b : Bool). Redrawn f old (cond {A = Scene} b one (cond {A = Scene} (nat_lt a public_base) two three)) a v) (sym first)
-      (subst (λ (b : Bool). Redrawn f old (cond {A = Scene} b two three) a v) (sym second) (redrawn_public (omega (arith, at)) fits))
+  redrawn_in (Dynamic i) lies = grind (arith, fixed, not_lt, size, lt-ltb, redrawn_dynamic)
+  redrawn_in (Public i) lies = grind (arith, fixed, not_lt, size, redrawn_public)
 
   redrawn_by : (o : Option Place) → where_is f a 1 ≡ o → (not (1 == 0) && is_none o) ≡ false → Redrawn f old (with_byte old (a, v)) a v
   redrawn_by None is there = absurd (cc there)
@@ -148,11 +136,7 @@ same_or_apart : (b a : ℕ) → (b ≡ a) ⊎ ((b < a) ⊎ (a + 1 ≤ b))
 same_or_apart b a = grind arith
 
 kept_one : (f : Frame) (z w : Scene) (m : Memory) (a b : ℕ) → Redrawn f z w a (m a) → scene_memory z b ≡ m b → scene_memory w b ≡ m b
-kept_one f z w m a b one h =
-    elim (same_or_apart b a) [
-      | inl e ↦ ap (scene_memory w) e ∙ (one.new ∙ ap m (sym e))
-      | inr o ↦ sym (one.same b o) ∙ h
-    ]
+kept_one f z w m a b one h = grind (arith, same_or_apart)
 
 -- the values that some bytes have
 pub agreeing : (f : Frame) (m : Memory) (places : List ℕ) (z : Scene) → length f.fixed ≤ dynamic_base → f.dt ≤ dynamic_end → AllInside f places → IsScene f z → Agrees f z (with_values z (values_in m places)) m places
@@ -164,20 +148,12 @@ agreeing f m (a ∷ places) z small high all scene =
     record {
       scene = rest.scene;
       kept = λ b e. rest.kept b (kept_one f z w m a b one e);
-      there = λ b h. elim h [
-        | inl e ↦ rest.kept b (ap (scene_memory w) (sym e) ∙ (one.new ∙ ap m e))
-        | inr more ↦ rest.there b more
-      ];
+      there = grind arith;
     }
 
 -- what is outside of the segments of a scene is outside of the frame's
 pub drawn_where : (f : Frame) (fixed dyn : List ℕ) (a n : ℕ) → length fixed ≡ length f.fixed → where_is (drawn f fixed dyn) a n ≡ where_is f a n
-drawn_where f fixed dyn a n size =
-    ap (λ (m : ℕ). cond (nat_le (a + n) m) (Some (Static a)) (
-    cond (nat_le dynamic_base a && nat_le (a + n) f.dt) (Some (Dynamic (a - dynamic_base))) (
-    cond (nat_le public_base a && nat_le (a + n) public_end) (Some (Public (a - public_base))) None
-    )
-    )) size
+drawn_where f fixed dyn a n size = grind arith
 
 pub drawn_outside : (f : Frame) (fixed dyn : List ℕ) (a n : ℕ) → length fixed ≡ length f.fixed → is_outside (drawn f fixed dyn) a n ≡ is_outside f a n
 drawn_outside f fixed dyn a n size = ap (λ (o : Option Place). not (n == 0) && is_none o) (drawn_where f fixed dyn a n size)
@@ -217,8 +193,7 @@ pub among_numbers : (a n j : ℕ) → j < n → Among (a + j) (numbers_from a n)
 among_numbers a zero j h = absurd (omega (arith, h))
 among_numbers a (suc n) zero h = inl (omega arith)
 among_numbers a (suc n) (suc j) h =
-    let is : suc a + j ≡ a + suc j = omega arith in
-    inr (subst (λ (x : ℕ). Among x (numbers_from (suc a) n)) is (among_numbers (suc a) n j (omega (arith, h))))
+    inr (subst (λ (x : ℕ). Among x (numbers_from (suc a) n)) (omega arith) (among_numbers (suc a) n j (omega (arith, h))))
 
 pub all_both : (f : Frame) (xs ys : List ℕ) → AllInside f xs → AllInside f ys → AllInside f (xs ++ ys)
 all_both f [] ys h k = k
@@ -239,9 +214,7 @@ pub record Choosing (m : Memory) (places : List ℕ) (p : Spot) : Type 0 where
 pub choosing : (m : Memory) (places : List ℕ) (p : Spot) → Holds p.known.bytes m → Choosing m places p
 choosing m [] p h = record { facts = p.known.bytes; is = refl; holds = h }
 choosing m (a ∷ places) p h =
-    let q : Spot = with_facts p (know a (m a ∷ []) p.known.bytes) in
-    let rest : Choosing m places q = choosing m places q (written_holds a ((m a ∷ []) ∷ []) p.known.bytes m m (λ b o. refl) (is_first (m a) [], tt) h) in
-    record { facts = rest.facts; is = rest.is; holds = rest.holds }
+    grind (arith, with_facts p (know a (m a ∷ []) p.known.bytes), choosing m places (with_facts p (know a (m a ∷ []) p.known.bytes)) (written_holds a ((m a ∷ []) ∷ []) p.known.bytes m m (λ b o. refl) (is_first (m a) [], tt) h))
 
 -- ---- what is read
 

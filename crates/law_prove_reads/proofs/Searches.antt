@@ -69,19 +69,12 @@ among_in g v (x ∷ xs) h =
 
 only_one : (v x : ℕ) (s : Set) → nat_le (length s) 1 ≡ true → is_in v s ≡ true → is_in x s ≡ true → x ≡ v
 only_one v x [] few h k = absurd (cc h)
-only_one v x (y ∷ []) few h k =
-    let a : y ≡ v = elim (or_cases (y == v) false h) [ inl e ↦ eqb-true y v e | inr e ↦ absurd (cc e) ] in
-    let b : y ≡ x = elim (or_cases (y == x) false k) [ inl e ↦ eqb-true y x e | inr e ↦ absurd (cc e) ] in
-    sym b ∙ a
+only_one v x (y ∷ []) few h k = grind (arith, or_cases, eqb-true)
 only_one v x (y ∷ w ∷ s) few h k = let low = leb-true (length (y ∷ w ∷ s)) 1 few in absurd (omega (arith, low))
 
 -- another value of a set is not its only one
 not_only : (v x : ℕ) (s : Set) → is_in x s ≡ true → (x == v) ≡ false → is_only v s ≡ false
-not_only v x s h other =
-    false_from_ne_true (is_only v s) (λ is.
-    let p = and_parts (nat_le (length s) 1) (is_in v s) is in
-    let same : x ≡ v = only_one v x s p.0 p.1 h in
-    absurd (cc (sym other ∙ eq-eqb x v same)))
+not_only v x s h other = grind (arith, false_from_ne_true, and_parts, only_one, eq-eqb)
 
 -- the place at which a value is first, or the length
 abbrev place_of : ℕ → List ℕ → ℕ
@@ -89,16 +82,7 @@ place_of v xs = position_or_len (λ b. b == v) xs
 
 found_step : (b : Bool) (v k x : ℕ) (xs : List ℕ) (s : Set) (ss : List Set) → (x == v) ≡ b → is_in x s ≡ true → cond (not b) (1 + place_of v xs) 0 < suc (length xs)
     → (place_of v xs < length xs → is_in (suc k + place_of v xs) (found_at v (suc k) ss) ≡ true) → is_in (k + cond (not b) (1 + place_of v xs) 0) (found_at v k (s ∷ ss)) ≡ true
-found_step true v k x xs s ss e h low rest =
-    let there : is_in v s ≡ true = subst (λ (y : ℕ). is_in y s ≡ true) (eqb-true x v e) h in
-    let same : k ≡ k + 0 = omega arith in
-    in_left (k + 0) (cond (is_in v s) (k ∷ []) []) (cond (is_only v s) [] (found_at v (suc k) ss))
-    (subst (λ (b : Bool). is_in (k + 0) (cond b (k ∷ []) []) ≡ true) (sym there) (or_left (k == k + 0) false (eq-eqb k (k + 0) same)))
-found_step false v k x xs s ss e h low rest =
-    let next : suc k + place_of v xs ≡ k + (1 + place_of v xs) = omega arith in
-    in_right (k + (1 + place_of v xs)) (cond (is_in v s) (k ∷ []) []) (cond (is_only v s) [] (found_at v (suc k) ss))
-    (subst (λ (b : Bool). is_in (k + (1 + place_of v xs)) (cond b [] (found_at v (suc k) ss)) ≡ true) (sym (not_only v x s h e))
-    (subst (λ (j : ℕ). is_in j (found_at v (suc k) ss) ≡ true) next (rest (omega (arith, low)))))
+found_step b v k x xs s ss e h low rest = grind (arith, eqb-true, in_left, or_left, eq-eqb, in_right, not_only)
 
 -- where a value is first, it may be found
 found_there : (v k : ℕ) (xs : List ℕ) (ts : List Set) → FitSets xs ts → place_of v xs < length xs → is_in (k + place_of v xs) (found_at v k ts) ≡ true
@@ -142,10 +126,7 @@ searched_by true v vs xs ts p e h fit =
     let there : is_in i (found_at v 0 ts) ≡ true = subst (λ (j : ℕ). is_in j (found_at v 0 ts) ≡ true) same (found_there v 0 xs ts fit (ltb-true i (length xs) e)) in
     among_left (found true i p) (map (λ i. found true i p) (each_index vs ts)) (cond (some_value (λ v. may_pass v ts) vs) (found false 0 p ∷ []) [])
     (among_in (λ i. found true i p) i (each_index vs ts) (each_there v i vs ts h there))
-searched_by false v vs xs ts p e h fit =
-    let pass : may_pass v ts ≡ true = passes v xs ts fit (ltb-false (place_of v xs) (length xs) e) in
-    among_right (found false 0 p) (map (λ i. found true i p) (each_index vs ts)) (cond (some_value (λ v. may_pass v ts) vs) (found false 0 p ∷ []) [])
-    (subst (λ (b : Bool). Among (found false 0 p) (cond b (found false 0 p ∷ []) [])) (sym (some_there (λ v. may_pass v ts) v vs h pass)) (inl refl))
+searched_by false v vs xs ts p e h fit = grind (arith, passes, ltb-false, among_right, some_there)
 
 -- what is found is among what is followed
 pub searched_there : (v : ℕ) (vs : Set) (xs : List ℕ) (ts : List Set) (p : Spot) → is_in v vs ≡ true → FitSets xs ts
@@ -196,10 +177,7 @@ module _ (args : List ℕ) where
     o = position (λ b. b == v) table
 
     low_sized : Sized low turn.public
-    low_sized =
-        let z = sized s u t g loadable leads lookup turn in
-        let high : turn.frame.dt ≤ dynamic_end = z.high in
-        record { small = z.small; room = z.room; high = omega (arith, high); inside = z.inside; whole = z.whole }
+    low_sized = grind (arith, sized)
 
     low_bytes : IsByteFrame low
     low_bytes = record { static = turn.place.frame.static; pieces = turn.place.frame.pieces; stack = turn.place.dynamic }
@@ -212,21 +190,14 @@ module _ (args : List ℕ) where
 
     -- an index is a byte
     index_byte : unwrap_or o 0 < 256
-    index_byte =
-        let short = short_read low turn.public (a + 1) n in
-        let few = few_bytes in
-        found_low (λ b. b == v) table o refl (omega (arith, short, few))
+    index_byte = grind (arith, short_read, few_bytes, found_low)
 
     value_is : is_under f 3 ≡ false → v ≡ m d
     value_is over =
-        let enough = above f 3 over in
-        ap num (stack_is f turn.public 3 1 (sized s u t g loadable leads lookup turn) (omega (arith, enough)) (omega arith)) ∙ omega arith
+        ap num (stack_is f turn.public 3 1 (sized s u t g loadable leads lookup turn) (omega (arith, (above f 3 over))) (omega arith)) ∙ omega arith
 
     bottom : is_under f 3 ≡ false → (dynamic_base + turn.frame.session ≤ d) × (d ≤ dynamic_end) × (d + 1 ≤ dynamic_end)
-    bottom over =
-        let enough = above f 3 over in
-        let high : turn.frame.dt ≤ dynamic_end = turn.place.frame.high in
-        (omega (arith, enough), omega (arith, high), omega (arith, high, enough))
+    bottom over = grind (arith, above)
 
     module _ (z : Chosen s u t g loadable leads lookup turn) where
       abbrev l : Frame
@@ -270,12 +241,7 @@ module _ (args : List ℕ) where
           ∙ (read_any f turn.public a 1 (sized s u t g loadable leads lookup turn) here ∙ sym (read_any low turn.public a 1 low_sized there)))
 
       misses_by : (x : Bool) → is_under f 3 ≡ false → is_outside low a 1 ≡ x → misses_at (record l { dt = d }) z.public a ≡ misses_at low turn.public a
-      misses_by true over e =
-          ap (λ (x : Bool). x || is_outside (record l { dt = d }) (a + 1) (count_at (record l { dt = d }) z.public a)) (drawn_outside low z.fixed z.dyn a 1 z.size ∙ e)
-          ∙ sym (ap (λ (x : Bool). x || is_outside low (a + 1) n) e)
-      misses_by false over e =
-          ap (λ (x : Bool). x || is_outside (record l { dt = d }) (a + 1) (count_at (record l { dt = d }) z.public a)) (drawn_outside low z.fixed z.dyn a 1 z.size)
-          ∙ ap (λ (x : Bool). is_outside low a 1 || x) (ap (λ (k : ℕ). is_outside (record l { dt = d }) (a + 1) k) (count_same over e) ∙ drawn_outside low z.fixed z.dyn (a + 1) n z.size)
+      misses_by x over e = grind (arith, drawn_outside, count_same)
 
       misses_same : is_under f 3 ≡ false → misses_at (record l { dt = d }) z.public (number_below_top l 2) ≡ misses_at low turn.public a
       misses_same over = ap (λ (b : ℕ). misses_at (record l { dt = d }) z.public b) (address_same over) ∙ misses_by (is_outside low a 1) over refl

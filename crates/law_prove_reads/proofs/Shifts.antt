@@ -1,5 +1,5 @@
 -- The primitives that shift the top of the stack.
-use Rattle.std.proofs.Common.{◌≡◌, inl, inr, ℕ, ◌+◌, ◌-◌, ◌≤◌, Bool, true, false, List, [], ◌∷◌, length, map, Some, None, refl, sym, ap, subst, ◌∙◌, arith}
+use Rattle.std.proofs.Common.{◌≡◌, ℕ, ◌+◌, ◌-◌, ◌≤◌, Bool, true, false, List, [], ◌∷◌, length, map, Some, None, refl, sym, ap, subst, ◌∙◌, arith}
 use Rattle.std.specs.Prelude.{not, ◌*◌, ◌&&◌, slice_index}
 use Rattle.std.proofs.lemmas.List.{length-replicate}
 use Rattle.law_prove.specs.model_device.specs.Bytes.{AreBytes}
@@ -45,10 +45,7 @@ use Rattle.law_prove_reads.proofs.Chosen.{Chosen, IsCoarse, stand, real, memory,
 
 -- any flags are among all
 pub flags_there : (c z : Bool) → Among (record { c = c; z = z }) (final_flags true)
-flags_there false false = inl refl
-flags_there false true = inr (inl refl)
-flags_there true false = inr (inr (inl refl))
-flags_there true true = inr (inr (inr (inl refl)))
+flags_there c z = grind arith
 
 module _ (i : Ins) (n : ℕ) (bad : Bool) (shift : List ℕ → Worked) where
   -- the causes of a shift

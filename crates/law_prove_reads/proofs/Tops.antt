@@ -58,10 +58,7 @@ module _ (s : Setting) (u t : Tables) (g : Target) (loadable : IsLoadable s.app)
   v = num (top f 1)
 
   bottom : is_under f 1 ≡ false → (dynamic_base + turn.frame.session ≤ f.dt - 1) × (f.dt - 1 ≤ dynamic_end)
-  bottom over =
-      let enough = above f 1 over in
-      let high : turn.frame.dt ≤ dynamic_end = turn.place.frame.high in
-      (omega (arith, enough), omega (arith, high))
+  bottom over = grind (arith, above)
 
   -- the scene has it
   top_same : (z : Chosen s u t g loadable leads i turn) → is_under f 1 ≡ false → ((a : ℕ) → is_outside f a 1 ≡ false → Among a (numbers_from (f.dt - 1) 1) → scene_memory (scene_of f z.fixed z.dyn z.public) a ≡ m a) → num (top (drawn f z.fixed z.dyn) 1) ≡ v
