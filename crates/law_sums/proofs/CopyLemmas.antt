@@ -1,5 +1,5 @@
 -- Copies and operations as writes.
-use Rattle.std.specs.Prelude.{◌≡◌, ◌⊎◌, ℕ, zero, suc, ◌+◌, ◌-◌, ◌*◌, ◌%◌, ◌^◌, ◌<◌, ◌≤◌, Bool, true, false, cond, ◌&&◌, ◌==◌, List, [], ◌∷◌, length, replicate, Option, Some, None, refl, ⊤}
+use Rattle.std.specs.Prelude.{◌≡◌, ◌⊎◌, ℕ, zero, suc, ◌+◌, ◌-◌, ◌*◌, ◌%◌, ◌^◌, ◌<◌, ◌≤◌, Bool, cond, ◌&&◌, ◌==◌, List, [], ◌∷◌, length, Option, Some, refl}
 use Rattle.std.specs.List.{AllByRecursion}
 use Rattle.std.proofs.Common.{arith, ap, sym, subst, ◌∙◌}
 use Rattle.std.proofs.lemmas.Bool.{eqb-true, and_parts}
@@ -8,13 +8,13 @@ use Rattle.model_sums.specs.model_rules.specs.Rules.{Total}
 use Rattle.model_sums.specs.model_rules.specs.Keeping.{Sum}
 use Rattle.model_sums.specs.model_prove.specs.Facts.{Memory}
 use Rattle.model_sums.specs.model_prove.specs.Compares.{bytes_from}
-use Rattle.model_sums.specs.model_prove.specs.Digits.{Operation, Plus, Minus, And, Or, Xor}
+use Rattle.model_sums.specs.model_prove.specs.Digits.{Operation}
 use Rattle.model_sums.specs.model_prove.specs.Work.{Operand, AtAddress, These, Digitwise}
-use Rattle.model_sums.specs.Forms.{Form, value, number, negative}
-use Rattle.model_sums.specs.Origins.{Origin, Unknown, Origins, origin_at, origins_from, unknowns, form_of}
+use Rattle.model_sums.specs.Forms.{Form, value, negative}
+use Rattle.model_sums.specs.Origins.{Origin, Origins, origins_from, unknowns}
 use Rattle.model_sums.specs.Sums.{More, Sums}
 use Rattle.model_sums.specs.Says.{number_at, AreFrom, OriginsHold, MoreHolds, Holds}
-use Rattle.model_sums.specs.Writes.{negative_if, wrote, popped, more_of}
+use Rattle.model_sums.specs.Writes.{wrote, popped, more_of}
 use Rattle.model_sums.specs.Operations.{form_of_operand, moved_by}
 use Rattle.law_sums.specs.WriteLaws.{MovesBy}
 use Rattle.law_sums.specs.CopyLaws.{operand_bytes, IsResult}
@@ -61,17 +61,7 @@ written_holds ts u first m k sums a n gs by e s f h i =
 
 more_if : (b : Bool) (first : List ℕ) (m k : Memory) (to from n : ℕ) (r : More) (rest : Option Form) → (r.at == from && r.from == to && r.n == n) ≡ b
     → number_at k to n ≡ number_at m from n → MoreHolds first m r → MovesBy first m k to n rest → MovesBy first m k to n (cond b (Some r.form) rest)
-more_if false first m k to from n r rest e c h i = i
-more_if true first m k to from n r rest e c h i =
-    let p = and_parts (r.at == from && r.from == to) (r.n == n) e in
-    let q = and_parts (r.at == from) (r.from == to) p.0 in
-    let one : number_at m from r.n % 256 ^ r.n ≡ (number_at m r.from r.n + value r.form first) % 256 ^ r.n =
-    subst (λ (x : ℕ). number_at m x r.n % 256 ^ r.n ≡ (number_at m r.from r.n + value r.form first) % 256 ^ r.n) (eqb-true r.at from q.0) h in
-    let two : number_at m from r.n % 256 ^ r.n ≡ (number_at m to r.n + value r.form first) % 256 ^ r.n =
-    subst (λ (x : ℕ). number_at m from r.n % 256 ^ r.n ≡ (number_at m x r.n + value r.form first) % 256 ^ r.n) (eqb-true r.from to q.1) one in
-    let three : number_at m from n % 256 ^ n ≡ (number_at m to n + value r.form first) % 256 ^ n =
-    subst (λ (x : ℕ). number_at m from x % 256 ^ x ≡ (number_at m to x + value r.form first) % 256 ^ x) (eqb-true r.n n p.1) two in
-    ap (λ (x : ℕ). x % 256 ^ n) c ∙ three
+more_if b first m k to from n r rest e c h i = grind (arith, and_parts, eqb-true)
 
 more_moves : (first : List ℕ) (m k : Memory) (rs : List More) (to from n : ℕ) → number_at k to n ≡ number_at m from n → AllByRecursion (MoreHolds first m) rs
     → MovesBy first m k to n (more_of rs from to n)
@@ -92,9 +82,7 @@ copied_holds ts u first m k sums dt to from n s c h =
 operand_value : (o : Origins) (first : List ℕ) (m : Memory) (n : ℕ) (y : Operand) (f : Form) → OriginsHold o first m → form_of_operand o n y ≡ Some f
     → num (operand_bytes m n y) ≡ value f first
 operand_value o first m n (AtAddress a) f h e = number_value first (origins_from o a n) (bytes_from m a n) f (memory_from o first m a n h) e
-operand_value o first m n (These b) f h e =
-    let same : number (num b) ≡ f = cc e in
-    subst (λ (g : Form). num b ≡ value g first) same (omega arith)
+operand_value o first m n (These b) f h e = grind arith
 
 -- what a subtraction takes away
 less_moves : (first : List ℕ) (n x y r : ℕ) (f : Form) → (r + y) % 256 ^ n ≡ x % 256 ^ n → y ≡ value f first → r % 256 ^ n ≡ (x + value (negative n f) first) % 256 ^ n
@@ -108,13 +96,7 @@ less_moves first n x y r f h e =
 
 result_moves : (op : Operation) (first : List ℕ) (m k : Memory) (a n y : ℕ) (x : Option Form) → IsResult op n (number_at m a n) y (number_at k a n)
     → ((f : Form) → x ≡ Some f → y ≡ value f first) → MovesBy first m k a n (moved_by op n x)
-result_moves Plus first m k a n y None r h = tt
-result_moves Plus first m k a n y (Some f) r h = r ∙ ap (λ (z : ℕ). (number_at m a n + z) % 256 ^ n) (h f refl)
-result_moves Minus first m k a n y None r h = tt
-result_moves Minus first m k a n y (Some f) r h = less_moves first n (number_at m a n) y (number_at k a n) f r (h f refl)
-result_moves And first m k a n y x r h = tt
-result_moves Or first m k a n y x r h = tt
-result_moves Xor first m k a n y x r h = tt
+result_moves op first m k a n y x r h = grind (arith, less_moves)
 
 pub operated_holds : (ts : List Total) (u : Sums) (first : List ℕ) (m k : Memory) (sums : List Sum) (d : Digitwise) → ((b : ℕ) → (b < d.at) ⊎ (d.at + d.n ≤ b) → m b ≡ k b)
     → IsResult d.op d.n (number_at m d.at d.n) (num (operand_bytes m d.n d.operand)) (number_at k d.at d.n) → Holds ts u first m sums

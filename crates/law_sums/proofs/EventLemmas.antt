@@ -1,9 +1,9 @@
 -- The event of an instruction moves by how much totals are off as it moves the sums.
-use Rattle.std.specs.Prelude.{◌≡◌, ℕ, zero, suc, ◌+◌, ◌-◌, ◌*◌, ◌%◌, ◌^◌, ◌<◌, ◌≤◌, Bool, true, false, cond, ◌||◌, nat_le, List, [], ◌∷◌, length, take, drop, map, slice_index, bytes_eq, Option, Some, None, refl, ⊤}
+use Rattle.std.specs.Prelude.{◌≡◌, ℕ, zero, suc, ◌+◌, ◌-◌, ◌*◌, ◌%◌, ◌^◌, ◌≤◌, Bool, true, false, cond, ◌||◌, nat_le, List, [], ◌∷◌, length, take, drop, slice_index, bytes_eq, Option, Some, None, refl, ⊤}
 use Rattle.std.specs.List.{AllByRecursion}
 use Rattle.std.proofs.Common.{arith, ap, sym, subst, ◌∙◌}
 use Rattle.std.proofs.Math.Seq.{drop-cons}
-use Rattle.std.proofs.lemmas.Bool.{leb-true, or_cases}
+use Rattle.std.proofs.lemmas.Bool.{leb-true}
 use Rattle.model_sums.specs.model_device.specs.Bytes.{num}
 use Rattle.model_sums.specs.model_device.proofs.MapLemmas.{same_name, name_is_itself}
 use Rattle.model_sums.specs.model_machine.specs.Frame.{public_base}
@@ -12,9 +12,9 @@ use Rattle.model_sums.specs.model_rules.specs.Rules.{Total, Amount, Constant, Pu
 use Rattle.model_sums.specs.model_rules.specs.Keeping.{Sum, amount_in, moved_sum, after_sum_line, after_moves, added_to, taken_from, added_by, taken_by}
 use Rattle.model_sums.specs.model_prove.specs.Facts.{Memory}
 use Rattle.model_sums.specs.model_prove.specs.Digits.{same}
-use Rattle.model_sums.specs.Forms.{Form, value, number, plus, negative}
-use Rattle.model_sums.specs.Origins.{Origins, origin_at, origins_from, form_of}
-use Rattle.model_sums.specs.Says.{number_at, IsFrom, AreFrom, OffHolds, OffsHold}
+use Rattle.model_sums.specs.Forms.{Form, value, plus, negative}
+use Rattle.model_sums.specs.Origins.{Origins, origins_from, form_of}
+use Rattle.model_sums.specs.Says.{number_at, AreFrom, OffHolds, OffsHold}
 use Rattle.model_sums.specs.Writes.{plus_if, negative_if}
 use Rattle.model_sums.specs.Events.{public_size, form_of_amount, off_after_term, off_after_line, offs_after_line, offs_after_event}
 use Rattle.law_sums.specs.EventLaws.{has_sum, PublicHolds}
@@ -82,15 +82,11 @@ one_name false adds k s = refl
 
 cond_added : (b c : Bool) (adds : Bool) (k : ℕ) (s : Sum) (x y : ℕ) → (b ≡ true → c ≡ true) → (b ≡ false → x ≡ y + cond adds k 0)
     → cond b (cond c (moved_sum adds k s) s).added x ≡ cond b s.added y + cond adds k 0
-cond_added true true adds k s x y h i = moved_added adds k s
-cond_added true false adds k s x y h i = absurd (cc (h refl))
-cond_added false c adds k s x y h i = i refl
+cond_added b c adds k s x y h i = grind (arith, moved_added)
 
 cond_taken : (b c : Bool) (adds : Bool) (k : ℕ) (s : Sum) (x y : ℕ) → (b ≡ true → c ≡ true) → (b ≡ false → x ≡ y + cond adds 0 k)
     → cond b (cond c (moved_sum adds k s) s).taken x ≡ cond b s.taken y + cond adds 0 k
-cond_taken true true adds k s x y h i = moved_taken adds k s
-cond_taken true false adds k s x y h i = absurd (cc (h refl))
-cond_taken false c adds k s x y h i = i refl
+cond_taken b c adds k s x y h i = grind (arith, moved_taken)
 
 or_second : (b c : Bool) → (b || c) ≡ true → b ≡ false → c ≡ true
 or_second true c h e = absurd (cc e)
@@ -116,9 +112,7 @@ taken_moved l public (s ∷ ss) h =
     (λ e. e) (λ e. taken_moved l public ss (or_second (bytes_eq s.name l.name) (has_sum ss l.name) h e))
 
 cond_same : (b c : Bool) (x x2 y y2 : ℕ) → (b ≡ true → c ≡ false) → y ≡ y2 → cond b (cond c x2 x) y ≡ cond b x y2
-cond_same true true x x2 y y2 h i = absurd (cc (h refl))
-cond_same true false x x2 y y2 h i = refl
-cond_same false c x x2 y y2 h i = i
+cond_same b c x x2 y y2 h i = grind arith
 
 added_out : (b : Bool) (adds : Bool) (k : ℕ) (s : Sum) → (cond b (moved_sum adds k s) s).added ≡ cond b (moved_sum adds k s).added s.added
 added_out true adds k s = refl
@@ -143,28 +137,16 @@ other_name s n l e h =
 -- those of other names stay
 added_stays : (l : SumLine) (public : List ℕ) (ss : List Sum) (name : List ℕ) → bytes_eq name l.name ≡ false → added_to (after_sum_line l public ss) name ≡ added_to ss name
 added_stays l public [] name e = refl
-added_stays l public (s ∷ ss) name e =
-    let named : (one_after l public s).name ≡ s.name = one_name (bytes_eq s.name l.name) l.adds (amount_in public l.amount) s in
-    ap (λ (n : List ℕ). cond (bytes_eq n name) (one_after l public s).added (added_to (after_sum_line l public ss) name)) named
-    ∙ ap (λ (x : ℕ). cond (bytes_eq s.name name) x (added_to (after_sum_line l public ss) name)) (added_out (bytes_eq s.name l.name) l.adds (amount_in public l.amount) s)
-    ∙ cond_same (bytes_eq s.name name) (bytes_eq s.name l.name) s.added (moved_sum l.adds (amount_in public l.amount) s).added (added_to (after_sum_line l public ss) name)
-    (added_to ss name) (λ h. other_name s.name name l.name e h) (added_stays l public ss name e)
+added_stays l public (s ∷ ss) name e = grind (arith, one_name, added_out, cond_same, other_name, added_stays l public ss name e)
 
 taken_stays : (l : SumLine) (public : List ℕ) (ss : List Sum) (name : List ℕ) → bytes_eq name l.name ≡ false → taken_from (after_sum_line l public ss) name ≡ taken_from ss name
 taken_stays l public [] name e = refl
-taken_stays l public (s ∷ ss) name e =
-    let named : (one_after l public s).name ≡ s.name = one_name (bytes_eq s.name l.name) l.adds (amount_in public l.amount) s in
-    ap (λ (n : List ℕ). cond (bytes_eq n name) (one_after l public s).taken (taken_from (after_sum_line l public ss) name)) named
-    ∙ ap (λ (x : ℕ). cond (bytes_eq s.name name) x (taken_from (after_sum_line l public ss) name)) (taken_out (bytes_eq s.name l.name) l.adds (amount_in public l.amount) s)
-    ∙ cond_same (bytes_eq s.name name) (bytes_eq s.name l.name) s.taken (moved_sum l.adds (amount_in public l.amount) s).taken (taken_from (after_sum_line l public ss) name)
-    (taken_from ss name) (λ h. other_name s.name name l.name e h) (taken_stays l public ss name e)
+taken_stays l public (s ∷ ss) name e = grind (arith, one_name, taken_out, cond_same, other_name, taken_stays l public ss name e)
 
 -- sums have the same names after a line
 pub names_stay : (l : SumLine) (public : List ℕ) (ss : List Sum) (name : List ℕ) → has_sum (after_sum_line l public ss) name ≡ has_sum ss name
 names_stay l public [] name = refl
-names_stay l public (s ∷ ss) name =
-    let named : (one_after l public s).name ≡ s.name = one_name (bytes_eq s.name l.name) l.adds (amount_in public l.amount) s in
-    ap (λ (n : List ℕ). bytes_eq n name || has_sum (after_sum_line l public ss) name) named ∙ ap (λ (b : Bool). bytes_eq s.name name || b) (names_stay l public ss name)
+names_stay l public (s ∷ ss) name = grind (arith, one_name, names_stay l public ss name)
 
 -- ---- one term
 
@@ -208,18 +190,7 @@ term_taken ss t = cond t.0 (taken_from ss t.1) (added_to ss t.1)
 named_term : (sign adds : Bool) (first : List ℕ) (n x c k p q u v r a : ℕ) (off by : Option Form) → u ≡ p + cond adds k 0 → v ≡ q + cond adds 0 k → IsAmount first by k
     → IsOff first (256 ^ n) (x + (cond sign q p + r)) (c + (cond sign p q + a)) off
     → IsOff first (256 ^ n) (x + cond sign v u + r) (c + cond sign u v + a) (off_after_term n (same sign adds) by off)
-named_term true true first n x c k p q u v r a off by e i b h =
-    off_at first (256 ^ n) (x + (q + r)) (x + v + r) (c + (p + a) + k) (c + u + a) (plus_if off (negative_if n by)) (omega (arith, i)) (omega (arith, e))
-    (less_off first n (x + (q + r)) (c + (p + a)) k off by b h)
-named_term true false first n x c k p q u v r a off by e i b h =
-    off_at first (256 ^ n) (x + (q + r) + k) (x + v + r) (c + (p + a)) (c + u + a) (plus_if off by) (omega (arith, i)) (omega (arith, e))
-    (more_off first (256 ^ n) (x + (q + r)) (c + (p + a)) k off by b h)
-named_term false true first n x c k p q u v r a off by e i b h =
-    off_at first (256 ^ n) (x + (p + r) + k) (x + u + r) (c + (q + a)) (c + v + a) (plus_if off by) (omega (arith, e)) (omega (arith, i))
-    (more_off first (256 ^ n) (x + (p + r)) (c + (q + a)) k off by b h)
-named_term false false first n x c k p q u v r a off by e i b h =
-    off_at first (256 ^ n) (x + (p + r)) (x + u + r) (c + (q + a) + k) (c + v + a) (plus_if off (negative_if n by)) (omega (arith, e)) (omega (arith, i))
-    (less_off first n (x + (p + r)) (c + (q + a)) k off by b h)
+named_term sign adds first n x c k p q u v r a off by e i b h = grind (arith, off_at, less_off, more_off)
 
 other_term : (sign : Bool) (first : List ℕ) (m x c p q u v r a : ℕ) (off : Option Form) → u ≡ p → v ≡ q
     → IsOff first m (x + (cond sign q p + r)) (c + (cond sign p q + a)) off → IsOff first m (x + cond sign v u + r) (c + cond sign u v + a) off
@@ -237,9 +208,7 @@ term_moves true first n x c r a l public ss t off by e i b h =
     let q = subst (λ (nm : List ℕ). taken_from (after_sum_line l public ss) nm ≡ taken_from ss nm + cond l.adds 0 (amount_in public l.amount)) one (taken_moved l public ss i) in
     named_term t.0 l.adds first n x c (amount_in public l.amount) (added_to ss t.1) (taken_from ss t.1) (added_to (after_sum_line l public ss) t.1)
     (taken_from (after_sum_line l public ss) t.1) r a off by p q b h
-term_moves false first n x c r a l public ss t off by e i b h =
-    other_term t.0 first (256 ^ n) x c (added_to ss t.1) (taken_from ss t.1) (added_to (after_sum_line l public ss) t.1) (taken_from (after_sum_line l public ss) t.1) r a off
-    (added_stays l public ss t.1 e) (taken_stays l public ss t.1 e) h
+term_moves false first n x c r a l public ss t off by e i b h = grind (arith, other_term, added_stays, taken_stays)
 
 -- ---- lines
 
@@ -272,11 +241,7 @@ line_moves : (first : List ℕ) (m : Memory) (l : SumLine) (public : List ℕ) (
     → OffsHold first m (after_sum_line l public ss) ts (offs_after_line l by ts os)
 line_moves first m l public ss by [] os i b h = tt
 line_moves first m l public ss by (t ∷ ts) [] i b h = tt
-line_moves first m l public ss by (t ∷ ts) (o ∷ os) i b h = (
-  is_off first m (after_sum_line l public ss) t (off_after_line t.n l by t.terms o)
-      (terms_move first t.n (number_at m t.at t.n) t.constant l public ss t.terms o by i b (off_is first m ss t o h.0)),
-  line_moves first m l public ss by ts os i b h.1,
-)
+line_moves first m l public ss by (t ∷ ts) (o ∷ os) i b h = grind (arith, is_off, terms_move, off_is, line_moves first m l public ss by ts os i b h.1)
 
 line_if : (b : Bool) (first : List ℕ) (m : Memory) (l : SumLine) (public : List ℕ) (ss : List Sum) (by : Option Form) (ts : List Total) (os : List (Option Form))
     → has_sum ss l.name ≡ true → IsAmount first by (amount_in public l.amount) → OffsHold first m ss ts os

@@ -1,8 +1,8 @@
 -- The values of forms.
-use Rattle.std.specs.Prelude.{◌≡◌, ℕ, ◌+◌, ◌-◌, ◌*◌, ◌%◌, ◌^◌, ◌<◌, Bool, true, false, cond, ◌&&◌, ◌==◌, List, [], ◌∷◌, slice_index, refl}
-use Rattle.std.proofs.Common.{arith, ap, sym, subst, ◌∙◌}
+use Rattle.std.specs.Prelude.{◌≡◌, ℕ, ◌+◌, ◌-◌, ◌*◌, ◌%◌, ◌^◌, Bool, true, cond, ◌==◌, List, [], ◌∷◌, slice_index, refl}
+use Rattle.std.proofs.Common.{arith, ap, sym, ◌∙◌}
 use Rattle.std.proofs.lemmas.Bool.{eqb-true, and_parts}
-use Rattle.std.proofs.Math.Nat.{mul-mod_left, mul_assoc, mul-add, add-mul, mul_comm, mul-zero, zero-mul, add-mod, zero-mod}
+use Rattle.std.proofs.Math.Nat.{mul_assoc, mul-add, add-mul, mul-zero, zero-mul, add-mod, zero-mod}
 use Rattle.std.proofs.lemmas.Nat.{mul-mod_first}
 use Rattle.model_sums.specs.Forms.{Terms, Form, value_of_terms, value, with_term, with_terms, plus, times_terms, times, negative, minus, are_zero, is_zero, same_forms}
 use Rattle.law_sums.proofs.Modulo.{add_same, add_whole, one_less_more, power_positive}
@@ -12,13 +12,7 @@ use Rattle.law_sums.proofs.Modulo.{add_same, add_whole, one_less_more, power_pos
 term_by : (b : Bool) (t u : ℕ × ℕ) (us rest : Terms) (first : List ℕ) → (u.0 == t.0) ≡ b
     → value_of_terms rest first ≡ t.1 * slice_index first t.0 + value_of_terms us first
     → value_of_terms (cond b ((u.0, u.1 + t.1) ∷ us) (u ∷ rest)) first ≡ t.1 * slice_index first t.0 + (u.1 * slice_index first u.0 + value_of_terms us first)
-term_by true t u us rest first e h =
-    let same : u.0 ≡ t.0 = eqb-true u.0 t.0 e in
-    let x : ℕ = slice_index first u.0 in
-    let parts : (u.1 + t.1) * x ≡ u.1 * x + t.1 * x = add-mul u.1 t.1 x in
-    let moved : t.1 * slice_index first t.0 ≡ t.1 * x = ap (λ (p : ℕ). t.1 * slice_index first p) (sym same) in
-    omega (arith, parts, moved)
-term_by false t u us rest first e h = omega (arith, h)
+term_by b t u us rest first e h = grind (arith, eqb-true, add-mul)
 
 pub value_with_term : (t : ℕ × ℕ) (us : Terms) (first : List ℕ) → value_of_terms (with_term t us) first ≡ t.1 * slice_index first t.0 + value_of_terms us first
 value_with_term t [] first = refl
@@ -35,11 +29,7 @@ value_plus f g first = omega (arith, value_with_terms g.terms f.terms first)
 
 pub value_times_terms : (k : ℕ) (ts : Terms) (first : List ℕ) → value_of_terms (times_terms k ts) first ≡ k * value_of_terms ts first
 value_times_terms k [] first = sym (mul-zero k)
-value_times_terms k (t ∷ ts) first =
-    let x : ℕ = slice_index first t.0 in
-    let whole : k * (t.1 * x + value_of_terms ts first) ≡ k * (t.1 * x) + k * value_of_terms ts first = mul-add k (t.1 * x) (value_of_terms ts first) in
-    let one : k * t.1 * x ≡ k * (t.1 * x) = mul_assoc k t.1 x in
-    omega (arith, value_times_terms k ts first, whole, one)
+value_times_terms k (t ∷ ts) first = grind (arith, mul-add, mul_assoc, value_times_terms k ts first)
 
 pub value_times : (k : ℕ) (f : Form) (first : List ℕ) → value (times k f) first ≡ k * value f first
 value_times k f first = omega (arith, value_times_terms k f.terms first, mul-add k f.constant (value_of_terms f.terms first))

@@ -1,17 +1,16 @@
 -- What is known where something was lost.
-use Rattle.std.specs.Prelude.{◌≡◌, ℕ, ◌+◌, ◌-◌, ◌<◌, ◌≤◌, Bool, true, false, cond, ◌&&◌, nat_lt, nat_le, ◌==◌, List, [], ◌∷◌, filter, Option, Some, None, refl, ⊤}
+use Rattle.std.specs.Prelude.{◌≡◌, ℕ, ◌+◌, ◌<◌, ◌≤◌, Bool, true, false, cond, ◌&&◌, nat_lt, nat_le, List, [], ◌∷◌, filter, Option, refl}
 use Rattle.std.specs.List.{AllByRecursion}
-use Rattle.std.proofs.Common.{arith, ap, sym, subst, ◌∙◌}
+use Rattle.std.proofs.Common.{arith, ap, sym, subst}
 use Rattle.std.proofs.lemmas.Bool.{leb-true, ltb-true, and_parts}
 use Rattle.model_sums.specs.model_device.specs.Bytes.{num}
 use Rattle.model_sums.specs.model_machine.specs.Frame.{dynamic_base, public_base}
 use Rattle.model_sums.specs.model_rules.specs.Rules.{Total}
 use Rattle.model_sums.specs.model_rules.specs.Keeping.{Sum}
 use Rattle.model_sums.specs.model_prove.specs.Facts.{Memory}
-use Rattle.model_sums.specs.model_prove.specs.Compares.{bytes_from}
 use Rattle.model_sums.specs.Forms.{Form}
-use Rattle.model_sums.specs.Origins.{Origin, Unknown, PublicByte, Origins, unlisted, listed_or, origin_at, without_public}
-use Rattle.model_sums.specs.Sums.{More, Sums, evens}
+use Rattle.model_sums.specs.Origins.{Origin, Origins, unlisted, listed_or, without_public}
+use Rattle.model_sums.specs.Sums.{More, Sums}
 use Rattle.model_sums.specs.Says.{number_at, IsFrom, OriginsHold, MoreHolds, OffsHold, Holds, TotalsHold}
 use Rattle.model_sums.specs.Writes.{dropped, delegated}
 use Rattle.law_sums.proofs.Bytes.{same_bytes}
@@ -24,32 +23,13 @@ use Rattle.law_sums.proofs.ReachLemmas.{above_base}
 
 pub dropped_holds : (ts : List Total) (u : Sums) (first : List ℕ) (m k : Memory) (sums kept : List Sum) → ((b : ℕ) → dynamic_base ≤ b → m b ≡ k b)
     → TotalsHold k kept ts → Holds ts u first m sums → Holds ts (dropped true ts u) first k kept
-dropped_holds ts u first m k sums kept s t h =
-    record {
-      origins = λ c.
-          from_dynamic (nat_lt c dynamic_base) first (listed_or (unlisted u.origins.own c) u.origins.listed c) (k c)
-          (λ d.
-          subst (λ (v : ℕ). IsFrom first (listed_or (unlisted u.origins.own c) u.origins.listed c) v) (s c (above_base c d))
-          (dynamic_from (nat_lt c dynamic_base) first (listed_or (unlisted u.origins.own c) u.origins.listed c) (m c) (h.origins c) d));
-      mores = tt;
-      offs = totals_even first k kept ts t;
-    }
+dropped_holds ts u first m k sums kept s t h = grind (arith, from_dynamic, above_base, dynamic_from, totals_even)
 
 -- ---- public bytes are any
 
 below_from : (b own : Bool) (first : List ℕ) (l : List (ℕ × Origin)) (c : ℕ) (m k : Memory) → nat_lt c public_base ≡ b → ((x : ℕ) → x < public_base → m x ≡ k x)
     → IsFrom first (listed_or (unlisted own c) l c) (m c) → IsFrom first (cond b (listed_or (unlisted false c) l c) (unlisted false c)) (k c)
-below_from false own first l c m k e s h = tt
-below_from true own first l c m k e s h =
-    let below : c < public_base = ltb-true c public_base e in
-    let not_public : nat_le public_base c ≡ false = grind (arith, below) in
-    let none : unlisted own c ≡ Unknown = ap (λ (x : Bool). cond (own && x) (PublicByte (c - public_base)) Unknown) not_public ∙ no_public own c in
-    let same : IsFrom first (listed_or Unknown l c) (m c) = subst (λ (g : Origin). IsFrom first (listed_or g l c) (m c)) none h in
-    subst (λ (v : ℕ). IsFrom first (listed_or Unknown l c) v) (s c below) same
-  where
-    no_public : (b : Bool) (c : ℕ) → cond (b && false) (PublicByte (c - public_base)) Unknown ≡ Unknown
-    no_public true c = refl
-    no_public false c = refl
+below_from b own first l c m k e s h = grind (arith, ltb-true)
 
 public_origins : (first : List ℕ) (m k : Memory) (o : Origins) → ((b : ℕ) → b < public_base → m b ≡ k b) → OriginsHold o first m → OriginsHold (without_public o) first k
 public_origins first m k o s h =
@@ -65,17 +45,12 @@ number_below m k a n s h = ap num (same_bytes m k a n (λ x low high. s x (omega
 
 more_below : (b : Bool) (first : List ℕ) (m k : Memory) (r : More) (rest : List More) → (nat_le (r.at + r.n) public_base && nat_le (r.from + r.n) public_base) ≡ b
     → ((x : ℕ) → x < public_base → m x ≡ k x) → MoreHolds first m r → AllByRecursion (MoreHolds first k) rest → AllByRecursion (MoreHolds first k) (cond b (r ∷ rest) rest)
-more_below false first m k r rest e s h i = i
-more_below true first m k r rest e s h i =
-    let p = and_parts (nat_le (r.at + r.n) public_base) (nat_le (r.from + r.n) public_base) e in
-    (more_same first m k r (number_below m k r.at r.n s (leb-true (r.at + r.n) public_base p.0)) (number_below m k r.from r.n s (leb-true (r.from + r.n) public_base p.1)) h, i)
+more_below b first m k r rest e s h i = grind (arith, and_parts, more_same, number_below, leb-true)
 
 mores_below : (first : List ℕ) (m k : Memory) (rs : List More) → ((x : ℕ) → x < public_base → m x ≡ k x) → AllByRecursion (MoreHolds first m) rs
     → AllByRecursion (MoreHolds first k) (filter (λ r. nat_le (r.at + r.n) public_base && nat_le (r.from + r.n) public_base) rs)
 mores_below first m k [] s h = tt
-mores_below first m k (r ∷ rs) s h =
-    more_below (nat_le (r.at + r.n) public_base && nat_le (r.from + r.n) public_base) first m k r
-    (filter (λ r. nat_le (r.at + r.n) public_base && nat_le (r.from + r.n) public_base) rs) refl s h.0 (mores_below first m k rs s h.1)
+mores_below first m k (r ∷ rs) s h = grind (arith, more_below, mores_below first m k rs s h.1)
 
 offs_below : (first : List ℕ) (m k : Memory) (sums : List Sum) (ts : List Total) (os : List (Option Form)) → ((b : ℕ) → b < public_base → m b ≡ k b)
     → AllByRecursion (λ t. t.at + t.n ≤ public_base) ts → OffsHold first m sums ts os → OffsHold first k sums ts os

@@ -1,7 +1,7 @@
 -- Congruences modulo a number: sums of congruent numbers, and what is added to both sides.
-use Rattle.std.specs.Prelude.{◌≡◌, ℕ, zero, suc, ◌+◌, ◌-◌, ◌*◌, ◌%◌, ◌^◌, ◌<◌, ◌≤◌, refl}
+use Rattle.std.specs.Prelude.{◌≡◌, ℕ, zero, suc, ◌+◌, ◌-◌, ◌*◌, ◌%◌, ◌^◌, ◌<◌}
 use Rattle.std.proofs.Common.{arith, ap, sym, ◌∙◌}
-use Rattle.std.proofs.Math.Nat.{pow-succ', add-mod, add-mul-mod_self_right, mul_comm, mul-add, add-mul}
+use Rattle.std.proofs.Math.Nat.{pow-succ', add-mod, add-mul-mod_self_right, mul_comm, add-mul}
 
 -- congruent numbers have congruent sums
 pub add_same : (m a b c d : ℕ) → a % m ≡ b % m → c % m ≡ d % m → (a + c) % m ≡ (b + d) % m
@@ -13,11 +13,7 @@ add_whole m a k = add-mul-mod_self_right a k m
 
 -- a number and one less than the modulus times it make a multiple
 pub one_less_more : (m k : ℕ) → 0 < m → (m - 1) * k + k ≡ k * m
-one_less_more m k h =
-    let parts : (m - 1 + 1) * k ≡ (m - 1) * k + 1 * k = add-mul (m - 1) 1 k in
-    let whole : m - 1 + 1 ≡ m = omega (arith, h) in
-    let same : (m - 1 + 1) * k ≡ m * k = ap (λ (x : ℕ). x * k) whole in
-    omega (arith, parts, same, mul_comm m k)
+one_less_more m k h = grind (arith, add-mul, mul_comm)
 
 pub power_positive : (n : ℕ) → 0 < 256 ^ n
 power_positive zero = omega arith

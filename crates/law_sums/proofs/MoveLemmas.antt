@@ -1,16 +1,16 @@
 -- What a write leaves of blocks: by how much totals are off, and by how much loaded blocks are more.
-use Rattle.std.specs.Prelude.{◌≡◌, ◌⊎◌, ℕ, ◌+◌, ◌-◌, ◌*◌, ◌%◌, ◌^◌, ◌<◌, ◌≤◌, Bool, true, false, cond, not, ◌&&◌, ◌==◌, List, [], ◌∷◌, ◌++◌, flat_map, filter, Option, Some, None, refl, ⊤}
+use Rattle.std.specs.Prelude.{◌≡◌, ℕ, ◌+◌, ◌-◌, ◌*◌, ◌%◌, ◌^◌, Bool, true, false, cond, not, ◌&&◌, List, [], ◌∷◌, ◌++◌, flat_map, filter, Option, Some, None, refl}
 use Rattle.std.specs.List.{AllByRecursion}
-use Rattle.std.proofs.Common.{arith, ap, sym, subst, ◌∙◌}
+use Rattle.std.proofs.Common.{arith, ap, subst, ◌∙◌}
 use Rattle.std.proofs.lemmas.Bool.{eqb-true, and_parts}
 use Rattle.model_sums.specs.model_rules.specs.Rules.{Total}
 use Rattle.model_sums.specs.model_rules.specs.Keeping.{Sum, added_by, taken_by}
 use Rattle.model_sums.specs.model_prove.specs.Facts.{Memory}
 use Rattle.model_sums.specs.model_prove.specs.Compares.{meet}
-use Rattle.model_sums.specs.Forms.{Form, value, number, plus, negative}
+use Rattle.model_sums.specs.Forms.{Form, value, plus, negative}
 use Rattle.model_sums.specs.Sums.{More}
 use Rattle.model_sums.specs.Says.{number_at, MoreHolds, OffHolds, OffsHold}
-use Rattle.model_sums.specs.Writes.{plus_if, negative_if, is_block, off_after, offs_after, with_form, more_after}
+use Rattle.model_sums.specs.Writes.{plus_if, negative_if, is_block, offs_after, with_form, more_after}
 use Rattle.law_sums.specs.WriteLaws.{MovesBy}
 use Rattle.law_sums.proofs.Modulo.{add_same, add_whole, one_less_more, power_positive}
 use Rattle.law_sums.proofs.FormLemmas.{value_plus, value_times}
@@ -20,18 +20,11 @@ use Rattle.law_sums.proofs.Bytes.{SameBut, number_stays}
 
 pub off_same : (first : List ℕ) (m k : Memory) (sums : List Sum) (t : Total) (off : Option Form) → number_at m t.at t.n ≡ number_at k t.at t.n
     → OffHolds first m sums t off → OffHolds first k sums t off
-off_same first m k sums t None e h = tt
-off_same first m k sums t (Some f) e h =
-    subst (λ (x : ℕ). (x + taken_by sums t.terms) % 256 ^ t.n ≡ (t.constant + added_by sums t.terms + value f first) % 256 ^ t.n) e h
+off_same first m k sums t off e h = grind arith
 
 -- what moves both sides of a congruence
 both_move : (m x y t c v g w : ℕ) → x % m ≡ (y + g) % m → (y + t) % m ≡ (c + v) % m → w ≡ v + g → (x + t) % m ≡ (c + w) % m
-both_move m x y t c v g w p q e =
-    let one : (x + t) % m ≡ (y + g + t) % m = add_same m x (y + g) t t p refl in
-    let two : y + g + t ≡ y + t + g = omega arith in
-    let three : (y + t + g) % m ≡ (c + v + g) % m = add_same m (y + t) (c + v) g g q refl in
-    let four : c + v + g ≡ c + w = omega (arith, e) in
-    one ∙ ap (λ (z : ℕ). z % m) two ∙ three ∙ ap (λ (z : ℕ). z % m) four
+both_move m x y t c v g w p q e = grind (arith, add_same m x (y + g) t t p refl, add_same m (y + t) (c + v) g g q refl)
 
 off_moves : (first : List ℕ) (m k : Memory) (sums : List Sum) (t : Total) (off by : Option Form) → MovesBy first m k t.at t.n by
     → OffHolds first m sums t off → OffHolds first k sums t (plus_if off by)
@@ -43,15 +36,11 @@ off_moves first m k sums t (Some f) (Some g) h i =
 
 -- the block of a write is that of a total
 pub moves_block : (first : List ℕ) (m k : Memory) (a n b l : ℕ) (by : Option Form) → is_block a n b l ≡ true → MovesBy first m k a n by → MovesBy first m k b l by
-moves_block first m k a n b l by e h =
-    let p = and_parts (a == b) (n == l) e in
-    subst (λ (x : ℕ). MovesBy first m k x l by) (eqb-true a b p.0) (subst (λ (x : ℕ). MovesBy first m k a x by) (eqb-true n l p.1) h)
+moves_block first m k a n b l by e h = grind (arith, and_parts, eqb-true)
 
 off_by : (b c : Bool) (first : List ℕ) (m k : Memory) (sums : List Sum) (t : Total) (a n : ℕ) (by off : Option Form) → meet a n t.at t.n ≡ b → is_block a n t.at t.n ≡ c
     → SameBut a n m k → MovesBy first m k a n by → OffHolds first m sums t off → OffHolds first k sums t (cond b (cond c (plus_if off by) None) off)
-off_by false c first m k sums t a n by off e i s h o = off_same first m k sums t off (number_stays a n m k t.at t.n s e) o
-off_by true false first m k sums t a n by off e i s h o = tt
-off_by true true first m k sums t a n by off e i s h o = off_moves first m k sums t off by (moves_block first m k a n t.at t.n by i h) o
+off_by b c first m k sums t a n by off e i s h o = grind (arith, off_same, number_stays, off_moves, moves_block)
 
 pub offs_hold : (first : List ℕ) (m k : Memory) (sums : List Sum) (ts : List Total) (os : List (Option Form)) (a n : ℕ) (by : Option Form) → SameBut a n m k
     → MovesBy first m k a n by → OffsHold first m sums ts os → OffsHold first k sums ts (offs_after a n by ts os)
@@ -65,24 +54,15 @@ offs_hold first m k sums (t ∷ ts) (off ∷ os) a n by s h o =
 -- of numbers that stay
 pub more_same : (first : List ℕ) (m k : Memory) (r : More) → number_at m r.at r.n ≡ number_at k r.at r.n → number_at m r.from r.n ≡ number_at k r.from r.n
     → MoreHolds first m r → MoreHolds first k r
-more_same first m k r e i h =
-    subst (λ (x : ℕ). x % 256 ^ r.n ≡ (number_at k r.from r.n + value r.form first) % 256 ^ r.n) e
-    (subst (λ (x : ℕ). number_at m r.at r.n % 256 ^ r.n ≡ (x + value r.form first) % 256 ^ r.n) i h)
+more_same first m k r e i h = grind arith
 
 -- of a block that became more
 more_more : (m x y b f g w : ℕ) → x % m ≡ (y + g) % m → y % m ≡ (b + f) % m → w ≡ f + g → x % m ≡ (b + w) % m
-more_more m x y b f g w p q e =
-    let one : (y + g) % m ≡ (b + f + g) % m = add_same m y (b + f) g g q refl in
-    let two : b + f + g ≡ b + w = omega (arith, e) in
-    p ∙ one ∙ ap (λ (z : ℕ). z % m) two
+more_more m x y b f g w p q e = grind (arith, add_same m y (b + f) g g q refl)
 
 -- of a block whose origin became more
 more_less : (m x b c f g v w : ℕ) → x % m ≡ (b + f) % m → c % m ≡ (b + g) % m → v + g ≡ g * m → w ≡ f + v → x % m ≡ (c + w) % m
-more_less m x b c f g v w p q e i =
-    let one : (c + w) % m ≡ (b + g + w) % m = add_same m c (b + g) w w q refl in
-    let two : b + g + w ≡ b + f + g * m = omega (arith, e, i) in
-    let three : (b + f + g * m) % m ≡ (b + f) % m = add_whole m (b + f) g in
-    p ∙ sym (one ∙ ap (λ (z : ℕ). z % m) two ∙ three)
+more_less m x b c f g v w p q e i = grind (arith, add_same m c (b + g) w w q refl, add_whole m (b + f) g)
 
 at_moves : (first : List ℕ) (m k : Memory) (r : More) (by : Option Form) → MovesBy first m k r.at r.n by → number_at m r.from r.n ≡ number_at k r.from r.n
     → MoreHolds first m r → AllByRecursion (MoreHolds first k) (with_form r (plus_if (Some r.form) by))
@@ -110,23 +90,13 @@ from_moves first m k r (Some g) h e i =
 
 from_block : (first : List ℕ) (m k : Memory) (r : More) (a n : ℕ) (by : Option Form) → is_block a n r.from r.n ≡ true → MovesBy first m k a n by
     → number_at m r.at r.n ≡ number_at k r.at r.n → MoreHolds first m r → AllByRecursion (MoreHolds first k) (with_form r (plus_if (Some r.form) (negative_if n by)))
-from_block first m k r a n by e h s i =
-    let same : r.n ≡ n = sym (eqb-true n r.n (and_parts (a == r.from) (n == r.n) e).1) in
-    subst (λ (x : ℕ). AllByRecursion (MoreHolds first k) (with_form r (plus_if (Some r.form) (negative_if x by)))) same
-    (from_moves first m k r by (moves_block first m k a n r.from r.n by e h) s i)
+from_block first m k r a n by e h s i = grind (arith, eqb-true, and_parts, from_moves, moves_block)
 
 more_by : (b c d e : Bool) (first : List ℕ) (m k : Memory) (r : More) (a n : ℕ) (by : Option Form) → meet a n r.from r.n ≡ b → is_block a n r.from r.n ≡ c
     → meet a n r.at r.n ≡ d → is_block a n r.at r.n ≡ e → SameBut a n m k → MovesBy first m k a n by → MoreHolds first m r
     → AllByRecursion (MoreHolds first k)
     (cond b (cond (c && not d) (with_form r (plus_if (Some r.form) (negative_if n by))) []) (cond d (cond e (with_form r (plus_if (Some r.form) by)) []) (r ∷ [])))
-more_by false c false e first m k r a n by p q x y s h i =
-    (more_same first m k r (number_stays a n m k r.at r.n s x) (number_stays a n m k r.from r.n s p) i, tt)
-more_by false c true false first m k r a n by p q x y s h i = tt
-more_by false c true true first m k r a n by p q x y s h i =
-    at_moves first m k r by (moves_block first m k a n r.at r.n by y h) (number_stays a n m k r.from r.n s p) i
-more_by true false d e first m k r a n by p q x y s h i = tt
-more_by true true true e first m k r a n by p q x y s h i = tt
-more_by true true false e first m k r a n by p q x y s h i = from_block first m k r a n by q h (number_stays a n m k r.at r.n s x) i
+more_by b c d e first m k r a n by p q x y s h i = grind (arith, more_same, number_stays, at_moves, moves_block, from_block)
 
 -- ---- lists
 
@@ -145,7 +115,4 @@ all_filter P test (x ∷ xs) h = kept_one P (test x) x (filter test xs) h.0 (all
 pub mores_hold : (first : List ℕ) (m k : Memory) (rs : List More) (a n : ℕ) (by : Option Form) → SameBut a n m k → MovesBy first m k a n by
     → AllByRecursion (MoreHolds first m) rs → AllByRecursion (MoreHolds first k) (flat_map (more_after a n by) rs)
 mores_hold first m k [] a n by s h i = tt
-mores_hold first m k (r ∷ rs) a n by s h i =
-    all_append (MoreHolds first k) (more_after a n by r) (flat_map (more_after a n by) rs)
-    (more_by (meet a n r.from r.n) (is_block a n r.from r.n) (meet a n r.at r.n) (is_block a n r.at r.n) first m k r a n by refl refl refl refl s h i.0)
-    (mores_hold first m k rs a n by s h i.1)
+mores_hold first m k (r ∷ rs) a n by s h i = grind (arith, all_append, more_by, mores_hold first m k rs a n by s h i.1)

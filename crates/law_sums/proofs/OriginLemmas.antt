@@ -1,22 +1,16 @@
 -- The number that bytes of known origins are.
-use Rattle.std.specs.Prelude.{◌≡◌, ℕ, ◌+◌, ◌-◌, ◌*◌, ◌^◌, Bool, true, false, cond, List, [], ◌∷◌, length, slice_index, Option, Some, None, refl}
-use Rattle.std.proofs.Common.{arith, ap, sym, subst, ◌∙◌}
+use Rattle.std.specs.Prelude.{◌≡◌, ℕ, ◌+◌, ◌*◌, ◌^◌, List, [], ◌∷◌, length, Option, Some, None, refl}
+use Rattle.std.proofs.Common.{arith, ap, subst, ◌∙◌}
 use Rattle.std.proofs.Math.Nat.{mul_comm}
 use Rattle.model_sums.specs.model_device.specs.Bytes.{num}
-use Rattle.model_sums.specs.Forms.{Form, value, number, public_byte, plus, times}
-use Rattle.model_sums.specs.Origins.{Origin, Unknown, ConstantByte, PublicByte, form_of_byte, above, form_of}
+use Rattle.model_sums.specs.Forms.{Form, value, times}
+use Rattle.model_sums.specs.Origins.{Origin, form_of_byte, above, form_of}
 use Rattle.model_sums.specs.Says.{IsFrom, AreFrom}
 use Rattle.law_sums.proofs.FormLemmas.{value_plus, value_times}
 
 -- a byte is the value of its form
 pub byte_value : (first : List ℕ) (o : Origin) (v : ℕ) (f : Form) → IsFrom first o v → form_of_byte o ≡ Some f → v ≡ value f first
-byte_value first Unknown v f h e = absurd (cc e)
-byte_value first (ConstantByte b) v f h e =
-    let same : number b ≡ f = cc e in
-    subst (λ (g : Form). v ≡ value g first) same (omega (arith, h))
-byte_value first (PublicByte p) v f h e =
-    let same : public_byte p ≡ f = cc e in
-    subst (λ (g : Form). v ≡ value g first) same (omega (arith, h))
+byte_value first o v f h e = grind arith
 
 pub from_length : (first : List ℕ) (os : List Origin) (bs : List ℕ) → AreFrom first os bs → length os ≡ length bs
 from_length first [] [] h = refl
@@ -30,19 +24,11 @@ above_value : (first : List ℕ) (n b r : ℕ) (x y : Option Form) (f : Form)
 above_value first n b r None y f h k e = absurd (cc e)
 above_value first n b r (Some g) None f h k e = absurd (cc e)
 above_value first n b r (Some g) (Some i) f h k e =
-    let same : plus (times (256 ^ n) g) i ≡ f = cc e in
-    let high : b ≡ value g first = h g refl in
-    let low : r ≡ value i first = k i refl in
-    let whole : value (plus (times (256 ^ n) g) i) first ≡ value (times (256 ^ n) g) first + value i first = value_plus (times (256 ^ n) g) i first in
-    let part : value (times (256 ^ n) g) first ≡ 256 ^ n * value g first = value_times (256 ^ n) g first in
-    let turned : b * 256 ^ n ≡ 256 ^ n * value g first = mul_comm b (256 ^ n) ∙ ap (λ (x : ℕ). 256 ^ n * x) high in
-    subst (λ (j : Form). b * 256 ^ n + r ≡ value j first) same (omega (arith, low, whole, part, turned))
+    grind (arith, h g refl, k i refl, value_plus (times (256 ^ n) g) i first, value_times (256 ^ n) g first, mul_comm b (256 ^ n) ∙ ap (λ (x : ℕ). 256 ^ n * x) (h g refl))
 
 -- the number that bytes are is the value of the form of their origins
 pub number_value : (first : List ℕ) (os : List Origin) (bs : List ℕ) (f : Form) → AreFrom first os bs → form_of os ≡ Some f → num bs ≡ value f first
-number_value first [] [] f h e =
-    let same : number 0 ≡ f = cc e in
-    subst (λ (g : Form). 0 ≡ value g first) same refl
+number_value first [] [] f h e = grind arith
 number_value first [] (b ∷ bs) f h e = absurd h
 number_value first (o ∷ os) [] f h e = absurd h
 number_value first (o ∷ os) (b ∷ bs) f h e =

@@ -1,11 +1,11 @@
 -- Origins after a write, where less is on the stack, and as far as others say.
-use Rattle.std.specs.Prelude.{◌≡◌, ◌⊎◌, ℕ, suc, ◌+◌, ◌-◌, ◌<◌, ◌≤◌, Bool, true, false, cond, not, ◌&&◌, ◌||◌, nat_lt, nat_le, ◌==◌, List, [], ◌∷◌, ◌++◌, length, filter, slice_index, Option, Some, None, refl, ⊤}
-use Rattle.std.proofs.Common.{arith, ap, sym, subst, ◌∙◌, inl, inr}
-use Rattle.std.proofs.lemmas.Bool.{eqb-true, eqb-false, and_parts, cases_Bool}
+use Rattle.std.specs.Prelude.{◌≡◌, ◌⊎◌, ℕ, suc, ◌+◌, ◌-◌, ◌<◌, ◌≤◌, Bool, true, false, cond, not, ◌&&◌, ◌||◌, nat_lt, nat_le, ◌==◌, List, [], ◌∷◌, length, filter, refl}
+use Rattle.std.proofs.Common.{arith, subst, inl, inr}
+use Rattle.std.proofs.lemmas.Bool.{eqb-true, eqb-false, and_parts}
 use Rattle.model_sums.specs.model_machine.specs.Frame.{dynamic_base, public_base}
 use Rattle.model_sums.specs.model_prove.specs.Facts.{Memory}
 use Rattle.model_sums.specs.model_prove.specs.Compares.{bytes_from}
-use Rattle.model_sums.specs.Origins.{Origin, Unknown, ConstantByte, PublicByte, Origins, unlisted, listed_or, origin_at, with_origins, kept_origins, origins_below, origin_follows, listed_follow, origins_follow}
+use Rattle.model_sums.specs.Origins.{Origin, Unknown, PublicByte, Origins, unlisted, listed_or, origin_at, with_origins, origins_below, origin_follows, listed_follow, origins_follow}
 use Rattle.model_sums.specs.Says.{IsFrom, AreFrom, OriginsHold}
 
 pub from_dynamic : (b : Bool) (first : List ℕ) (g : Origin) (v : ℕ) → (b ≡ false → IsFrom first g v) → IsFrom first (cond b Unknown g) v
@@ -51,14 +51,7 @@ origins_written first m k a gs o s f h =
 
 kept_by : (b i : Bool) (other : Origin) (e : ℕ × Origin) (rest : List (ℕ × Origin)) (c : ℕ) (keeps : ℕ → Bool) (whole : Origin) → keeps e.0 ≡ b → (e.0 == c) ≡ i
     → listed_or other rest c ≡ cond (keeps c) whole other → listed_or other (cond b (e ∷ rest) rest) c ≡ cond (keeps c) (cond i e.1 whole) other
-kept_by true true other e rest c keeps whole p q h =
-    let same : keeps c ≡ true = ap keeps (sym (eqb-true e.0 c q)) ∙ p in
-    ap (λ (x : Bool). cond x e.1 (listed_or other rest c)) q ∙ ap (λ (x : Bool). cond x e.1 other) (sym same)
-kept_by true false other e rest c keeps whole p q h = ap (λ (x : Bool). cond x e.1 (listed_or other rest c)) q ∙ h
-kept_by false true other e rest c keeps whole p q h =
-    let same : keeps c ≡ false = ap keeps (sym (eqb-true e.0 c q)) ∙ p in
-    h ∙ ap (λ (x : Bool). cond x whole other) same ∙ ap (λ (x : Bool). cond x e.1 other) (sym same)
-kept_by false false other e rest c keeps whole p q h = h
+kept_by b i other e rest c keeps whole p q h = grind (arith, eqb-true)
 
 pub listed_kept : (other : Origin) (l : List (ℕ × Origin)) (c : ℕ) (keeps : ℕ → Bool)
     → listed_or other (filter (λ e. keeps e.0) l) c ≡ cond (keeps c) (listed_or other l c) other
@@ -72,31 +65,16 @@ listed_kept other (e ∷ l) c keeps =
 
 below_by : (b p : Bool) (own : Bool) (first : List ℕ) (c v : ℕ) (g : Origin) → nat_le public_base c ≡ p → IsFrom first g v
     → IsFrom first (cond (b || p) g (cond (own && p) (PublicByte (c - public_base)) Unknown)) v
-below_by true p own first c v g e h = h
-below_by false true own first c v g e h = h
-below_by false false true first c v g e h = tt
-below_by false false false first c v g e h = tt
+below_by b p own first c v g e h = grind arith
 
 -- origins hold where less is on the stack
 pub origins_popped : (first : List ℕ) (m : Memory) (dt : ℕ) (o : Origins) → OriginsHold o first m → OriginsHold (origins_below dt o) first m
-origins_popped first m dt o h =
-    λ c.
-    from_dynamic (nat_lt c dynamic_base) first (listed_or (unlisted o.own c) (filter (λ e. nat_lt e.0 dt || nat_le public_base e.0) o.listed) c) (m c)
-    (λ d.
-    subst (λ (g : Origin). IsFrom first g (m c)) (sym (listed_kept (unlisted o.own c) o.listed c (λ a. nat_lt a dt || nat_le public_base a)))
-    (below_by (nat_lt c dt) (nat_le public_base c) o.own first c (m c) (listed_or (unlisted o.own c) o.listed c) refl
-    (dynamic_from (nat_lt c dynamic_base) first (listed_or (unlisted o.own c) o.listed c) (m c) (h c) d)))
+origins_popped first m dt o h = grind (arith, from_dynamic, listed_kept, below_by, dynamic_from)
 
 -- ---- what follows
 
 follows_from : (first : List ℕ) (g i : Origin) (v : ℕ) → origin_follows g i ≡ true → IsFrom first g v → IsFrom first i v
-follows_from first g Unknown v e h = tt
-follows_from first Unknown (ConstantByte c) v e h = absurd (cc e)
-follows_from first (ConstantByte b) (ConstantByte c) v e h = h ∙ eqb-true b c e
-follows_from first (PublicByte p) (ConstantByte c) v e h = absurd (cc e)
-follows_from first Unknown (PublicByte q) v e h = absurd (cc e)
-follows_from first (ConstantByte b) (PublicByte q) v e h = absurd (cc e)
-follows_from first (PublicByte p) (PublicByte q) v e h = h ∙ ap (λ (x : ℕ). slice_index first x) (eqb-true p q e)
+follows_from first g i v e h = grind (arith, eqb-true)
 
 -- a byte is listed
 abbrev IsListed : List (ℕ × Origin) → ℕ → Type 0
@@ -105,9 +83,7 @@ IsListed (e ∷ l) c = (e.0 ≡ c) ⊎ IsListed l c
 
 listed_one : (b : Bool) (e : ℕ × Origin) (l : List (ℕ × Origin)) (c : ℕ) → (e.0 == c) ≡ b → IsListed l c ⊎ ((other : Origin) → listed_or other l c ≡ other)
     → IsListed (e ∷ l) c ⊎ ((other : Origin) → listed_or other (e ∷ l) c ≡ other)
-listed_one true e l c i h = inl (inl (eqb-true e.0 c i))
-listed_one false e l c i (inl h) = inl (inr h)
-listed_one false e l c i (inr h) = inr (λ other. ap (λ (x : Bool). cond x e.1 (listed_or other l c)) i ∙ h other)
+listed_one b e l c i h = grind (arith, eqb-true)
 
 listed_or_not : (l : List (ℕ × Origin)) (c : ℕ) → IsListed l c ⊎ ((other : Origin) → listed_or other l c ≡ other)
 listed_or_not [] c = inr (λ other. refl)
@@ -120,29 +96,12 @@ at_listed o p (d ∷ l) c e (inl h) =
 at_listed o p (d ∷ l) c e (inr h) = at_listed o p l c (and_parts (origin_follows (origin_at o d.0) (origin_at p d.0)) (listed_follow o p l) e).1 h
 
 unlisted_from : (b q : Bool) (first : List ℕ) (c v : ℕ) → (b || not q) ≡ true → IsFrom first (unlisted b c) v → IsFrom first (unlisted q c) v
-unlisted_from true true first c v e h = h
-unlisted_from true false first c v e h = tt
-unlisted_from false true first c v e h = absurd (cc e)
-unlisted_from false false first c v e h = tt
+unlisted_from b q first c v e h = grind arith
 
 follow_at : (first : List ℕ) (m : Memory) (o p : Origins) (c : ℕ) → origins_follow o p ≡ true → IsFrom first (origin_at o c) (m c)
     → IsListed o.listed c ⊎ ((other : Origin) → listed_or other o.listed c ≡ other) → IsListed p.listed c ⊎ ((other : Origin) → listed_or other p.listed c ≡ other)
     → IsFrom first (origin_at p c) (m c)
-follow_at first m o p c e h (inl i) k =
-    let q = and_parts ((o.own || not p.own) && listed_follow o p o.listed) (listed_follow o p p.listed) e in
-    let r = and_parts (o.own || not p.own) (listed_follow o p o.listed) q.0 in
-    follows_from first (origin_at o c) (origin_at p c) (m c) (at_listed o p o.listed c r.1 i) h
-follow_at first m o p c e h (inr i) (inl k) =
-    let q = and_parts ((o.own || not p.own) && listed_follow o p o.listed) (listed_follow o p p.listed) e in
-    follows_from first (origin_at o c) (origin_at p c) (m c) (at_listed o p p.listed c q.1 k) h
-follow_at first m o p c e h (inr i) (inr k) =
-    let q = and_parts ((o.own || not p.own) && listed_follow o p o.listed) (listed_follow o p p.listed) e in
-    let r = and_parts (o.own || not p.own) (listed_follow o p o.listed) q.0 in
-    from_dynamic (nat_lt c dynamic_base) first (listed_or (unlisted p.own c) p.listed c) (m c)
-    (λ d.
-    subst (λ (g : Origin). IsFrom first g (m c)) (sym (k (unlisted p.own c)))
-    (unlisted_from o.own p.own first c (m c) r.0
-    (subst (λ (g : Origin). IsFrom first g (m c)) (i (unlisted o.own c)) (dynamic_from (nat_lt c dynamic_base) first (listed_or (unlisted o.own c) o.listed c) (m c) h d))))
+follow_at first m o p c e h h7 k = grind (arith, and_parts, follows_from, at_listed, from_dynamic, unlisted_from, dynamic_from)
 
 -- origins that follow from those that hold do
 pub follow_origins : (first : List ℕ) (m : Memory) (o p : Origins) → origins_follow o p ≡ true → OriginsHold o first m → OriginsHold p first m

@@ -1,20 +1,19 @@
 -- What is known after a write within a reach.
-use Rattle.std.specs.Prelude.{◌≡◌, ◌⊎◌, ℕ, zero, suc, ◌+◌, ◌-◌, ◌/◌, ◌%◌, ◌<◌, ◌≤◌, Bool, true, false, cond, not, ◌&&◌, ◌||◌, nat_lt, nat_le, ◌==◌, List, [], ◌∷◌, ◌++◌, length, map, filter, is_none, Option, Some, None, refl, ⊤}
+use Rattle.std.specs.Prelude.{◌≡◌, ◌⊎◌, ℕ, zero, suc, ◌+◌, ◌-◌, ◌/◌, ◌%◌, ◌<◌, ◌≤◌, Bool, true, false, cond, not, ◌&&◌, ◌||◌, nat_lt, nat_le, ◌==◌, List, [], ◌∷◌, ◌++◌, length, map, filter, Option, None, refl}
 use Rattle.std.specs.List.{AllByRecursion}
 use Rattle.std.proofs.Common.{arith, ap, sym, subst, ◌∙◌, inl, inr, eq-eqb}
 use Rattle.std.proofs.lemmas.Bool.{eqb-true, leb-true, and_parts, or_cases, cases_Bool}
 use Rattle.model_sums.specs.model_device.specs.Bytes.{num}
-use Rattle.model_sums.specs.model_machine.specs.Frame.{Frame, Place, Static, Dynamic, Public, dynamic_base, dynamic_end, public_base, public_end, where_is, is_outside}
+use Rattle.model_sums.specs.model_machine.specs.Frame.{Frame, dynamic_base, dynamic_end, public_base, public_end, is_outside}
 use Rattle.model_sums.specs.model_rules.specs.Rules.{Total}
 use Rattle.model_sums.specs.model_rules.specs.Keeping.{Sum}
 use Rattle.model_sums.specs.model_prove.specs.Sets.{numbers_from, is_in}
 use Rattle.model_sums.specs.model_prove.specs.Facts.{Memory}
-use Rattle.model_sums.specs.model_prove.specs.Compares.{bytes_from}
 use Rattle.model_sums.specs.model_prove.specs.Reach.{Reach, is_reached_within, is_reached_by, is_reached, some_reached}
 use Rattle.model_sums.specs.Forms.{Form}
-use Rattle.model_sums.specs.Origins.{Origin, Unknown, Origins, unlisted, listed_or, origin_at}
+use Rattle.model_sums.specs.Origins.{Origin, Unknown, Origins, unlisted, listed_or}
 use Rattle.model_sums.specs.Sums.{More, Sums}
-use Rattle.model_sums.specs.Says.{number_at, IsFrom, OriginsHold, MoreHolds, OffHolds, OffsHold, Holds}
+use Rattle.model_sums.specs.Says.{number_at, IsFrom, MoreHolds, OffHolds, OffsHold, Holds}
 use Rattle.model_sums.specs.Moves.{reached_places, offs_not_reached, reached}
 use Rattle.law_sums.proofs.Bytes.{same_bytes}
 use Rattle.law_sums.proofs.OriginMoves.{from_dynamic, dynamic_from}
@@ -59,18 +58,13 @@ offs_reached f r first m k sums (t ∷ ts) (o ∷ os) s h =
 more_by : (b c : Bool) (f : Frame) (r : Reach) (first : List ℕ) (m k : Memory) (q : More) (rest : List More) → some_reached f r q.at q.n ≡ b → some_reached f r q.from q.n ≡ c
     → ((x : ℕ) → is_reached f r x ≡ false → m x ≡ k x) → MoreHolds first m q → AllByRecursion (MoreHolds first k) rest
     → AllByRecursion (MoreHolds first k) (cond (not (b || c)) (q ∷ rest) rest)
-more_by true c f r first m k q rest e i s h o = o
-more_by false true f r first m k q rest e i s h o = o
-more_by false false f r first m k q rest e i s h o =
-    (more_same first m k q (number_not_reached f r m k q.at q.n s e) (number_not_reached f r m k q.from q.n s i) h, o)
+more_by b c f r first m k q rest e i s h o = grind (arith, more_same, number_not_reached)
 
 mores_reached : (f : Frame) (r : Reach) (first : List ℕ) (m k : Memory) (qs : List More) → ((x : ℕ) → is_reached f r x ≡ false → m x ≡ k x)
     → AllByRecursion (MoreHolds first m) qs
     → AllByRecursion (MoreHolds first k) (filter (λ q. not (some_reached f r q.at q.n || some_reached f r q.from q.n)) qs)
 mores_reached f r first m k [] s h = tt
-mores_reached f r first m k (q ∷ qs) s h =
-    more_by (some_reached f r q.at q.n) (some_reached f r q.from q.n) f r first m k q
-    (filter (λ q. not (some_reached f r q.at q.n || some_reached f r q.from q.n)) qs) refl refl s h.0 (mores_reached f r first m k qs s h.1)
+mores_reached f r first m k (q ∷ qs) s h = grind (arith, more_by, mores_reached f r first m k qs s h.1)
 
 -- ---- where a byte lies that is reached
 
@@ -112,38 +106,12 @@ by_access f r (n ∷ ns) x e = elim (or_cases (is_reached_within f r n x n) (is_
   | inr i ↦ by_access f r ns x i
 ]
 
-some_segment : (z b c d : Bool) (p q s : Place) → z ≡ false → (not z && is_none (cond b (Some p) (cond c (Some q) (cond d (Some s) None)))) ≡ false
-    → (b ≡ true) ⊎ ((c ≡ true) ⊎ (d ≡ true))
-some_segment true b c d p q s e h = absurd (cc e)
-some_segment false true c d p q s e h = inl refl
-some_segment false false true d p q s e h = inr (inl refl)
-some_segment false false false true p q s e h = inr (inr refl)
-some_segment false false false false p q s e h = absurd (cc h)
-
 -- a byte of the dynamic or of the public segment
 abbrev InSegment : ℕ → Type 0
 InSegment x = ((dynamic_base ≤ x) × (x < dynamic_end)) ⊎ ((public_base ≤ x) × (x < public_end))
 
 access_in : (f : Frame) (x : ℕ) → Access f x → length f.fixed ≤ dynamic_base → f.dt ≤ dynamic_end → dynamic_base ≤ x → InSegment x
-access_in f x a s t h =
-    let low : a.at ≤ x = a.low in
-    let high : x < a.at + a.n = a.high in
-    let some : (a.n == 0) ≡ false = grind (arith, low, high) in
-    elim (some_segment (a.n == 0) (nat_le (a.at + a.n) (length f.fixed)) (nat_le dynamic_base a.at && nat_le (a.at + a.n) f.dt)
-    (nat_le public_base a.at && nat_le (a.at + a.n) public_end) (Static a.at) (Dynamic (a.at - dynamic_base)) (Public (a.at - public_base)) some a.inside) [
-      | inl i ↦
-          let end : a.at + a.n ≤ length f.fixed = leb-true (a.at + a.n) (length f.fixed) i in
-          absurd (omega (arith, end, high, s, h))
-      | inr (inl i) ↦
-          let p = and_parts (nat_le dynamic_base a.at) (nat_le (a.at + a.n) f.dt) i in
-          let end : a.at + a.n ≤ f.dt = leb-true (a.at + a.n) f.dt p.1 in
-          inl (h, omega (arith, end, high, t))
-      | inr (inr i) ↦
-          let p = and_parts (nat_le public_base a.at) (nat_le (a.at + a.n) public_end) i in
-          let start : public_base ≤ a.at = leb-true public_base a.at p.0 in
-          let end : a.at + a.n ≤ public_end = leb-true (a.at + a.n) public_end p.1 in
-          inr (omega (arith, start, low), omega (arith, end, high))
-    ]
+access_in f x a s t h = grind (arith, a.low, a.high)
 
 -- ---- origins
 
@@ -176,9 +144,7 @@ marked xs l = map (λ a. (a, Unknown)) xs ++ l
 
 spared_one : (b i : Bool) (test : ℕ → Bool) (y x : ℕ) (ys : List ℕ) (l : List (ℕ × Origin)) (other : Origin) → test y ≡ b → (y == x) ≡ i → test x ≡ false
     → listed_or other (marked ys l) x ≡ listed_or other l x → listed_or other (marked (cond b (y ∷ ys) ys) l) x ≡ listed_or other l x
-spared_one false i test y x ys l other e k h r = r
-spared_one true true test y x ys l other e k h r = absurd (cc (ap test (sym (eqb-true y x k)) ∙ e, h))
-spared_one true false test y x ys l other e k h r = ap (λ (z : Bool). cond z Unknown (listed_or other (marked ys l) x)) k ∙ r
+spared_one b i test y x ys l other e k h r = grind (arith, eqb-true)
 
 spared : (test : ℕ → Bool) (x : ℕ) (xs : List ℕ) (l : List (ℕ × Origin)) (other : Origin) → test x ≡ false
     → listed_or other (marked (filter test xs) l) x ≡ listed_or other l x

@@ -1,16 +1,15 @@
 -- A turn, by the protection before it and the mode of its instruction.
-use Rattle.std.specs.Prelude.{◌≡◌, ℕ, ◌≤◌, Bool, true, false, cond, not, ◌||◌, ◌==◌, List, length, Option, Some, None, refl, ⊤}
+use Rattle.std.specs.Prelude.{◌≡◌, ℕ, ◌≤◌, Bool, true, false, cond, not, List, length, Option, Some, None, refl}
 use Rattle.std.specs.List.{AllByRecursion}
-use Rattle.std.proofs.Common.{ap, sym, subst, ◌∙◌}
+use Rattle.std.proofs.Common.{subst, arith}
 use Rattle.model_sums.specs.law_promise.specs.History.{Deed}
 use Rattle.model_sums.specs.model_rules.specs.Rules.{AppRules}
 use Rattle.model_sums.specs.model_rules.specs.Keeping.{Sum, Standing, line_of_deed, mode_of, protected_sums, after_moves, after_deed}
 use Rattle.model_sums.specs.model_prove.specs.Facts.{Memory}
-use Rattle.model_sums.specs.Forms.{Form}
 use Rattle.model_sums.specs.Origins.{Origins}
-use Rattle.model_sums.specs.Sums.{Sums, are_even}
-use Rattle.model_sums.specs.Says.{OffsHold, TotalsHold, read_sums}
-use Rattle.model_sums.specs.Events.{public_size, offs_after_event, is_commit, drops, asks, counted}
+use Rattle.model_sums.specs.Sums.{Sums}
+use Rattle.model_sums.specs.Says.{OffsHold, read_sums}
+use Rattle.model_sums.specs.Events.{public_size, is_commit, drops, asks, counted}
 use Rattle.law_sums.specs.EventLaws.{has_sum, PublicHolds}
 use Rattle.law_sums.specs.TurnLaws.{StaysProtected, row_sums, TurnHolds}
 use Rattle.law_sums.proofs.KnownLemmas.{even_totals}
@@ -24,12 +23,7 @@ all_the_same false s x = refl
 -- what stands where totals are asked
 asked_turn : (r : AppRules) (p q : Bool) (mode : Option ℕ) (first : List ℕ) (k : Memory) (v : Sums) (s : Standing) (x : List Sum) → asks p mode ≡ true
     → OffsHold first k x r.totals v.offs → TurnHolds r p q mode first k v s (record s { kept = x; waiting = x })
-asked_turn r p q mode first k v s x e h =
-    record {
-      offs = subst (λ (y : List Sum). OffsHold first k y r.totals v.offs) (sym (all_the_same q s x)) h;
-      asked = λ a i. even_totals first k x r.totals v.offs i h;
-      kept = λ n. absurd (cc (e, n));
-    }
+asked_turn r p q mode first k v s x e h = grind (arith, all_the_same, even_totals)
 
 by_mode : (b : Bool) (r : AppRules) (q : Bool) (mode : ℕ) (line public first : List ℕ) (k : Memory) (s : Standing) (u : Sums) (o : Origins) → is_commit mode ≡ b
     → AllByRecursion (λ l. has_sum s.waiting l.name ≡ true) r.moves → PublicHolds o first public → public_size ≤ length public
@@ -60,14 +54,7 @@ by_protection false mode r q line public first k s u o n p l t h =
     asked_turn r false q mode first k (counted false r.totals r.moves line o u) s (after_moves r.moves line public s.kept) refl
     (event_moves r.totals r.moves line public first k s.kept o n p l u.offs h)
 by_protection true (Some mode) r q line public first k s u o n p l t h = by_mode (is_commit mode) r q mode line public first k s u o refl n p l h
-by_protection true None r q line public first k s u o n p l t h =
-    let moved : OffsHold first k (after_moves r.moves line public s.waiting) r.totals (offs_after_event r.totals r.moves line o u.offs) =
-    event_moves r.totals r.moves line public first k s.waiting o n p l u.offs h in
-    record {
-      offs = subst (λ (b : Bool). OffsHold first k (cond b (after_moves r.moves line public s.waiting) s.kept) r.totals (offs_after_event r.totals r.moves line o u.offs)) (sym t) moved;
-      asked = λ a i. absurd (cc a);
-      kept = λ a. refl;
-    }
+by_protection true None r q line public first k s u o n p l t h = grind (arith, event_moves)
 
 deed_by : (p : Bool) (r : AppRules) (d : Deed) (s : Standing)
     → cond p (protected_sums (mode_of d.ins) (after_moves r.moves (line_of_deed d) d.public s.waiting) s)

@@ -1,6 +1,6 @@
 -- Laws of copies and operations: a loaded block that is copied over its own moves it by as much as it is more, and an
 -- addition or a subtraction moves its first operand by what the second is.
-use Rattle.std.specs.Prelude.{◌≡◌, ◌⊎◌, ℕ, ◌+◌, ◌<◌, ◌≤◌, ◌%◌, ◌^◌, List, length, Option, ⊤}
+use Rattle.std.specs.Prelude.{◌≡◌, ◌⊎◌, ℕ, ◌+◌, ◌<◌, ◌≤◌, ◌%◌, ◌^◌, List, ⊤}
 use Rattle.model_sums.specs.model_device.specs.Bytes.{num}
 use Rattle.model_sums.specs.model_rules.specs.Rules.{Total}
 use Rattle.model_sums.specs.model_rules.specs.Keeping.{Sum}

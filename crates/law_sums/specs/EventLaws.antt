@@ -1,6 +1,6 @@
 -- Laws of totals: an event moves what is known as it moves the sums, what is not off is a total that holds, and so is
 -- what is known as a frame begins.
-use Rattle.std.specs.Prelude.{◌≡◌, ℕ, ◌+◌, ◌-◌, ◌≤◌, Bool, true, false, ◌||◌, List, [], ◌∷◌, length, slice_index, bytes_eq, Option, ⊤}
+use Rattle.std.specs.Prelude.{◌≡◌, ℕ, ◌+◌, ◌≤◌, Bool, true, false, ◌||◌, List, [], ◌∷◌, length, slice_index, bytes_eq, Option}
 use Rattle.std.specs.List.{AllByRecursion}
 use Rattle.model_sums.specs.model_machine.specs.Frame.{public_base}
 use Rattle.model_sums.specs.model_rules.specs.Rules.{Total, SumLine}

@@ -1,7 +1,7 @@
 -- Laws of forms: sums and multiples are those of their values, and what is zero or the same modulo 256 ^ n is so
 -- whatever the public bytes were.
 use Rattle.std.specs.Prelude.{◌≡◌, ℕ, ◌+◌, ◌*◌, ◌%◌, ◌^◌, true, List}
-use Rattle.model_sums.specs.Forms.{Form, value, number, public_byte, plus, times, minus, is_zero, same_forms}
+use Rattle.model_sums.specs.Forms.{Form, value, plus, times, minus, is_zero, same_forms}
 
 -- of the public bytes as the frame began
 pub record ArithmeticHolds (first : List ℕ) : Type 0 where
