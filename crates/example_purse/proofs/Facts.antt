@@ -42,6 +42,7 @@ moved e h f d l r q a other differ x = subst (λ (b : Bool). DeedShown purse_out
 
 -- ---- which command
 
+-- a command that is a showing is no debit
 pub shows : (e : Entry Event) (h : List Event) (p : List ℕ) → IsFresh e h p → (sub_blocks (take 1 (drop 1029 p)) (0x20 ∷ [])).z ≡ true → IsNoDebit e
 shows ByDelegation h p f z = tt
 shows (BySelection bytes a before) h p f z = λ small is.
@@ -49,6 +50,7 @@ shows (BySelection bytes a before) h p f z = λ small is.
     let clear : (sub_blocks (take 1 (drop 1029 p)) (0x20 ∷ [])).z ≡ false = ap (λ (b : List ℕ). (sub_blocks b (0x20 ∷ [])).z) same in
     absurd (cc (sym clear ∙ z))
 
+-- a command whose INS is not that of a debit is no debit
 pub no_debit : (e : Entry Event) (h : List Event) (p : List ℕ) → IsFresh e h p → (sub_blocks (take 1 (drop 1029 p)) (0x40 ∷ [])).z ≡ false → IsNoDebit e
 no_debit ByDelegation h p f z = tt
 no_debit (BySelection bytes a before) h p f z = λ small. other_ins a 0x40 p f.1 small z
@@ -58,26 +60,31 @@ one_by n small z =
     let none : num (bytes 1 (256 + num (n ∷ []) - 64)) ≡ 0 = eqb-true (num (bytes 1 (256 + num (n ∷ []) - 64))) 0 z in
     omega (arith, none)
 
+-- a command whose INS is that of a debit is one
 pub is_debit : (e : Entry Event) (h : List Event) (p : List ℕ) → IsFresh e h p → (sub_blocks (take 1 (drop 1029 p)) (0x40 ∷ [])).z ≡ true → IsDebit e
 is_debit ByDelegation h p f z = tt
 is_debit (BySelection bytes a before) h p f z = λ small byte.
     let same : take 1 (drop 1029 p) ≡ a.ins ∷ [] = ap (λ (q : List ℕ). take 1 (drop 1029 q)) f.1 ∙ ins_byte a small in
     one_by a.ins byte (sym (ap (λ (b : List ℕ). (sub_blocks b (0x40 ∷ [])).z) same) ∙ z)
 
+-- before anything but the command was counted no debit was made
 pub none_fresh : (e : Entry Event) (h : List Event) (p : List ℕ) → IsFresh e h p → MadeNone e h
 none_fresh ByDelegation h p f = tt
 none_fresh (BySelection bytes a before) h p f = λ small is. f.0
 
+-- a command that is no debit made none
 pub none_else : (e : Entry Event) (h : List Event) → IsNoDebit e → MadeNone e h
 none_else ByDelegation h n = tt
 none_else (BySelection bytes a before) h n = λ small is. absurd (n small is)
 
+-- a command that is no debit has nothing to pay
 pub paid_else : (e : Entry Event) (h : List Event) (p : List ℕ) → IsNoDebit e → IsPaid e h p
 paid_else ByDelegation h p n = tt
 paid_else (BySelection bytes a before) h p n = λ small is. absurd (n small is)
 
 -- ---- tries
 
+-- tries that are not the byte zero are some
 pub some_try : (t : ℕ) → is_zero (t ∷ []) ≡ false → t ≢ 0
 some_try t z is = let set : is_zero (t ∷ []) ≡ true = ap (λ (n : ℕ). is_zero (n ∷ [])) is in absurd (cc (sym set ∙ z))
 
@@ -85,6 +92,7 @@ some_try t z is = let set : is_zero (t ∷ []) ≡ true = ap (λ (n : ℕ). is_z
 abbrev pub spent_try : ℕ → ℕ
 spent_try t = (256 ^ 1 + num (t ∷ []) - 1) / 256 ^ 0 % 256
 
+-- a try less leaves room for one wrong comparison more
 pub spent : (t w : ℕ) → t ≢ 0 → t + w ≤ 3 → spent_try t + suc w ≤ 3
 spent zero w some few = absurd (some refl)
 spent (suc zero) w some few = omega (arith, few)
@@ -92,6 +100,7 @@ spent (suc (suc zero)) w some few = omega (arith, few)
 spent (suc (suc (suc zero))) w some few = omega (arith, few)
 spent (suc (suc (suc (suc t)))) w some few = absurd (omega (arith, few))
 
+-- one try less and one more is the number of tries
 pub spent_is : (t : ℕ) → t ≢ 0 → t ≤ 3 → suc (spent_try t) ≡ t
 spent_is zero some few = absurd (some refl)
 spent_is (suc zero) some few = refl
@@ -103,9 +112,11 @@ spent_is (suc (suc (suc (suc t)))) some few = absurd (omega (arith, few))
 pub other_try : (t u : ℕ) → suc u ≡ t → (t == u) ≡ false
 other_try t u is = false_from_ne_true (t == u) (λ e. let same : t ≡ u = eqb-true t u e in omega (arith, same, is))
 
+-- less than three tries are not three
 pub other_than_three : (t : ℕ) → t < 3 → (t == 3) ≡ false
 other_than_three t low = false_from_ne_true (t == 3) (λ e. let same : t ≡ 3 = eqb-true t 3 e in omega (arith, same, low))
 
+-- a count of the tries that takes one, or sets them back, keeps what the purse promises
 pub kept_try : (h : List Event) (v : Cells) (t : ℕ) → PurseKept h (fixed_of v) → t + wrong_since h ≤ 3 → (suc t ≡ tries_left h) ⊎ ((t ≡ 3) × JustRight h)
     → PurseKept (Tries t ∷ h) (fixed_of (record v { t = t }))
 kept_try h v t k few why =
@@ -122,10 +133,12 @@ kept_try h v t k few why =
       sessions = k.sessions;
     }
 
+-- a count of the tries leaves what holds of the session
 pub sits_tried : (e : Entry Event) (h : List Event) (t s : ℕ) → Sits e h (s ∷ []) → Sits e (Tries t ∷ h) (s ∷ [])
 sits_tried ByDelegation h t s x = tt
 sits_tried (BySelection bytes a before) h t s x = x
 
+-- a session in which the PIN was shown stays so after a count of the tries
 pub open_tried : (e : Entry Event) (h : List Event) (t : ℕ) → IsOpenIf e h → IsOpenIf e (Tries t ∷ h)
 open_tried ByDelegation h t x = tt
 open_tried (BySelection bytes a before) h t x = x
@@ -146,12 +159,14 @@ same_right x y p q e g =
 right_is : (p q x y : ℕ) → p < 256 → q < 256 → x < 256 → y < 256 → num (bytes 2 (65536 + num (p ∷ q ∷ []) - num (x ∷ y ∷ []))) ≡ 0 → (x ≡ p) × (y ≡ q)
 right_is p q x y hp hq hx hy e = (omega (arith, e), omega (arith, e))
 
+-- a comparison of bytes is right exactly if the PIN is the one in static bytes
 pub right_law : RightLaw
 right_law p q x y hp hq hx hy = (
   λ z. right_is p q x y hp hq hx hy (eqb-true (num (bytes 2 (65536 + num (p ∷ q ∷ []) - num (x ∷ y ∷ [])))) 0 z),
   λ e g. same_right x y p q e g,
 )
 
+-- a comparison after a spent try keeps what the purse promises
 pub kept_compared : (z q : Bool) (h : List Event) (v : Cells) → PurseKept h (fixed_of v) → IsSpent h v → PurseKept (comparison z q ∷ h) (fixed_of v)
 kept_compared true q h v k x =
     let tries : v.t + suc (wrong_since h) ≤ 3 = x.room in
@@ -182,26 +197,31 @@ kept_compared false q h v k x =
       sessions = k.sessions;
     }
 
+-- a comparison leaves what holds of the session
 pub sits_compared : (e : Entry Event) (z : Bool) (h : List Event) (s : ℕ) → Sits e h (s ∷ []) → Sits e (comparison z (is_direct e) ∷ h) (s ∷ [])
 sits_compared ByDelegation z h s x = tt
 sits_compared (BySelection bytes a before) true h s (inl is) = inl is
 sits_compared (BySelection bytes a before) true h s (inr is) = inr (is.0, refl)
 sits_compared (BySelection bytes a before) false h s x = x
 
+-- a comparison that was right after a spent try is right at that cost
 pub right_compared : (e : Entry Event) (z : Bool) (h : List Event) (v : Cells) → IsSpent h v → z ≡ true → IsRight e (comparison z (is_direct e) ∷ h) v
 right_compared ByDelegation true h v x is = let room : v.t + suc (wrong_since h) ≤ 3 = x.room in record { just = tt; none_wrong = refl; low = omega (arith, room); shown = tt }
 right_compared (BySelection bytes a before) true h v x is = let room : v.t + suc (wrong_since h) ≤ 3 = x.room in record { just = tt; none_wrong = refl; low = omega (arith, room); shown = refl }
 right_compared e false h v x is = absurd (cc is)
 
+-- after a right comparison three tries are within the bound
 pub right_tries : (h : List Event) → wrong_since h ≡ 0 → 3 + wrong_since h ≤ 3
 right_tries h none = omega (arith, none)
 
+-- a session byte of 1 holds once the PIN was shown
 pub sits_right : (e : Entry Event) (h : List Event) → IsOpenIf e h → Sits e h (1 ∷ [])
 sits_right ByDelegation h x = tt
 sits_right (BySelection bytes a before) h x = inr (refl, x)
 
 -- ---- a debit
 
+-- a session byte of 1 shows that the PIN was shown in this session
 pub opened : (e : Entry Event) (h : List Event) (s : ℕ) → Sits e h (s ∷ []) → IsZeroed e s → (sub_blocks (s ∷ []) (1 ∷ [])).z ≡ true → IsOpen e h
 opened ByDelegation h s x is z =
     let clear : (sub_blocks (s ∷ []) (1 ∷ [])).z ≡ false = ap (λ (n : ℕ). (sub_blocks (n ∷ []) (1 ∷ [])).z) is in
@@ -216,6 +236,7 @@ two_by n small z =
     let none : num (bytes 2 (65536 + num (bytes2 n) - 2)) ≡ 0 = eqb-true (num (bytes 2 (65536 + num (bytes2 n) - 2))) 0 z in
     omega (arith, none)
 
+-- a command whose length is two has two bytes of data
 pub two_bytes : (e : Entry Event) (h : List Event) (p : List ℕ) → IsFresh e h p → (sub_blocks (take 2 (drop 1033 p)) (0 ∷ 2 ∷ [])).z ≡ true → HasTwo e
 two_bytes ByDelegation h p f z = tt
 two_bytes (BySelection bytes a before) h p f z = λ small.
@@ -223,20 +244,24 @@ two_bytes (BySelection bytes a before) h p f z = λ small.
     let set : (sub_blocks (bytes2 (length a.body)) (0 ∷ 2 ∷ [])).z ≡ true = sym (ap (λ (b : List ℕ). (sub_blocks b (0 ∷ 2 ∷ [])).z) same) ∙ z in
     two_by (length a.body) small set
 
+-- two bytes of data are those in front of the public segment
 pub carried : (e : Entry Event) (h : List Event) (p : List ℕ) (x y : ℕ) → IsFresh e h p → HasTwo e → take 2 p ≡ x ∷ y ∷ [] → Carries e x y
 carried ByDelegation h p x y f two is = tt
 carried (BySelection bytes a before) h p x y f two is = λ small. sym (body_of_two a (two small)) ∙ (sym (ap (λ (q : List ℕ). take 2 q) f.1) ∙ is)
 
+-- a debit of what the public segment has in front is paid with 9000
 pub paid : (e : Entry Event) (h : List Event) (p : List ℕ) (x y : ℕ) → Debits e h p x y → IsPaid e (Debited (is_direct e) (num (take 2 p)) ∷ h) p
 paid ByDelegation h p x y d = tt
 paid (BySelection bytes a before) h p x y d = λ small ins.
     let amount : num (take 2 p) ≡ num a.body = ap num (d.amount ∙ sym (d.carries small)) in
     (ap sw_of d.begun.fresh.1 ∙ status_new a small, ap (λ (n : ℕ). Debited true n ∷ h) amount ∙ ap (λ (k : List Event). Debited true (num a.body) ∷ k) d.begun.fresh.0)
 
+-- a debit leaves what holds of the session
 pub sits_paid : (e : Entry Event) (h : List Event) (q : Bool) (a s : ℕ) → Sits e h (s ∷ []) → Sits e (Debited q a ∷ h) (s ∷ [])
 sits_paid ByDelegation h q a s x = tt
 sits_paid (BySelection bytes b before) h q a s x = x
 
+-- two bytes written in front of the public segment leave a debit paid
 pub stored : (e : Entry Event) (h : List Event) (p : List ℕ) (x y : ℕ) → IsPaid e h p → IsPaid e h (splice p 0 (x ∷ y ∷ []))
 stored ByDelegation h p x y done = tt
 stored (BySelection bytes a before) h p x y done = λ small ins. (status_beside_two p x y ∙ (done small ins).0, (done small ins).1)
@@ -255,6 +280,7 @@ more_differs c small is = omega (arith, is)
 abbrev pub paid_cells : Cells → ℕ → ℕ → List ℕ
 paid_cells v x y = splice (splice (fixed_of v) 0 (less v x y)) 5 (one_more v)
 
+-- a debit changes the balance or the number
 pub money_moves : (h : List Event) (v : Cells) (x y : ℕ) → PurseKept h (fixed_of v)
     → bytes_eq (v.b0 ∷ v.b1 ∷ v.c0 ∷ v.c1 ∷ []) (take 2 (paid_cells v x y) ++ drop 5 (paid_cells v x y)) ≡ false
 money_moves h v x y k =
@@ -290,6 +316,7 @@ just_ordered bytes a before h p x y d =
     subst (JustOrdered (num (x ∷ y ∷ []))) (sym d.begun.fresh.0)
     (λ small byte. record { is_debit = d.begun.debit small byte; has_two = ap length (d.carries small); pays = ap num (d.carries small) })
 
+-- a debit of at most the balance keeps what the purse promises
 pub kept_paid : (e : Entry Event) (h : List Event) (p : List ℕ) (v : Cells) (x y : ℕ) → PurseKept h (fixed_of v) → Debits e h p x y → num (x ∷ y ∷ []) ≤ balance_of v
     → PurseKept (Debited (is_direct e) (num (take 2 p)) ∷ h) (paid_cells v x y)
 kept_paid ByDelegation h p v x y k d low = absurd d.open_session

@@ -40,9 +40,11 @@ pub record Cells : Type 0 where
   pub c0 : ℕ
   pub c1 : ℕ
 
+-- the static bytes in their order
 abbrev pub fixed_of : Cells → List ℕ
 fixed_of v = v.b0 ∷ v.b1 ∷ v.t ∷ v.p0 ∷ v.p1 ∷ v.c0 ∷ v.c1 ∷ []
 
+-- the balance as a number
 abbrev pub balance_of : Cells → ℕ
 balance_of v = num (v.b0 ∷ v.b1 ∷ [])
 
@@ -65,6 +67,7 @@ waiting_at on pieces place v dyn dt c z =
       protected = on;
     }
 
+-- a frame of the purse at a place, with nothing that waits
 abbrev pub frame_at : ℕ → Cells → List ℕ → ℕ → Bool → Bool → Frame
 frame_at place v dyn dt c z = waiting_at false [] place v dyn dt c z
 
@@ -72,6 +75,7 @@ frame_at place v dyn dt c z = waiting_at false [] place v dyn dt c z
 abbrev pub less : Cells → ℕ → ℕ → List ℕ
 less v x y = bytes 2 (65536 + balance_of v - num (x ∷ y ∷ []))
 
+-- the number and one more
 abbrev pub one_more : Cells → List ℕ
 one_more v = bytes 2 (num (v.c0 ∷ v.c1 ∷ []) + 1)
 

@@ -23,12 +23,15 @@ books h t k x = (fixed_from purse_outline k (KeepsBooks k) t.after (λ fixed kep
 sessions : (h : List Event) (t : Step) (k : List Event) → LineKept purse_outline h t k → SaysSessions h t k
 sessions h t k x = fixed_from purse_outline k (λ fixed. KeepsSessions k) t.after (λ fixed kept. kept.sessions) x.0
 
+-- no more than three wrong PINs are compared in a row
 pub guesses_law : GuessesLaw
 guesses_law = from_outline SaysGuesses guesses
 
+-- each debit lowers the balance and raises the number as one
 pub books_law : BooksLaw
 books_law = from_outline SaysBooks books
 
+-- each durable debit was made in a session in which the PIN was shown
 pub sessions_law : SessionsLaw
 sessions_law = from_outline SaysSessions sessions
 
@@ -53,11 +56,14 @@ from_history : (says : List Event → Step → List Event → Type 0) → ((h : 
 from_history says f h ls m ws =
     along_as purse_watch purse_app PurseKept Begins (LineKept purse_outline) says begun f h (plays (start m) ls ws) (kept_from purse_outline purse_shown h ls m ws)
 
+-- the bound of wrong PINs holds from a history that the static bytes begin with
 pub guesses_go_on : InEveryPlayFrom SaysGuesses
 guesses_go_on = from_history SaysGuesses guesses
 
+-- the books are kept from such a history
 pub books_go_on : InEveryPlayFrom SaysBooks
 books_go_on = from_history SaysBooks books
 
+-- debits need a shown PIN from such a history
 pub sessions_go_on : InEveryPlayFrom SaysSessions
 sessions_go_on = from_history SaysSessions sessions

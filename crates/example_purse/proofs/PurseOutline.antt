@@ -170,6 +170,7 @@ ended_kept h fixed kept =
       sessions = kept.sessions;
     }
 
+-- each part of the purse's outline holds
 pub purse_shown : IsShown purse_outline
 purse_shown =
     record {

@@ -74,6 +74,7 @@ late_try_fails : are_true (tests_along purse_watch keeps_guesses [] (steps_of (d
 unfolding deck_read name_of apdu_read touched_words targets_1 targets_2 pairs blocks_from apps_of layout step_of bad_block bad_record bytes_at write_effect too_many later_causes prim_effect causes effect row turn_of_chain run_of_chain manage command send play_at_power step plays moves_of steady_failures after_run assembly_of
 late_try_fails = refl
 
+-- a purse that counts the try after the comparison breaks the bound of wrong PINs
 pub late_try_broken : IsBroken purse_watch (app_of late_try) SaysGuesses late_try_deck
 late_try_broken = broken purse_watch (app_of late_try) SaysGuesses keeps_guesses guesses_tested (steps_of (deck_read late_try_deck)) late_try_alone late_try_fails
 
@@ -85,6 +86,7 @@ early_reset_fails : are_true (tests_along purse_watch keeps_guesses [] (steps_of
 unfolding deck_read name_of apdu_read touched_words targets_1 targets_2 pairs blocks_from apps_of layout step_of bad_block bad_record bytes_at write_effect too_many later_causes prim_effect causes effect row turn_of_chain run_of_chain manage command send play_at_power step plays moves_of steady_failures after_run assembly_of
 early_reset_fails = refl
 
+-- a purse that sets the tries back before the comparison breaks it
 pub early_reset_broken : IsBroken purse_watch (app_of early_reset) SaysGuesses early_reset_deck
 early_reset_broken = broken purse_watch (app_of early_reset) SaysGuesses keeps_guesses guesses_tested (steps_of (deck_read early_reset_deck)) early_reset_alone early_reset_fails
 
@@ -96,6 +98,7 @@ unprotected_fails : are_true (tests_along purse_watch keeps_balance [] (steps_of
 unfolding deck_read name_of apdu_read touched_words targets_1 targets_2 pairs blocks_from apps_of layout step_of bad_block bad_record bytes_at write_effect too_many later_causes prim_effect causes effect row turn_of_chain run_of_chain manage command send play_at_power step plays moves_of steady_failures after_run assembly_of
 unprotected_fails = refl
 
+-- a purse that does not write balance and number as one breaks its books
 pub unprotected_broken : IsBroken purse_watch (app_of unprotected) SaysBooks unprotected_deck
 unprotected_broken = broken purse_watch (app_of unprotected) SaysBooks keeps_balance balance_tested (steps_of (deck_read unprotected_deck)) unprotected_alone unprotected_fails
 
@@ -107,6 +110,7 @@ early_session_fails : are_true (tests_along purse_watch (λ h fixed. keeps_sessi
 unfolding deck_read name_of apdu_read touched_words targets_1 targets_2 pairs blocks_from apps_of layout step_of bad_block bad_record bytes_at write_effect too_many later_causes prim_effect causes effect row turn_of_chain run_of_chain manage command send play_at_power step plays moves_of steady_failures after_run assembly_of
 early_session_fails = refl
 
+-- a purse that sets the session byte before the PIN is looked at debits without it
 pub early_session_broken : IsBroken purse_watch (app_of early_session) SaysSessions early_session_deck
 early_session_broken = broken purse_watch (app_of early_session) SaysSessions (λ h fixed. keeps_sessions h) sessions_tested (steps_of (deck_read early_session_deck)) early_session_alone early_session_fails
 
@@ -118,5 +122,6 @@ reads_again_fails : are_true (tests_along purse_watch keeps_balance [] (steps_of
 unfolding deck_read name_of apdu_read touched_words targets_1 targets_2 pairs blocks_from apps_of layout step_of bad_block bad_record bytes_at write_effect too_many later_causes prim_effect causes effect row turn_of_chain run_of_chain manage command send play_at_power step plays moves_of steady_failures after_run assembly_of
 reads_again_fails = refl
 
+-- a purse that reads the amount again over a delegation breaks its books
 pub reads_again_broken : IsBroken purse_watch (app_with_name reads_again) SaysBooks two_firms
 reads_again_broken = broken purse_watch (app_with_name reads_again) SaysBooks keeps_balance balance_tested (steps_of (deck_read two_firms)) reads_again_alone reads_again_fails

@@ -34,6 +34,7 @@ unfolding needed
 needed_alike [] t = refl
 needed_alike (e ∷ es) t = first_by t e (needed (hears t e).after es) es (needed_alike es (hears t e).after)
 
+-- the card of its own does the same without the losses of a selection that it does not have
 pub needed_law : NeededLaw
 needed_law g = needed_alike g.events (solo_at g.start)
 
@@ -49,6 +50,7 @@ view_of K h = record { answers = h.answer; rest = rest_of K h.after.map }
 seen_alike : (K m d : List (List ℕ)) (us vs : List Step) → IsIsolated K (start m) us → IsIsolated K (start d) vs → solo (given_of_play K us) ≡ solo (given_of_play K vs) → SeesTheSame K m d us vs
 seen_alike K m d us vs here there same = grind arith
 
+-- two plays that give a closed family what it needs show it the same
 pub same_needed_law : SameNeededLaw
 same_needed_law K ls m ws may js d vs may_there n k here there same =
     seen_alike K m d (front_of_play ls m ws n) (front_of_play js d vs k) ((isolation_law ls m ws may n).family K here) ((isolation_law js d vs may_there k).family K there) (solo_same (given_of_play K (front_of_play ls m ws n)) (given_of_play K (front_of_play js d vs k)) same)

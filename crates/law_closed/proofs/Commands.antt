@@ -26,6 +26,7 @@ pub record PairsOf (K : List (List ℕ)) (own : Bool) (pairs : List (List ℕ ×
   pub callers : AllByRecursion (λ p. has_name p.0 K ≡ true) pairs
   pub strangers : own ≡ false → pairs ≡ []
 
+-- no delegation is one of the family
 pub no_pairs : (K : List (List ℕ)) (own : Bool) (pairs : List (List ℕ × List ℕ)) → pairs ≡ [] → PairsOf K own pairs
 no_pairs K own pairs e = record { callers = subst (λ (z : List (List ℕ × List ℕ)). AllByRecursion (λ p. has_name p.0 K ≡ true) z) (sym e) tt; strangers = λ h. e }
 
@@ -48,6 +49,7 @@ applied_pairs K c session_state (Some s) a budget h = ran_pairs K c.apps s.name 
 
 -- ---- a command by its route
 
+-- a command of the manager delegates nothing
 pub managed_none : (c : Card) (session_state : SessionState) (m : Managed) → (manager_command c session_state m).pairs ≡ []
 managed_none c session_state (Declines sw) = refl
 managed_none c session_state (Accepts a) = refl
@@ -68,6 +70,7 @@ command_pairs K c session_state b budget h = routed_pairs K c session_state budg
 routed_none : (c : Card) (session_state : SessionState) (budget : ℕ) (r : Route) → IsManagers r → (by_route c session_state budget r).pairs ≡ []
 routed_none c session_state budget r h = grind (arith, managed_none)
 
+-- a command that reaches the manager delegates nothing
 pub command_none : (c : Card) (session_state : SessionState) (b : List ℕ) (budget : ℕ) → IsManagers (route b) → (command c session_state b budget).pairs ≡ []
 unfolding command
 command_none c session_state b budget h = routed_none c session_state budget (route b) h
@@ -76,6 +79,7 @@ none_with_rest : (b : Bool) (r rest : Command) → r.pairs ≡ [] → rest.pairs
 none_with_rest true r rest g h = ap (λ (z : List (List ℕ × List ℕ)). z ++ rest.pairs) g ∙ h
 none_with_rest false r rest g h = g
 
+-- neither do several such commands in a row
 pub sent_none : (c : Card) (session_state : SessionState) (budget : ℕ) (bs : List (List ℕ)) → AreManagers bs → (send c session_state budget bs).pairs ≡ []
 unfolding send
 sent_none c session_state budget [] h = refl
@@ -86,6 +90,7 @@ sent_none c session_state budget (b ∷ bs) h =
 
 -- ---- the commands of a line
 
+-- the delegations of a line come from the family, and only its own commands have any
 pub line_pairs : (K : List (List ℕ)) (c : Card) (session_state : SessionState) (budget : ℕ) (l : DeckLine) → NoneOutsideCan K c.apps → PairsOf K (is_own_command K (Running session_state) (command_of l)) (line_command c session_state budget l).pairs
 line_pairs K c session_state budget (line.Sent (line.Select n)) h = command_pairs K c session_state (select_bytes n) budget h
 line_pairs K c session_state budget (line.Sent (line.Apdu b)) h = command_pairs K c session_state b budget h

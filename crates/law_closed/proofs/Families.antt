@@ -57,5 +57,6 @@ closed_law K J ts g h =
       alone = closed_steps K J (in_first_alone K J) (λ x y. x && not y) names.alone ts g h;
     }
 
+-- a family whose names are known by whether they are in two closed families is closed
 pub families_law : FamiliesLaw
 families_law = record { names = names_law; closed = closed_law }

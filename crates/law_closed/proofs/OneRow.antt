@@ -17,6 +17,7 @@ done_delegates : (o : Option Primitive) (args : List ℕ) (f : Frame) (public : 
 done_delegates None args f public x none n e = absurd (cc e)
 done_delegates (Some p) args f public x none n e = grind (arith, prim_delegates p args f public x n e)
 
+-- the one row that calls another application is the primitive that delegates, if it is not denied
 pub row_delegates : (i : Ins) (f : Frame) (public : List ℕ) (x : Around) → NoneHolds (causes i f public x) → (n : List ℕ) → (effect i f public x).next ≡ Delegates n → (is_delegation i ≡ true) × (is_denied f.deny DelegateTo ≡ false)
 unfolding causes effect
 row_delegates (ins.Prim set number args) f public x none n e = done_delegates (primitive set number) args f public x none n e

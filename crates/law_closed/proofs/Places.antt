@@ -30,6 +30,7 @@ from_drop (suc n) [] h = absurd (cc (sym none_in_empty ∙ h))
 from_drop zero (b ∷ bs) h = or_left (begins_delegation (b ∷ bs)) (has_delegation bs) h
 from_drop (suc n) (b ∷ bs) h = or_right (begins_delegation (b ∷ bs)) (has_delegation bs) (from_drop n bs h)
 
+-- a delegation at some place of the code is found by the test
 pub has_from_place : (code : List ℕ) (at : ℕ) → is_decoded_delegation (instruction_at code at) ≡ true → has_delegation code ≡ true
 has_from_place code at h = from_drop at code (sym (at_place code at) ∙ h)
 
@@ -64,6 +65,7 @@ can_not : (a : App) → CannotDelegate a → can_delegate a ≡ false
 can_not a (inl denied) = ap (λ (b : Bool). not b && has_delegation a.code) denied
 can_not a (inr none) = ap (λ (b : Bool). not (is_denied a.deny DelegateTo) && b) (not_if_none a.code none) ∙ and_false (not (is_denied a.deny DelegateTo))
 
+-- the test of an application fails exactly if it cannot delegate
 pub test_law : (a : App) → can_delegate a ≡ false ↔ CannotDelegate a
 test_law a = (cannot a, can_not a)
 

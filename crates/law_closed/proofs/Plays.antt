@@ -162,6 +162,7 @@ closed_own : (K : List (List ℕ)) (ts : List Step) → EachCalls K ts → OwnPa
 closed_own K [] h stay = tt
 closed_own K (t ∷ ts) h stay = (line_closed K t (is_own K t) refl h.0 stay.0, closed_own K ts h.1 stay.1)
 
+-- a family is closed if no application outside it can ever delegate
 pub closed_by_code_law : ClosedByCodeLaw
 closed_by_code_law ls m ws may n =
     let us = front_of_play ls m ws n in

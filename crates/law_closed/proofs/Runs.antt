@@ -233,6 +233,7 @@ start_fits : (m : List (List ℕ × App)) (first session : List ℕ) (apdu : Apd
 start_fits m first session apdu None e = record { same = λ n. refl; frame = subst (λ (z : Option App). DeniedAs (facts z) 0) (sym e) tt; below = tt }
 start_fits m first session apdu (Some a) e = record { same = λ n. refl; frame = subst (λ (z : Option App). DeniedAs (facts z) a.deny) (sym e) refl; below = tt }
 
+-- each delegation of a run comes from an application that was on the card and can delegate
 pub runs_law : (m : List (List ℕ × App)) (first session : List ℕ) (apdu : ApduParts) (budget : ℕ) → DelegatesByCode m first (run m first session apdu budget).pairs
 runs_law m first session apdu budget =
     let h : ChainFits m (start m first session apdu) = start_fits m first session apdu (lookup m first) refl in

@@ -110,12 +110,15 @@ module _ (m : List (List ℕ)) (p k : ℕ) (x : List ℕ) (fails : stops_at p m 
   still : k < count_of_recovery_writes (after_power p x m)
   still = subst (λ (l : Look). k < debt l) (sym looks) early
 
+-- power-ups that stop at a target of their recovery stop there again
 pub stuck_from : (p k : ℕ) (xs m : List (List ℕ)) → stops_at p m ≡ Some k → k < count_of_recovery_writes m → stops_at p (after_powers p xs m) ≡ Some k
 stuck_from p k [] m h early = h
 stuck_from p k (x ∷ xs) m h early = stuck_from p k xs (after_power p x m) (again m p k x h early) (still m p k x h early)
 
+-- a power-up that stops at a write of its recovery but the last stops there each later time
 pub stuck_law : StuckLaw
 stuck_law m device p k h early xs = stuck_from p k xs m h early
 
+-- a settled card is read whichever word fails
 pub settled_law : SettledLaw
 settled_law m device = record { read = settled_read m device; after = settled_after m device; gate = settled_shut m device }

@@ -25,6 +25,7 @@ pub record IsAmong (k n count : ℕ) : Type 0 where
   pub low : k + 1 ≤ n
   pub high : n ≤ k + count
 
+-- the first write to a word among some is one of them
 pub first_among : (p k : ℕ) (ws : List (ℕ × List ℕ)) (n : ℕ) → first_to p k ws ≡ Some n → IsAmong k n (length ws)
 first_among p k [] n h = absurd (cc h)
 first_among p k (w ∷ ws) n h = by (w.0 == p) h (λ e. first_among p (k + 1) ws n e)
@@ -61,6 +62,7 @@ module _ (m : List (List ℕ)) (device : IsDevice m) where
     | inl late ↦ ap base_after_migration (h.1 late).base ∙ either (stands One 1 (k - count_of_recovery_writes m) x) (base_of_words m)
   ]
 
+  -- a power-up that stops at a write leaves its image there
   pub halted_at : (p k : ℕ) (x : List ℕ) → stops_at p m ≡ Some k → IsHalted m k x (image_after_stop m (power_writes m) k x)
   halted_at p k x h =
       let among : IsAmong 0 k (length (power_writes m)) = first_among p 0 (power_writes m) k h in
@@ -73,6 +75,7 @@ module _ (m : List (List ℕ)) (device : IsDevice m) where
   base_by p x None h = whole_base (fault m) refl
   base_by p x (Some k) h = stopped_base k x (halted_at p k x h)
 
+  -- what a power-up leaves means the same card
   pub power_base : (p : ℕ) (x : List ℕ) → base_after_migration (base_of_words (after_power p x m)) ≡ base_after_migration (base_of_words m)
   power_base p x = base_by p x (stops_at p m) refl
 
@@ -80,6 +83,7 @@ module _ (m : List (List ℕ)) (device : IsDevice m) where
   size_by None x = length_laid m (power_writes m)
   size_by (Some k) x = length_torn m (power_writes m) k x
 
+  -- it leaves a device
   pub device_after : (p : ℕ) (x : List ℕ) → IsDevice (after_power p x m)
   device_after p x =
       let size : length (words_by (stops_at p m) m (power_writes m) x) ≡ length m = size_by (stops_at p m) x in
@@ -87,10 +91,12 @@ module _ (m : List (List ℕ)) (device : IsDevice m) where
       let high = device.high in
       record { low = omega (arith, size, low); high = omega (arith, size, high) }
 
+-- so do several in a row
 pub one_card_from : (p : ℕ) (xs m : List (List ℕ)) → IsDevice m → base_after_migration (base_of_words (after_powers p xs m)) ≡ base_after_migration (base_of_words m)
 one_card_from p [] m device = refl
 one_card_from p (x ∷ xs) m device = one_card_from p xs (after_power p x m) (device_after m device p x) ∙ power_base m device p x
 
+-- every power-up leaves one card, wherever it stops
 pub one_card_law : OneCardLaw
 one_card_law m device p xs = one_card_from p xs m device
 
@@ -106,6 +112,7 @@ sound_base m o h = ap (λ (q : Option (Cause × ℕ)). base_of q m) h
 two_layouts : (n : ℕ) → n ≡ 2 → (n == 1) ≡ false
 two_layouts n h = ap (λ (k : ℕ). k == 1) h
 
+-- a settled card needs no write when power comes
 pub settled_writes : (m : List (List ℕ)) → IsDevice m → IsSettled m → power_writes m ≡ []
 unfolding power_writes
 settled_writes m device h =
@@ -117,6 +124,7 @@ settled_writes m device h =
     ∙ ap (λ (b : Base). migration_writes b (settled_words m)) base
     ∙ ap (λ (t : Bool). cond t (writes One (new_root (settled_words m))) []) new
 
+-- a settled card is read
 pub settled_read : (m : List (List ℕ)) → IsDevice m → IsSettled m → IsRead m
 settled_read m device h =
     let none = settled_writes m device h in
@@ -147,6 +155,7 @@ settled_whole m device f =
       nothing_left = holds.owed;
     }
 
+-- a power-up that stops nowhere leaves a settled card, if it is well laid
 pub settled_after : (m : List (List ℕ)) → IsDevice m → (p : ℕ) (x : List ℕ) → IsWellLaid m → stops_at p m ≡ None → IsSettled (after_power p x m)
 settled_after m device p x f h = subst (λ (o : Option ℕ). IsSettled (words_by o m (power_writes m) x)) (sym h) (settled_whole m device f)
 
@@ -170,6 +179,7 @@ settled_gate m device p k x f layout last h shut =
       nothing_left = holds.owed ∙ ap (λ (i : ℕ). remains j (i - 1) k x) (sym last) ∙ gate_left j k x low shut;
     }
 
+-- so does one that stops as it shuts the gate, if what it leaves opens no journal
 pub settled_shut : (m : List (List ℕ)) → IsDevice m → (p : ℕ) (x : List ℕ) → IsWellLaid m → (means m).layout ≡ 2 → stops_at p m ≡ Some (count_of_recovery_writes m) → bytes_eq x (opening (pending_journal (which m))) ≡ false
     → IsSettled (after_power p x m)
 settled_shut m device p x f layout h shut =
@@ -193,5 +203,6 @@ answer_from : (m : List (List ℕ)) (s : Warm) (o : Option ℕ) (x : List ℕ) �
 answer_from m s None x h = ap (λ (n : ℕ). power_result n s.base) (count_held m s.base s refl h) ∙ ap (λ (b : Base). power_result (power_count m) b) (sym (base_held m s.base s h))
 answer_from m s (Some k) x h = refl
 
+-- a power line answers 6581 if it writes the failing word, and else as if none failed
 pub answer_law : AnswerLaw
 answer_law m s h p x = answer_from m s (stops_at p m) x h

@@ -15,30 +15,37 @@ abbrev pub Fine : {A E : Type 0} → Result A E → Type 0
 Fine (Ok a) = ⊤
 Fine (Err e) = ⊥
 
+-- if a result in two steps is no refusal, neither step is one
 pub fine_then : {A B E : Type 0} (r : Result A E) (f : A → Result B E) → Fine (r >>= f) → (a : A) × (r ≡ Ok a) × Fine (f a)
 fine_then (Ok a) f h = (a, refl, h)
 fine_then (Err e) f h = absurd h
 
+-- if a result whose value was mapped is no refusal, neither is the result
 pub fine_as : {A B E : Type 0} (f : A → B) (r : Result A E) → Fine (ok_as f r) → Fine r
 fine_as f (Ok a) h = tt
 fine_as f (Err e) h = absurd h
 
+-- if a result whose refusal was mapped is no refusal, neither is the result
 pub fine_err : {A E F : Type 0} (f : E → F) (r : Result A E) → Fine (err_as f r) → Fine r
 fine_err f (Ok a) h = tt
 fine_err f (Err e) h = absurd h
 
+-- if a result by a test is no refusal, the test passes
 pub fine_if : {A E : Type 0} (b : Bool) (e : E) (a : A) → Fine (only_if b e a) → b ≡ true
 fine_if true e a h = refl
 fine_if false e a h = absurd h
 
+-- if a value that is asked for is no refusal, it is there
 pub fine_or : {A E : Type 0} (o : Option A) (e : E) → Fine (ok_or o e) → (a : A) × (o ≡ Some a)
 fine_or (Some a) e h = (a, refl)
 fine_or None e h = absurd h
 
+-- an answer is no refusal
 pub fine_ok : {A E : Type 0} (r : Result A E) (a : A) → r ≡ Ok a → Fine r
 fine_ok (Ok b) a h = tt
 fine_ok (Err e) a h = absurd (cc h)
 
+-- if two results together are no refusal, neither is one
 pub fine_both : {A B : Type 0} (r : Result A AsmCause) (s : Result B AsmCause) → Fine (both r s) → Fine r × Fine s
 fine_both (Ok a) (Ok b) h = (tt, tt)
 fine_both (Ok a) (Err e) h = absurd h

@@ -82,6 +82,7 @@ shorter_by : (b : Bool) (c : ℕ) (t r : List ℕ) (q : List ℕ × Option (List
 shorter_by true c t r q f h = let e : t ≡ r = cc h in omega (arith, ap length e)
 shorter_by false c t r q f h = omega (arith, f h)
 
+-- what follows the first cut of a text is shorter than the text
 pub cut_shorter : (f : ℕ → Bool) (t r : List ℕ) → (first_cut f t).1 ≡ Some r → length r < length t
 cut_shorter f [] r h = absurd (cc h)
 cut_shorter f (c ∷ t) r h = shorter_by (f c) c t r (first_cut f t) (λ e. cut_shorter f t r e) h

@@ -9,12 +9,15 @@ use Rattle.desk_draft.specs.Parts.{after_word, before_rest, first_word, part_in,
 abbrev pub Ends : List ℕ → List ℕ → Type 0
 Ends s t = (b : List ℕ) × (t ≡ b ++ s)
 
+-- a text ends with itself
 pub ends_all : (t : List ℕ) → Ends t t
 ends_all t = ([], refl)
 
+-- a text ends with what is left after its first n characters
 pub ends_drop : (n : ℕ) (t : List ℕ) → Ends (drop n t) t
 ends_drop n t = (take n t, sym (take-append-drop n t))
 
+-- the end of an end is an end
 pub ends_on : (a b c : List ℕ) → Ends a b → Ends b c → Ends a c
 ends_on a b c h k = (k.0 ++ h.0, k.1 ∙ ap (λ x. k.0 ++ x) h.1 ∙ sym (append_assoc k.0 h.0 a))
 
@@ -22,6 +25,7 @@ ends_by : (b : Bool) (c : ℕ) (t : List ℕ) → Ends (trim_front t) t → Ends
 ends_by true c t h = (c ∷ h.0, ap (λ x. c ∷ x) h.1)
 ends_by false c t h = ([], refl)
 
+-- a text ends with itself without the blanks in front
 pub ends_front : (t : List ℕ) → Ends (trim_front t) t
 ends_front [] = ([], refl)
 ends_front (c ∷ t) = ends_by (is_blank c) c t (ends_front t)

@@ -54,6 +54,7 @@ abbrev begins_digit : List ℕ → Bool
 begins_digit [] = false
 begins_digit (c ∷ t) = is_digit c
 
+-- an empty operand stays
 pub empty_stays : Stays []
 empty_stays sized = refl
 
@@ -86,9 +87,11 @@ number_stays high t h =
     let b = fine_or (natural t) BadNumber (fine_ok (ok_or (natural t) BadNumber) a.0 a.1) in
     digit_stays t (natural_digit t b.0 b.1)
 
+-- an operand that is a byte stays
 pub byte_stays : (t : List ℕ) → Fine (byte t) → Stays t
 byte_stays t h = number_stays 255 t h
 
+-- an operand that is a word stays
 pub word_stays : (t : List ℕ) → Fine (word t) → Stays t
 word_stays t h = number_stays 65535 t h
 
@@ -120,6 +123,7 @@ address_parts (r ∷ s ∷ []) h =
     (r, s, refl, among no_mark 1 register_names r k.0 refl k.1)
 address_parts (r ∷ s ∷ t ∷ ps) h = absurd h
 
+-- an operand that is an address stays
 pub address_stays : (t : List ℕ) → Fine (address t) → Stays t
 address_stays t h =
     let a = address_parts (pieces (λ c. c == 91) t) h in
@@ -128,6 +132,7 @@ address_stays t h =
 
 -- ---- the operands of a word
 
+-- each operand stays
 abbrev pub AllStay : List (List ℕ) → Type 0
 AllStay [] = ⊤
 AllStay (t ∷ ts) = Stays t × AllStay ts

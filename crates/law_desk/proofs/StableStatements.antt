@@ -40,6 +40,7 @@ abbrev pub is_app : Word → Bool
 is_app AppWord = true
 is_app w = false
 
+-- a word that the deck's reader knows is its own name
 pub word_known : (t : List ℕ) (w : Word) → lookup deck_words t ≡ Some w → t ≡ word_name w
 word_known t w h = same_name t (word_name w) (looked (λ n w. bytes_eq n (word_name w)) deck_words t w refl h)
 
@@ -114,6 +115,7 @@ pub record Kept (sections : List (List ℕ × Loadable)) (w : Word) (fs : List (
   pub stays : stated_text sections (word_name w ∷ fs) core ≡ Ok core
   pub says : Good IsLine r
 
+-- an accepted statement that opens no section stays as it is
 pub statement_kept : (c : Context) (n : ℕ) (w : Word) (fs : List (List ℕ)) (sections : List (List ℕ × Loadable)) (core : List ℕ) → fields core ≡ fs → ((t : List ℕ) → fs ≡ t ∷ [] → core ≡ t) → is_app w ≡ false → Fine (statement_of c n w fs)
     → Kept sections w fs core (statement_of c n w fs)
 unfolding statement_of

@@ -23,6 +23,7 @@ cuts_by : (f : ℕ → Bool) (b : Bool) (c : ℕ) (t : List ℕ) (p : List ℕ �
 cuts_by f true c t p e h = (c, e, refl)
 cuts_by f false c t p e h = cuts_more f c t p h
 
+-- a text is its first cut: what comes before it, and what follows it
 pub cuts : (f : ℕ → Bool) (t : List ℕ) → Cuts f t (first_cut f t)
 cuts f [] = refl
 cuts f (c ∷ t) = cuts_by f (f c) c t (first_cut f t) refl (cuts f t)
@@ -43,6 +44,7 @@ blank_cut : (c : ℕ) (s : List ℕ) → is_blank c ≡ true → first_cut is_bl
 blank_cut c [] e = rw e refl
 blank_cut c (d ∷ s) e = rw e refl
 
+-- a character that is no blank stays before a trimmed text
 pub kept_first : (c : ℕ) (s : List ℕ) → is_blank c ≡ false → before_trimmed c s ≡ c ∷ s
 kept_first c [] e = rw e refl
 kept_first c (d ∷ s) e = refl
@@ -114,6 +116,7 @@ front_fields_by : (b : Bool) (c : ℕ) (t : List ℕ) → is_blank c ≡ b → f
 front_fields_by true c t e h = h ∙ sym (fields_blank c t e)
 front_fields_by false c t e h = refl
 
+-- the blanks in front of a text change no field
 pub fields_front : (t : List ℕ) → fields (trim_front t) ≡ fields t
 fields_front [] = refl
 fields_front (c ∷ t) = front_fields_by (is_blank c) c t refl (fields_front t)
@@ -152,6 +155,7 @@ follows_by : (t : List ℕ) (p : List ℕ × Option (List ℕ)) → Cuts is_blan
 follows_by t (w, None) h = ap (drop (length w)) h ∙ drop-length w
 follows_by t (w, Some r) h = (h.0, h.1, ap (drop (length w)) h.2 ∙ drop-append_seam w (h.0 ∷ r))
 
+-- what follows the first word is nothing, or a blank and a text
 pub follows : (t : List ℕ) → Follows (after_word t) (first_cut is_blank (trim_front t)).1
 follows t = follows_by (trim_front t) (first_cut is_blank (trim_front t)) (cuts is_blank (trim_front t))
 
@@ -230,5 +234,6 @@ pub other_fields : (t w : List ℕ) (fs : List (List ℕ)) → fields t ≡ w �
 other_fields t w fs h =
     fields_trimmed (after_word t) ∙ follow_fields t ∙ word_before w fs (first_cut is_blank (trim_front t)) (λ e. (no_first_word t e).0) (sym (fields_by t) ∙ h)
 
+-- a text of one field is that field without its blanks
 pub one_trimmed : (x t : List ℕ) → fields (trim x) ≡ t ∷ [] → trim x ≡ t
 one_trimmed x t h = one_field x t (sym (fields_trimmed x) ∙ h)

@@ -152,6 +152,7 @@ ends_in : (most n : ℕ) (x : Exploration) → 1 ≤ most → let e = search_of 
 unfolding search_of
 ends_in most n x some = search_ends most x.rules n (first_state x) (omega (arith, some))
 
+-- a text that says `depth N` is that of a search of N depths
 pub depth_text_law : DepthTextLaw
 unfolding text_within
 depth_text_law most n d text x some top small few read says ts short =

@@ -30,10 +30,12 @@ digits_every test f (suc k) n acc h =
 abbrev pub other : ℕ → ℕ → Bool
 other c d = not (d == c)
 
+-- a decimal number has no character below its digits
 pub decimal_every : (c n : ℕ) → c < 48 → every (other c) (decimal n) ≡ true
 unfolding digits
 decimal_every c n low = digits_every (other c) (λ d h. ap not (ne_eqb (48 + d) c (λ e. absurd (omega (arith, e, low))))) 64 n [] refl
 
+-- what passes for each character of two texts passes for both together
 pub every_append : (test : ℕ → Bool) (a b : List ℕ) → every test a ≡ true → every test b ≡ true → every test (a ++ b) ≡ true
 every_append test [] b h k = k
 every_append test (c ∷ a) b h k =
@@ -50,6 +52,7 @@ after c (x ∷ xs) = cond (x == c) xs (after c xs)
 after_by : (c x : ℕ) (w t : List ℕ) → not (x == c) ≡ true → after c (w ++ c ∷ t) ≡ t → cond (x == c) (w ++ c ∷ t) (after c (w ++ c ∷ t)) ≡ t
 after_by c x w t h e = cond_both (x == c) (w ++ c ∷ t) (after c (w ++ c ∷ t)) (λ (l : List ℕ). l ≡ t) (λ same. absurd (cc (h, ap not same))) (λ apart. e)
 
+-- what comes after the first of a character is what follows a word without it
 pub after_first : (c : ℕ) (w t : List ℕ) → every (other c) w ≡ true → after c (w ++ c ∷ t) ≡ t
 after_first c [] t h = ap (λ (b : Bool). cond b t (after c t)) (eq-eqb c c refl)
 after_first c (x ∷ w) t h =
@@ -62,6 +65,7 @@ head (x ∷ xs) = x
 
 -- ---- lines of depths
 
+-- the front of a line of a depth
 abbrev pub depth_front : ℕ → ℕ → List ℕ
 depth_front d n = codes "depth " ++ decimal d ++ codes " states " ++ decimal n
 
@@ -81,6 +85,7 @@ unlines (x ∷ xs) (y ∷ ys) d e s he hs h =
 
 -- ---- lines of rules that applied to no try
 
+-- the front of a line of a rule that applied to no try
 abbrev pub silent_front : ℕ → List ℕ
 silent_front n = codes "silent line " ++ decimal n
 
@@ -117,9 +122,11 @@ broken_no_sums broken (x ∷ ms) n m so b h = let z : 98 ≡ 115 = sym b ∙ ap 
 
 -- ---- the line of the sums
 
+-- what comes after the fifth blank
 abbrev pub after_five : List ℕ → List ℕ
 after_five t = after 32 (after 32 (after 32 (after 32 (after 32 t))))
 
+-- after its fifth blank the line of the sums has how the search ended
 pub sums_end : (states tries : ℕ) (how : List ℕ) → after_five (sums_text states tries (32 ∷ how)) ≡ how ++ codes "\n"
 sums_end states tries how = grind (arith, append_assoc, after_first, decimal_every)
 
@@ -129,6 +136,7 @@ module _ (ons : List OnRule) (s : State) (e : Search) where
   abbrev silent : List ℕ
   silent = silent_numbers ons e.tally.heard
 
+  -- the text of an ending does not begin as the line of a depth
   pub no_depth : (x : Ending) → head (ending_text ons s e x) ≡ 100 → ⊥
   no_depth All h = silent_no_depth silent e.states e.tally.tries (codes " all") h
   no_depth (AtDepth d) h = silent_no_depth silent e.states e.tally.tries (codes " depth " ++ decimal d) h
@@ -153,6 +161,7 @@ module _ (ons : List OnRule) (s : State) (e : Search) (ms : List ℕ) where
 
 -- ---- the law
 
+-- a text that says `all` is that of a search that ended so
 pub text_law : TextLaw
 unfolding text_within
 text_law most n text x read says ts =

@@ -27,10 +27,12 @@ use Rattle.law_histories.specs.Histories.{standing_from}
 abbrev pub Adds : {E : Type 0} → (List E → List E) → Type 0
 Adds {E} f = (h : List E) → f h ≡ f [] ++ h
 
+-- at most one event before a history is added to it
 pub event_adds : {E : Type 0} (e : Option E) → Adds (λ (h : List E). with_event e h)
 event_adds None h = refl
 event_adds (Some e) h = refl
 
+-- two additions in a row add to the history
 pub both_add : {E : Type 0} (f g : List E → List E) → Adds f → Adds g → Adds (λ (h : List E). g (f h))
 both_add {E} f g a b h = ap g (a h) ∙ (b (f [] ++ h) ∙ (sym (append_assoc (g []) (f []) h) ∙ ap (λ (z : List E). z ++ h) (sym (b (f [])))))
 
@@ -120,6 +122,7 @@ line_adds w (AfterPower s) t (line.Sent k) same h = taken_adds w s.live s.base s
 line_adds w (BeforePower m b a) t _ same h = refl
 line_adds w (AfterPower s) t _ same h = refl
 
+-- a line that creates nothing under the name adds to the history
 pub step_adds : {E : Type 0} (w : Watch E) (t : Step) → LeavesHistory w t → Adds (λ (h : List E). after_step w t h)
 step_adds w t same h = line_adds w t.before t t.line same h
 
@@ -138,5 +141,6 @@ standing_append r [] k = all_same (standing_after r k)
 standing_append r (e ∷ h) k =
     ap (λ (z : Result Standing Break). z >>= after_event r e) (standing_append r h k) ∙ in_turn (standing_after r k) (λ s. standing_from r h s) (after_event r e)
 
+-- the standing after added events is that from the one before them
 pub standing_on : (r : AppRules) (h k : History) (s : Standing) → standing_after r k ≡ Ok s → standing_after r (h ++ k) ≡ standing_from r h s
 standing_on r h k s e = standing_append r h k ∙ ap (λ (z : Result Standing Break). z >>= λ s. standing_from r h s) e

@@ -73,6 +73,7 @@ module _ (g : Target) where
   fetches e h f public depth x (Err fault) = abends e (with_event ((rule_watch g.name).of_abend f.at (fetch_cause fault)) h) f (fetch_cause fault)
   fetches e h f public depth x (Ok i) = rows e h f public depth i.0 (row i.0 (frame_at f i.1) public x)
 
+  -- the domain that says nothing is sound
   pub any_sound : IsSound (any_domain g)
   any_sound =
       record {
@@ -99,6 +100,7 @@ module _ (g : Target) where
   not_there true h session x = absurd x
   not_there false h session x = refl
 
+  -- an application that is not on the card is not selected
   pub unselected : (h : History) (s : Option Selected) → SelectedCovered (any_domain g) h None s → is_selected s g.name ≡ false
   unselected h None x = refl
   unselected h (Some s) x = not_there (bytes_eq s.name g.name) h s.session x

@@ -104,6 +104,7 @@ module _ (g : Target) (c : Card) (session_state : SessionState) (budget : ℕ) (
   stop_begins (Some s) false e = refl
   stop_begins (Some s) true e = absurd (cc e)
 
+  -- a line to the card that brings the application begins with an empty history
   pub sent_begins : (k : DeckCommand) (result : Option LineResult) (h : History) → is_selected session_state.selected g.name ≡ false → Brings (line_command c session_state budget (line.Sent k))
       → let w = rule_watch g.name in
       after_stop w (is_selected session_state.selected g.name) t (after_command w c session_state budget (command_in (line.Sent k)) result (cut_of t) (after_items g.name (whole_items (line_command c session_state budget (line.Sent k)) t) h)) ≡ []
@@ -162,5 +163,6 @@ kind_splits g {w} h (Sends {n = n} {o = o} {g = budget} {j = j} {a = a} k c sess
     landed r None y f = f
     landed r (Some t) y f = f
 
+-- each line adds to the history of an application that stays, or begins that of one that it brings
 pub step_splits : (g : Target) (h : History) (z : State) (l : ℕ × DeckLine) (w : Option FailedWrite) → StateCovered (any_domain g) h z → BringsOnly g.name g.app (step z l w) → Splits g (step z l w) h
 step_splits g h z l w covered brings = kind_splits g h (by_kind z l w) covered brings

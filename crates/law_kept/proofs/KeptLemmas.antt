@@ -118,6 +118,7 @@ begins text x is kept h =
 
 -- ---- the laws
 
+-- rules that are kept in every play break in no exploration that brings only their application
 pub exploration_law : ExplorationLaw
 unfolding exploration_brings
 exploration_law limit n text x read kept brings =
@@ -128,6 +129,7 @@ exploration_law limit n text x read kept brings =
     let test : search_brings limit n x (Ok first.standing) ≡ true = subst (λ (z : Result Standing (List ℕ)). search_brings limit n x z ≡ true) first.is p.1 in
     unbroken limit n x (all_moves x.moves is.moves) first (depths_from n limit x (node ∷ []) (first_round x node.state) test)
 
+-- if no move creates an application and the deck brings only that of the rules, so does every depth
 pub only_target_law : OnlyTargetLaw
 unfolding brings_only_target
 only_target_law limit n text x read kept only =

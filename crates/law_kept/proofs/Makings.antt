@@ -28,12 +28,14 @@ use Rattle.law_histories.specs.model_device.proofs.MapLemmas.{lookup_beside, loo
 
 -- ---- items that create only what has a property
 
+-- what an item creates has a property
 abbrev pub Makes : (List ℕ → Type 0) → Item → Type 0
 Makes P Plain = ⊤
 Makes P (Atomic w (Fixed k ps)) = ⊤
 Makes P (Atomic w (Created k a)) = P k
 Makes P (Atomic w (Deleted k)) = ⊤
 
+-- what each item creates has a property
 abbrev pub AllMake : (List ℕ → Type 0) → List Item → Type 0
 AllMake P [] = ⊤
 AllMake P (i ∷ is) = Makes P i × AllMake P is
@@ -50,6 +52,7 @@ makes_append : (P : List ℕ → Type 0) (is js : List Item) → AllMake P is �
 makes_append P [] js a b = b
 makes_append P (i ∷ is) js a b = (a.0, makes_append P is js a.1 b)
 
+-- items that create nothing create only others
 pub none_others : (n : List ℕ) (is : List Item) → AllMake IsNone is → AllMake (IsOther n) is
 none_others n [] a = tt
 none_others n (Plain ∷ is) a = (tt, none_others n is a.1)
@@ -83,6 +86,7 @@ whole_makes P r (Some t) a = stopped_makes P r.items t.at t.left a
 
 -- ---- histories
 
+-- items that create only others leave the history of a name
 pub others_history : {E : Type 0} (n : List ℕ) (is : List Item) (h : List E) → AllMake (IsOther n) is → after_items n is h ≡ h
 others_history n [] h a = refl
 others_history n (Plain ∷ is) h a = others_history n is h a.1
@@ -94,6 +98,7 @@ other_if : (b : Bool) (app a : App) → b ≡ false → IsAppIf b app a
 other_if true app a e = absurd (cc e)
 other_if false app a e = tt
 
+-- items that create only others create only the application under its name
 pub others_only : (n : List ℕ) (app : App) (is : List Item) → AllMake (IsOther n) is → CreatesOnly n app is
 others_only n app [] a = tt
 others_only n app (Plain ∷ is) a = others_only n app is a.1
@@ -104,6 +109,7 @@ others_only n app (Atomic w (Deleted k) ∷ is) a = others_only n app is a.1
 -- ---- one that was not there
 
 module _ (n : List ℕ) where
+  -- a change of static bytes brings no application
   pub none_beside : (x : Bool) (m : List (List ℕ × App)) (k : List ℕ) (ps : List (ℕ × List ℕ)) → bytes_eq k n ≡ x → lookup m n ≡ None → lookup (map_changed m k (Some ps)) n ≡ None
   none_beside false m k ps e none = beside_changed m k n (Some ps) e ∙ none
   none_beside true m k ps e none =
@@ -174,6 +180,7 @@ module _ (P : List ℕ → Type 0) (c : Card) (session_state : SessionState) whe
       made_makes a (order_of a.ins) (manager_command c session_state (manage (room_on c) c.apps session_state a)) (command_made c session_state a) (order_law (room_on c) c.apps session_state a).ins allows
   routed_makes budget (ToApplication a) allows = passed_makes session_state.selected a budget
 
+  -- a command creates only what its route allows
   pub command_makes : (b : List ℕ) (budget : ℕ) → Allows P c.apps (route b) → AllMake P (command c session_state b budget).items
   unfolding command
   command_makes b budget allows = routed_makes budget (route b) allows
@@ -239,6 +246,7 @@ send_makes P c session_state budget (f ∷ fs) b fill h =
 
 -- ---- a line
 
+-- a line to the card creates only names that the card has not
 pub line_makes : (P : List ℕ → Type 0) (c : Card) (session_state : SessionState) (budget : ℕ) (k : DeckCommand) → ((k : List ℕ) → lookup c.apps k ≡ None → P k) → AllMake P (line_command c session_state budget (line.Sent k)).items
 line_makes P c session_state budget (line.Select n) h = command_makes P c session_state (select_bytes n) budget (allows_all P c.apps (route (select_bytes n)) h)
 line_makes P c session_state budget (line.Delete n) h = command_makes P c session_state (delete_bytes n) budget (allows_all P c.apps (route (delete_bytes n)) h)
@@ -249,5 +257,6 @@ line_makes P c session_state budget (line.Load u fixed session) h = send_makes P
 there_other : (n : List ℕ) (m : List (List ℕ × App)) (a : App) → lookup m n ≡ Some a → (k : List ℕ) → lookup m k ≡ None → bytes_eq k n ≡ false
 there_other n m a there k none = false_from_ne_true (bytes_eq k n) (λ e. cc (sym none ∙ (ap (λ (z : List ℕ). lookup m z) (same_name k n e) ∙ there)))
 
+-- a line to a card that has the application creates only others
 pub others_made : (n : List ℕ) (c : Card) (session_state : SessionState) (budget : ℕ) (k : DeckCommand) (a : App) → lookup c.apps n ≡ Some a → AllMake (IsOther n) (line_command c session_state budget (line.Sent k)).items
 others_made n c session_state budget k a there = line_makes (IsOther n) c session_state budget k (there_other n c.apps a there)

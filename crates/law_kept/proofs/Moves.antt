@@ -143,6 +143,7 @@ line_of_move n (word ∷ rest) =
     (some_ok (lookup move_words word) BadLine (StatesSent n rest) (lookup_all (StatesSent n rest) move_words word (power_states n rest, (select_states n rest, (delete_states n rest, (apdu_states n rest, tt))))))
     (λ w h. h)
 
+-- each move is a line to the card, of bytes
 abbrev pub AreSent : List Move → Type 0
 AreSent ms = AllByRecursion (λ m. IsSent m.line) ms
 
@@ -171,11 +172,13 @@ parts_have loads r ms (l ∷ ls) h =
 
 -- ---- what was read
 
+-- the deck lines, the application and the moves of an exploration that was read
 pub record IsReadFrom (text : List ℕ) (x : AppExploration) : Type 0 where
   pub lines : deck_read text ≡ Ok x.lines
   pub target : x.rules.target ≡ Some x.target
   pub moves : AreSent x.moves
 
+-- a value that was not refused is the value
 pub itself : {A E : Type 0} (d : Result A E) → IfOk d (λ a. d ≡ Ok a)
 itself (Ok a) = refl
 itself (Err e) = tt
@@ -198,5 +201,6 @@ read_is text =
     (err_ok line_fault (parts_from (loads_of (load_names false numbered) ls) no_app_rules [] (marked_lines false numbered)) HasMoves (parts_have (loads_of (load_names false numbered) ls) no_app_rules [] (marked_lines false numbered) tt))
     (λ p h. tested_read text ls p.1 p.0 p.0.target e refl h))
 
+-- an exploration that was read has its parts from its text
 pub read_from : (text : List ℕ) (x : AppExploration) → app_exploration_read text ≡ Ok x → IsReadFrom text x
 read_from text x e = subst (λ (z : Result AppExploration AppFault). IfOk z (IsReadFrom text)) e (read_is text)

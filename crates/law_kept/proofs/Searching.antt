@@ -44,6 +44,7 @@ manners_can c m (Running session_state) e is =
 manners_can c m Unpowered e is = (record { move = is; manner = tt }, tt)
 manners_can c m Muted e is = (record { move = is; manner = tt }, tt)
 
+-- each try of some moves is one that can be made in the state
 pub tries_can : (ms : List Move) (c : CardState) → AllByRecursion IsMove ms → AllByRecursion (CanBe c) (tries_of ms c)
 unfolding tries_of
 tries_can [] c are = tt
@@ -119,6 +120,7 @@ module _ (limit : ℕ) (x : AppExploration) (moves : AllByRecursion IsMove x.mov
 
   -- ---- searches
 
+  -- the search ends without a broken rule
   abbrev pub EndsUnbroken : Search → Type 0
   EndsUnbroken e = (name : List ℕ) (path : List Try) → e.ending ≢ Broken name path
 

@@ -53,6 +53,7 @@ app_if : (b : Bool) (app a : App) → (not b || is_app app a) ≡ true → IsApp
 app_if true app a h = app_is app a h
 app_if false app a h = tt
 
+-- items that a test finds to create only the application do so
 pub creates_from : (n : List ℕ) (app : App) (is : List Item) → creates_only n app is ≡ true → CreatesOnly n app is
 creates_from n app [] h = tt
 creates_from n app (Plain ∷ is) h = creates_from n app is h
@@ -346,6 +347,7 @@ pub record FirstReaches (x : AppExploration) : Type 0 where
 abbrev deck_play : List (ℕ × DeckLine) → List Step
 deck_play ls = let z = start (blank_words device_words) in plays z ls (steady_failures z ls)
 
+-- a deck that keeps its rules leads to the first state of its exploration
 pub first_reaches : (x : AppExploration) → KeptInAll x.rules x.target → AllByRecursion (λ l. IsLine l.1) x.lines → AllByRecursion (λ l. Counts l.1) x.lines → all_bring_only x.target.name x.target.app (deck_steps x.lines) ≡ true
     → leaves_none x.target.name (play_of_deck x.lines) ≡ true → FirstReaches x
 unfolding first_standing_of deck_steps play_of_deck first_play

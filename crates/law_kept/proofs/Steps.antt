@@ -112,6 +112,7 @@ covers_on : (g : Target) (h : History) (z : State) (l : ℕ × DeckLine) (w : Op
     → StateCovered (any_domain g) (after_step (rule_watch g.name) (step z l w) h) (step z l w).after
 covers_on g h z l w covered brings hits = (step_kept (any_domain g) (any_sound g) h z l w (λ t. absurd t) (λ t. absurd t) covered brings (inr hits)).0
 
+-- what holds before a line in which the rules are kept holds after it
 pub holds_step : (r : AppRules) (g : Target) (z : State) (h : History) (s : Standing) (l : ℕ × DeckLine) (w : Option FailedWrite) → Holds r g z h s → IsLine l.1 → BringsOnly g.name g.app (step z l w) → StopsAtWrite (step z l w)
     → StepHolds r g (step z l w) h s
 unfolding standing_after_step
@@ -151,12 +152,14 @@ holds_none r g z h s u holds none = record { goes = holds.goes; covered = holds.
 
 -- ---- the lines of a play
 
+-- what holds after the lines of a play, with the standing there
 pub record PlayHolds (r : AppRules) (g : Target) (z : State) (ts : List Step) (s : Standing) : Type 0 where
   pub standing : Standing
   pub is : standing_after_steps r g ts s ≡ Ok standing
   pub history : History
   pub holds : Holds r g (last_state z ts) history standing
 
+-- what holds before the lines of a play holds after them
 pub holds_play : (r : AppRules) (g : Target) (ls : List (ℕ × DeckLine)) (ws : List (Option FailedWrite)) (z : State) (h : History) (s : Standing) → Holds r g z h s → AllByRecursion (λ l. IsLine l.1) ls
     → AllByRecursion (BringsOnly g.name g.app) (plays z ls ws) → AllByRecursion StopsAtWrite (plays z ls ws) → PlayHolds r g z (plays z ls ws) s
 unfolding plays standing_after_steps

@@ -112,5 +112,6 @@ read_counts : (text : List ℕ) → IfOk (deck_read text) LinesCount
 unfolding deck_read
 read_counts text = lines_count (Between (record { units = []; powered = false })) (with_numbers 1 (lines text))
 
+-- the stops of a deck that was read are counted from 1
 pub deck_counts : (text : List ℕ) (ls : List (ℕ × DeckLine)) → deck_read text ≡ Ok ls → AllByRecursion (λ l. Counts l.1) ls
 deck_counts text ls e = subst (λ (r : Result (List (ℕ × DeckLine)) (ℕ × DeckCause)). IfOk r LinesCount) e (read_counts text)

@@ -53,6 +53,7 @@ pub record TryReaches (r : AppRules) (g : Target) (c : CardState) (m : Move) (w 
 
 -- ---- steps that count the same
 
+-- two steps have the same events and the same applications before and after
 pub record SameFor (g : Target) (t u : Step) : Type 0 where
   pub events : after_step (rule_watch g.name) t [] ≡ after_step (rule_watch g.name) u []
   pub before : apps_in t.before ≡ apps_in u.before
@@ -61,6 +62,7 @@ pub record SameFor (g : Target) (t u : Step) : Type 0 where
 standing_by : AppRules → Target → History → List (List ℕ × App) → List (List ℕ × App) → Standing → Result Standing (List ℕ)
 standing_by r g e m n s = standing_if (is_some (lookup m g.name) && is_some (lookup n g.name)) r e s >>= if_always r (lookup n g.name)
 
+-- steps that count the same leave the same standing
 pub same_standing : (r : AppRules) (g : Target) (t u : Step) (s : Standing) → SameFor g t u → standing_after_step r g t s ≡ standing_after_step r g u s
 unfolding standing_after_step standing_by
 same_standing r g t u s same =
@@ -178,14 +180,17 @@ power_same : (g : Target) (n : ℕ) (b : Base) (o : ℕ) (j : Journal) (v : Live
 unfolding step
 power_same g n b o j v budget = record { events = refl; before = refl; after = refl }
 
+-- a power line without a stop creates nothing
 pub power_brings : (g : Target) (n : ℕ) (s : Warm) → BringsOnly g.name g.app (step (AfterPower s) (n, line.Power) None)
 unfolding step
 power_brings g n s = record { creates = tt; finds = tt }
 
+-- a power line without a failed write is stopped at no other place than a device write
 pub power_hits : (n : ℕ) (s : Warm) → StopsAtWrite (step (AfterPower s) (n, line.Power) None)
 unfolding step
 power_hits n s = tt
 
+-- a power line leads to a state of a play in which the rules are kept
 pub power_reaches : (r : AppRules) (g : Target) (n : ℕ) (b : Base) (o : ℕ) (j : Journal) (v : Live) (budget : ℕ) (h : History) (u : Standing)
     → Holds r g (step (AfterPower (past_power b o j v budget Unarmed)) (n, line.Power) None).after h u
     → IsReached r g (state_in (step (AfterPower (past_power b 0 Two v budget Unarmed)) (n, line.Power) None).after u.allowances) u
@@ -303,5 +308,6 @@ line_reaches r g b Unpowered budget a s n t l (CutAt i x) st card is only can = 
 line_reaches r g b Muted budget a s n t l (CutAt i x) st card is only can = absurd (cc can.0)
 line_reaches r g b v budget a s n t _ w st card is only can = absurd (cc card)
 
+-- a try of a state that is reached breaks no rule and leads to one that is reached
 pub try_reaches : (r : AppRules) (g : Target) (c : CardState) (s : Standing) (m : Move) (w : Manner) → IsReached r g c s → is_card_line m.line ≡ true → IsLine m.line → MoveBrings g c m w → CanMake (play_of c) m w → TryReaches r g c m w s
 try_reaches r g c s m w st card is only can = line_reaches r g c.base c.live c.budget c.allowances s m.number m.text m.line w st card is only can

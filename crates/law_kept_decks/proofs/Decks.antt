@@ -22,6 +22,7 @@ kept_of r (Some g) kept = kept
 deck_kept : (text : List ℕ) (x : AppExploration) → app_exploration_read text ≡ Ok x → DeckIsKept text → AreKept x.rules
 deck_kept text x e kept = kept_of x.rules x.rules.target (subst (λ (z : Result AppRules (ℕ × RuleCause)). AreKeptAsRead z) (same_rules text x e) kept)
 
+-- the rules of a deck that are proved break in none of its explorations
 pub proved_deck_law : ProvedDeckLaw
 proved_deck_law limit n text x e kept brings = exploration_law limit n text x e (deck_kept text x e kept) brings
 
@@ -49,5 +50,6 @@ as_read : swapped_breaks ≡ breaks 10 1 (app_exploration_read swapped_deck)
 unfolding swapped_breaks
 as_read = refl
 
+-- without the premise that it brings only its application the law is false
 pub needs_premise : KeptLaw → ⊥
 needs_premise = refuted_by 10 1 swapped_deck (app_exploration_read swapped_deck) refl (sym as_read ∙ it_breaks) (deck_law 100 swapped_deck swapped_proved)

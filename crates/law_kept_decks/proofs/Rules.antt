@@ -58,5 +58,6 @@ rules_is text =
     (err_ok line_fault (parts_from (loads_of (load_names false numbered) ls) no_app_rules [] (marked_lines false numbered)) (ReadAs (loads_of (load_names false numbered) ls) no_app_rules (marked_lines false numbered)) (parts_rules (loads_of (load_names false numbered) ls) no_app_rules [] (marked_lines false numbered)))
     (λ p f. tested_rules text ls p.1 p.0 p.0.target refl (λ g. read_by text ls p.0 e f g)))
 
+-- the rules of an exploration are those of the same deck without its moves
 pub same_rules : (text : List ℕ) (x : AppExploration) → app_exploration_read text ≡ Ok x → app_rules_read text ≡ Ok x.rules
 same_rules text x e = subst (λ (z : Result AppExploration AppFault). IfOk z (HasRules text)) e (rules_is text)

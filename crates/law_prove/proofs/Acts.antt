@@ -74,6 +74,7 @@ lies_by f a n false false true p e d b is =
     grind (arith, leb-true public_base a (and_first (nat_le public_base a) (nat_le (a + n) public_end) b), leb-true (a + n) public_end (and_second (nat_le public_base a) (nat_le (a + n) public_end) b))
 lies_by f a n false false false p e d b is = absurd (cc is)
 
+-- bytes that `where_is` places lie in that segment
 pub lies_in : (f : Frame) (a n : ℕ) (p : Place) → where_is f a n ≡ Some p → LiesIn f a n p
 lies_in f a n p is =
     lies_by f a n (nat_le (a + n) (length f.fixed)) (nat_le dynamic_base a && nat_le (a + n) f.dt) (nat_le public_base a && nat_le (a + n) public_end) p refl refl refl is
@@ -120,6 +121,7 @@ kept_one fixed m a x false e same byte h =
     padded_bytes zero v h = (h, tt)
     padded_bytes (suc i) v h = (omega arith, padded_bytes i v h)
 
+-- facts that hold of each state that power may leave hold of a memory with its static bytes
 pub kept_holds : (fixed : List ℕ) (m : Memory) (f : Facts) → ((a : ℕ) → a < length fixed → m a ≡ slice_index fixed a) → HoldsBytes m
     → ((session : List ℕ) → AreBytes session → Holds f (moment_memory fixed session)) → Holds f m
 kept_holds fixed m [] same bytes h = tt
@@ -137,6 +139,7 @@ module _ (s : Setting) (small : static_size s ≤ dynamic_base) (st : Start) (al
       → Led s st al (acted s Stays ss (spot_of st al f calls k)) (makes_write s f.protected Stays) (act_effect Stays f public)
   stays_led f public calls k ss framed seen = record { key = refl; seen = seen; framed = framed; writes = tt }
 
+  -- a jump, taken or not, leads to what is seen
   pub jumps_led : (f : Frame) (public : List ℕ) (calls : List Call) (k : Known) (ss : List Set) (taken : Bool) (to : ℕ) → Framed s.app f → Seen calls k f public
       → Led s st al (acted s (Jumps taken to) ss (spot_of st al f calls k)) (makes_write s f.protected (Jumps taken to)) (act_effect (Jumps taken to) f public)
   jumps_led f public calls k ss true to framed seen =
@@ -163,6 +166,7 @@ module _ (s : Setting) (small : static_size s ≤ dynamic_base) (st : Start) (al
   reply_seen f public calls k la framed whole seen =
       public_seen la_at 1037 (bytes2 la) (sets (bytes2 la)) calls k f public refl (fits_small f framed) (omega (arith, whole)) (fit_sets (bytes2 la)) seen
 
+  -- an act that sets the status and length of the reply leads to what is seen
   pub answers_led : (f : Frame) (public : List ℕ) (calls : List Call) (k : Known) (ss : List Set) (sw la : Option ℕ) → 1041 ≤ length public → Framed s.app f → Seen calls k f public
       → Led s st al (acted s (Answers sw la) ss (spot_of st al f calls k)) (makes_write s f.protected (Answers sw la)) (act_effect (Answers sw la) f public)
   answers_led f public calls k ss None None whole framed seen = record { key = refl; seen = seen; framed = framed; writes = tt }
@@ -196,6 +200,7 @@ module _ (s : Setting) (small : static_size s ≤ dynamic_base) (st : Start) (al
         base = framed.base;
       }
 
+  -- a push for which there is room leads to what is seen
   pub pushes_led : (f : Frame) (public : List ℕ) (calls : List Call) (k : Known) (b : List ℕ) (ss : List Set) → FitSets b ss → f.dt + length b ≤ dynamic_end → Framed s.app f → Seen calls k f public
       → Led s st al (acted s (Pushes b) ss (spot_of st al f calls k)) (makes_write s f.protected (Pushes b)) (act_effect (Pushes b) f public)
   pushes_led f public calls k b ss fit over framed seen =
@@ -211,6 +216,7 @@ module _ (s : Setting) (small : static_size s ≤ dynamic_base) (st : Start) (al
         writes = tt;
       }
 
+  -- an act that replaces the top bytes of the stack leads to what is seen
   pub replaces_led : (f : Frame) (public : List ℕ) (calls : List Call) (k : Known) (b : List ℕ) (ss : List Set) → FitSets b ss → dynamic_base + length b ≤ f.dt → Framed s.app f → Seen calls k f public
       → Led s st al (acted s (Replaces b) ss (spot_of st al f calls k)) (makes_write s f.protected (Replaces b)) (act_effect (Replaces b) f public)
   replaces_led f public calls k b ss fit over framed seen =
@@ -250,6 +256,7 @@ module _ (s : Setting) (small : static_size s ≤ dynamic_base) (st : Start) (al
         writes = tt;
       }
 
+  -- a call, taken or not, leads to what is seen
   pub calls_led : (f : Frame) (public : List ℕ) (calls : List Call) (k : Known) (ss : List Set) (taken : Bool) (to : ℕ) → (taken ≡ true → f.dt + 4 ≤ dynamic_end) → f.at < 65536 → Framed s.app f → Seen calls k f public
       → Led s st al (acted s (Calls taken to) ss (spot_of st al f calls k)) (makes_write s f.protected (Calls taken to)) (act_effect (Calls taken to) f public)
   calls_led f public calls k ss true to over placed framed seen = called_seen f public calls k to (over refl) placed framed seen
@@ -330,6 +337,7 @@ module _ (s : Setting) (small : static_size s ≤ dynamic_base) (st : Start) (al
         writes = tt;
       }
 
+  -- a write into any of the segments leads to what is seen
   pub writes_led : (f : Frame) (public : List ℕ) (calls : List Call) (k : Known) (a n : ℕ) (b : List ℕ) (ss : List Set) → is_none (where_is f a (length b)) ≡ false → FitSets b ss → 0 < length b → 1041 ≤ length public → Framed s.app f → Seen calls k f public
       → Led s st al (acted s (Writes a n b) ss (spot_of st al f calls k)) (makes_write s f.protected (Writes a n b)) (act_effect (Writes a n b) f public)
   unfolding write_effect
@@ -337,6 +345,7 @@ module _ (s : Setting) (small : static_size s ≤ dynamic_base) (st : Start) (al
 
 -- ---- flags, and what power leaves
 
+-- flags that are set after an act lead to what is seen
 pub flags_led : (s : Setting) (st : Start) (al : Amounts) (r : Spot) (w : Bool) (e : Effect) (o : Option (Bool × Bool)) → Led s st al r w e → Led s st al (with_flags o r) w (shapes.with_flags o e)
 flags_led s st al r w e None led = led
 flags_led s st al r w e (Some cz) led = grind (arith, led.seen, led.framed)
@@ -359,6 +368,7 @@ led_covers s st al r w e led =
 
 -- ---- fewer bytes of the stack
 
+-- what is known stays seen when DT is lowered
 pub lowered_seen : (d : ℕ) (st : Start) (al : Amounts) (f : Frame) (public : List ℕ) (calls : List Call) (k : Known) → Seen calls k f public
     → Seen (calls_below d calls) (lowered d (spot_of st al f calls k)).known (record f { dt = d }) public
 lowered_seen d st al f public calls k seen = grind (arith, open_below, filter_holds, touched_holds)

@@ -40,6 +40,7 @@ same_register f dyn tag =
 pub same_operand : (f : Frame) (dyn : List ℕ) (tag : ℕ) (off : ℤ) (k : ℕ) → operand (like f dyn) tag off k ≡ operand f tag off k
 same_operand f dyn tag off k = ap (λ (r : ℕ). cond (tag == 0) (Some (f.dt - k)) (moved_address r off)) (same_register f dyn tag)
 
+-- an address lies in the same segment
 pub same_where : (f : Frame) (dyn : List ℕ) (a n : ℕ) → where_is (like f dyn) a n ≡ where_is f a n
 same_where f dyn a n = grind (arith, same_size)
 
@@ -93,6 +94,7 @@ many_wait s f a n k bytes some size inside h = many_by f.protected s f a n k byt
 
 -- ---- what is read
 
+-- bytes of a memory that are those of a list are its window
 pub bytes_window : (m : Memory) (l : List ℕ) (a i n : ℕ) → ((k : ℕ) → k < n → m (a + k) ≡ slice_index l (i + k)) → bytes_from m a n ≡ window l i n
 bytes_window m l a i zero same = refl
 bytes_window m l a i (suc n) same =
@@ -107,6 +109,7 @@ bytes_window m l a i (suc n) same =
     in
     ap (λ (b : ℕ). b ∷ bytes_from m (suc a) n) first ∙ ap (λ (t : List ℕ). slice_index l i ∷ t) rest
 
+-- the bytes from an address are as many as were read
 pub from_length : (m : Memory) (a n : ℕ) → length (bytes_from m a n) ≡ n
 from_length m a zero = refl
 from_length m a (suc n) = ap suc (from_length m (suc a) n)
@@ -170,6 +173,7 @@ top_is f public n z over =
 
 -- ---- the frame that stands for a place
 
+-- the stack of a scene with these open calls has 512 bytes
 pub stack_length : (floor top lb : ℕ) (dyn : List ℕ) (calls : List Call) → dynamic_base ≤ floor → top ≤ dynamic_end → AreOpen floor top lb dyn calls → length (stand_in_stack calls) ≡ 512
 stack_length floor top lb dyn [] low high o = length-replicate {A = ℕ} 512 0
 stack_length floor top lb dyn (c ∷ cs) low high o =

@@ -61,11 +61,13 @@ so_by false c d m h k = k
 abbrev pub immediate : Operation → ℕ → ℕ → List ℕ → Bool → Digitwise
 immediate op at n b written = record { op = op; at = at; n = n; operand = These b; written = written; carries = carries_of op }
 
+-- the last compare allows the flags of an operation with an immediate
 pub immediate_allowed : (op : Operation) (written : Bool) (at n : ℕ) (b : List ℕ) (c : Compare) (m : Memory) → IsSo c m → length b ≡ n → AreBytes (bytes_from m at n) → AreBytes b → RunsAs op written n (bytes_from m at n) b
     → allows c (immediate op at n b written) (These b) (worked op (bytes_from m at n) b).1 ≡ true
 immediate_allowed op written at n b c m so size h k runs =
     unless_by (ordered op written) _ (λ e. span_allowed c m at n (span_of op n (num b) (worked op (bytes_from m at n) b).1) so (in_span op written n (bytes_from m at n) b e (from_length m at n) size h k runs))
 
+-- what the flags of a comparison with an immediate leave known is so
 pub immediate_so : (op : Operation) (at n : ℕ) (b : List ℕ) (c : Compare) (m : Memory) → IsSo c m → length b ≡ n → AreBytes (bytes_from m at n) → AreBytes b → RunsAs op false n (bytes_from m at n) b
     → IsSo (compare_after (immediate op at n b false) (worked op (bytes_from m at n) b).1 c) m
 immediate_so op at n b c m so size h k runs =
@@ -83,12 +85,14 @@ order_left n xs ys a b h k runs = grind (arith, order_is, worked, below, worked_
 abbrev pub with_bytes : Operation → ℕ → ℕ → ℕ → Bool → Digitwise
 with_bytes op at n other written = record { op = op; at = at; n = n; operand = AtAddress other; written = written; carries = carries_of op }
 
+-- the last compare allows the flags of an operation on bytes at two addresses
 pub bytes_allowed : (op : Operation) (written : Bool) (at n other : ℕ) (c : Compare) (m : Memory) → IsSo c m → AreBytes (bytes_from m at n) → AreBytes (bytes_from m other n) → RunsAs op true n (bytes_from m at n) (bytes_from m other n)
     → allows c (with_bytes op at n other written) (AtAddress other) (worked op (bytes_from m at n) (bytes_from m other n)).1 ≡ true
 bytes_allowed op written at n other c m so h k runs = grind (arith, orders_allowed, worked, order_left, from_length)
 
 -- ---- bytes of a memory
 
+-- the bytes from an address of a memory are bytes
 pub memory_bytes_from : (m : Memory) (a n : ℕ) → HoldsBytes m → AreBytes (bytes_from m a n)
 memory_bytes_from m a zero h = tt
 memory_bytes_from m a (suc n) h = (h a, memory_bytes_from m (suc a) n h)
@@ -111,6 +115,7 @@ module _ (i : Ins) (tag : ℕ) (off : ℤ) (n : ℕ) (op : Operation) (b : List 
       split [] h = (tt, h)
       split (p ∷ ps) h = let q = split ps h.1 in ((h.0, q.0), q.1)
 
+  -- a row that compares with an immediate is covered
   pub compare_case : (fl : Frame → List ℕ → Bool × Bool) → Compares fl → RowCase i
   compare_case fl is s u t g loadable leads turn includes =
       let f : Frame = frame_at turn.frame turn.next in
@@ -156,6 +161,7 @@ module _ (i : Ins) (tag : ℕ) (off : ℤ) (n : ℕ) (op : Operation) (b : List 
     pub flags : (n == 0) ≡ false → (f : Frame) (xs : List ℕ) → length xs ≡ n → AreBytes xs → fl f xs ≡ set_flags (carries_of op) (worked op xs b).1 f
     pub runs : (xs : List ℕ) → length xs ≡ n → AreBytes xs → RunsAs op true n xs b
 
+  -- a row that writes its result with an immediate is covered
   pub result_case : (val : List ℕ → List ℕ) (fl : Frame → List ℕ → Bool × Bool) → Results val fl → RowCase i
   result_case val fl is s u t g loadable leads turn includes =
       let f : Frame = frame_at turn.frame turn.next in
@@ -207,6 +213,7 @@ module _ (i : Ins) (tag : ℕ) (off : ℤ) (n : ℕ) (op : Operation) (few : n �
     pub task : (f : Frame) (public : List ℕ) → work i f public ≡ Works (with_bytes Minus (address_or_zero (operand f tag off (2 * n))) n (f.dt - n) false)
     pub flags : (f : Frame) (xs ys : List ℕ) → length xs ≡ n → length ys ≡ n → AreBytes xs → AreBytes ys → fl f xs ys ≡ set_flags true (worked Minus xs ys).1 f
 
+  -- a row that compares with the top of the stack is covered
   pub pair_compare_case : (fl : Frame → List ℕ → List ℕ → Bool × Bool) → PairCompares fl → RowCase i
   pair_compare_case fl is s u t g loadable leads turn includes =
       let f : Frame = frame_at turn.frame turn.next in
@@ -258,6 +265,7 @@ module _ (i : Ins) (tag : ℕ) (off : ℤ) (n : ℕ) (op : Operation) (few : n �
     pub flags : (f : Frame) (xs ys : List ℕ) → length xs ≡ n → length ys ≡ n → AreBytes xs → AreBytes ys → fl f xs ys ≡ set_flags (carries_of op) (worked op xs ys).1 f
     pub runs : (xs ys : List ℕ) → length xs ≡ n → length ys ≡ n → AreBytes xs → AreBytes ys → RunsAs op true n xs ys
 
+  -- a row that writes its result with the top of the stack is covered
   pub pair_result_case : (val : List ℕ → List ℕ → List ℕ) (fl : Frame → List ℕ → List ℕ → Bool × Bool) → PairResults val fl → RowCase i
   pair_result_case val fl is s u t g loadable leads turn includes =
       let f : Frame = frame_at turn.frame turn.next in

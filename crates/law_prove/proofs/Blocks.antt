@@ -36,6 +36,7 @@ use Rattle.law_prove.proofs.Narrowed.{Narrowed, narrow_holds, fit_are, OperandIs
 
 -- ---- lists of outcomes
 
+-- what each element contributes to included outcomes is included
 pub included_of : {A : Type 0} (t : Tables) (f : A → List Arrival) (xs : List A) (x : A) → Among x xs → includes_all t (flat_map f xs) ≡ true → includes_all t (f x) ≡ true
 included_of t f [] x h e = absurd h
 included_of t f (y ∷ xs) x h e =
@@ -44,6 +45,7 @@ included_of t f (y ∷ xs) x h e =
       | inr more ↦ included_of t f xs x more (included_second t (f y) (flat_map f xs) e)
     ]
 
+-- the image of an element is among the images
 pub among_mapped : {A B : Type 0} (g : A → B) (x : A) (xs : List A) → Among x xs → Among (g x) (map g xs)
 among_mapped g x [] h = absurd h
 among_mapped g x (y ∷ xs) h =
@@ -52,6 +54,7 @@ among_mapped g x (y ∷ xs) h =
       | inr e ↦ inr (among_mapped g x xs e)
     ]
 
+-- an element of the first list is among both
 pub among_left : {A : Type 0} (x : A) (xs ys : List A) → Among x xs → Among x (xs ++ ys)
 among_left x [] ys h = absurd h
 among_left x (y ∷ xs) ys h =
@@ -60,10 +63,12 @@ among_left x (y ∷ xs) ys h =
       | inr e ↦ inr (among_left x xs ys e)
     ]
 
+-- an element of the second list is among both
 pub among_right : {A : Type 0} (x : A) (xs ys : List A) → Among x ys → Among x (xs ++ ys)
 among_right x [] ys h = h
 among_right x (y ∷ xs) ys h = inr (among_right x xs ys h)
 
+-- an element of what one element contributes is among what all contribute
 pub among_each : {A B : Type 0} (g : A → List B) (a : A) (x : B) (list : List A) → Among a list → Among x (g a) → Among x (flat_map g list)
 among_each g a x [] h k = absurd h
 among_each g a x (b ∷ list) h k =
@@ -210,12 +215,15 @@ module _ (s : Setting) (u t : Tables) (g : Target) (loadable : IsLoadable s.app)
     from_count zero a = refl
     from_count (suc k) a = ap suc (from_count k (suc a))
 
+    -- the digits of both operands fit what is known at the place
     pub known_digits : OnDigits op first_block ys (values_from turn.place.known.bytes at n) (operand_sets turn.place.known.bytes operand n)
     known_digits = grind (arith, on_digits, from_count, fit_values, operand_fits)
 
+    -- the facts of the second operand, narrowed to its digits, hold
     pub second_narrowed : Narrowed (operand_narrowed operand (map (λ d. d.b) (reverse known_digits.digits)) (Some turn.place.known.bytes)) memory
     second_narrowed = operand_holds turn.place.known.bytes memory n operand ys (map (λ d. d.b) (reverse known_digits.digits)) turn.place.holds turn.place.bytes has known_digits.second
 
+    -- the facts of both operands, narrowed to their digits, hold
     pub both_narrowed : Narrowed (narrow_all at (map (λ d. d.a) (reverse known_digits.digits)) (Some second_narrowed.facts)) memory
     both_narrowed = narrow_holds at (map (λ d. d.a) (reverse known_digits.digits)) second_narrowed.facts memory second_narrowed.holds turn.place.bytes (fit_are memory at n (map (λ d. d.a) (reverse known_digits.digits)) known_digits.first)
 

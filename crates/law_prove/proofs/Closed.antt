@@ -14,12 +14,14 @@ use Rattle.law_prove.proofs.Keys.{moments_are}
 
 -- ---- lists of outcomes
 
+-- if two lists of outcomes are included, so is the first
 pub included_first : (t : Tables) (xs ys : List Arrival) → includes_all t (xs ++ ys) ≡ true → includes_all t xs ≡ true
 included_first t [] ys e = refl
 included_first t (x ∷ xs) ys e =
     let p = and_parts (includes t x) (includes_all t (xs ++ ys)) e in
     ap (λ (b : Bool). b && includes_all t xs) p.0 ∙ included_first t xs ys p.1
 
+-- if two lists of outcomes are included, so is the second
 pub included_second : (t : Tables) (xs ys : List Arrival) → includes_all t (xs ++ ys) ≡ true → includes_all t ys ≡ true
 included_second t [] ys e = e
 included_second t (x ∷ xs) ys e = included_second t xs ys (and_parts (includes t x) (includes_all t (xs ++ ys)) e).1
@@ -30,6 +32,7 @@ pub record Arrives (t : Tables) (r : Result Amounts Break) (next : Amounts → L
   pub is : r ≡ Ok allowances
   pub rest : includes_all t (next allowances) ≡ true
 
+-- if what follows an event is included, the event breaks nothing
 pub arrives : (t : Tables) (at : Option ℕ) (r : Result Amounts Break) (next : Amounts → List Arrival) → includes_all t (arrive at r next) ≡ true → Arrives t r next
 arrives t at (Err b) next e = absurd (cc e)
 arrives t at (Ok a) next e = record { allowances = a; is = refl; rest = e }
@@ -67,6 +70,7 @@ closed_in s cs t (n ∷ ms) k f c e =
     let q = and_parts (includes_all t (moment_arrivals s cs n.0 n.1)) (keeps_ranges s.rules.ranges n.1) p.0 in
     closed_by s cs t n.0 k n.1 f (same_moments n.0 k) (moment_at ms k) refl e q.0 q.1 (λ rest. closed_in s cs t ms k f p.1 rest)
 
+-- the outcomes of a moment of closed tables are included, and it keeps the ranges
 pub moment_closed : (s : Setting) (t : Tables) (k : MomentKey) (f : Facts) → is_closed s t ≡ true → moment_at t.moments k ≡ Some f → MomentClosed s (classes s.rules) t k f
 unfolding is_closed
 moment_closed s t k f c e =

@@ -121,6 +121,7 @@ module _ (s : Setting) (u t : Tables) (g : Target) (loadable : IsLoadable s.app)
   by_mode (suc (suc (suc (suc k)))) l b0 f0 same low all = absurd (cc (sym (lt-ltb 3 (suc (suc (suc (suc k)))) (omega arith)) ∙ low))
 
 module _ (i : Ins) (n k : ℕ) (mask : List ℕ) where
+  -- the row replaces the top bytes by those under the mask, or only tests them
   pub record IsMask : Type 0 where
     pub cause : (f : Frame) (public : List ℕ) (x : Around) → causes i f public x ≡ (A06, nat_lt 3 k) ∷ (A0A, false) ∷ (A04, is_under f n) ∷ []
     pub form : (f : Frame) (public : List ℕ) (x : Around) → shape i f public x ≡ going f.dt (Replaces (masked_bytes k (top f n) mask)) (Some (f.c, is_zero (cond (k == 3) (and_blocks (top f n) mask) (masked_bytes k (top f n) mask))))
@@ -170,5 +171,6 @@ word_case args s u t g loadable leads turn includes =
     mask_case (ins.Prim 3 1 args) 2 (slice_index args 0) (take 2 (drop 1 args)) (record { cause = λ f public x. refl; form = λ f public x. refl; task = λ f public. refl })
     (three_bytes args turn.shaped.three).1 (taken 2 (drop 1 args) (bytes_after args 1 turn.shaped.bytes)) s u t g loadable leads turn includes
 
+-- the primitives that manipulate bits are covered
 pub mask_laws : MaskLaw
 mask_laws = (λ args. law_of (ins.Prim 2 1 args) (byte_once args) (byte_case args), λ args. law_of (ins.Prim 3 1 args) (word_once args) (word_case args))

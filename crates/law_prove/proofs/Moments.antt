@@ -25,15 +25,18 @@ use Rattle.model_prove.specs.law_bytes.proofs.ByteLists.{indexed, zero_bytes}
 
 -- ---- bytes
 
+-- each of n zeros is zero
 pub zero_at : (n i : ℕ) → slice_index (zeros n) i ≡ 0
 zero_at zero i = refl
 zero_at (suc n) zero = refl
 zero_at (suc n) (suc i) = zero_at n i
 
+-- a choice of two bytes is a byte
 pub cond_small : (b : Bool) (x y : ℕ) → x < 256 → y < 256 → cond b x y < 256
 cond_small true x y p q = p
 cond_small false x y p q = q
 
+-- the memory of a moment holds bytes
 pub memory_bytes : (fixed session : List ℕ) → AreBytes fixed → AreBytes session → HoldsBytes (moment_memory fixed session)
 memory_bytes fixed session f d a = cond_small (nat_lt a (length fixed)) (slice_index fixed a) (slice_index session (a - dynamic_base)) (indexed fixed a f) (indexed session (a - dynamic_base) d)
 
@@ -44,6 +47,7 @@ filtered_by : (b : Bool) (e : ℕ × Set) (rest : Facts) (k : Memory) → (b ≡
 filtered_by true e rest k is h = (is refl, h)
 filtered_by false e rest k is h = h
 
+-- facts of a range of addresses hold of a memory that has the same bytes there
 pub within_holds : (low high : ℕ) (f : Facts) (m k : Memory) → ((a : ℕ) → low ≤ a → a < high → m a ≡ k a) → Holds f m → Holds (within low high f) k
 within_holds low high [] m k same h = tt
 within_holds low high (e ∷ f) m k same h = grind (arith, filtered_by, and_parts, leb-true, ltb-true, within_holds low high f m k same h.1)
@@ -77,6 +81,7 @@ zero_session_holds s f fixed session size low h =
 
 -- ---- the bytes of a new application
 
+-- the bytes of a memory lie in their own singletons
 pub bytes_in : (bs : List ℕ) (a : ℕ) (k : Memory) → ((j : ℕ) → j < length bs → k (a + j) ≡ slice_index bs j) → AreIn k a (map (λ v. v ∷ []) bs)
 bytes_in [] a k same = tt
 bytes_in (b ∷ bs) a k same =
@@ -96,6 +101,7 @@ created_holds fixed =
 
 -- ---- what stands
 
+-- the standing after the end of a session has the allowances that its lines leave
 pub session_stands : (s : Setting) (h : History) (x : Standing) (b : Amounts) → standing_after s.rules h ≡ Ok x → after_session s x.allowances ≡ Ok b → standing_after s.rules (Session ∷ h) ≡ Ok (record x { allowances = b })
 session_stands s h x b is e =
     ap (λ (z : Result Standing Break). z >>= after_event s.rules Session) is ∙ ap (λ (z : Result Amounts Break). z >>= with_allowances x) e
@@ -143,6 +149,7 @@ idle_memory fixed a = idle_by (nat_lt a (length fixed)) fixed a refl
 
 -- ---- the moments that follow
 
+-- a key of the tables whose facts hold of the bytes after a history is its moment
 pub from_memory : (s : Setting) (t : Tables) (x : Bool) (h : History) (fixed session : List ℕ) (standing : Standing) → standing_after s.rules h ≡ Ok standing → length fixed ≡ static_size s → AreBytes fixed → AreBytes session
     → HasMoment t (record { selected = x; allowances = standing.allowances }) (moment_memory fixed session) → IsMoment s t x h fixed session
 from_memory s t x h fixed session standing stands size static dynamic m =
@@ -180,6 +187,7 @@ module _ (s : Setting) (t : Tables) (loadable : IsLoadable s.app) (closed : is_c
 
   -- ---- the rules
 
+  -- the static bytes of a moment without a session keep the ranges
   pub idle_ranges : (h : History) (fixed : List ℕ) → IsMoment s t false h fixed [] → are_in_ranges fixed s.rules.ranges ≡ true
   idle_ranges h fixed m =
       in_ranges fixed m.facts (moment_memory fixed []) m.holds (memory_bytes fixed [] m.static tt) (idle_memory fixed) s.rules.ranges
@@ -188,6 +196,7 @@ module _ (s : Setting) (t : Tables) (loadable : IsLoadable s.app) (closed : is_c
   kept_by : (h : History) (fixed : List ℕ) (x : Standing) → s.rules.totals ≡ [] → standing_after s.rules h ≡ Ok x → are_in_ranges fixed s.rules.ranges ≡ true → keeps_rules s.rules h fixed ≡ true
   kept_by h fixed x none stands ranges = grind (arith, and_from)
 
+  -- closed tables cover what follows each moment between commands
   pub moments_covered : MomentsCovered s t
   moments_covered =
       record {
@@ -201,5 +210,6 @@ module _ (s : Setting) (t : Tables) (loadable : IsLoadable s.app) (closed : is_c
         session_keeps = λ none h fixed session m. kept_by h fixed m.standing none m.stands (idle_ranges (Session ∷ h) fixed (is_ended h fixed session m));
       }
 
+-- closed tables cover the moments of every loadable application
 pub moment_law : MomentLaw
 moment_law s t loadable closed = moments_covered s t loadable closed

@@ -39,10 +39,12 @@ pub inside_of : (f : Frame) (o : Option ℕ) (n : ℕ) → (n == 0) ≡ false �
 inside_of f None n some e = absurd (cc e)
 inside_of f (Some a) n some e = inside_by f a n (n == 0) some e
 
+-- a number that is not zero is above zero
 pub positive : (n : ℕ) → (n == 0) ≡ false → 0 < n
 positive zero e = absurd (cc e)
 positive (suc n) e = omega arith
 
+-- n bytes lie above the session bytes if a row can take n or twice as many
 pub above_by : (f : Frame) (b : Bool) (n : ℕ) → is_under f (cond b (2 * n) n) ≡ false → dynamic_base + f.session + n ≤ f.dt
 above_by f true n e = let h = above f (2 * n) e in omega (arith, h)
 above_by f false n e = above f n e
@@ -102,6 +104,7 @@ module _ (i : Ins) (tag : ℕ) (off : ℤ) (n : ℕ) (b : List ℕ) (size : leng
     pub form : (f : Frame) (public : List ℕ) (x : Around) → shape i f public x ≡ going f.dt (Writes (address_or_zero (operand f tag off n)) n b) None
     pub task : (f : Frame) (public : List ℕ) → work i f public ≡ AsShaped
 
+  -- a row that writes known bytes at an address is covered
   pub set_case : IsSet → RowCase i
   set_case is s u t g loadable leads turn includes =
       let f : Frame = frame_at turn.frame turn.next in
@@ -180,6 +183,7 @@ store_case tag off n s u t g loadable leads turn includes =
 
 -- ---- the laws
 
+-- LOAD, STORE, SETB and SETW are covered
 pub move_laws : MoveLaw
 move_laws = (
   λ tag off n. law_of (ins.Load tag off n) (λ s u t g loadable leads turn e. e) (load_case tag off n),

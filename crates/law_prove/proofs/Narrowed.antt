@@ -27,6 +27,7 @@ narrow_by : (a v : ℕ) (c : Set) (f : Facts) → is_in v c ≡ true → narrowe
 narrow_by a v [] f e = absurd (cc e)
 narrow_by a v (x ∷ c) f e = refl
 
+-- facts narrowed to sets in which the bytes lie hold
 pub narrow_holds : (a : ℕ) (ss : List Set) (f : Facts) (m : Memory) → Holds f m → HoldsBytes m → AreIn m a ss → Narrowed (narrow_all a ss (Some f)) m
 narrow_holds a [] f m h k i = record { facts = f; is = refl; holds = h }
 narrow_holds a (s ∷ ss) f m h k i =
@@ -41,6 +42,7 @@ narrow_holds a (s ∷ ss) f m h k i =
       holds = rest.holds;
     }
 
+-- bytes that fit their sets lie in them at their address
 pub fit_are : (m : Memory) (a n : ℕ) (ss : List Set) → FitSets (bytes_from m a n) ss → AreIn m a ss
 fit_are m a zero [] h = tt
 fit_are m a zero (s ∷ ss) h = absurd h
@@ -52,10 +54,12 @@ abbrev pub OperandIs : Memory → ℕ → Operand → List ℕ → Type 0
 OperandIs m n (AtAddress a) b = b ≡ bytes_from m a n
 OperandIs m n (These c) b = (b ≡ c) × (length c ≡ n)
 
+-- the bytes of an operand fit the sets that are known of it
 pub operand_fits : (f : Facts) (m : Memory) (n : ℕ) (o : Operand) (b : List ℕ) → Holds f m → HoldsBytes m → OperandIs m n o b → FitSets b (operand_sets f o n)
 operand_fits f m n (AtAddress a) b h k is = rw is (fit_values f m a n h k)
 operand_fits f m n (These c) b h k is = rw is.0 (fit_sets c)
 
+-- facts narrowed to the sets of an operand hold
 pub operand_holds : (f : Facts) (m : Memory) (n : ℕ) (o : Operand) (b : List ℕ) (ss : List Set) → Holds f m → HoldsBytes m → OperandIs m n o b → FitSets b ss → Narrowed (operand_narrowed o ss (Some f)) m
 operand_holds f m n (AtAddress a) b ss h k is fit = narrow_holds a ss f m h k (fit_are m a n ss (rw (← is) fit))
 operand_holds f m n (These c) b ss h k is fit = record { facts = f; is = refl; holds = h }
@@ -116,5 +120,6 @@ orders_by : (o : Bool) (p q : Orders) (x y : ℕ) → (o ≡ true → has_order 
 orders_by false p q x y so i = refl
 orders_by true p q x y so i = both_orders x y p.less p.equal p.greater q.less q.equal q.greater (so refl) i
 
+-- the last compare allows the orders that two numbers have
 pub orders_allowed : (c : Compare) (m : Memory) (a n d : ℕ) (p : Orders) → IsSo c m → has_order p (num (bytes_from m a n)) (num (bytes_from m d n)) ≡ true → allows_orders c a n d p ≡ true
 orders_allowed c m a n d p so i = grind (arith, orders_by, and_parts, eqb-true)

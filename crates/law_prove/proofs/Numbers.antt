@@ -27,6 +27,7 @@ use Rattle.law_prove.proofs.Arith.{RunsAs, ordered, ResultRow, PairResultRow, co
 
 -- ---- the machine's numbers
 
+-- the carry of the machine is that of the digits
 pub carry_same : (c : Bool) → carry_of c ≡ carried c
 carry_same true = refl
 carry_same false = refl
@@ -353,6 +354,7 @@ xorn_case tag off n s u t g loadable leads turn includes =
 
 -- ---- the laws
 
+-- the rows that compare are covered
 pub compare_laws : CompareLaw
 compare_laws = (
   λ tag off b. law_of (ins.Cmpb tag off b) (λ s u t g loadable leads turn e. e) (cmpb_case tag off b),
@@ -361,6 +363,7 @@ compare_laws = (
   λ tag off n. law_of (ins.Testn tag off n) (λ s u t g loadable leads turn e. e) (testn_case tag off n),
 )
 
+-- the rows that add and subtract are covered
 pub sum_laws : SumLaw
 sum_laws = (
   λ tag off b. law_of (ins.Addb tag off b) (λ s u t g loadable leads turn e. e) (addb_case tag off b),
@@ -373,6 +376,7 @@ sum_laws = (
   λ tag off n. law_of (ins.Subn tag off n) (λ s u t g loadable leads turn e. e) (subn_case tag off n),
 )
 
+-- the rows that work on bits are covered
 pub bit_laws : BitLaw
 bit_laws = (
   λ tag off n. law_of (ins.Clearn tag off n) (λ s u t g loadable leads turn e. e) (clearn_case tag off n),

@@ -7,18 +7,22 @@ use Rattle.model_prove.specs.model_machine.specs.Frame.{dynamic_base, public_bas
 use Rattle.law_prove.specs.Coverings.{parts_memory}
 use Rattle.law_prove.proofs.Windows.{index_beside, index_within}
 
+-- a number is not below one that it reaches
 pub not_lt : (a n : ℕ) → n ≤ a → nat_lt a n ≡ false
 not_lt a n h = false_from_ne_true (nat_lt a n) (λ is. let low = ltb-true a n is in omega (arith, low, h))
 
 -- ---- what is read
 
+-- a static address reads the static bytes
 pub memory_static : (size : ℕ) (static dyn public : List ℕ) (a : ℕ) → a < size → parts_memory size static dyn public a ≡ slice_index static a
 memory_static size static dyn public a h =
     ap (λ (b : Bool). cond b (slice_index static a) (cond (nat_lt a dynamic_base) 0 (cond (nat_lt a public_base) (slice_index dyn (a - dynamic_base)) (slice_index public (a - public_base))))) (lt-ltb a size h)
 
+-- a dynamic address reads the dynamic bytes
 pub memory_dynamic : (size : ℕ) (static dyn public : List ℕ) (a : ℕ) → size ≤ dynamic_base → dynamic_base ≤ a → a < public_base → parts_memory size static dyn public a ≡ slice_index dyn (a - dynamic_base)
 memory_dynamic size static dyn public a small low high = grind (arith, not_lt, lt-ltb)
 
+-- a public address reads the public segment
 pub memory_public : (size : ℕ) (static dyn public : List ℕ) (a : ℕ) → size ≤ dynamic_base → public_base ≤ a → parts_memory size static dyn public a ≡ slice_index public (a - public_base)
 memory_public size static dyn public a small low = grind (arith, not_lt)
 
@@ -56,11 +60,14 @@ public_same size st dyn segment b a j at fits x o =
 
 -- the bytes that were written are read
 
+-- after a splice the static addresses of its bytes read them
 pub static_new : (size : ℕ) (st dyn segment b : List ℕ) (a k : ℕ) → a ≤ length st → a + length b ≤ size → k < length b → parts_memory size (splice st a b) dyn segment (a + k) ≡ slice_index b k
 static_new size st dyn segment b a k fits inside h = memory_static size (splice st a b) dyn segment (a + k) (omega (arith, inside, h)) ∙ index_within st a b k fits h
 
+-- after a splice the dynamic addresses of its bytes read them
 pub dynamic_new : (size : ℕ) (st dyn segment b : List ℕ) (a j k : ℕ) → a ≡ dynamic_base + j → size ≤ dynamic_base → j ≤ length dyn → j + length b ≤ 512 → k < length b → parts_memory size st (splice dyn j b) segment (a + k) ≡ slice_index b k
 dynamic_new size st dyn segment b a j k at low fits inside h = grind (arith, memory_dynamic, index_within)
 
+-- after a splice the public addresses of its bytes read them
 pub public_new : (size : ℕ) (st dyn segment b : List ℕ) (a j k : ℕ) → a ≡ public_base + j → size ≤ dynamic_base → j ≤ length segment → k < length b → parts_memory size st dyn (splice segment j b) (a + k) ≡ slice_index b k
 public_new size st dyn segment b a j k at low fits h = grind (arith, memory_public, index_within)

@@ -14,6 +14,7 @@ next_is (Err b) f g e = refl
 next_is (Ok a) f g e = e a
 
 module _ (bytes : List ℕ) where
+  -- the lines that a class picks for a command leave what all lines that apply to it do
   pub commanded_is : (ls : List OnLine) (a : Amounts) → after_picks (command_picks (class_of bytes ls) ls) ls a ≡ after_lines (λ l. applies l.trigger (OnCommand (hex_text bytes))) ls a
   commanded_is [] a = refl
   commanded_is (l ∷ ls) a = by l.number l.trigger l.action l.name l.amount (λ c. commanded_is ls c)
@@ -28,6 +29,7 @@ module _ (bytes : List ℕ) where
       by n (AtAnswer p q) x m k again = again a
       by n AtSession x m k again = again a
 
+  -- the lines that a class picks for an answer leave what all lines that apply to it do
   pub answered_is : (text : List ℕ) (ls : List OnLine) (a : Amounts)
       → after_picks (answered_picks ls (answer_picks (class_of bytes ls) ls) (map (λ q. fits q text) (result_patterns ls))) ls a ≡ after_lines (λ l. applies l.trigger (OnAnswer (hex_text bytes) text)) ls a
   answered_is text [] a = refl

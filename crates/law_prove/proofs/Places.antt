@@ -54,6 +54,7 @@ has_place : (t : Tables) (k : PlaceKey) (known : Known) (found : Option Known) �
 has_place t k known None is e = absurd (cc e)
 has_place t k known (Some l) is e = record { found = l; there = is; follows = e }
 
+-- a place that is included is one of the tables' places
 pub place_included : (t : Tables) (k : PlaceKey) (known : Known) → includes_all t (AtPlace k known ∷ []) ≡ true → HasPlace t k known
 place_included t k known e = has_place t k known (place_at t.places k) refl (and_parts (has_known known (place_at t.places k)) true e).0
 
@@ -63,12 +64,14 @@ places_by : (s : Setting) (t : Tables) (n k : PlaceKey) (g f : Known) (b : Bool)
 places_by s t n k g f true rest is e outcomes again = grind (arith, places_are n k is, ap (λ (z : Option Known). unwrap_or z g) e)
 places_by s t n k g f false rest is e outcomes again = again e
 
+-- each place of closed places has its outcomes included
 pub places_in : (s : Setting) (t : Tables) (ps : List (PlaceKey × Known)) (k : PlaceKey) (f : Known) → places_closed s t ps ≡ true → place_at ps k ≡ Some f → includes_all t (place_arrivals s k f) ≡ true
 places_in s t [] k f c e = absurd (cc e)
 places_in s t (n ∷ ps) k f c e =
     let p = and_parts (includes_all t (place_arrivals s n.0 n.1)) (places_closed s t ps) c in
     places_by s t n.0 k n.1 f (same_places n.0 k) (place_at ps k) refl e p.0 (λ rest. places_in s t ps k f p.1 rest)
 
+-- each place of closed tables has its outcomes included
 pub place_closed : (s : Setting) (t : Tables) (k : PlaceKey) (f : Known) → is_closed s t ≡ true → place_at t.places k ≡ Some f → includes_all t (place_arrivals s k f) ≡ true
 unfolding is_closed
 place_closed s t k f c e = places_in s t t.places k f (and_parts (includes t (created s) && moments_closed s (classes s.rules) t t.moments) (places_closed s t t.places) c).1 e
@@ -83,9 +86,11 @@ of_closed i law r g t loadable closed = law r g t t loadable (closed_leads (reco
 
 -- ---- what follows of what is known
 
+-- what follows from no compare holds of every memory
 pub compares_so : (c d : Compare) (m : Memory) → compare_follows c d ≡ true → c ≡ NoCompare → IsSo d m
 compares_so c d m e none = grind arith
 
+-- facts of two lists that hold hold together
 pub holds_both : (f g : Facts) (m : Memory) → Holds f m → Holds g m → Holds (f ++ g) m
 holds_both [] g m x y = y
 holds_both (e ∷ f) g m x y = (x.0, holds_both f g m x.1 y)
@@ -139,6 +144,7 @@ module _ (s : Setting) (t : Tables) (g : Target) (loadable : IsLoadable s.app) w
   abend_arrives ByDelegation h f public (OfClass class) x k cause starts stands kept holds frame dyn e = absurd starts
 
 module _ (s : Setting) (u t : Tables) (g : Target) (loadable : IsLoadable s.app) (leads : LeadsInto s u t) where
+  -- if the budget ends at a place, closed tables have the end by A07
   pub is_spent : (e : Entry Event) (h : History) (f : Frame) (public : List ℕ) → IsPlace s u e h f public → EndCovered (domain_of_rules g (covering_of s t)) e h f.fixed (session_of f) (Abended A07)
   is_spent e h f public p =
       let k : PlaceKey = record { at = f.at; start = p.start; allowances = p.standing.allowances; c = f.c; z = f.z; dt = f.dt; lb = f.lb; protected = f.protected; calls = p.calls } in
@@ -152,6 +158,7 @@ module _ (s : Setting) (u t : Tables) (g : Target) (loadable : IsLoadable s.app)
   failed_stands h at cause x none is =
       ap (λ (z : Result Standing Break). z >>= after_event s.rules (Failed at cause)) is ∙ ap (λ (z : Option ℕ). after_abend z x) none
 
+  -- an abend of an instruction that is included is covered
   pub fails_by : (e : Entry Event) (h : History) (f : Frame) (public : List ℕ) (p : IsPlace s u e h f public) (cause : Abend) (abends : Option ℕ) (k : PlaceKey) → k.start ≡ p.start → k.allowances ≡ p.standing.allowances → s.rules.abends ≡ abends
       → includes_all t (fails_unless abends s k p.known cause) ≡ true → AbendCovered (domain_of_rules g (covering_of s t)) e (Failed f.at cause ∷ h) f cause
   fails_by e h f public p cause (Some number) k start allowances is includes = absurd (cc includes)
@@ -168,6 +175,7 @@ module _ (s : Setting) (u t : Tables) (g : Target) (loadable : IsLoadable s.app)
   unfetched_by e h f public Undefined p includes = fails_by e h f public p A01 s.rules.abends (key_of s u e h f public p) refl refl refl includes
   unfetched_by e h f public Past p includes = fails_by e h f public p A02 s.rules.abends (key_of s u e h f public p) refl refl refl includes
 
+  -- a place without a decodable instruction has its abend covered
   pub is_unfetched : (e : Entry Event) (h : History) (f : Frame) (public : List ℕ) (fault : DecodeFault) → IsPlace s u e h f public → instruction_at s.app.code f.at ≡ Err fault
       → AbendCovered (domain_of_rules g (covering_of s t)) e (Failed f.at (fetch_cause fault) ∷ h) f (fetch_cause fault)
   is_unfetched e h f public fault p is =
@@ -211,6 +219,7 @@ module _ (s : Setting) (t : Tables) (g : Target) (loadable : IsLoadable s.app) (
   begun_fits : (fixed : List ℕ) → length fixed ≡ static_size s → AreBytes fixed → IsFrameOf s.app (begun_frame s g fixed)
   begun_fits fixed size static = grind (arith, length-replicate, length-append)
 
+  -- a frame that a delegation begins is at a place of the tables
   pub is_entered : (h : History) (fixed public : List ℕ) → IsMoment s t false h fixed [] → AreBytes public → IsPlace s t ByDelegation h (begun_frame s g fixed) public
   is_entered h fixed public m others =
       let a = m.standing.allowances in
@@ -245,6 +254,7 @@ module _ (s : Setting) (t : Tables) (g : Target) (loadable : IsLoadable s.app) (
         dynamic = zeros_append n (512 - length (zeros n));
       }
 
+-- closed tables have the places of frames that a delegation begins, and what follows the end of the budget
 pub place_law : PlaceLaw
 place_law r g t loadable closed =
     let s : Setting = record { rules = r; app = g.app } in

@@ -185,9 +185,11 @@ call_case k to other s u t g loadable leads turn includes =
 
 -- ---- the laws
 
+-- NOP is covered
 pub nop_law : LeadLaw ins.Nop
 nop_law = law_of ins.Nop (λ s u t g loadable leads turn e. e) nop_case
 
+-- the rows that pop are covered
 pub pop_laws : PopLaw
 pop_laws = (
   λ n. law_of (ins.Popn n) (λ s u t g loadable leads turn e. e) (popn_case n),
@@ -195,6 +197,7 @@ pop_laws = (
   law_of ins.Popw (λ s u t g loadable leads turn e. e) popw_case,
 )
 
+-- the rows that set the status or length of the reply are covered
 pub status_laws : StatusLaw
 status_laws = (
   λ sw. law_of (ins.Setsw sw) (λ s u t g loadable leads turn e. e) (setsw_case sw),
@@ -211,6 +214,7 @@ jump_law k to other = law_of (ins.Jump k to) (jump_once k to other) (jump_case k
 call_law : (k to : ℕ) → (k == 0) ≡ false → LeadLaw (ins.Call k to)
 call_law k to other = law_of (ins.Call k to) (call_once k to other) (call_case k to other)
 
+-- the rows that push bytes of the instruction or the registers are covered
 pub push_laws : PushLaw
 push_laws = (
   λ n. law_of (ins.Pushz n) (λ s u t g loadable leads turn e. e) (pushz_case n),
@@ -219,5 +223,6 @@ push_laws = (
   λ tag off. law_of (ins.Loada tag off) (λ s u t g loadable leads turn e. e) (loada_case tag off),
 )
 
+-- the jumps and calls to a place in the code are covered
 pub jump_laws : JumpLaw
 jump_laws = (branch_law, jump_law, call_law)

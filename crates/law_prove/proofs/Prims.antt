@@ -36,6 +36,7 @@ use Rattle.model_prove.specs.law_bytes.proofs.ByteLists.{indexed}
 
 -- ---- who delegated does not matter
 
+-- a primitive that does not ask who delegated has the outcome of no primitive
 pub asks_nobody : (t : Tables) (f : Around → List Arrival) (p : Primitive) (start : Start) → arounds Delegated (Some p) ≡ arounds Delegated None
     → includes_all t ((flat_map f (arounds start (Some p)) ++ []) ++ []) ≡ true → includes_all t ((flat_map f (arounds start None) ++ []) ++ []) ≡ true
 asks_nobody t f p Delegated same e = subst (λ (xs : List Around). includes_all t ((flat_map f xs ++ []) ++ []) ≡ true) same e
@@ -138,5 +139,6 @@ load_ccr_law args = law_of (ins.Prim 0 2 args) (load_ccr_once args) (load_ccr_ca
 protection_law : (args : List ℕ) → LeadLaw (ins.Prim 1 3 args)
 protection_law args = law_of (ins.Prim 1 3 args) (protection_once args) (protection_case args)
 
+-- LOADCCR and the change of protection are covered
 pub primitive_laws : PrimitiveLaw
 primitive_laws = (load_ccr_law, protection_law)

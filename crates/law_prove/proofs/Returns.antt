@@ -236,6 +236,7 @@ module _ (i : Ins) (less more : ℕ) where
     return_by true e = without_calls e
     return_by false e = through_call e
 
+  -- a row that returns is covered
   pub return_case : IsReturn → RowCase i
   return_case is s u t g loadable leads turn includes = return_by is s u t g loadable leads turn includes (no_calls turn.place.calls) refl
 
@@ -257,6 +258,7 @@ retio_case : (less more : ℕ) → RowCase (ins.Retio less more)
 unfolding causes shape
 retio_case less more = return_case (ins.Retio less more) less more (record { cause = λ f public x. refl; form = λ f public x. refl; task = λ f public. refl; some = omega arith })
 
+-- the rows that return are covered
 pub return_laws : ReturnLaw
 return_laws = (
   law_of ins.Ret (λ s u t g loadable leads turn e. e) ret_case,

@@ -32,6 +32,7 @@ FitSets [] (s ∷ ss) = ⊥
 FitSets (b ∷ bs) [] = ⊥
 FitSets (b ∷ bs) (s ∷ ss) = (is_in b s ≡ true) × FitSets bs ss
 
+-- bytes that fit sets are as many
 pub fit_length : (b : List ℕ) (ss : List Set) → FitSets b ss → length ss ≡ length b
 fit_length [] [] h = refl
 fit_length [] (s ∷ ss) h = absurd h
@@ -53,6 +54,7 @@ pub fit_any : (b : List ℕ) → AreBytes b → FitSets b (any_bytes (length b))
 fit_any [] h = tt
 fit_any (b ∷ bs) h = (is_byte b h.0, fit_any bs h.1)
 
+-- bytes that fit sets and lie at an address of a memory lie in the sets there
 pub fit_in : (b : List ℕ) (ss : List Set) (m : Memory) (a : ℕ) → FitSets b ss → ((k : ℕ) → k < length b → m (a + k) ≡ slice_index b k) → AreIn m a ss
 fit_in [] [] m a h new = tt
 fit_in [] (s ∷ ss) m a h new = absurd h
@@ -164,6 +166,7 @@ stack_seen a j d b ss calls k f public at low room high fits more fit seen =
 
 -- ---- the public segment
 
+-- bytes of the public segment were written
 pub public_seen : (a j : ℕ) (b : List ℕ) (ss : List Set) (calls : List Call) (k : Known) (f : Frame) (public : List ℕ) → a ≡ public_base + j → length f.fixed ≤ dynamic_base → j ≤ length public
     → FitSets b ss → Seen calls k f public → Seen (calls_after_write a (length ss) calls) (known_written a ss k) f (splice public j b)
 public_seen a j b ss calls k f public at low there fit seen =

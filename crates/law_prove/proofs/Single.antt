@@ -72,6 +72,7 @@ module _ (s : Setting) (u t : Tables) (g : Target) (loadable : IsLoadable s.app)
   abbrev pub here : Spot
   here = spot_of turn.place.start turn.place.standing.allowances turn.frame turn.place.calls turn.place.known
 
+  -- the place after the fetch
   abbrev pub there : Spot
   there = spot_of turn.place.start turn.place.standing.allowances (frame_at turn.frame turn.next) turn.place.calls turn.place.known
 
@@ -96,12 +97,14 @@ module _ (s : Setting) (u t : Tables) (g : Target) (loadable : IsLoadable s.app)
   stood cs m w includes cause is works =
       rw (← cause, ← is, ← works) (only_one s u t g loadable leads turn.entry turn.history turn.frame turn.public i turn.next turn.place includes)
 
+  -- a row is what its causes and its shape mean
   pub row_is : (cs : List (Abend × Bool)) (m : Shape) → causes i (frame_at turn.frame turn.next) turn.public turn.around ≡ cs → shape i (frame_at turn.frame turn.next) turn.public turn.around ≡ m → row_end (first_cause cs) (meaning m (frame_at turn.frame turn.next) turn.public) ≡ row i (frame_at turn.frame turn.next) turn.public turn.around
   unfolding row
   row_is cs m cause is =
       sym (ap (λ (c : List (Abend × Bool)). row_end (first_cause c) (effect i (frame_at turn.frame turn.next) turn.public turn.around)) cause
       ∙ ap (λ (d : Done). row_end (first_cause cs) d) (shapes i (frame_at turn.frame turn.next) turn.public turn.around ∙ ap (λ (z : Shape). meaning z (frame_at turn.frame turn.next) turn.public) is))
 
+  -- a shape leaves bytes if the effect of its row does
   pub shape_bytes : (m : Shape) → shape i (frame_at turn.frame turn.next) turn.public turn.around ≡ m → IsByteEffect (effect i (frame_at turn.frame turn.next) turn.public turn.around).effect → IsByteEffect (shape_effect m (frame_at turn.frame turn.next) turn.public)
   shape_bytes m is bytes = subst (λ (d : Done). IsByteEffect d.effect) (shapes i (frame_at turn.frame turn.next) turn.public turn.around ∙ ap (λ (z : Shape). meaning z (frame_at turn.frame turn.next) turn.public) is) bytes
 
@@ -138,18 +141,23 @@ module _ (s : Setting) (u t : Tables) (g : Target) (loadable : IsLoadable s.app)
 
   -- ---- the frame once the stack has fewer bytes
 
+  -- the frame after the fetch with a lower DT
   abbrev pub low_frame : ℕ → Frame
   low_frame d = record (frame_at turn.frame turn.next) { dt = d }
 
+  -- the open calls that end at or below the lower DT
   abbrev pub low_calls : ℕ → List Call
   low_calls d = calls_below d turn.place.calls
 
+  -- what is known once DT is lower
   abbrev pub low_known : ℕ → Known
   low_known d = (lowered d there).known
 
+  -- what is known of it is so
   pub low_seen : (d : ℕ) → Seen (low_calls d) (low_known d) (low_frame d) turn.public
   low_seen d = lowered_at s u t g loadable leads turn.entry turn.history turn.frame turn.public turn.depth turn.place turn.deep i turn.next d
 
+  -- it is a frame of the application
   pub low_framed : (d : ℕ) → dynamic_base + turn.frame.session ≤ d → d ≤ dynamic_end → Framed s.app (low_frame d)
   low_framed d low high = grind (arith, turn.place.frame)
 
@@ -157,24 +165,30 @@ module _ (s : Setting) (u t : Tables) (g : Target) (loadable : IsLoadable s.app)
   pub same_framed : Framed s.app (low_frame turn.frame.dt)
   same_framed = low_framed turn.frame.dt turn.place.frame.low turn.place.frame.high
 
+  -- an act that does nothing leads to what is seen at any lower DT
   pub led_stays : (d : ℕ) (ss : List Set) → dynamic_base + turn.frame.session ≤ d → d ≤ dynamic_end → LedBy d Stays ss
   led_stays d ss low high = stays_led s loadable.static turn.place.start turn.place.standing.allowances (low_frame d) turn.public (low_calls d) (low_known d) ss (low_framed d low high) (low_seen d)
 
+  -- so does a jump
   pub led_jumps : (d : ℕ) (ss : List Set) (taken : Bool) (to : ℕ) → dynamic_base + turn.frame.session ≤ d → d ≤ dynamic_end → LedBy d (Jumps taken to) ss
   led_jumps d ss taken to low high = jumps_led s loadable.static turn.place.start turn.place.standing.allowances (low_frame d) turn.public (low_calls d) (low_known d) ss taken to (low_framed d low high) (low_seen d)
 
+  -- so does a call with room for its four bytes
   pub led_calls : (d : ℕ) (ss : List Set) (taken : Bool) (to : ℕ) → (taken ≡ true → d + 4 ≤ dynamic_end) → dynamic_base + turn.frame.session ≤ d → d ≤ dynamic_end → LedBy d (Calls taken to) ss
   led_calls d ss taken to over low high =
       let inside : turn.next ≤ length s.app.code = turn.inside in
       let places : length s.app.code < 65536 = loadable.places in
       calls_led s loadable.static turn.place.start turn.place.standing.allowances (low_frame d) turn.public (low_calls d) (low_known d) ss taken to over (omega (arith, inside, places)) (low_framed d low high) (low_seen d)
 
+  -- so does an act that sets the reply, at the DT of the turn
   pub led_answers : (ss : List Set) (sw la : Option ℕ) → LedBy turn.frame.dt (Answers sw la) ss
   led_answers ss sw la = answers_led s loadable.static turn.place.start turn.place.standing.allowances (low_frame turn.frame.dt) turn.public (low_calls turn.frame.dt) (low_known turn.frame.dt) ss sw la turn.whole same_framed (low_seen turn.frame.dt)
 
+  -- so does a push for which there is room
   pub led_pushes : (d : ℕ) (b : List ℕ) (ss : List Set) → FitSets b ss → d + length b ≤ dynamic_end → dynamic_base + turn.frame.session ≤ d → d ≤ dynamic_end → LedBy d (Pushes b) ss
   led_pushes d b ss fit over low high = pushes_led s loadable.static turn.place.start turn.place.standing.allowances (low_frame d) turn.public (low_calls d) (low_known d) b ss fit over (low_framed d low high) (low_seen d)
 
+  -- so does a write in a segment
   pub led_writes : (d a n : ℕ) (b : List ℕ) (ss : List Set) → is_none (where_is (low_frame d) a (length b)) ≡ false → FitSets b ss → 0 < length b → dynamic_base + turn.frame.session ≤ d → d ≤ dynamic_end → LedBy d (Writes a n b) ss
   led_writes d a n b ss there fit some low high = writes_led s loadable.static turn.place.start turn.place.standing.allowances (low_frame d) turn.public (low_calls d) (low_known d) a n b ss there fit some turn.whole (low_framed d low high) (low_seen d)
 

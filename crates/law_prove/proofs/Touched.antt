@@ -34,6 +34,7 @@ touched_between n [] ns low inside h = h
 touched_between n (p ∷ ps) ns low inside h =
     touched_between n ps (with_words p.0 p.1 ns) low inside.1 (words_between p.0 p.1 ns (omega (arith, inside.0, low)) h)
 
+-- pieces within 512 bytes touch at most 64 words
 pub few_touched : (n : ℕ) (ps : List (ℕ × List ℕ)) → n ≤ 512 → PiecesWithin n ps → length (touched_words ps) ≤ 64
 unfolding touched_words
 few_touched n ps low inside = few_between 0 64 (with_touched [] ps) (touched_between n ps [] low inside tt)

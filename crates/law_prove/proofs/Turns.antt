@@ -48,12 +48,15 @@ use Rattle.law_prove.proofs.Acts.{spot_of, Framed, WritesIf, Led, flags_led, led
 
 -- ---- frames of bytes
 
+-- a frame of bytes of the application is one of its frames
 pub frame_of : (a : App) (f : Frame) → Framed a f → IsByteFrame f → IsFrameOf a f
 frame_of a f framed bytes = grind arith
 
+-- each frame of the application is one of whatever numbers
 pub framed_of : (a : App) (f : Frame) → IsFrameOf a f → Framed a f
 framed_of a f frame = grind arith
 
+-- a frame of bytes with a public segment of bytes has a memory of bytes
 pub memory_of_bytes : (f : Frame) (public : List ℕ) → IsByteFrame f → AreBytes public → HoldsBytes (frame_memory f public)
 memory_of_bytes f public bytes others a = grind (arith, cond_small, indexed, laid)
 

@@ -9,6 +9,7 @@ abbrev pub window : List ℕ → ℕ → ℕ → List ℕ
 window l i zero = []
 window l i (suc n) = slice_index l i ∷ window l (suc i) n
 
+-- the k-th element of a window is that of the list k further on
 pub window_at : (l : List ℕ) (i n k : ℕ) → k < n → slice_index (window l i n) k ≡ slice_index l (i + k)
 window_at l i zero k h = absurd (omega (arith, h))
 window_at l i (suc n) zero h = let e : i ≡ i + 0 = omega arith in ap (λ (j : ℕ). slice_index l j) e
@@ -44,12 +45,15 @@ taken_is (x ∷ l) (suc i) n h = taken_is l i n (omega (arith, h)) ∙ sym (wind
 
 -- ---- splices
 
+-- an element after what was written stays
 pub index_after : (l : List ℕ) (at : ℕ) (b : List ℕ) (i : ℕ) → at ≤ length l → at + length b ≤ i → slice_index (splice l at b) i ≡ slice_index l i
 index_after l at b i fits h = grind (arith, length-append, length-take-le, get_or-append_right, get_or-drop)
 
+-- an element within what was written is the written one
 pub index_within : (l : List ℕ) (at : ℕ) (b : List ℕ) (k : ℕ) → at ≤ length l → k < length b → slice_index (splice l at b) (at + k) ≡ slice_index b k
 index_within l at b k fits h = grind (arith, length-append, length-take-le, get_or_append_left, get_or-append_right)
 
+-- an element before what was written stays
 pub index_before : (l : List ℕ) (at : ℕ) (b : List ℕ) (i : ℕ) → at ≤ length l → i < at → slice_index (splice l at b) i ≡ slice_index l i
 index_before l at b i fits h = grind (arith, length-append, length-take-le, get_or_append_left, get_or-take)
 

@@ -48,6 +48,7 @@ run_flags op [] ys = refl
 run_flags op (x ∷ xs) [] = refl
 run_flags op (x ∷ xs) (y ∷ ys) = grind (arith, flipped, last_flags, run_flags op xs ys)
 
+-- run from the lowest byte, the digits of the result are the same in reverse
 pub run_digits : (op : Operation) (xs ys : List ℕ) → (run op (reverse (byte_pairs xs ys)) first_flags).0 ≡ reverse (worked op xs ys).0
 run_digits op [] ys = refl
 run_digits op (x ∷ xs) [] = refl
@@ -55,12 +56,14 @@ run_digits op (x ∷ xs) (y ∷ ys) = grind (arith, flipped, last_digit, run_fla
 
 -- ---- lists turned around
 
+-- bytes that fit sets still do with one more of each at the end
 pub fit_last : (b : List ℕ) (ss : List Set) (x : ℕ) (s : Set) → FitSets b ss → is_in x s ≡ true → FitSets (b ++ x ∷ []) (ss ++ s ∷ [])
 fit_last [] [] x s h e = (e, tt)
 fit_last [] (t ∷ ss) x s h e = absurd h
 fit_last (y ∷ b) [] x s h e = absurd h
 fit_last (y ∷ b) (t ∷ ss) x s h e = (h.0, fit_last b ss x s h.1 e)
 
+-- bytes in reverse fit their sets in reverse
 pub fit_flipped : (b : List ℕ) (ss : List Set) → FitSets b ss → FitSets (reverse b) (reverse ss)
 fit_flipped [] [] h = tt
 fit_flipped [] (s ∷ ss) h = absurd h
@@ -213,11 +216,13 @@ on_digits op xs ys ss ts l a b =
 
 -- ---- numbers
 
+-- the result has as many bytes as the operands
 pub worked_length : (op : Operation) (xs ys : List ℕ) → length xs ≡ length ys → length (worked op xs ys).0 ≡ length xs
 worked_length op [] ys l = refl
 worked_length op (x ∷ xs) [] l = absurd (omega (arith, l))
 worked_length op (x ∷ xs) (y ∷ ys) l = ap suc (worked_length op xs ys (omega (arith, l)))
 
+-- a number above zero is not zero
 pub not_zero : (n : ℕ) → 0 < n → (n == 0) ≡ false
 not_zero n h = false_from_ne_true (n == 0) (λ is. let none = eqb-true n 0 is in omega (arith, none, h))
 
@@ -286,16 +291,19 @@ worked_difference (x ∷ xs) (y ∷ ys) l a b =
 
 -- ---- bits
 
+-- the result of And is the blocks' bitwise and
 pub worked_and : (xs ys : List ℕ) → (worked And xs ys).0 ≡ and_blocks xs ys
 worked_and [] ys = refl
 worked_and (x ∷ xs) [] = refl
 worked_and (x ∷ xs) (y ∷ ys) = ap (λ (l : List ℕ). bit_and x y ∷ l) (worked_and xs ys)
 
+-- the result of Or is the blocks' bitwise or
 pub worked_or : (xs ys : List ℕ) → (worked Or xs ys).0 ≡ or_blocks xs ys
 worked_or [] ys = refl
 worked_or (x ∷ xs) [] = refl
 worked_or (x ∷ xs) (y ∷ ys) = ap (λ (l : List ℕ). bit_or x y ∷ l) (worked_or xs ys)
 
+-- the result of Xor is the blocks' bitwise exclusive or
 pub worked_xor : (xs ys : List ℕ) → (worked Xor xs ys).0 ≡ xor_blocks xs ys
 worked_xor [] ys = refl
 worked_xor (x ∷ xs) [] = refl
@@ -307,6 +315,7 @@ carries_of Plus = true
 carries_of Minus = true
 carries_of op = false
 
+-- an operation that does not carry clears C
 pub worked_clear : (op : Operation) (xs ys : List ℕ) → carries_of op ≡ false → ((worked op xs ys).1).c ≡ false
 worked_clear op [] ys e = refl
 worked_clear op (x ∷ xs) [] e = refl

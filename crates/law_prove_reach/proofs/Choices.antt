@@ -217,5 +217,6 @@ ChoiceCase i =
     (s : Setting) (u t : Tables) (g : Target) (loadable : IsLoadable s.app) (leads : LeadsInto s u t) (turn : Turn s u i) → IsBy s u t g loadable leads i turn (takes_target i)
     → IsRowCovered s u t g loadable leads i turn (row i (frame_at turn.frame turn.next) turn.public turn.around)
 
+-- a row that is covered for each choice of its deciding bytes has its law
 pub law_by : (i : Ins) → ChoiceCase i → LeadLaw i
 law_by i case = law_with i (λ s u t g loadable leads turn names includes. case s u t g loadable leads turn includes)

@@ -72,6 +72,7 @@ enciphers c = record { keeps = enciphered_blocks c; bytes = enciphered c }
 deciphers : (c : Cipher) → IsCipher c (decipherment c)
 deciphers c = record { keeps = deciphered_blocks c; bytes = deciphered c }
 
+-- a message has at least one block, and whole blocks
 pub message_blocks : (c : Cipher) (n : ℕ) → not (is_message c n) ≡ false → (block_len c ≤ n) × (n % block_len c ≡ 0)
 message_blocks c n e =
     let p = and_parts (nat_le (block_len c) n) (n % block_len c == 0) (not_true (is_message c n) e) in

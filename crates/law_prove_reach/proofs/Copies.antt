@@ -77,15 +77,18 @@ copy_top args =
       ranges = λ v e. refl;
     }
 
+-- a count that is in range is from 1 to 255
 pub range_of : (n : ℕ) → not (in_range 1 255 n) ≡ false → (1 ≤ n) × (n ≤ 255)
 range_of n e =
     let p = and_parts (nat_le 1 n) (nat_le n 255) (not_true (in_range 1 255 n) e) in
     (leb-true 1 n p.0, leb-true n 255 p.1)
 
+-- if a conjunction fails while its first part holds, its second part fails
 pub second_if : (x y : Bool) → x ≡ true → (x && y) ≡ false → y ≡ false
 second_if true y e h = h
 second_if false y e h = absurd (cc e)
 
+-- a length that is not zero stays among the lengths that are followed
 pub length_by : (b : Bool) (n : ℕ) (s : Set) → b ≡ true → is_in n (filter (λ v. nat_lt 0 v) s) ≡ true → is_in n (cond b (filter (λ v. nat_lt 0 v) s) []) ≡ true
 length_by true n s e h = h
 length_by false n s e h = absurd (cc e)

@@ -302,8 +302,10 @@ module _ (args : List ℕ) (s : Setting) (u t : Tables) (g : Target) (loadable :
   by_start (OfClass class) e none includes =
       quiet_covered none class e (few_or_many s u t g loadable leads i turn nobody (λ f. refl) (rw e (inl refl)) includes)
 
+  -- the primitive that writes the name of the delegator is covered in each of its turns
   pub delegator_covered : IsBy s u t g loadable leads i turn false → Covered
   delegator_covered includes = by_start turn.place.start refl (delegates s.rules turn.entry turn.place.start turn.around turn.place.starts turn.fits) includes
 
+-- that primitive has its law
 pub delegator_law : DelegatorLaw
 delegator_law args = law_with (ins.Prim 0 8 args) (λ s u t g loadable leads turn names includes. delegator_covered args s u t g loadable leads turn names includes)

@@ -38,6 +38,7 @@ use Rattle.law_prove_reads.proofs.Reading.{Alike, lies_there, part_inside, drawn
 use Rattle.law_prove_reads.proofs.Scenes.{drawn_outside, drawn_where}
 use Rattle.law_prove_reads.proofs.Chosen.{Chosen, IsCoarse, stand, stand_is, real, memory, sized, before, after_fetch, knowing_spot, knowing_pushes, outcome_done, chosen_row, coarse_row, rough_is, law_of}
 
+-- if a disjunction fails, both of its parts do
 pub neither : (x y : Bool) → (x || y) ≡ false → (x ≡ false) × (y ≡ false)
 neither true y e = absurd (cc e)
 neither false y e = (refl, e)
@@ -293,5 +294,6 @@ index_law tag off size =
     law_of (ins.Index tag off size) (λ s u t g loadable leads turn e. e)
     (record { asks = refl; few = few_indexed tag off size; many = λ s u t g loadable leads turn few rough. many_indexed tag off size s u t g loadable leads turn rough })
 
+-- LOADI and INDEX are covered
 pub address_laws : AddressLaw
 address_laws = (loadi_law, index_law)

@@ -62,6 +62,7 @@ module _ (s : Setting) (u t : Tables) (g : Target) (loadable : IsLoadable s.app)
   abbrev pub before : Spot
   before = here s u t g loadable leads i turn
 
+  -- the place after the fetch
   abbrev pub after_fetch : Spot
   after_fetch = there s u t g loadable leads i turn
 
@@ -69,6 +70,7 @@ module _ (s : Setting) (u t : Tables) (g : Target) (loadable : IsLoadable s.app)
   abbrev pub real : Frame
   real = frame_at turn.frame turn.next
 
+  -- the bytes of the frame before the fetch
   abbrev pub memory : Memory
   memory = frame_memory turn.frame turn.public
 
@@ -88,6 +90,7 @@ module _ (s : Setting) (u t : Tables) (g : Target) (loadable : IsLoadable s.app)
       goes_covered s u t g loadable leads turn.entry turn.history turn.frame turn.public turn.depth turn.place turn.deep i d (settled_spot s o.spot) w (ap (λ (k : PlaceKey). k.start) o.led.key)
       (led_covers s turn.place.start turn.place.standing.allowances o.spot w d o.led) (frame_of s.app d.frame o.led.framed bytes.frame) (memory_of_bytes d.frame d.public bytes.frame bytes.public) bytes.frame.stack o.led.writes o.included
 
+  -- a row with an included outcome that leads to what is seen is covered
   pub outcome_done : (d : ℕ) (a : Act) (fl : Option (Bool × Bool)) → shape i real turn.public turn.around ≡ going d a fl → Outcome s u t g loadable leads i turn (going d a fl)
       → IsRowCovered s u t g loadable leads i turn (Does (effect i real turn.public turn.around))
   outcome_done d a fl is o = grind (arith, going, shapes, IsRowCovered, outcome_covered, shape_bytes)
@@ -98,9 +101,11 @@ module _ (s : Setting) (u t : Tables) (g : Target) (loadable : IsLoadable s.app)
   abbrev pub knowing : Facts → Known
   knowing facts = record turn.place.known { bytes = facts }
 
+  -- the spot after the fetch with these facts
   abbrev pub knowing_spot : Facts → Spot
   knowing_spot facts = spot_of turn.place.start turn.place.standing.allowances real turn.place.calls (knowing facts)
 
+  -- if these facts hold, what is known with them is seen
   pub knowing_seen : (facts : Facts) → Holds facts memory → Seen turn.place.calls (knowing facts) real turn.public
   knowing_seen facts h = record { open_calls = turn.place.open_calls; holds = h; compares = turn.place.compares; keeps = λ on session d. turn.place.keeps session d }
 
@@ -110,23 +115,28 @@ module _ (s : Setting) (u t : Tables) (g : Target) (loadable : IsLoadable s.app)
 
   -- acts with these facts
   module _ (facts : Facts) (h : Holds facts memory) (d : ℕ) (low : dynamic_base + turn.frame.session ≤ d) (high : d ≤ dynamic_end) where
+    -- with these facts an act that does nothing leads to what is seen
     pub knowing_stays : (ss : List Set) → Led s turn.place.start turn.place.standing.allowances (acted s Stays ss (lowered d (knowing_spot facts))) false (act_effect Stays (record real { dt = d }) turn.public)
     knowing_stays ss =
         stays_led s loadable.static turn.place.start turn.place.standing.allowances (record real { dt = d }) turn.public (calls_below d turn.place.calls) (lowered d (knowing_spot facts)).known ss (low_framed s u t g loadable leads i turn d low high) (knowing_low facts d h)
 
+    -- so does a push for which there is room
     pub knowing_pushes : (b : List ℕ) (ss : List Set) → FitSets b ss → d + length b ≤ dynamic_end → Led s turn.place.start turn.place.standing.allowances (acted s (Pushes b) ss (lowered d (knowing_spot facts))) false (act_effect (Pushes b) (record real { dt = d }) turn.public)
     knowing_pushes b ss fit over =
         pushes_led s loadable.static turn.place.start turn.place.standing.allowances (record real { dt = d }) turn.public (calls_below d turn.place.calls) (lowered d (knowing_spot facts)).known b ss fit over (low_framed s u t g loadable leads i turn d low high) (knowing_low facts d h)
 
+    -- so does an act that replaces the top bytes of the stack
     pub knowing_replaces : (b : List ℕ) (ss : List Set) → FitSets b ss → dynamic_base + length b ≤ d → Led s turn.place.start turn.place.standing.allowances (acted s (Replaces b) ss (lowered d (knowing_spot facts))) false (act_effect (Replaces b) (record real { dt = d }) turn.public)
     knowing_replaces b ss fit over =
         replaces_led s loadable.static turn.place.start turn.place.standing.allowances (record real { dt = d }) turn.public (calls_below d turn.place.calls) (lowered d (knowing_spot facts)).known b ss fit over (low_framed s u t g loadable leads i turn d low high) (knowing_low facts d h)
 
   -- ---- the segments
 
+  -- the segments of the frame after the fetch have their lengths
   pub sized : Sized real turn.public
   sized = turn_sized s u loadable i turn
 
+  -- the scene that stands for the place has the registers of the frame
   pub stand_is : IsScene real stand
   stand_is = grind (arith, like, stand_in_like, framed_of, length-replicate, stack_length)
 
@@ -270,6 +280,7 @@ module _ (s : Setting) (u t : Tables) (g : Target) (loadable : IsLoadable s.app)
   coarse_of : includes_all t (coarse_arrivals s i stand before after_fetch (coarse_around turn.place.start)) ≡ true → IsCoarse
   coarse_of includes = grind (arith, stand_in_like, framed_of)
 
+  -- included choices have the one of the memory, or are too many and coarse
   pub split_by : (o : Option (List Choice)) → arounds Delegated (primitive_of i) ≡ arounds Delegated None → few_combinations turn.place.known.bytes places ≡ o → includes_all t (by_choices o false s i stand before after_fetch) ≡ true
       → Chosen ⊎ ((few_combinations turn.place.known.bytes places ≡ None) × IsCoarse)
   split_by (Some cs) asks few includes = inl (chosen_of cs asks few includes)

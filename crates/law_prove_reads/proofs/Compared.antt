@@ -371,5 +371,6 @@ fixed_law args =
       many = λ s u t g loadable leads turn few rough. many_compared (ins.Prim 1 1 args) 4 (omega arith) (slice_index args 0 == 0) false (λ f. slice_index args 0) (λ n x. (A03, x) ∷ []) (fixed_is args) s u t g loadable leads turn rough;
     })
 
+-- the primitives that compare the bytes at two addresses are covered
 pub block_laws : BlockLaw
 block_laws = (memory_law, fixed_law)

@@ -41,6 +41,7 @@ module _ (set number : ℕ) (args : List ℕ) (unknown : primitive set number �
   none_asks : arounds Delegated (primitive set number) ≡ arounds Delegated None
   none_asks = ap (λ (o : Option Primitive). arounds Delegated o) unknown
 
+-- a pair of set and number that is no primitive is covered
 pub unknown_laws : UnknownLaw
 unknown_laws set number args unknown =
     law_of (ins.Prim set number args) (λ s u t g loadable leads turn e. e)

@@ -68,6 +68,7 @@ deeper_by : (f : Frame) (d a n : ℕ) (o : Option Place) → d ≤ f.dt → wher
 deeper_by f d a n None low is there = absurd (cc there)
 deeper_by f d a n (Some p) low is there = deeper_in f d a n p low (lies_in (record f { dt = d }) a n p is)
 
+-- a byte inside the segments with a lower DT is inside them
 pub deeper_inside : (f : Frame) (d a : ℕ) → d ≤ f.dt → is_outside (record f { dt = d }) a 1 ≡ false → is_outside f a 1 ≡ false
 deeper_inside f d a low there = one_inside f a (deeper_by f d a 1 (where_is (record f { dt = d }) a 1) low refl there)
 
@@ -78,6 +79,7 @@ any_by true f public a n sized e there =
     ap (λ (b : Bool). cond b [] (bytes_in f public n (where_is f a n))) e ∙ sym (ap (λ (k : ℕ). bytes_from (frame_memory f public) a k) (eqb-true n 0 e))
 any_by false f public a n sized e there = read_is f public a n sized e (lies_there f a n e there)
 
+-- bytes inside the segments are those of the memory, also if there are none
 pub read_any : (f : Frame) (public : List ℕ) (a n : ℕ) → Sized f public → is_outside f a n ≡ false → bytes_at f public a n ≡ bytes_from (frame_memory f public) a n
 read_any f public a n sized there = any_by (n == 0) f public a n sized refl there
 
@@ -97,9 +99,11 @@ pub drawn_operand : (f : Frame) (fixed dyn : List ℕ) (tag : ℕ) (off : ℤ) (
 drawn_operand f fixed dyn tag off k size = ap (λ (o : Option ℕ). cond (tag == 0) (Some (f.dt - k)) o) (drawn_resolve f fixed dyn tag off size)
 
 module _ (f : Frame) (public fixed dyn segment : List ℕ) (sized : Sized f public) (size : length fixed ≡ length f.fixed) (room : length dyn ≡ 512) (whole : length segment ≡ 1041) where
+  -- the frame with the bytes of a scene
   abbrev pub other : Frame
   other = drawn f fixed dyn
 
+  -- its segments have their lengths
   pub scene_sized : Sized other segment
   scene_sized = grind arith
 

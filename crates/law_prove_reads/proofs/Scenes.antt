@@ -155,9 +155,11 @@ agreeing f m (a ∷ places) z small high all scene =
 pub drawn_where : (f : Frame) (fixed dyn : List ℕ) (a n : ℕ) → length fixed ≡ length f.fixed → where_is (drawn f fixed dyn) a n ≡ where_is f a n
 drawn_where f fixed dyn a n size = grind arith
 
+-- a frame with other bytes has the same addresses outside of its segments
 pub drawn_outside : (f : Frame) (fixed dyn : List ℕ) (a n : ℕ) → length fixed ≡ length f.fixed → is_outside (drawn f fixed dyn) a n ≡ is_outside f a n
 drawn_outside f fixed dyn a n size = ap (λ (o : Option Place). not (n == 0) && is_none o) (drawn_where f fixed dyn a n size)
 
+-- a scene of a frame has the same addresses outside of its segments
 pub scene_outside : (f : Frame) (z : Scene) (a n : ℕ) → IsScene f z → is_outside z.frame a n ≡ is_outside f a n
 scene_outside f z a n scene = ap (λ (w : Scene). is_outside w.frame a n) scene.is ∙ drawn_outside f scene.fixed scene.dyn a n scene.size
 
@@ -195,10 +197,12 @@ among_numbers a (suc n) zero h = inl (omega arith)
 among_numbers a (suc n) (suc j) h =
     inr (subst (λ (x : ℕ). Among x (numbers_from (suc a) n)) (omega arith) (among_numbers (suc a) n j (omega (arith, h))))
 
+-- two lists of places inside the segments are so together
 pub all_both : (f : Frame) (xs ys : List ℕ) → AllInside f xs → AllInside f ys → AllInside f (xs ++ ys)
 all_both f [] ys h k = k
 all_both f (x ∷ xs) ys h k = (h.0, all_both f xs ys h.1 k)
 
+-- the values at two lists of places are those at both together
 pub values_both : (m : Memory) (xs ys : List ℕ) → values_in m xs ++ values_in m ys ≡ values_in m (xs ++ ys)
 values_both m [] ys = refl
 values_both m (x ∷ xs) ys = ap (λ (c : Choice). (x, m x) ∷ c) (values_both m xs ys)
@@ -211,6 +215,7 @@ pub record Choosing (m : Memory) (places : List ℕ) (p : Spot) : Type 0 where
   pub is : chosen (values_in m places) p ≡ with_facts p facts
   pub holds : Holds facts m
 
+-- the facts of a place with the values of a memory at some places hold of that memory
 pub choosing : (m : Memory) (places : List ℕ) (p : Spot) → Holds p.known.bytes m → Choosing m places p
 choosing m [] p h = record { facts = p.known.bytes; is = refl; holds = h }
 choosing m (a ∷ places) p h =

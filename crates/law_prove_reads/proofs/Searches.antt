@@ -315,6 +315,7 @@ module _ (args : List ℕ) where
           included = included_of t each (map (λ g. flagged false g x) (final_flags false)) (flagged false fl x) (among_mapped (λ g. flagged false g x) fl (final_flags false) (flag_there (is_some o))) all;
         }))
 
+-- the search of a table is covered
 pub search_laws : SearchLaw
 search_laws args =
     law_of (ins.Prim 0 4 args) (λ s u t g loadable leads turn e. e)

@@ -188,6 +188,7 @@ shift_law args number shift is asks =
       many = λ s u t g loadable leads turn few rough. many_covered (ins.Prim 2 number args) (slice_index args 0) (bad_shift args) shift is s u t g loadable leads turn rough;
     })
 
+-- the shifts are covered
 pub shift_laws : ShiftLaw
 shift_laws = (
   λ args. shift_law args 2 (λ v. shift_left_block v (slice_index args 1)) (left_is args) refl,

@@ -156,5 +156,6 @@ store_law args =
           absurd (one_by (is_outside (stand s u t g loadable leads (ins.Prim 0 3 args) turn).frame (turn.frame.dt - 1) 1) turn.place.known.bytes (turn.frame.dt - 1) few);
     })
 
+-- the primitives that set flags by the top byte of the stack are covered
 pub flag_laws : FlagLaw
 flag_laws = (check_law, store_law)

@@ -29,6 +29,7 @@ byte_same true y z a v = record { dt = refl; session = refl; code = refl }
 byte_same false true z a v = record { dt = refl; session = refl; code = refl }
 byte_same false false z a v = record { dt = refl; session = refl; code = refl }
 
+-- values in a scene leave its registers
 pub values_same : (c : Choice) (z : Scene) → SameRegisters (with_values z c).frame z.frame
 values_same [] z = record { dt = refl; session = refl; code = refl }
 values_same (e ∷ es) z =
@@ -51,6 +52,7 @@ stack_byte z a v small low high =
 abbrev pub two_values : Scene → ℕ → ℕ → ℕ → Scene
 two_values z a x y = record z { frame = record z.frame { dyn = splice (splice z.frame.dyn (a - dynamic_base) (x ∷ [])) (suc a - dynamic_base) (y ∷ []) } }
 
+-- a scene with two values on top of the stack is one whose dynamic bytes are spliced
 pub two_bytes : (z : Scene) (a x y : ℕ) → length z.frame.fixed ≤ dynamic_base → dynamic_base ≤ a → suc a < public_base → with_values z ((a, x) ∷ (suc a, y) ∷ []) ≡ two_values z a x y
 two_bytes z a x y small low high =
     let one : Scene = record z { frame = record z.frame { dyn = splice z.frame.dyn (a - dynamic_base) (x ∷ []) } } in
@@ -108,6 +110,7 @@ kept_two false false a b e f = refl
 kept_two true y a b e f = absurd (cc e)
 kept_two false true a b e f = absurd (cc f)
 
+-- the top two bytes of the stack are inside the segments
 pub both_inside : (f : Frame) (a : ℕ) → dynamic_base ≤ a → suc a < f.dt → filter (λ b. not (is_outside f b 1)) (a ∷ suc a ∷ []) ≡ a ∷ suc a ∷ []
 both_inside f a low high = kept_two (is_outside f a 1) (is_outside f (suc a) 1) a (suc a) (stack_inside f a low (omega (arith, high))) (stack_inside f (suc a) (omega (arith, low)) high)
 

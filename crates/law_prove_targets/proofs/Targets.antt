@@ -415,5 +415,6 @@ call_law to =
     covered_by s u t g loadable leads (ins.Call 0 to) (Calls true) more (call_is to) turn (is_under (frame_at turn.frame turn.next) 2) refl
     (call_form (few_combinations p.known.bytes (inside z (top_places z.frame 2))) t s to z p (there s u t g loadable leads (ins.Call 0 to) turn) includes))
 
+-- JUMP and CALL to a place that the stack has are covered
 pub target_laws : TargetLaw
 target_laws = (jump_law, call_law)

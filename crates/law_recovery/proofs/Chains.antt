@@ -205,6 +205,7 @@ done_apps (AtFault cause p) is k x h = ap (λ (js : List Item). apps_after_items
 
 -- ---- the law
 
+-- every chain of stops leads to one card
 pub chain_law : ChainLaw
 chain_law n z l t ts h =
     let b : Base = base_with (base_in z) (whole_items_in z l t) in

@@ -24,10 +24,12 @@ later_plain is x k low = grind (arith, eqb_tells)
 later_atomic : (w : ℕ) (c : Change) (is : List Item) (x : List ℕ) (k : ℕ) → 1 ≤ k → (at_stop (Atomic w c ∷ is) (cost Two w + k) x).whole ≡ Atomic w c ∷ (at_stop is k x).whole
 later_atomic w c is x k low = grind (arith, lt-leb)
 
+-- a stop after the first item leaves it whole, and the others as a stop in them
 pub later_item : (i : Item) (is : List Item) (x : List ℕ) (k : ℕ) → 1 ≤ k → (at_stop (i ∷ is) (weight i + k) x).whole ≡ i ∷ (at_stop is k x).whole
 later_item Plain is x k low = later_plain is x k low
 later_item (Atomic w c) is x k low = later_atomic w c is x k low
 
+-- a stop in the first item leaves what is in flight
 pub first_item : (i : Item) (is : List Item) (x : List ℕ) (k : ℕ) → 1 ≤ k → k ≤ weight i → (at_stop (i ∷ is) k x).whole ≡ in_flight_whole i k x
 first_item Plain is x k low high = first_plain is x k (omega (arith, low, high))
 first_item (Atomic w c) is x k low high = first_atomic w c is x k high
@@ -42,6 +44,7 @@ within_or_past k n = by (nat_le k n) refl
 
 -- ---- the rule
 
+-- a stop leaves the items before it whole, and the one in flight exactly if its commit record was written
 pub rule_law : RuleLaw
 rule_law [] k x low high = absurd (omega (arith, low, high))
 rule_law (i ∷ is) k x low high =

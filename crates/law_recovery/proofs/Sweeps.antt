@@ -89,6 +89,7 @@ written_in : (z : State) (l : ℕ × DeckLine) → moves (items_in z l) ≤ move
 unfolding moves_of
 written_in z l = omega arith
 
+-- the cuts of one word show every card that a chain of stops leads to
 pub sweep_law : SweepLaw
 sweep_law n z l t ts f h shut low high =
     let s : Shows (items_in z l) t.at t.left f = shows (items_in z l) t.at t.left f shut low in

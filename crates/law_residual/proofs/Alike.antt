@@ -26,6 +26,7 @@ pub record StepsAlike (t u : Step) : Type 0 where
 abbrev pub found : ℕ → Armed → Base → ℕ → Journal → Warm
 found budget armed base recovery journal = record { base = base; owed = recovery; by = journal; live = Unpowered; budget = budget; armed = armed }
 
+-- two images that mean the same are found alike by the first power line
 pub found_alike : (m k : List (List ℕ)) (budget : ℕ) (armed : Armed) → MeanAlike m k → play_at_power m budget armed ≡ play_at_power k budget armed
 unfolding play_at_power
 found_alike m k budget armed alike =

@@ -47,17 +47,20 @@ same_failures (l ∷ ls) r d s z alike none =
     ∙ ap (λ (ws : List (Option FailedWrite)). w ∷ ws) (same_failures ls r (d + (step z l w).moves) (step s l w).after (step z l w).after one.after none.1)
     ∙ ap (λ (v : Option FailedWrite). with_first r d z l ls v) (before_failure r d s z l alike)
 
+-- two images that mean the same show the same on a device that refuses writes
 pub device_law : (m k : List (List ℕ)) → MeanAlike m k → (ls : List (ℕ × DeckLine)) → NoneWritesWords ls → (r : Refusals) → ShowAlikeOn r m k ls
 device_law m k alike ls none r =
     grind (arith, same_failures ls r 0 (start m) (start k) (NotYet m k _ _ alike) none, residual m k alike ls none (failures_on r 0 (start m) ls))
 
 -- ---- stops that are counted from 1
 
+-- a stop that is armed is counted from 1
 abbrev pub ArmedFromOne : Armed → Type 0
 ArmedFromOne Unarmed = ⊤
 ArmedFromOne (ArmedCut k x) = 1 ≤ k
 ArmedFromOne (ArmedFail k) = 1 ≤ k
 
+-- a failed write is counted from 1
 abbrev pub FailsFromOne : Option FailedWrite → Type 0
 FailsFromOne None = ⊤
 FailsFromOne (Some w) = 1 ≤ w.at
@@ -262,6 +265,7 @@ from_power f r m n ls text =
     ∙ ap (λ (s : State). f t ++ text_after f r s ls) (first_after m n)
     ∙ ap (λ (x : List ℕ). x ++ text_after f r (recovered m) ls) text
 
+-- two images of one card show the same after a whole power line
 pub recovered_law : (m k : List (List ℕ)) → base_of (fault m) m ≡ base_of (fault k) k → (n : ℕ) (ls : List (ℕ × DeckLine)) → CountFromOne ls → (r : Refusals) → ShowAlikeAfter r m k n ls
 recovered_law m k same n ls counts r =
     let both = settled_plays ls r 0 (recovered m) (recovered k) (settled m k same) counts in

@@ -90,5 +90,6 @@ possible_from (l ∷ ls) r d z counts f =
     let may : MayHit z l w = either_may z l (first_refused r d 0 (count_before_armed a m)) (steady_at a l.1 m) (refused_may r z l d 0 (count_before_armed a m) (omega arith)) (asked_may z l a refl f) in
     (may, possible_from ls r (d + (step z l w).moves) (step z l w).after counts.1 (next_from_one (by_kind z l w) counts.0 f))
 
+-- the failed writes of a play on a device are possible
 pub possible_law : PossibleLaw
 possible_law r m ls counts = possible_from ls r 0 (start m) counts tt

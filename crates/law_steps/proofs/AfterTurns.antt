@@ -43,6 +43,7 @@ fetch_abended ch (Err Undefined) c h = refl
 fetch_abended ch (Err Past) c h = refl
 fetch_abended ch (Ok i) c h = row_abended ch i.0 (row i.0 (frame_at ch.frame i.1) ch.public (around ch)) c h
 
+-- after an abend the frame last read the bytes that it had, without what waited
 pub abended_reading : (n : ℕ) (ch : Chain) (c : Abend) → (turn_of n ch).turn.end ≡ Some (Abended c) → reading_after n ch ≡ last_reading ch.frame ch.public
 unfolding reading_after turn_of_chain
 abended_reading zero ch c h = refl
@@ -108,6 +109,7 @@ fetch_exited ch (Ok i) j e exits goes = by (row i.0 (frame_at ch.frame i.1) ch.p
     by (Abends a) e goes x = absurd (goes a refl)
     by (Does d) e goes x = let same : i.0 ≡ j = cc e in row_exited ch i.0 j (Does d) e goes (x (ap (λ (k : Ins). is_exit_of k) same ∙ exits))
 
+-- after an exit it last read the same, with the public bytes that the exit left
 pub exited_reading : (n : ℕ) (ch : Chain) (j : Ins) → (turn_of n ch).turn.ins ≡ Some j → is_exit_of j ≡ true → ((c : Abend) → (turn_of n ch).turn.end ≢ Some (Abended c)) → reading_after n ch ≡ last_reading ch.frame (exit_public j ch.public)
 unfolding reading_after turn_of_chain
 exited_reading zero ch j e exits goes = absurd (cc e)
@@ -121,6 +123,7 @@ OnCall Goes P = ⊤
 OnCall Exits P = ⊥
 OnCall (Delegates n) P = P
 
+-- a row does not exit, and leaves the public bytes if it delegates
 abbrev pub StaysIn : List ℕ → Done → Type 0
 StaysIn public d = OnCall d.next (d.effect.public ≡ public)
 
@@ -147,6 +150,7 @@ shape_stays (ins.Exitswla sw la) f public x h = absurd (cc h)
 shape_stays (ins.Prim set number args) f public x h = pair_stays (primitive set number) args f public x
 shape_stays _ f public x h = tt
 
+-- an instruction that is no exit stays so
 pub row_stays : (i : Ins) (f : Frame) (public : List ℕ) (x : Around) → is_exit_of i ≡ false → OnDone (row i f public x) (λ d. StaysIn public d)
 unfolding row
 row_stays i f public x h =
@@ -178,14 +182,17 @@ shown_same c name r s dt t e = sym e ∙ sym (ap (λ (b : Bool). cond b (reading
 shown_other : (c : Chain) (name : List ℕ) (r s : Reading) (dt : ℕ) → bytes_eq c.frame.name name ≡ false → s ≡ record r { dynamic = take (dt - dynamic_base) r.dynamic } → s ≡ shown_reading (Continues c) name r dt
 shown_other c name r s dt t e = e ∙ sym (ap (λ (b : Bool). cond b (reading_of c.frame c.public) (record r { dynamic = take (dt - dynamic_base) r.dynamic })) t)
 
+-- if a disjunction fails, so does its first part
 pub or_first : (b c : Bool) → (b || c) ≡ false → b ≡ false
 or_first true c e = absurd (cc e)
 or_first false c e = refl
 
+-- a frame over one whose name is not active has another name
 pub first_other : (n : List ℕ) (f : Frame) (fs : List Frame) → is_active n f fs ≡ false → bytes_eq f.name n ≡ false
 first_other n f [] h = h
 first_other n f (g ∷ gs) h = or_first (bytes_eq f.name n) (is_active n g gs) h
 
+-- frames of equal names have the same name by the test
 pub same_name : (f g : Frame) → g.name ≡ f.name → bytes_eq g.name f.name ≡ true
 same_name f g e = ap (λ (n : List ℕ). bytes_eq n f.name) e ∙ name_is_itself f.name
 
@@ -236,6 +243,7 @@ fetch_shown ch (Ok i) stays goes =
     by (Abends a) stays goes keeps leaves call = absurd (goes a refl)
     by (Does d) stays goes keeps leaves call = row_shown ch i.0 (Does d) goes keeps leaves (call (stays i.0 refl))
 
+-- if a frame neither exits nor abends, it reads what is shown after its turn
 pub going_reading : (n : ℕ) (ch : Chain) → ((j : Ins) → (turn_of n ch).turn.ins ≡ Some j → is_exit_of j ≡ false) → ((c : Abend) → (turn_of n ch).turn.end ≢ Some (Abended c))
     → reading_after n ch ≡ shown_reading (turn_of n ch).follows ch.frame.name (reading_of ch.frame ch.public) (turn_of n ch).turn.dt
 unfolding reading_after turn_of_chain
@@ -266,6 +274,7 @@ fetch_quiet ch (Ok i) ends =
     let f = frame_at ch.frame i.1 in
     row_quiet ch i.0 (row i.0 f ch.public (around ch)) ends (λ h. row_exits i.0 f ch.public (around ch) h) (row_leaves i.0 f ch.public (around ch))
 
+-- a turn that ends its frame writes nothing
 pub ended_writes : (n : ℕ) (ch : Chain) → EndsFrame (turn_of n ch).turn → (turn_of n ch).writes ≡ []
 unfolding turn_of_chain
 ended_writes zero ch ends = refl

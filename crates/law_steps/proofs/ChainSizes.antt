@@ -246,6 +246,7 @@ start_frame m first session apdu (Some a) few short size =
     let same : length session ≡ a.session = size in
     new_in first (length a.code) a.deny a.fixed session few (omega (arith, same, least))
 
+-- the run of a command has the sizes of the law, within the limits of the applications
 pub sizes_law : SizesLaw
 sizes_law m first session apdu budget are few size =
     let limited : Limited m = limited_from m are in

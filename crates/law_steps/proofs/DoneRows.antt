@@ -68,6 +68,7 @@ fetch_done ch i (Ok j) e goes =
     let all : FetchDone ch j.0 (Ok j) = record { at = j.1; none = did.none; reads = did.reads } in
     subst (λ (k : Ins). FetchDone ch k (Ok j)) same all
 
+-- an instruction that did not abend was done: none of its causes held
 pub ran_done : (n : ℕ) (ch : Chain) (i : Ins) → (turn_of n ch).turn.ins ≡ Some i → ((c : Abend) → (turn_of n ch).turn.end ≢ Some (Abended c)) → RanDone n ch i
 unfolding reading_after turn_of_chain
 ran_done zero ch i e goes = absurd (goes _ refl)
@@ -166,6 +167,7 @@ name_of : (i : Ins) (set number : ℕ) (args : List ℕ) (f : Frame) (public : L
 unfolding effect prim_effect
 name_of i set number args f public x is prim = ap (λ (j : Ins). effect j f public x) is ∙ ap (λ (o : Option Primitive). prim_done o args f public x) prim
 
+-- the length of the name that was reported is read at its static address after the turn
 pub name_read : (n : ℕ) (ch : Chain) (i : Ins) (set number : ℕ) (args name : List ℕ) → (turn_of n ch).turn.ins ≡ Some i → ((c : Abend) → (turn_of n ch).turn.end ≢ Some (Abended c)) → i ≡ ins.Prim set number args → primitive set number ≡ Some DelegatorAid → (ch.frame.protected ≡ false → ch.frame.pieces ≡ []) → delegator_in ch.below ≡ Some name
     → (let a = number_below_top ch.frame 2 in nat_le (a + (length name + 1)) (length ch.frame.fixed) ≡ true → NameRead n ch a (length name))
 name_read n ch i set number args name ran goes is prim guard some inside =

@@ -169,5 +169,6 @@ onward n ch c os h next = by (next_law n ch c next)
     by (inr (inl s)) = calls_opens n ch c os h next s
     by (inr (inr s)) = leaves_opens n ch c os h next s
 
+-- protection that is computed turn by turn is that of each frame
 pub opens_law : OpensLaw
 opens_law = record { onward = onward; kept = kept }

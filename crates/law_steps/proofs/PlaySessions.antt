@@ -397,5 +397,6 @@ IsReplayed n ch = HoldsAlong (memory_after no_memory (frame_line ch)) n ch
 replayed : HoldsWherever (λ n ch. BeginsFew n ch → IsReplayed n ch)
 replayed m first session apdu budget are size few = replay budget (first_chain m first session apdu) refl (sizes_law m first session apdu budget are few size)
 
+-- each byte of each frame of a play is known from its lines alone
 pub plays_replay : PlaysReplayLaw
 plays_replay ls m ws = each_both BeginsFew IsReplayed (plays (start m) ls ws) (each_run (λ n ch. BeginsFew n ch → IsReplayed n ch) replayed ls m ws) (few_from (start m) ls ws tt)

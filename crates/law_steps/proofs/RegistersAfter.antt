@@ -267,5 +267,6 @@ unfolding frame_after turn_of_chain
 protected_after zero ch j e goes = absurd (goes _ refl)
 protected_after (suc n) ch j e goes = fetch_protected ch (instruction_at (code_in (lookup ch.map ch.frame.name)) ch.frame.at) j e goes
 
+-- LB and the protection of the frame that ran a turn are found in the turn and in the chain after it
 pub registers_law : RegistersLaw
 registers_law = record { abends = abended; exits = exited; goes = going; protects = protected_after }

@@ -332,5 +332,6 @@ first_held n ch none fits =
     let held : HoldsChain m ch = record { frames = (frame, subst (λ (fs : List Frame). HoldsFrames m fs) (sym none) tt); public = begun_public no_memory r fits.frame } in
     subst (λ (k : Memory). HoldsChain k ch) (sym same) held
 
+-- each byte of each frame of a command is known from its lines alone
 pub replay : ReplayLaw
 replay n ch none fits = held_along n (memory_after no_memory (frame_line ch)) ch (first_held n ch none (first_fits n ch fits)) fits

@@ -8,6 +8,7 @@ use Rattle.law_family.specs.model_device.specs.Pieces.{covering_byte}
 use Rattle.desk_json.specs.Json.{before_if, before_runs, changes}
 use Rattle.law_steps.specs.Laws.{AreApart, ExactSetsLaw, LongestRunsLaw}
 
+-- the address of a run of bytes, and the bytes
 abbrev pub Run : Type 0
 Run = ℕ × List ℕ
 
@@ -37,6 +38,7 @@ from_if : (same : Bool) (a b : ℕ) (rs : List Run) → From (a + 1) rs → From
 from_if true a b rs h = from_sooner a rs h
 from_if false a b rs h = from_before a b rs h
 
+-- the runs of what differs begin at the address that the lists begin at, or later
 pub changes_from : (a : ℕ) (old new : List ℕ) → From a (changes a old new)
 changes_from a old [] = tt
 changes_from a [] (b ∷ bs) = from_if (b == 0) a b (changes (a + 1) [] bs) (changes_from (a + 1) [] bs)
@@ -46,6 +48,7 @@ changes_from a (o ∷ os) (b ∷ bs) = from_if (b == o) a b (changes (a + 1) os 
 run_none : (r : Run) (k : ℕ) → k < r.0 → run_byte r k ≡ None
 run_none r k h = let e : nat_le r.0 k ≡ false = grind (arith, nat_tests, h) in ap (λ (b : Bool). cond b (slice_get r.1 (k - r.0)) None) e
 
+-- no run has a byte before all of them
 pub before_none : (a k : ℕ) (rs : List Run) → From a rs → k < a → covering_byte rs k ≡ None
 before_none a k [] h less = refl
 before_none a k (r ∷ rs) h less =
@@ -82,6 +85,7 @@ no_byte t (x ∷ xs) i e = absurd (cc e)
 single_byte : (a b k : ℕ) → k ≢ a → run_byte (a, b ∷ []) k ≡ None
 single_byte a b k other = joined_byte a b k [] other ∙ no_byte (nat_le (a + 1) k) [] (k - (a + 1)) refl
 
+-- nothing after a choice leaves the choice
 pub else_none : (o : Option ℕ) → or_else o None ≡ o
 else_none None = refl
 else_none (Some x) = refl
@@ -124,6 +128,7 @@ at_first a = omega arith
 next_address : (a i : ℕ) → a + suc i ≡ a + 1 + i
 next_address a i = omega arith
 
+-- the runs of what differs have exactly the addresses whose bytes differ
 pub exact_sets : ExactSetsLaw
 exact_sets a i old [] h = absurd (omega (arith, h))
 exact_sets a zero [] (b ∷ bs) h = ap (λ (k : ℕ). covering_byte (changes a [] (b ∷ bs)) k) (at_first a) ∙ if_own (b == 0) a b (changes (a + 1) [] bs) (changes_from (a + 1) [] bs)
@@ -165,6 +170,7 @@ apart_if : (same : Bool) (a b : ℕ) (rs : List Run) → AreApart (a + 1) rs →
 apart_if true a b rs h = apart_sooner a rs h
 apart_if false a b rs h = apart_before a b rs h
 
+-- the runs of what differs are the longest
 pub longest_runs : LongestRunsLaw
 longest_runs a old [] = tt
 longest_runs a [] (b ∷ bs) = apart_if (b == 0) a b (changes (a + 1) [] bs) (longest_runs (a + 1) [] bs)

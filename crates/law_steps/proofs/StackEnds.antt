@@ -170,6 +170,7 @@ effect_in : (i : Ins) (f : Frame) (public : List ℕ) (x : Around) → NoneHolds
 effect_in i f public x none h =
     subst (λ (d : Done). StackIn d.effect.frame) (sym (shapes i f public x)) (shape_in (shape i f public x) f public (shape_fits i f public x h.high none) h)
 
+-- each row leaves a stack that ends within the dynamic segment
 pub row_in : (i : Ins) (f : Frame) (public : List ℕ) (x : Around) → StackIn f → OnDone (row i f public x) (λ d. StackIn d.effect.frame)
 unfolding row
 row_in i f public x h = by (first_cause (causes i f public x)) refl

@@ -222,6 +222,7 @@ span_at _ f k public x = refl
 abbrev pub TurnPays : Ins → Chain → List ℕ → Done → Type 0
 TurnPays i ch ws d = InsPays i ch.frame ch.public (around ch) ws d.effect
 
+-- an instruction makes the device writes that follow from it, from protection and from what waits
 pub turn_pays : (i : Ins) (ch : Chain) (k : ℕ) (ws : List ℕ) → IsRoomy ch.frame ch.public → WaitIn ws ch.frame → OnDone (row i (frame_at ch.frame k) ch.public (around ch)) (λ d. TurnPays i ch ws d)
 turn_pays i ch k ws r w =
     let f : Frame = frame_at ch.frame k in

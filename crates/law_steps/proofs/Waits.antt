@@ -155,5 +155,6 @@ device_writes n ch os ws o w room =
     let t = (turn_of n ch).turn in
     ap (λ (on : Bool). writes_of_words (now_of t.end t.ins (chain_span ch) on (get_or ws (length ch.below) []))) o.all.0 ∙ moves_are n ch (get_or ws (length ch.below) []) room w.all.0
 
+-- the words that wait, computed turn by turn, are those of each frame
 pub writes_law : WritesLaw
 writes_law = record { moves = device_writes; waits = waits }

@@ -54,6 +54,7 @@ place_by false false true f a n st dt pt =
     omega (arith, leb-true public_base a parts.0, leb-true (a + n) public_end parts.1)
 place_by false false false f a n st dt pt = tt
 
+-- a segment has n bytes at the place of an access of n bytes
 pub in_place : (f : Frame) (a n : ℕ) → InPlace f n (where_is f a n)
 in_place f a n = place_by _ _ _ f a n refl refl refl
 
@@ -76,9 +77,11 @@ operand_whole : (f : Frame) (public : List ℕ) (o : Option ℕ) (n : ℕ) → I
 operand_whole f public None n r there = absurd (cc there)
 operand_whole f public (Some a) n r there = at_whole f public a n r there
 
+-- the segments of a frame keep their room after a pop
 pub popped_roomy : (f : Frame) (public : List ℕ) (k : ℕ) → IsRoomy f public → IsRoomy (frame_after_pop f k) public
 popped_roomy f public k r = let high = r.high in record { fixed = r.fixed; dyn = r.dyn; high = omega (arith, high); whole = r.whole }
 
+-- a stack that is not under a pop has its bytes above the floor
 pub not_under : (f : Frame) (n : ℕ) → is_under f n ≡ false → floor f + n ≤ f.dt
 not_under f n e = grind (arith, nat_tests, e)
 
@@ -98,6 +101,7 @@ top_whole f public n r enough =
 
 -- ---- results
 
+-- a number that is not zero is above zero
 pub not_zero : (n : ℕ) → (n == 0) ≡ false → 0 < n
 not_zero n e = grind (arith, nat_tests, e)
 

@@ -29,6 +29,7 @@ read_law : (n : ℕ) (sums : SumsOf) (z : Result AppRules (ℕ × RuleCause)) �
 read_law n sums (Err e) is = absurd (cc is)
 read_law n sums (Ok r) is = for_law n sums r r.target refl is
 
+-- the rules of a deck with sums that are proved are kept
 pub deck_law : DeckSumsLaw
 unfolding proves_sums
 deck_law n sums text e = read_law n sums (app_rules_read text) e
@@ -39,5 +40,6 @@ proved : proves_sums 200 transaction_sums transaction_deck ≡ true
 unfolding proves_sums
 proved = refl
 
+-- the rules of the deck of transactions are kept
 pub transaction_kept : DeckIsKept transaction_deck
 transaction_kept = deck_law 200 transaction_sums transaction_deck proved

@@ -110,6 +110,7 @@ module _ (r : AppRules) (g : Target) (t : Tables) (u : SumsTable) (loadable : Is
 
   -- ---- by a command
 
+  -- a command in a session begins a frame whose sums hold as the table has them
   pub begins_covered : (bytes : List ℕ) (apdu : ApduParts) (h : History) (fixed session : List ℕ) → route bytes ≡ ToApplication apdu → IsByteCommand apdu → IsSumMoment setting t true h fixed session → length session ≡ g.app.session
       → IsSumPlace setting t u (BySelection bytes apdu h) (Commanded bytes ∷ h) (first_frame_in (domain_of_rules g (covering_of setting t)) fixed session) (new_public apdu)
   begins_covered bytes apdu h fixed session routed command m count =
@@ -152,6 +153,7 @@ module _ (r : AppRules) (g : Target) (t : Tables) (u : SumsTable) (loadable : Is
 
   -- ---- by a delegation
 
+  -- a delegation begins a frame whose sums hold as the table has them
   pub entered_covered : (h : History) (fixed public : List ℕ) → IsSumMoment setting t false h fixed [] → AreBytes public
       → IsSumPlace setting t u ByDelegation h (first_frame_in (domain_of_rules g (covering_of setting t)) fixed (zeros g.app.session)) public
   entered_covered h fixed public m others =

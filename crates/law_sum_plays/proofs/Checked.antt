@@ -16,12 +16,14 @@ use Rattle.law_sum_plays.proofs.Totals.{AreWithin, within_by}
 
 -- ---- lists that pass a test
 
+-- if two lists pass a test, so does the first
 pub pass_first : {A : Type 0} (test : A → Bool) (xs ys : List A) → all_pass test (xs ++ ys) ≡ true → all_pass test xs ≡ true
 pass_first test [] ys e = refl
 pass_first test (x ∷ xs) ys e =
     let p = and_parts (test x) (all_pass test (xs ++ ys)) e in
     ap (λ (b : Bool). b && all_pass test xs) p.0 ∙ pass_first test xs ys p.1
 
+-- if two lists pass a test, so does the second
 pub pass_second : {A : Type 0} (test : A → Bool) (xs ys : List A) → all_pass test (xs ++ ys) ≡ true → all_pass test ys ≡ true
 pass_second test [] ys e = e
 pass_second test (x ∷ xs) ys e = pass_second test xs ys (and_parts (test x) (all_pass test (xs ++ ys)) e).1
@@ -56,6 +58,7 @@ pub record SumsClosed (s : Setting) (t : Tables) (u : SumsTable) : Type 0 where
   pub starts : starts_closed s (classes s.rules) u t.moments ≡ true
   pub places : places_closed s u t.places ≡ true
 
+-- a table of sums that the test finds closed is closed, part by part
 pub closed_parts : (s : Setting) (t : Tables) (u : SumsTable) → sums_closed s t u ≡ true → SumsClosed s t u
 unfolding sums_closed
 closed_parts s t u e =

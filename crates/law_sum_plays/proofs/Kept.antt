@@ -27,6 +27,7 @@ use Rattle.law_sum_plays.proofs.Standings.{one_standing, quiet_kept}
 abbrev pub Keeps : Setting → History → List ℕ → Type 0
 Keeps s h fixed = (y : Standing) → standing_after s.rules h ≡ Ok y → are_totals fixed y.kept s.rules.totals ≡ true
 
+-- totals that hold of the standing after a history hold after it
 pub keeps_of : (s : Setting) (h : History) (fixed : List ℕ) (x : Standing) → standing_after s.rules h ≡ Ok x → are_totals fixed x.kept s.rules.totals ≡ true → Keeps s h fixed
 keeps_of s h fixed x is kept y other = subst (λ (z : Standing). are_totals fixed z.kept s.rules.totals ≡ true) (one_standing s.rules h x y is other) kept
 
@@ -39,6 +40,7 @@ stood_by : (r : AppRules) (e : Event) (h : History) (z : Result Standing Break) 
 stood_by r e h (Err b) y same is = absurd (cc is)
 stood_by r e h (Ok x) y same is = record { before = x; is = same }
 
+-- an event that is no instruction keeps the totals that power would leave
 pub keeps_quiet : (s : Setting) (e : Event) (h : History) (fixed : List ℕ) → IsQuiet e → Keeps s h fixed → Keeps s (e ∷ h) fixed
 keeps_quiet s e h fixed quiet keeps y is =
     let x : Stood s.rules h = stood_by s.rules e h (standing_after s.rules h) y refl is in
@@ -46,9 +48,11 @@ keeps_quiet s e h fixed quiet keeps y is =
 
 -- ---- moments
 
+-- a moment of the tables of facts at which the totals hold is one of both tables
 pub sum_moment : (s : Setting) (t : Tables) (x : Bool) (h : History) (fixed session : List ℕ) → IsMoment s t x h fixed session → Keeps s h fixed → IsSumMoment s t x h fixed session
 sum_moment s t x h fixed session m keeps = record { moment = m; kept = keeps m.standing m.stands }
 
+-- at a moment of both tables the totals hold
 pub moment_keeps : (s : Setting) (t : Tables) (x : Bool) (h : History) (fixed session : List ℕ) → IsSumMoment s t x h fixed session → Keeps s h fixed
 moment_keeps s t x h fixed session m = keeps_of s h fixed m.moment.standing m.moment.stands m.kept
 

@@ -31,6 +31,7 @@ same_itself [] = refl
 same_itself (x ∷ more) =
     and_from (bytes_eq x.0 x.0 && x.1 == x.1) (same_amounts more more) (and_from (bytes_eq x.0 x.0) (x.1 == x.1) (name_is_itself x.0) (eq-eqb x.1 x.1 refl)) (same_itself more)
 
+-- an event that leaves these allowances leads to them
 pub event_leads : (o : Result Amounts Break) (a b : Amounts) → o ≡ Ok a → b ≡ a → event_leads_to o b ≡ true
 event_leads o a b is same =
     ap (λ (z : Result Amounts Break). event_leads_to z b) is ∙ (ap (λ (z : Amounts). same_amounts a z) same ∙ same_itself a)
@@ -49,6 +50,7 @@ delegated_depth (suc (suc (suc (suc zero)))) test low high all =
     (and_parts (test 4) true q.1).0
 delegated_depth (suc (suc (suc (suc (suc n))))) test low high all = absurd (omega (arith, high))
 
+-- what passes for all depths of a beginning passes for the depth of its frame
 pub at_depth : (r : AppRules) (e : Entry Event) (start : Start) (depth : ℕ) (test : ℕ → Bool) → StartsAs r e start → FitsDepth e depth → all_pass test (depths start) ≡ true → test depth ≡ true
 at_depth r (BySelection bytes apdu before) (OfClass class) depth test starts deep all = subst (λ (n : ℕ). test n ≡ true) (sym deep) (and_parts (test 1) true all).0
 at_depth r ByDelegation Delegated depth test starts deep all = delegated_depth depth test deep.0 deep.1 all
@@ -57,11 +59,13 @@ at_depth r ByDelegation (OfClass class) depth test starts deep all = absurd star
 
 -- ---- what a table of sums has at a place
 
+-- what a table of sums has at a place, and that it follows from what is known
 pub record Follows (ts : List Total) (v : Sums) (found : Option Sums) : Type 0 where
   pub known : Sums
   pub is : found ≡ Some known
   pub follows : sums_follow ts v known ≡ true
 
+-- a test of a place of a table of sums finds what follows
 pub follows_of : (ts : List Total) (v : Sums) (found : Option Sums) → has_sums ts v found ≡ true → Follows ts v found
 follows_of ts v None e = absurd (cc e)
 follows_of ts v (Some known) e = record { known = known; is = refl; follows = e }
@@ -73,6 +77,7 @@ pub record IsLeft (s : Setting) (t : Tables) (outcomes : List Arrival) (e : Entr
   pub there : place_at t.places (key_of s (tables_of outcomes t) e h f public p) ≡ Some p.known
   pub leads : some_outcome (leads_to (key_of s (tables_of outcomes t) e h f public p)) outcomes ≡ true
 
+-- a place that outcomes leave is one of the tables, and one of the outcomes leads to it
 pub is_left : (s : Setting) (t : Tables) (outcomes : List Arrival) (e : Entry Event) (h : History) (f : Frame) (public : List ℕ) (p : IsPlace s (tables_of outcomes t) e h f public) → IsLeft s t outcomes e h f public p
 is_left s t outcomes e h f public p =
     let is = found (λ k. some_outcome (leads_to k) outcomes) t.places (key_of s (tables_of outcomes t) e h f public p) p.known p.there in

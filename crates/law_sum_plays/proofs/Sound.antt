@@ -76,6 +76,7 @@ module _ (r : AppRules) (g : Target) (t : Tables) (u : SumsTable) (loadable : Is
   kept_by h fixed x stands ranges totals =
       ap (λ (z : Result Standing Break). are_kept r z fixed) stands ∙ and_from (are_in_ranges fixed r.ranges) (are_totals fixed x.kept r.totals) ranges totals
 
+  -- closed tables with sums are a sound covering under which no rule is broken
   pub sums_cover : CoversRules r g covering
   sums_cover =
       record {
@@ -86,6 +87,7 @@ module _ (r : AppRules) (g : Target) (t : Tables) (u : SumsTable) (loadable : Is
             kept_by h fixed m.moment.standing m.moment.stands (idle_ranges setting t loadable closed (Session ∷ h) fixed (plain.ended h fixed session m.moment)) m.kept;
       }
 
+-- a command and a delegation begin frames at places of the tables, with their sums
 pub begin_law : BeginSumsLaw
 begin_law r g t u loadable closed sums =
     let s : Setting = record { rules = r; app = g.app } in

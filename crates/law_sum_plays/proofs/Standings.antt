@@ -19,6 +19,7 @@ use Rattle.law_sum_rows.specs.law_sums.proofs.EventLemmas.{names_stay}
 
 -- ---- one
 
+-- a history has at most one standing
 pub one_standing : (r : AppRules) (h : History) (x y : Standing) → standing_after r h ≡ Ok x → standing_after r h ≡ Ok y → x ≡ y
 one_standing r h x y one other = let same : Ok x ≡ Ok y = sym one ∙ other in cc same
 
@@ -34,6 +35,7 @@ pub record IsAllowed (z : Result Amounts Break) (x y : Standing) : Type 0 where
   pub is : z ≡ Ok allowances
   pub stands : y ≡ record x { allowances = allowances }
 
+-- a standing with new allowances differs from the one before in its allowances alone
 pub allowed : (z : Result Amounts Break) (x y : Standing) → (z >>= with_allowances x) ≡ Ok y → IsAllowed z x y
 allowed (Err b) x y e = absurd (cc e)
 allowed (Ok a) x y e = let same : record x { allowances = a } ≡ y = cc e in record { allowances = a; is = refl; stands = sym same }
@@ -66,6 +68,7 @@ pub record IsDone (r : AppRules) (d : Deed) (x y : Standing) : Type 0 where
   pub is : after_occasion r.ons (OnTurn (line_of_deed d)) x.allowances ≡ Ok allowances
   pub stands : y ≡ record (after_deed r d.frame.protected d x) { allowances = allowances }
 
+-- the standing after an instruction that was done has its allowances and its sums
 pub done_stands : (r : AppRules) (d : Deed) (h : History) (x y : Standing) → standing_after r h ≡ Ok x → standing_after r (Did d ∷ h) ≡ Ok y → IsDone r d x y
 done_stands r d h x y before after =
     let z : Result Amounts Break = after_occasion r.ons (OnTurn (line_of_deed d)) x.allowances in
@@ -132,12 +135,14 @@ bound_named : (r : AppRules) (e : Event) (z : Result Standing Break) (y : Standi
 bound_named r e (Err b) y before is = absurd (cc is)
 bound_named r e (Ok x) y before is = event_named r e x y is (before x refl)
 
+-- the sums after a history that breaks nothing have the names of the rules
 pub named_after : (r : AppRules) (h : History) (x : Standing) → standing_after r h ≡ Ok x → IsNamed r x
 named_after r [] x e =
     let same : first_standing r ≡ x = cc e in
     subst (IsNamed r) same (record { kept = first_named r.sums; waiting = first_named r.sums })
 named_after r (e ∷ h) x is = bound_named r e (standing_after r h) x (λ y before. named_after r h y before) is
 
+-- the sums of a standing have the names that the rules give them
 pub name_law : NameLaw
 name_law r h x is = let named : IsNamed r x = named_after r h x is in (named.kept, named.waiting)
 

@@ -45,12 +45,14 @@ total_is m fixed sums t h fits e =
 abbrev pub AreWithin : ℕ → List Total → Type 0
 AreWithin n ts = AllByRecursion (λ t. t.at + t.n ≤ n) ts
 
+-- totals of static bytes hold in a memory that has these bytes
 pub totals_hold : (m : Memory) (fixed : List ℕ) (sums : List Sum) (ts : List Total) → HasStatic m fixed → AreWithin (length fixed) ts → are_totals fixed sums ts ≡ true → TotalsHold m sums ts
 totals_hold m fixed sums [] h fits e = tt
 totals_hold m fixed sums (t ∷ ts) h fits e =
     let p = and_parts (is_total fixed sums t) (are_totals fixed sums ts) e in
     (total_holds m fixed sums t h fits.0 p.0, totals_hold m fixed sums ts h fits.1 p.1)
 
+-- totals that hold in a memory are those of the static bytes that it has
 pub totals_are : (m : Memory) (fixed : List ℕ) (sums : List Sum) (ts : List Total) → HasStatic m fixed → AreWithin (length fixed) ts → TotalsHold m sums ts → are_totals fixed sums ts ≡ true
 totals_are m fixed sums [] h fits e = refl
 totals_are m fixed sums (t ∷ ts) h fits e =
@@ -63,6 +65,7 @@ within_by n (t ∷ ts) e =
     let p = and_parts (nat_le (t.at + t.n) n) (all_pass (λ t. nat_le (t.at + t.n) n) ts) e in
     (leb-true (t.at + t.n) n p.0, within_by n ts p.1)
 
+-- blocks within some static bytes are within more of them
 pub within_more : (n k : ℕ) (ts : List Total) → n ≤ k → AreWithin n ts → AreWithin k ts
 within_more n k [] h w = tt
 within_more n k (t ∷ ts) h w = (omega (arith, h, w.0), within_more n k ts h w.1)

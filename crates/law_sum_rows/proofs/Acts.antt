@@ -60,6 +60,7 @@ module _ (ts : List Total) (first : List ℕ) (sums kept : List Sum) (st : Start
   abbrev pub lower : Frame
   lower = record (frame_at f next) { dt = d }
 
+  -- the key of the place with this DT
   abbrev pub key : PlaceKey
   key = record (place_key st al f calls) { dt = d }
 
@@ -67,6 +68,7 @@ module _ (ts : List Total) (first : List ℕ) (sums kept : List Sum) (st : Start
   abbrev pub before : Memory
   before = frame_memory lower public
 
+  -- the bytes after an act
   abbrev pub after : Act → Memory
   after a = let e : Effect = act_effect a lower public in frame_memory e.frame e.public
 

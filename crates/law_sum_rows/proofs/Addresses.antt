@@ -110,6 +110,7 @@ read_count i s t u step a n some within =
 
 -- ---- LOADI
 
+-- what is known for sums holds after LOADI
 pub loadi_case : (tag : ℕ) (off : ℤ) (n : ℕ) → StepCase (ins.Loadi tag off n)
 unfolding causes shape
 loadi_case tag off n s t u step static =
@@ -143,6 +144,7 @@ under_both : (f : Frame) (b : Bool) (n : ℕ) → is_under f (cond b (n + 2) n) 
 under_both f true n e = let h = above f (n + 2) e in omega (arith, h)
 under_both f false n e = let h = above f n e in omega (arith, h)
 
+-- what is known for sums holds after STOREI
 pub storei_case : (tag : ℕ) (off : ℤ) (n : ℕ) → StepCase (ins.Storei tag off n)
 unfolding causes shape
 storei_case tag off n s t u step static =
@@ -194,6 +196,7 @@ storei_case tag off n s t u step static =
 
 -- ---- INDEX
 
+-- what is known for sums holds after INDEX
 pub index_case : (tag : ℕ) (off : ℤ) (size : ℕ) → StepCase (ins.Index tag off size)
 unfolding causes shape
 index_case tag off size s t u step static =

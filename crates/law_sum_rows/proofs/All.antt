@@ -96,6 +96,7 @@ primitive_row set number args = set_row (set == 0) (set == 1) (set == 2) (set ==
 
 -- ---- all rows
 
+-- what is known for sums holds after each instruction
 pub all_cases : (i : Ins) → StepCase i
 all_cases ins.Nop = nop_case
 all_cases (ins.Setsw sw) = setsw_case sw

@@ -121,6 +121,7 @@ length_there s t u i step over one most =
     let n_in : is_in n (values_at k (suc a)) ≡ true = subst (λ (v : ℕ). is_in v (values_at k (suc a)) ≡ true) low_is (value_holds k m (suc a) step.place.holds second) in
     length_by (is_in 0 (values_at k a)) n (values_at k (suc a)) zero_in (is_kept (λ v. nat_lt 0 v) n (values_at k (suc a)) n_in (lt-ltb 0 n one))
 
+-- what is known for sums holds after the copy of a number of bytes that the stack has
 pub copy_case : (args : List ℕ) → StepCase (ins.Prim 0 6 args)
 unfolding causes shape later_causes prim_shape
 copy_case args =
@@ -150,6 +151,7 @@ copy_case args =
     let room = above f 6 none.1.1.0 in
     record { under = none.1.1.0; some = not_zero n range.0; to = both.0; from = both.1; length_in = length_there s t u i step (omega (arith, room)) range.0 range.1 })
 
+-- what is known for sums holds after the copy of a fixed number of bytes
 pub copy_fixed_case : (args : List ℕ) → StepCase (ins.Prim 1 2 args)
 unfolding causes shape later_causes prim_shape
 copy_fixed_case args =
@@ -208,6 +210,7 @@ module _ (i : Ins) (pops to n : ℕ) (bytes : Frame → List ℕ → List ℕ) (
         fits = (subst (λ (k : ℕ). is_none (where_is g at k) ≡ false) (sym r.long) (inside_of (n == 0) (is_none (where_is g at n)) some r.at), refl);
       })
 
+-- what is known for sums holds after a digest
 pub digest_case : (args : List ℕ) → StepCase (ins.Prim 0 9 args)
 unfolding causes shape later_causes prim_shape
 digest_case args =
@@ -245,6 +248,7 @@ ciphered cipher c n f public =
     let g = frame_after_pop f 6 in
     ecb (cipher (bytes_at g public (number_below_top f 2) (key_len c))) (block_len c) (bytes_at g public (number_below_top f 6) n)
 
+-- what is known for sums holds after a row that writes blocks under a cipher
 pub cipher_row : (i : Ins) (c : Cipher) (cipher : List ℕ → List ℕ → List ℕ) (n : ℕ) → ((key : List ℕ) → IsOfBlocks (block_len c) (cipher key)) → IsWriting i 6 4 (λ f. n) (ciphered cipher c n) (λ k dt. n ∷ []) (λ f. NoFact)
     → ((f : Frame) (public : List ℕ) (x : Around) → NoCause (causes i f public x)
     → (not (is_message c n) ≡ false) × (is_under f 6 ≡ false) × ((is_outside (frame_after_pop f 6) (number_below_top f 6) n || is_outside (frame_after_pop f 6) (number_below_top f 4) n || is_outside (frame_after_pop f 6) (number_below_top f 2) (key_len c)) ≡ false)) → StepCase i
@@ -281,6 +285,7 @@ signing c n f public =
     let g = frame_after_pop f 8 in
     signature c (bytes_at g public (number_below_top f 2) (key_len c)) (bytes_at g public (number_below_top f 8) (block_len c)) (bytes_at g public (number_below_top f 6) n)
 
+-- what is known for sums holds after a row that writes a signature
 pub sign_row : (i : Ins) (c : Cipher) (n : ℕ) → IsWriting i 8 4 (λ f. block_len c) (signing c n) (λ k dt. block_len c ∷ []) (λ f. NoFact)
     → ((f : Frame) (public : List ℕ) (x : Around) → NoCause (causes i f public x)
     → (is_under f 8 ≡ false) × ((is_outside (frame_after_pop f 8) (number_below_top f 8) (block_len c) || is_outside (frame_after_pop f 8) (number_below_top f 6) n || is_outside (frame_after_pop f 8) (number_below_top f 4) (block_len c) || is_outside (frame_after_pop f 8) (number_below_top f 2) (key_len c)) ≡ false)) → StepCase i

@@ -18,6 +18,7 @@ use Rattle.law_sum_rows.proofs.Rows.{StepCase}
 use Rattle.law_sum_rows.proofs.Prims.{alone}
 use Rattle.law_sum_rows.proofs.Blocks.{cipher_row, sign_row}
 
+-- what is known for sums holds after an encipherment
 pub encipher_case : (number : ℕ) (c : Cipher) → primitive 1 number ≡ Some (Encipher c) → (args : List ℕ) → StepCase (ins.Prim 1 number args)
 unfolding causes shape later_causes prim_shape
 encipher_case number c e args =
@@ -38,6 +39,7 @@ encipher_case number c e args =
     let clear : NoCause (prim_causes (Some (Encipher c)) args f public x) = subst (λ (z : Option Primitive). NoCause (prim_causes z args f public x)) e none in
     (clear.0, clear.1.1.0, clear.1.1.1.0))
 
+-- what is known for sums holds after a decipherment
 pub decipher_case : (number : ℕ) (c : Cipher) → primitive 1 number ≡ Some (Decipher c) → (args : List ℕ) → StepCase (ins.Prim 1 number args)
 unfolding causes shape later_causes prim_shape
 decipher_case number c e args =
@@ -58,6 +60,7 @@ decipher_case number c e args =
     let clear : NoCause (prim_causes (Some (Decipher c)) args f public x) = subst (λ (z : Option Primitive). NoCause (prim_causes z args f public x)) e none in
     (clear.0, clear.1.1.0, clear.1.1.1.0))
 
+-- what is known for sums holds after a signature
 pub sign_case : (number : ℕ) (c : Cipher) → primitive 1 number ≡ Some (Sign c) → (args : List ℕ) → StepCase (ins.Prim 1 number args)
 unfolding causes shape later_causes prim_shape
 sign_case number c e args =

@@ -122,6 +122,7 @@ module _ (i : Ins) (s : Setting) (t : Tables) (u : SumsTable) (step : Step s t u
 
 -- ---- LOAD and STORE
 
+-- what is known for sums holds after LOAD
 pub load_case : (tag : ℕ) (off : ℤ) (n : ℕ) → StepCase (ins.Load tag off n)
 unfolding causes shape
 load_case tag off n s t u step static =
@@ -131,6 +132,7 @@ load_case tag off n s t u step static =
     one_row i s t u step static step.frame.dt (Pushes (value_of f step.public tag off n)) None Goes refl (λ f. refl) nobody_among refl (sym (unprotected step.frame.protected step.place.standing)) (λ free fixed dyn public fits.
     loads i s t u step static fixed dyn public (place_of (with_bytes f fixed dyn) tag off n) (address_or_zero o) n fits (ap address_or_zero (same_operand f fixed dyn tag off n fits.size)) refl free.0 (inside_of f o n free.0 free.1.1.0) free.1.1.1.0 refl refl)
 
+-- what is known for sums holds after STORE
 pub store_case : (tag : ℕ) (off : ℤ) (n : ℕ) → StepCase (ins.Store tag off n)
 unfolding causes shape
 store_case tag off n s t u step static =
@@ -177,10 +179,12 @@ set_row i tag off n b size some free shaped works takes none prim mode s t u ste
       next = ap (λ (h : Shape). h.next) stands;
     })
 
+-- what is known for sums holds after SETB
 pub setb_case : (tag : ℕ) (off : ℤ) (v : ℕ) → StepCase (ins.Setb tag off v)
 unfolding causes shape
 setb_case tag off v = set_row (ins.Setb tag off v) tag off 1 (v ∷ []) refl refl (λ f public x none. none.1.0) (λ f public x. refl) (λ f public. refl) refl (λ f. refl) refl refl
 
+-- what is known for sums holds after SETW
 pub setw_case : (tag : ℕ) (off : ℤ) (v : ℕ) → StepCase (ins.Setw tag off v)
 unfolding causes shape
 setw_case tag off v = set_row (ins.Setw tag off v) tag off 2 (bytes2 v) refl refl (λ f public x none. none.1.0) (λ f public x. refl) (λ f public. refl) refl (λ f. refl) refl refl

@@ -210,5 +210,6 @@ module _ (args : List ℕ) (s : Setting) (t : Tables) (u : SumsTable) (step : St
   by_name None is names = without_name is
   by_name (Some name) is names = with_name name is names
 
+-- what is known for sums holds after the primitive that writes the name of the delegator
 pub delegator_case : (args : List ℕ) → StepCase (ins.Prim 0 8 args)
 delegator_case args s t u step static = by_name args s t u step static step.around.delegator refl step.names

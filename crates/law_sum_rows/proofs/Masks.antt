@@ -155,11 +155,13 @@ mask_row i n op mask form under task none who takes mode s t u step static =
       next = ap (λ (h : Shape). h.next) (form e public nobody);
     })
 
+-- what is known for sums holds after the bits of the top byte are manipulated
 pub bit_byte_case : (args : List ℕ) → StepCase (ins.Prim 2 1 args)
 unfolding causes shape later_causes prim_shape
 bit_byte_case args =
     mask_row (ins.Prim 2 1 args) 1 (slice_index args 0) (take 1 (drop 1 args)) (λ f public x. refl) (λ f public x none. none.1.1.0) (λ f public. refl) (λ f. refl) (alone (Some BitByte) refl) refl refl
 
+-- what is known for sums holds after the bits of the top word are manipulated
 pub bit_word_case : (args : List ℕ) → StepCase (ins.Prim 3 1 args)
 unfolding causes shape later_causes prim_shape
 bit_word_case args =

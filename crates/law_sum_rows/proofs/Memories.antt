@@ -41,6 +41,7 @@ bytes_list k (x ∷ b) a h =
 
 -- ---- what a splice changes
 
+-- a splice into the dynamic bytes changes its own bytes alone
 pub dynamic_changed : (size : ℕ) (st dyn public b : List ℕ) (a j : ℕ) → a ≡ dynamic_base + j → size ≤ dynamic_base → length dyn ≡ 512 → j + length b ≤ 512
     → Changed (parts_memory size st dyn public) (parts_memory size st (splice dyn j b) public) a b
 dynamic_changed size st dyn public b a j at small room fits =
@@ -50,6 +51,7 @@ dynamic_changed size st dyn public b a j at small room fits =
       there = bytes_list (parts_memory size st (splice dyn j b) public) b a (λ i less. dynamic_new size st dyn public b a j i at small there fits less);
     }
 
+-- a splice into the public segment changes its own bytes alone
 pub public_changed : (size : ℕ) (st dyn public b : List ℕ) (a j : ℕ) → a ≡ public_base + j → size ≤ dynamic_base → j ≤ length public
     → Changed (parts_memory size st dyn public) (parts_memory size st dyn (splice public j b)) a b
 public_changed size st dyn public b a j at small there =
@@ -58,6 +60,7 @@ public_changed size st dyn public b a j at small there =
       there = bytes_list (parts_memory size st dyn (splice public j b)) b a (λ i less. public_new size st dyn public b a j i at small there less);
     }
 
+-- a splice into the static bytes of a frame changes its own bytes alone
 pub static_changed : (f : Frame) (fixed : List ℕ) (pieces : List (ℕ × List ℕ)) (public b : List ℕ) (a : ℕ) → length fixed ≡ length f.fixed → laid_pieces fixed pieces ≡ splice (static_bytes f) a b
     → length (static_bytes f) ≡ length f.fixed → a + length b ≤ length f.fixed
     → Changed (frame_memory f public) (frame_memory (record f { fixed = fixed; pieces = pieces }) public) a b

@@ -63,12 +63,14 @@ minus_result n xs ys r long other are is =
     let sum : w + y ≡ x + 1 * m = omega (arith, below) in
     ap (λ (z : ℕ). (z + y) % m) whole ∙ (add_same m (w % m) w y y (mod_mod n w) refl ∙ (ap (λ (z : ℕ). z % m) sum ∙ add_whole m x 1))
 
+-- one as a number of n bytes is one
 pub one_is : (n : ℕ) → (n == 0) ≡ false → num (bytes n 1) ≡ 1
 one_is zero e = absurd (cc e)
 one_is (suc n) e =
     let pos = pow_positive n in
     num_bytes (suc n) 1 ∙ (ap (λ (p : ℕ). 1 % p) (pow_more n) ∙ mod-eq_of_lt (omega (arith, pos)))
 
+-- a count from 1 to 16 is not zero
 pub ranged : (n : ℕ) → not (in_range 1 16 n) ≡ false → (n == 0) ≡ false
 ranged zero e = absurd (cc e)
 ranged (suc n) e = not_zero (suc n) (omega arith)

@@ -50,11 +50,13 @@ dt_low s t u step =
     let low : dynamic_base + step.frame.session ≤ step.frame.dt = frame.low in
     omega (arith, low)
 
+-- DT lies at or below the end of the stack
 pub dt_high : {i : Ins} (s : Setting) (t : Tables) (u : SumsTable) (step : Step s t u i) → step.frame.dt ≤ dynamic_end
 dt_high s t u step = let frame : IsFrameOf s.app step.frame = step.place.frame in frame.high
 
 -- ---- NOP, and rows that pop
 
+-- what is known for sums holds after NOP
 pub nop_case : StepCase ins.Nop
 unfolding causes shape
 nop_case s t u step static =
@@ -65,21 +67,25 @@ nop_case s t u step static =
 pub pop_low : (f : Frame) (n : ℕ) → is_under f n ≡ false → dynamic_base ≤ f.dt - n
 pop_low f n e = let h = above f n e in omega (arith, h)
 
+-- DT stays at or below the end of the stack after a pop
 pub pop_high : (dt n : ℕ) → dt ≤ dynamic_end → dt - n ≤ dynamic_end
 pop_high dt n h = omega (arith, h)
 
+-- what is known for sums holds after POPN
 pub popn_case : (n : ℕ) → StepCase (ins.Popn n)
 unfolding causes shape
 popn_case n s t u step static =
     one_row (ins.Popn n) s t u step static (step.frame.dt - n) Stays None Goes refl (λ f. refl) nobody_among refl (sym (unprotected step.frame.protected step.place.standing)) (λ free fixed dyn public fits.
     record { bytes = []; to = 0; flags = None; later = Goes; stands = refl; same = tt; low = pop_low step.frame n free.1.0; high = pop_high step.frame.dt n (dt_high s t u step); fits = (tt, tt); next = refl })
 
+-- what is known for sums holds after POPB
 pub popb_case : StepCase ins.Popb
 unfolding causes shape
 popb_case s t u step static =
     one_row ins.Popb s t u step static (step.frame.dt - 1) Stays None Goes refl (λ f. refl) nobody_among refl (sym (unprotected step.frame.protected step.place.standing)) (λ free fixed dyn public fits.
     record { bytes = []; to = 0; flags = None; later = Goes; stands = refl; same = tt; low = pop_low step.frame 1 free.0; high = pop_high step.frame.dt 1 (dt_high s t u step); fits = (tt, tt); next = refl })
 
+-- what is known for sums holds after POPW
 pub popw_case : StepCase ins.Popw
 unfolding causes shape
 popw_case s t u step static =
@@ -88,42 +94,49 @@ popw_case s t u step static =
 
 -- ---- status and length of the reply
 
+-- what is known for sums holds after SETSW
 pub setsw_case : (sw : ℕ) → StepCase (ins.Setsw sw)
 unfolding causes shape
 setsw_case sw s t u step static =
     one_row (ins.Setsw sw) s t u step static step.frame.dt (Answers (Some sw) None) None Goes refl (λ f. refl) nobody_among refl (sym (unprotected step.frame.protected step.place.standing)) (λ free fixed dyn public fits.
     record { bytes = []; to = 0; flags = None; later = Goes; stands = refl; same = tt; low = dt_low s t u step; high = dt_high s t u step; fits = (tt, tt); next = refl })
 
+-- what is known for sums holds after SETLA
 pub setla_case : (la : ℕ) → StepCase (ins.Setla la)
 unfolding causes shape
 setla_case la s t u step static =
     one_row (ins.Setla la) s t u step static step.frame.dt (Answers None (Some la)) None Goes refl (λ f. refl) nobody_among refl (sym (unprotected step.frame.protected step.place.standing)) (λ free fixed dyn public fits.
     record { bytes = []; to = 0; flags = None; later = Goes; stands = refl; same = tt; low = dt_low s t u step; high = dt_high s t u step; fits = (tt, tt); next = refl })
 
+-- what is known for sums holds after SETSWLA
 pub setswla_case : (sw la : ℕ) → StepCase (ins.Setswla sw la)
 unfolding causes shape
 setswla_case sw la s t u step static =
     one_row (ins.Setswla sw la) s t u step static step.frame.dt (Answers (Some sw) (Some la)) None Goes refl (λ f. refl) nobody_among refl (sym (unprotected step.frame.protected step.place.standing)) (λ free fixed dyn public fits.
     record { bytes = []; to = 0; flags = None; later = Goes; stands = refl; same = tt; low = dt_low s t u step; high = dt_high s t u step; fits = (tt, tt); next = refl })
 
+-- what is known for sums holds after EXIT
 pub exit_case : StepCase ins.Exit
 unfolding causes shape
 exit_case s t u step static =
     one_row ins.Exit s t u step static step.frame.dt (Answers None None) None Exits refl (λ f. refl) nobody_among refl (sym (unprotected step.frame.protected step.place.standing)) (λ free fixed dyn public fits.
     record { bytes = []; to = 0; flags = None; later = Exits; stands = refl; same = tt; low = dt_low s t u step; high = dt_high s t u step; fits = (tt, tt); next = (refl, record { dt = refl; c = refl; z = refl }) })
 
+-- what is known for sums holds after EXITSW
 pub exitsw_case : (sw : ℕ) → StepCase (ins.Exitsw sw)
 unfolding causes shape
 exitsw_case sw s t u step static =
     one_row (ins.Exitsw sw) s t u step static step.frame.dt (Answers (Some sw) None) None Exits refl (λ f. refl) nobody_among refl (sym (unprotected step.frame.protected step.place.standing)) (λ free fixed dyn public fits.
     record { bytes = []; to = 0; flags = None; later = Exits; stands = refl; same = tt; low = dt_low s t u step; high = dt_high s t u step; fits = (tt, tt); next = (refl, record { dt = refl; c = refl; z = refl }) })
 
+-- what is known for sums holds after EXITLA
 pub exitla_case : (la : ℕ) → StepCase (ins.Exitla la)
 unfolding causes shape
 exitla_case la s t u step static =
     one_row (ins.Exitla la) s t u step static step.frame.dt (Answers None (Some la)) None Exits refl (λ f. refl) nobody_among refl (sym (unprotected step.frame.protected step.place.standing)) (λ free fixed dyn public fits.
     record { bytes = []; to = 0; flags = None; later = Exits; stands = refl; same = tt; low = dt_low s t u step; high = dt_high s t u step; fits = (tt, tt); next = (refl, record { dt = refl; c = refl; z = refl }) })
 
+-- what is known for sums holds after EXITSWLA
 pub exitswla_case : (sw la : ℕ) → StepCase (ins.Exitswla sw la)
 unfolding causes shape
 exitswla_case sw la s t u step static =
@@ -132,6 +145,7 @@ exitswla_case sw la s t u step static =
 
 -- ---- branches, and jumps and calls to a place in their own bytes
 
+-- what is known for sums holds after BRANCH
 pub branch_case : (k : ℕ) (d : ℤ) → StepCase (ins.Branch k d)
 unfolding causes shape
 branch_case k d s t u step static =
@@ -144,6 +158,7 @@ pub target_low : (f : Frame) (b : Bool) → dynamic_base ≤ f.dt → (b && is_u
 target_low f true low e = pop_low f 2 e
 target_low f false low e = low
 
+-- DT stays at or below the end of the stack whether or not a target is popped
 pub target_high : (dt : ℕ) (b : Bool) → dt ≤ dynamic_end → cond b (dt - 2) dt ≤ dynamic_end
 target_high dt true h = pop_high dt 2 h
 target_high dt false h = h
@@ -152,6 +167,7 @@ target_high dt false h = h
 pub no_target : (k : ℕ) (some : List ℕ) → (k == 0) ≡ false → cond (k == 0) some [] ≡ []
 no_target k some e = ap (λ (b : Bool). cond b some []) e
 
+-- what is known for sums holds after JUMP to a place in its own bytes
 pub jump_case : (k to : ℕ) → (k == 0) ≡ false → StepCase (ins.Jump k to)
 unfolding causes shape
 jump_case k to e s t u step static =
@@ -180,6 +196,7 @@ room_by dt false b f is e on = absurd (cc on)
 call_over : (f : Frame) (k : ℕ) (taken : Bool) → (taken && is_over (without_target f k) 4) ≡ false → taken ≡ true → on_stack k (f.dt - 2) f.dt + 4 ≤ dynamic_end
 call_over f k taken e on = room_by f.dt taken (k == 0) f refl e on
 
+-- what is known for sums holds after CALL of a place in its own bytes
 pub call_case : (k to : ℕ) → (k == 0) ≡ false → StepCase (ins.Call k to)
 unfolding causes shape
 call_case k to e s t u step static =
@@ -201,6 +218,7 @@ call_case k to e s t u step static =
 
 -- ---- pushes
 
+-- what is known for sums holds after PUSHZ
 pub pushz_case : (n : ℕ) → StepCase (ins.Pushz n)
 unfolding causes shape
 pushz_case n s t u step static =
@@ -218,18 +236,21 @@ pushz_case n s t u step static =
       next = refl;
     })
 
+-- what is known for sums holds after PUSHB
 pub pushb_case : (b : ℕ) → StepCase (ins.Pushb b)
 unfolding causes shape
 pushb_case b s t u step static =
     one_row (ins.Pushb b) s t u step static step.frame.dt (Pushes (b ∷ [])) None Goes refl (λ f. refl) nobody_among refl (sym (unprotected step.frame.protected step.place.standing)) (λ free fixed dyn public fits.
     record { bytes = b ∷ []; to = 0; flags = None; later = Goes; stands = refl; same = (refl, λ number. refl); low = dt_low s t u step; high = dt_high s t u step; fits = (over_is step.frame.dt 1 1 free.0 refl, tt); next = refl })
 
+-- what is known for sums holds after PUSHW
 pub pushw_case : (w : ℕ) → StepCase (ins.Pushw w)
 unfolding causes shape
 pushw_case w s t u step static =
     one_row (ins.Pushw w) s t u step static step.frame.dt (Pushes (bytes2 w)) None Goes refl (λ f. refl) nobody_among refl (sym (unprotected step.frame.protected step.place.standing)) (λ free fixed dyn public fits.
     record { bytes = bytes2 w; to = 0; flags = None; later = Goes; stands = refl; same = (refl, λ number. refl); low = dt_low s t u step; high = dt_high s t u step; fits = (over_is step.frame.dt 2 2 free.0 refl, tt); next = refl })
 
+-- what is known for sums holds after LOADA
 pub loada_case : (tag : ℕ) (off : ℤ) → StepCase (ins.Loada tag off)
 unfolding causes shape
 loada_case tag off s t u step static =
@@ -278,6 +299,7 @@ return_row i less more shaped free works takes none prim mode s t u step static 
       next = ap (λ (h : Shape). h.next) (shaped z.frame z.public nobody);
     })
 
+-- what is known for sums holds after each of the returns
 pub return_cases : StepCase ins.Ret × ((less : ℕ) → StepCase (ins.Reti less)) × ((more : ℕ) → StepCase (ins.Reto more)) × ((less more : ℕ) → StepCase (ins.Retio less more))
 unfolding causes shape
 return_cases = (

@@ -113,6 +113,7 @@ still_row i k flags later is under_it alone_at nexts works s t u step static =
           })
     ])
 
+-- what is known for sums holds after the check of the case
 pub check_case : (args : List ℕ) → StepCase (ins.Prim 0 1 args)
 unfolding causes shape later_causes prim_shape
 check_case args =
@@ -120,6 +121,7 @@ check_case args =
     (record { form = λ f public x. refl; takes = refl; mode = refl; same = λ e public. tt; rough = λ f facts. tt })
     (λ f public x none. none.1.1.0) (alone (Some CheckCase) refl) (λ f g p q x y fr e. refl) (λ s t u step static e public. refl)
 
+-- what is known for sums holds after the flags are set from a byte
 pub store_ccr_case : (args : List ℕ) → StepCase (ins.Prim 0 3 args)
 unfolding causes shape later_causes prim_shape
 store_ccr_case args =
@@ -130,6 +132,7 @@ store_ccr_case args =
 abbrev flags_of : Worked → Option (Bool × Bool)
 flags_of w = Some (w.c, w.z)
 
+-- what is known for sums holds after a comparison of a number of bytes that the stack has
 pub compare_case : (args : List ℕ) → StepCase (ins.Prim 0 5 args)
 unfolding causes shape later_causes prim_shape
 compare_case args =
@@ -138,6 +141,7 @@ compare_case args =
     (record { form = λ f public x. refl; takes = refl; mode = refl; same = λ e public. tt; rough = λ f facts. tt })
     (λ f public x none. none.1.1.0) (alone (Some MemoryCompare) refl) (λ f g p q x y fr e. refl) (λ s t u step static e public. record { on = λ on. absurd (cc on); off = λ no x. refl; reads = refl })
 
+-- what is known for sums holds after a comparison of a fixed number of bytes
 pub compare_fixed_case : (args : List ℕ) → StepCase (ins.Prim 1 1 args)
 unfolding causes shape later_causes prim_shape
 compare_fixed_case args =
@@ -146,6 +150,7 @@ compare_fixed_case args =
     (record { form = λ f public x. refl; takes = refl; mode = refl; same = λ e public. tt; rough = λ f facts. tt })
     (λ f public x none. none.1.1.0) (alone (Some CompareFixed) refl) (λ f g p q x y fr e. refl) (λ s t u step static e public. record { on = λ on. absurd (cc on); off = λ no x. refl; reads = refl })
 
+-- what is known for sums holds after a delegation
 pub delegate_case : (args : List ℕ) → StepCase (ins.Prim 0 7 args)
 unfolding causes shape later_causes prim_shape
 delegate_case args =
@@ -156,6 +161,7 @@ delegate_case args =
 
 -- ---- flags as a byte, and protection
 
+-- what is known for sums holds after the flags are pushed as a byte
 pub load_ccr_case : (args : List ℕ) → StepCase (ins.Prim 0 2 args)
 unfolding causes shape later_causes prim_shape
 load_ccr_case args s t u step static =
@@ -178,6 +184,7 @@ protected_sums : (p : Bool) (mode : ℕ) (x : Standing) → cond (p && not (mode
 protected_sums true mode x = refl
 protected_sums false mode x = refl
 
+-- what is known for sums holds after a change of protection
 pub protection_case : (args : List ℕ) → StepCase (ins.Prim 1 3 args)
 unfolding causes shape later_causes prim_shape
 protection_case args s t u step static =
@@ -186,6 +193,7 @@ protection_case args s t u step static =
 
 -- ---- searches
 
+-- what is known for sums holds after the search of a table
 pub lookup_case : (args : List ℕ) → StepCase (ins.Prim 0 4 args)
 unfolding causes shape later_causes prim_shape
 lookup_case args s t u step static =
@@ -268,12 +276,14 @@ shift_row i n shift form under task rough size who takes mode s t u step static 
           })
     ])
 
+-- what is known for sums holds after a shift to the left
 pub shift_left_case : (args : List ℕ) → StepCase (ins.Prim 2 2 args)
 unfolding causes shape later_causes prim_shape
 shift_left_case args =
     shift_row (ins.Prim 2 2 args) (slice_index args 0) (λ v. shift_left_block v (slice_index args 1)) (λ f public x. refl) (λ f public x none. none.1.1.0) (λ f public. refl) (λ f facts. refl)
     (λ v. length_bytes (length v) (num v * 2 ^ slice_index args 1)) (alone (Some ShiftLeft) refl) refl refl
 
+-- what is known for sums holds after a shift to the right
 pub shift_right_case : (args : List ℕ) → StepCase (ins.Prim 2 3 args)
 unfolding causes shape later_causes prim_shape
 shift_right_case args =

@@ -62,15 +62,19 @@ module _ (s : Setting) (t : Tables) (u : SumsTable) (i : Ins) (step : Step s t u
   abbrev f : Frame
   f = fetched s t u i step
 
+  -- the sums that are read before the instruction
   abbrev pub known : List Sum
   known = read_sums step.frame.protected step.place.standing
 
+  -- the sums as power would leave them
   abbrev pub kept : List Sum
   kept = step.place.standing.kept
 
+  -- how the frame began
   abbrev pub start : Start
   start = step.place.start
 
+  -- the allowances before the instruction
   abbrev pub allowed : Amounts
   allowed = step.place.standing.allowances
 
@@ -90,9 +94,11 @@ module _ (s : Setting) (t : Tables) (u : SumsTable) (i : Ins) (step : Step s t u
   abbrev pub IsWork : ℕ → Work → Act → Type 0
   IsWork d w a = WorkFits s.rules.totals step.sums.first known kept start allowed step.place.calls step.frame step.public step.next d w a
 
+  -- what a row of too many combinations does
   abbrev pub IsCoarsely : ℕ → Frame → Coarse → Act → Type 0
   IsCoarsely d e c a = CoarseFits s.rules.totals step.sums.first known kept start allowed step.place.calls step.frame step.public step.next d e c a
 
+  -- with this DT the segments of the frame still have their lengths
   pub whole_at : (d : ℕ) → dynamic_base ≤ d → d ≤ dynamic_end → Whole (low d) step.public
   whole_at d low high =
       let z : Sized f step.public = sized s t u i step in
@@ -153,6 +159,7 @@ module _ (s : Setting) (t : Tables) (u : SumsTable) (i : Ins) (step : Step s t u
     pub fits : IsWork d (work i z.frame z.public) a
     pub next : ComesNext n (shape i z.frame z.public x) step.frame (shape_effect (shape_of d a fl n) f step.public)
 
+  -- a row that is alike in a scene of a choice is compared with the places that follow it there
   pub few_compared : (places : List ℕ) (x : Around) (o : Found s t u i step places x) (d : ℕ) (a : Act) (fl : Option (Bool × Bool)) (n : Then) → Alike d a fl n (scene_of f o.fixed o.dyn o.public) x → Compared d a fl n
   few_compared places x o d a fl n e =
       let z : Scene = scene_of f o.fixed o.dyn o.public in
@@ -180,6 +187,7 @@ module _ (s : Setting) (t : Tables) (u : SumsTable) (i : Ins) (step : Step s t u
   abbrev pub stood : Frame
   stood = (base s t u i step).frame
 
+  -- the shape of the row in the scene that stands for the place
   abbrev pub stood_shape : Shape
   stood_shape = shape i stood (base s t u i step).public (coarse_around start)
 
@@ -191,6 +199,7 @@ module _ (s : Setting) (t : Tables) (u : SumsTable) (i : Ins) (step : Step s t u
     pub fits : IsCoarsely d stood (coarse_for stood_shape.act (coarse i stood step.place.known.bytes)) a
     pub next : ComesNext n stood_shape step.frame (shape_effect (shape_of d a fl n) f step.public)
 
+  -- a row of too many choices is compared in the scene that stands for the place
   pub coarse_compared : IsCoarse s t u i step → (d : ℕ) (a : Act) (fl : Option (Bool × Bool)) (n : Then) → Coarsely d a fl n → Compared d a fl n
   coarse_compared closed d a fl n l =
       let c : Coarse = coarse_for stood_shape.act (coarse i stood step.place.known.bytes) in
@@ -214,6 +223,7 @@ module _ (s : Setting) (t : Tables) (u : SumsTable) (i : Ins) (step : Step s t u
 abbrev pub StepCase : Ins → Type 0
 StepCase i = (s : Setting) (t : Tables) (u : SumsTable) (step : Step s t u i) (static : AreStatic s s.rules.totals) → OnDone (row i (fetched s t u i step) step.public step.around) (Moves s t u i step static)
 
+-- a row after which what is known for sums holds has its law
 pub law_of : (i : Ins) → StepCase i → SumRowLaw i
 law_of i case s t u loadable static e h f public x next p fits names whole at before k closed =
     let decoded : Decodes s.app.code f.at i next = subst (λ (z : Result (Ins × ℕ) DecodeFault). DecodesTo s.app.code f.at z) at (decoded_stands s.app.code f.at loadable.code) in

@@ -74,6 +74,7 @@ module _ (s : Setting) (t : Tables) (u : SumsTable) (i : Ins) (step : Step s t u
   abbrev pub fetched : Frame
   fetched = frame_at step.frame step.next
 
+  -- the bytes of the frame after the fetch
   abbrev pub memory : Memory
   memory = frame_memory fetched step.public
 
@@ -144,6 +145,7 @@ module _ (s : Setting) (t : Tables) (u : SumsTable) (i : Ins) (step : Step s t u
         closed = subst (λ (z : Scene). turn_closed s u (turn_in z) x ≡ true) stand.is e;
       }
 
+  -- of few choices one is that of the memory, and its scene is closed
   pub found_few : (places : List ℕ) (cs : List Choice) (x : Around) → Among x (arounds step.place.start (primitive_of i)) → few_combinations step.place.known.bytes (inside base places) ≡ Some cs
       → all_pass (first_choice_closed s u (turn_in base)) cs ≡ true → Found places x
   found_few places cs x among e all =

@@ -47,6 +47,7 @@ result_short n v xs long = let size = length_bytes (length xs) v in omega (arith
 
 -- ---- a byte or a word
 
+-- what is known for sums holds after ADDB
 pub addb_case : (tag : ℕ) (off : ℤ) (v : ℕ) → StepCase (ins.Addb tag off v)
 unfolding causes shape
 addb_case tag off v =
@@ -56,6 +57,7 @@ addb_case tag off v =
     (λ f public x none. refl) (λ f public x none. none.1.0) (λ xs zs long. result_short 1 (num xs + num zs) xs long)
     (λ s t u step free xs long r is. plus_result 1 xs b r long (is (length_bytes (length xs) (num xs + num b) ∙ long)))
 
+-- what is known for sums holds after SUBB
 pub subb_case : (tag : ℕ) (off : ℤ) (v : ℕ) → StepCase (ins.Subb tag off v)
 unfolding causes shape
 subb_case tag off v =
@@ -67,6 +69,7 @@ subb_case tag off v =
     let byte : v < 256 = step.shaped.1 in
     minus_result 1 xs b r long refl (byte, tt) (is (length_bytes (length xs) (256 ^ length xs + num xs - num b) ∙ long)))
 
+-- what is known for sums holds after ADDW
 pub addw_case : (tag : ℕ) (off : ℤ) (v : ℕ) → StepCase (ins.Addw tag off v)
 unfolding causes shape
 addw_case tag off v =
@@ -76,6 +79,7 @@ addw_case tag off v =
     (λ f public x none. refl) (λ f public x none. none.1.0) (λ xs zs long. result_short 2 (num xs + num zs) xs long)
     (λ s t u step free xs long r is. plus_result 2 xs b r long (is (length_bytes (length xs) (num xs + num b) ∙ long)))
 
+-- what is known for sums holds after SUBW
 pub subw_case : (tag : ℕ) (off : ℤ) (v : ℕ) → StepCase (ins.Subw tag off v)
 unfolding causes shape
 subw_case tag off v =
@@ -87,6 +91,7 @@ subw_case tag off v =
 
 -- ---- one more and one less
 
+-- what is known for sums holds after INCN
 pub incn_case : (tag : ℕ) (off : ℤ) (n : ℕ) → StepCase (ins.Incn tag off n)
 unfolding causes shape
 incn_case tag off n =
@@ -98,6 +103,7 @@ incn_case tag off n =
     let one : num b ≡ 1 = one_is n (ranged n free.0) in
     plus_result n xs b r long (is (length_bytes (length xs) (num xs + 1) ∙ long) ∙ ap (λ (v : ℕ). num (bytes (length xs) (num xs + v))) (sym one)))
 
+-- what is known for sums holds after DECN
 pub decn_case : (tag : ℕ) (off : ℤ) (n : ℕ) → StepCase (ins.Decn tag off n)
 unfolding causes shape
 decn_case tag off n =
@@ -118,6 +124,7 @@ top_number s t u i step n over = top_is (fetched s t u i step) step.public n (si
 low_enough : (f : Frame) (b : Bool) (n : ℕ) → is_under f (cond b (2 * n) n) ≡ false → dynamic_base + n ≤ f.dt
 low_enough f b n e = let h = above_by f b n e in omega (arith, h)
 
+-- what is known for sums holds after ADDN
 pub addn_case : (tag : ℕ) (off : ℤ) (n : ℕ) → StepCase (ins.Addn tag off n)
 unfolding causes shape
 addn_case tag off n =
@@ -131,6 +138,7 @@ addn_case tag off n =
     let same : b ≡ operand_bytes (memory s t u i step) n (at_top f n) = top_number s t u i step n (low_enough f (tag == 0) n free.1.0) in
     subst (λ (zs : List ℕ). r % 256 ^ n ≡ (num xs + num zs) % 256 ^ n) same (plus_result n xs b r long (is (length_bytes (length xs) (num xs + num b) ∙ long))))
 
+-- what is known for sums holds after SUBN
 pub subn_case : (tag : ℕ) (off : ℤ) (n : ℕ) → StepCase (ins.Subn tag off n)
 unfolding causes shape
 subn_case tag off n =
@@ -149,6 +157,7 @@ subn_case tag off n =
 
 -- ---- bits
 
+-- what is known for sums holds after CLEARN
 pub clearn_case : (tag : ℕ) (off : ℤ) (n : ℕ) → StepCase (ins.Clearn tag off n)
 unfolding causes shape
 clearn_case tag off n =
@@ -157,6 +166,7 @@ clearn_case tag off n =
     (λ f public x none. none.0) (λ f public x none. none.1.1.0) (λ xs zs long. let size = length-replicate {A = ℕ} n 0 in omega (arith, size))
     (λ s t u step free xs long r is. tt)
 
+-- what is known for sums holds after NOTN
 pub notn_case : (tag : ℕ) (off : ℤ) (n : ℕ) → StepCase (ins.Notn tag off n)
 unfolding causes shape
 notn_case tag off n =
@@ -165,6 +175,7 @@ notn_case tag off n =
     (λ f public x none. none.0) (λ f public x none. none.1.1.0) (λ xs zs long. map_short (λ x. 255 - x) xs n (omega (arith, long)))
     (λ s t u step free xs long r is. tt)
 
+-- what is known for sums holds after ANDN
 pub andn_case : (tag : ℕ) (off : ℤ) (n : ℕ) → StepCase (ins.Andn tag off n)
 unfolding causes shape
 andn_case tag off n =
@@ -173,6 +184,7 @@ andn_case tag off n =
     (λ f public x none. none.0) (λ f public x none. none.1.1.0) (λ xs zs long. each_short bit_and xs zs n (omega (arith, long)))
     (λ s t u step free xs long r is. tt)
 
+-- what is known for sums holds after ORN
 pub orn_case : (tag : ℕ) (off : ℤ) (n : ℕ) → StepCase (ins.Orn tag off n)
 unfolding causes shape
 orn_case tag off n =
@@ -181,6 +193,7 @@ orn_case tag off n =
     (λ f public x none. none.0) (λ f public x none. none.1.1.0) (λ xs zs long. each_short bit_or xs zs n (omega (arith, long)))
     (λ s t u step free xs long r is. tt)
 
+-- what is known for sums holds after XORN
 pub xorn_case : (tag : ℕ) (off : ℤ) (n : ℕ) → StepCase (ins.Xorn tag off n)
 unfolding causes shape
 xorn_case tag off n =
@@ -212,24 +225,28 @@ compare_row i g flags unwritten form task takes none prim mode s t u step static
       next = ap (λ (h : Shape). h.next) (form z.frame z.public nobody);
     })
 
+-- what is known for sums holds after CMPB
 pub cmpb_case : (tag : ℕ) (off : ℤ) (v : ℕ) → StepCase (ins.Cmpb tag off v)
 unfolding causes shape
 cmpb_case tag off v =
     compare_row (ins.Cmpb tag off v) (λ f. record { op = Minus; at = place_of f tag off 1; n = 1; operand = These (v ∷ []); written = false; carries = true }) (λ f public. both (sub_blocks (value_of f public tag off 1) (v ∷ [])))
     (λ f. refl) (λ f public x. refl) (λ f public. refl) refl (λ f. refl) refl refl
 
+-- what is known for sums holds after CMPW
 pub cmpw_case : (tag : ℕ) (off : ℤ) (v : ℕ) → StepCase (ins.Cmpw tag off v)
 unfolding causes shape
 cmpw_case tag off v =
     compare_row (ins.Cmpw tag off v) (λ f. record { op = Minus; at = place_of f tag off 2; n = 2; operand = These (bytes2 v); written = false; carries = true }) (λ f public. both (sub_blocks (value_of f public tag off 2) (bytes2 v)))
     (λ f. refl) (λ f public x. refl) (λ f public. refl) refl (λ f. refl) refl refl
 
+-- what is known for sums holds after CMPN
 pub cmpn_case : (tag : ℕ) (off : ℤ) (n : ℕ) → StepCase (ins.Cmpn tag off n)
 unfolding causes shape
 cmpn_case tag off n =
     compare_row (ins.Cmpn tag off n) (λ f. record { op = Minus; at = place_of f tag off (2 * n); n = n; operand = at_top f n; written = false; carries = true }) (λ f public. both (sub_blocks (first_of f public tag off n) (top f n)))
     (λ f. refl) (λ f public x. refl) (λ f public. refl) refl (λ f. refl) refl refl
 
+-- what is known for sums holds after TESTN
 pub testn_case : (tag : ℕ) (off : ℤ) (n : ℕ) → StepCase (ins.Testn tag off n)
 unfolding causes shape
 testn_case tag off n =

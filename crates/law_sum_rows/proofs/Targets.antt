@@ -46,6 +46,7 @@ followed i s t u step takes prim under place =
     (target_inside step.place.known.bytes a (length s.app.code) (m a) (m (suc a)) first second (value_holds step.place.known.bytes m a step.place.holds first) (value_holds step.place.known.bytes m (suc a) step.place.holds second) (omega (arith, is, less, code)))
     (stack_inside f a (omega (arith, enough)) (omega (arith, enough))) (stack_inside f (suc a) (omega (arith, enough)) (omega (arith, enough)))
 
+-- what is known for sums holds after JUMP to a place that the stack has
 pub jump_target_case : (to : ℕ) → StepCase (ins.Jump 0 to)
 unfolding causes shape
 jump_target_case to s t u step static =
@@ -68,6 +69,7 @@ jump_target_case to s t u step static =
       next = refl;
     }))
 
+-- what is known for sums holds after CALL of a place that the stack has
 pub call_target_case : (to : ℕ) → StepCase (ins.Call 0 to)
 unfolding causes shape
 call_target_case to s t u step static =

@@ -25,10 +25,12 @@ use Rattle.law_sums.proofs.OriginMoves.{origins_written}
 use Rattle.law_sums.proofs.MoveLemmas.{offs_hold, mores_hold}
 use Rattle.law_sums.proofs.KnownLemmas.{popped_holds}
 
+-- the origins of n bytes are n
 pub length_origins : (o : Origins) (a n : ℕ) → length (origins_from o a n) ≡ n
 length_origins o a zero = refl
 length_origins o a (suc n) = ap suc (length_origins o (suc a) n)
 
+-- n unknown origins are n
 pub length_unknowns : (n : ℕ) → length (unknowns n) ≡ n
 length_unknowns zero = refl
 length_unknowns (suc n) = ap suc (length_unknowns n)
@@ -38,6 +40,7 @@ pub memory_from : (o : Origins) (first : List ℕ) (m : Memory) (a n : ℕ) → 
 memory_from o first m a zero h = tt
 memory_from o first m a (suc n) h = (h a, memory_from o first m (suc a) n h)
 
+-- n bytes of a memory come from unknown origins
 pub unknown_from : (first : List ℕ) (m : Memory) (a n : ℕ) → AreFrom first (unknowns n) (bytes_from m a n)
 unknown_from first m a zero = tt
 unknown_from first m a (suc n) = (tt, unknown_from first m (suc a) n)
@@ -69,6 +72,7 @@ more_moves first m k [] to from n c h = tt
 more_moves first m k (r ∷ rs) to from n c h =
     more_if (r.at == from && r.from == to && r.n == n) first m k to from n r (more_of rs from to n) refl c h.0 (more_moves first m k rs to from n c h.1)
 
+-- what is known after bytes were copied holds
 pub copied_holds : (ts : List Total) (u : Sums) (first : List ℕ) (m k : Memory) (sums : List Sum) (dt to from n : ℕ) → ((b : ℕ) → (b < to) ⊎ (to + n ≤ b) → m b ≡ k b)
     → bytes_from k to n ≡ bytes_from m from n → Holds ts u first m sums
     → Holds ts (wrote ts to (origins_from u.origins from n) (more_of u.mores from to n) (popped dt u)) first k sums
@@ -98,6 +102,7 @@ result_moves : (op : Operation) (first : List ℕ) (m k : Memory) (a n y : ℕ) 
     → ((f : Form) → x ≡ Some f → y ≡ value f first) → MovesBy first m k a n (moved_by op n x)
 result_moves op first m k a n y x r h = grind (arith, less_moves)
 
+-- what is known after an operation was written over its first operand holds
 pub operated_holds : (ts : List Total) (u : Sums) (first : List ℕ) (m k : Memory) (sums : List Sum) (d : Digitwise) → ((b : ℕ) → (b < d.at) ⊎ (d.at + d.n ≤ b) → m b ≡ k b)
     → IsResult d.op d.n (number_at m d.at d.n) (num (operand_bytes m d.n d.operand)) (number_at k d.at d.n) → Holds ts u first m sums
     → Holds ts (wrote ts d.at (unknowns d.n) (moved_by d.op d.n (form_of_operand u.origins d.n d.operand)) u) first k sums

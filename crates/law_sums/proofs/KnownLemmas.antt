@@ -19,9 +19,11 @@ use Rattle.law_sums.proofs.FormLemmas.{value_same, value_zero}
 use Rattle.law_sums.proofs.MoveLemmas.{all_filter}
 use Rattle.law_sums.proofs.OriginMoves.{origins_popped, follow_origins}
 
+-- what is known if less is on the stack holds
 pub popped_holds : (ts : List Total) (u : Sums) (first : List ℕ) (m : Memory) (sums : List Sum) (dt : ℕ) → Holds ts u first m sums → Holds ts (popped dt u) first m sums
 popped_holds ts u first m sums dt h = grind (arith, origins_popped, all_filter)
 
+-- what is known after a block was loaded holds if the bytes are the same
 pub loaded_holds : (ts : List Total) (u : Sums) (first : List ℕ) (m : Memory) (sums : List Sum) (b : Bool) (to from n : ℕ) → bytes_from m to n ≡ bytes_from m from n
     → Holds ts u first m sums → Holds ts (loaded b to from n u) first m sums
 loaded_holds ts u first m sums b to from n e h = grind arith
@@ -70,6 +72,7 @@ offs_there first m sums (t ∷ ts) (o ∷ os) (p ∷ ps) e h =
     let q = and_parts (off_follows t o p) (offs_follow ts os ps) e in
     (off_there first m sums t o p q.0 h.0, offs_there first m sums ts os ps q.1 h.1)
 
+-- what follows from what holds does
 pub follow_holds : (ts : List Total) (u v : Sums) (first : List ℕ) (m : Memory) (sums : List Sum) → sums_follow ts u v ≡ true → Holds ts u first m sums
     → Holds ts v first m sums
 follow_holds ts u v first m sums e h = grind (arith, and_parts, follow_origins, mores_there, offs_there)
@@ -81,6 +84,7 @@ even_total first m sums t None e h = absurd (cc e)
 even_total first m sums t (Some f) e h =
     grind (arith, add_same (256 ^ t.n) (t.constant + added_by sums t.terms) (t.constant + added_by sums t.terms) (value f first) 0 refl (value_zero t.n f first e ∙ sym (zero-mod (256 ^ t.n))))
 
+-- totals that are not off hold
 pub even_totals : (first : List ℕ) (m : Memory) (sums : List Sum) (ts : List Total) (os : List (Option Form)) → are_even ts os ≡ true → OffsHold first m sums ts os
     → TotalsHold m sums ts
 even_totals first m sums [] os e h = tt
@@ -107,6 +111,7 @@ own_if : (b : Bool) (first : List ℕ) (g : Origin) (v : ℕ) → IsFrom first g
 own_if true first g v h = tt
 own_if false first g v h = h
 
+-- what is known as a frame begins holds if each total does
 pub start_holds : (ts : List Total) (m : Memory) (sums : List Sum) (public : List ℕ) → ((p : ℕ) → m (public_base + p) ≡ slice_index public p) → TotalsHold m sums ts
     → Holds ts (first_known ts) public m sums
 start_holds ts m sums public h t = grind (arith, own_if, own_from, totals_even)

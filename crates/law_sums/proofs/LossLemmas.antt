@@ -21,6 +21,7 @@ use Rattle.law_sums.proofs.ReachLemmas.{above_base}
 
 -- ---- what waits is dropped
 
+-- what is known after what waits was dropped holds of the sums that are kept
 pub dropped_holds : (ts : List Total) (u : Sums) (first : List ℕ) (m k : Memory) (sums kept : List Sum) → ((b : ℕ) → dynamic_base ≤ b → m b ≡ k b)
     → TotalsHold k kept ts → Holds ts u first m sums → Holds ts (dropped true ts u) first k kept
 dropped_holds ts u first m k sums kept s t h = grind (arith, from_dynamic, above_base, dynamic_from, totals_even)
@@ -59,6 +60,7 @@ offs_below first m k sums (t ∷ ts) [] s i h = tt
 offs_below first m k sums (t ∷ ts) (o ∷ os) s i h =
     (off_same first m k sums t o (number_below m k t.at t.n s i.0) h.0, offs_below first m k sums ts os s i.1 h.1)
 
+-- what is known after public bytes became any holds if no total is among them
 pub delegated_holds : (ts : List Total) (u : Sums) (first : List ℕ) (m k : Memory) (sums : List Sum) → ((b : ℕ) → b < public_base → m b ≡ k b)
     → AllByRecursion (λ t. t.at + t.n ≤ public_base) ts → Holds ts u first m sums → Holds ts (delegated u) first k sums
 delegated_holds ts u first m k sums s i h =

@@ -15,6 +15,7 @@ add_whole m a k = add-mul-mod_self_right a k m
 pub one_less_more : (m k : ℕ) → 0 < m → (m - 1) * k + k ≡ k * m
 one_less_more m k h = grind (arith, add-mul, mul_comm)
 
+-- there is a number of n bytes
 pub power_positive : (n : ℕ) → 0 < 256 ^ n
 power_positive zero = omega arith
 power_positive (suc n) = rw (pow-succ' 256 n) (let h = power_positive n in omega (arith, h))

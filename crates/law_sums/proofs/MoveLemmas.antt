@@ -18,6 +18,7 @@ use Rattle.law_sums.proofs.Bytes.{SameBut, number_stays}
 
 -- ---- totals
 
+-- a total whose block stays is off by as much
 pub off_same : (first : List ℕ) (m k : Memory) (sums : List Sum) (t : Total) (off : Option Form) → number_at m t.at t.n ≡ number_at k t.at t.n
     → OffHolds first m sums t off → OffHolds first k sums t off
 off_same first m k sums t off e h = grind arith
@@ -42,6 +43,7 @@ off_by : (b c : Bool) (first : List ℕ) (m k : Memory) (sums : List Sum) (t : T
     → SameBut a n m k → MovesBy first m k a n by → OffHolds first m sums t off → OffHolds first k sums t (cond b (cond c (plus_if off by) None) off)
 off_by b c first m k sums t a n by off e i s h o = grind (arith, off_same, number_stays, off_moves, moves_block)
 
+-- by how much totals are off after a write is so
 pub offs_hold : (first : List ℕ) (m k : Memory) (sums : List Sum) (ts : List Total) (os : List (Option Form)) (a n : ℕ) (by : Option Form) → SameBut a n m k
     → MovesBy first m k a n by → OffsHold first m sums ts os → OffsHold first k sums ts (offs_after a n by ts os)
 offs_hold first m k sums [] os a n by s h o = tt
@@ -100,6 +102,7 @@ more_by b c d e first m k r a n by p q x y s h i = grind (arith, more_same, numb
 
 -- ---- lists
 
+-- what holds of two lists of loaded blocks holds of both together
 pub all_append : (P : More → Type 0) (xs ys : List More) → AllByRecursion P xs → AllByRecursion P ys → AllByRecursion P (xs ++ ys)
 all_append P [] ys h k = k
 all_append P (x ∷ xs) ys h k = (h.0, all_append P xs ys h.1 k)
@@ -108,10 +111,12 @@ kept_one : (P : More → Type 0) (b : Bool) (x : More) (xs : List More) → P x 
 kept_one P true x xs h k = (h, k)
 kept_one P false x xs h k = k
 
+-- what holds of loaded blocks holds of those that pass a test
 pub all_filter : (P : More → Type 0) (test : More → Bool) (xs : List More) → AllByRecursion P xs → AllByRecursion P (filter test xs)
 all_filter P test [] h = tt
 all_filter P test (x ∷ xs) h = kept_one P (test x) x (filter test xs) h.0 (all_filter P test xs h.1)
 
+-- by how much loaded blocks are more after a write is so
 pub mores_hold : (first : List ℕ) (m k : Memory) (rs : List More) (a n : ℕ) (by : Option Form) → SameBut a n m k → MovesBy first m k a n by
     → AllByRecursion (MoreHolds first m) rs → AllByRecursion (MoreHolds first k) (flat_map (more_after a n by) rs)
 mores_hold first m k [] a n by s h i = tt

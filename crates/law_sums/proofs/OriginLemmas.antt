@@ -12,6 +12,7 @@ use Rattle.law_sums.proofs.FormLemmas.{value_plus, value_times}
 pub byte_value : (first : List ℕ) (o : Origin) (v : ℕ) (f : Form) → IsFrom first o v → form_of_byte o ≡ Some f → v ≡ value f first
 byte_value first o v f h e = grind arith
 
+-- bytes of known origins are as many as the origins
 pub from_length : (first : List ℕ) (os : List Origin) (bs : List ℕ) → AreFrom first os bs → length os ≡ length bs
 from_length first [] [] h = refl
 from_length first [] (b ∷ bs) h = absurd h

@@ -8,10 +8,12 @@ use Rattle.model_sums.specs.model_prove.specs.Compares.{bytes_from}
 use Rattle.model_sums.specs.Origins.{Origin, Unknown, PublicByte, Origins, unlisted, listed_or, origin_at, with_origins, origins_below, origin_follows, listed_follow, origins_follow}
 use Rattle.model_sums.specs.Says.{IsFrom, AreFrom, OriginsHold}
 
+-- a byte whose origin is forgotten by a test comes from what is left of it
 pub from_dynamic : (b : Bool) (first : List ℕ) (g : Origin) (v : ℕ) → (b ≡ false → IsFrom first g v) → IsFrom first (cond b Unknown g) v
 from_dynamic true first g v h = tt
 from_dynamic false first g v h = h refl
 
+-- an origin that a test does not forget is the one that is left
 pub dynamic_from : (b : Bool) (first : List ℕ) (g : Origin) (v : ℕ) → IsFrom first (cond b Unknown g) v → b ≡ false → IsFrom first g v
 dynamic_from true first g v h e = absurd (cc e)
 dynamic_from false first g v h e = h
@@ -53,6 +55,7 @@ kept_by : (b i : Bool) (other : Origin) (e : ℕ × Origin) (rest : List (ℕ ×
     → listed_or other rest c ≡ cond (keeps c) whole other → listed_or other (cond b (e ∷ rest) rest) c ≡ cond (keeps c) (cond i e.1 whole) other
 kept_by b i other e rest c keeps whole p q h = grind (arith, eqb-true)
 
+-- an origin that a test keeps is listed as before, and others are as by default
 pub listed_kept : (other : Origin) (l : List (ℕ × Origin)) (c : ℕ) (keeps : ℕ → Bool)
     → listed_or other (filter (λ e. keeps e.0) l) c ≡ cond (keeps c) (listed_or other l c) other
 listed_kept other [] c keeps = none (keeps c) other

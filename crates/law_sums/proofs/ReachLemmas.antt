@@ -178,6 +178,7 @@ among_places x (inr h) =
     among_second x (numbers_from dynamic_base (dynamic_end - dynamic_base)) (numbers_from public_base (public_end - public_base))
     (among_numbers x public_base (public_end - public_base) h.0 (omega (arith, h.1)))
 
+-- an address that is not below the stack lies at it or above
 pub above_base : (c : ℕ) → nat_lt c dynamic_base ≡ false → dynamic_base ≤ c
 above_base c e = grind (arith, e)
 
@@ -197,6 +198,7 @@ reached_from f r first m k o c i j s above h =
           (subst (λ (v : ℕ). IsFrom first (listed_or (unlisted o.own c) o.listed c) v) (s c e) h)
     ]
 
+-- what is known after a write within a reach holds
 pub reached_holds : (ts : List Total) (u : Sums) (first : List ℕ) (m k : Memory) (sums : List Sum) (f : Frame) (r : Reach) → length f.fixed ≤ dynamic_base → f.dt ≤ dynamic_end
     → ((b : ℕ) → is_reached f r b ≡ false → m b ≡ k b) → Holds ts u first m sums → Holds ts (reached ts f r u) first k sums
 reached_holds ts u first m k sums f r i j s h =

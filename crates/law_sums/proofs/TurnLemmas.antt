@@ -63,6 +63,7 @@ deed_by : (p : Bool) (r : AppRules) (d : Deed) (s : Standing)
 deed_by true r d s = refl
 deed_by false r d s = refl
 
+-- what is known after a turn holds of the sums that its event leaves
 pub turn_holds : (r : AppRules) (d : Deed) (s : Standing) (q : Bool) (u : Sums) (o : Origins) (first : List ℕ) (k : Memory)
     → AllByRecursion (λ l. has_sum (read_sums d.frame.protected s) l.name ≡ true) r.moves → PublicHolds o first d.public → public_size ≤ length d.public
     → StaysProtected (mode_of d.ins) d.frame.protected q → OffsHold first k (row_sums d.frame.protected (mode_of d.ins) s) r.totals u.offs

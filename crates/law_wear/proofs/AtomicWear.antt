@@ -21,15 +21,18 @@ Pair = ℕ × List ℕ
 abbrev pub hits : ℕ → ℕ → ℕ
 hits at p = cond (at == p) 1 0
 
+-- a write counts at most once
 pub hits_most : (at p : ℕ) → hits at p ≤ 1
 hits_most at p = cond_most (at == p) 1 0 1 (omega arith) (omega arith)
 
+-- a write to another word counts nothing
 pub hits_not : (at p : ℕ) → at ≢ p → hits at p ≡ 0
 hits_not at p h = elim (eqb_tells at p) [ inl own ↦ absurd (h own.1) | inr not ↦ ap (λ (b : Bool). cond b 1 0) not.0 ]
 
 hits_own : (at : ℕ) → hits at at ≡ 1
 hits_own at = elim (eqb_tells at at) [ inl own ↦ ap (λ (b : Bool). cond b 1 0) own.0 | inr not ↦ absurd (not.1 refl) ]
 
+-- how often a word is written by two lists of writes is the sum
 pub times_append : (p : ℕ) (xs ys : List Pair) → times_written p (xs ++ ys) ≡ times_written p xs + times_written p ys
 times_append p [] ys = omega arith
 times_append p (x ∷ xs) ys = let rest = times_append p xs ys in omega (arith, rest)
@@ -104,6 +107,7 @@ place_by p = grind (arith, eqb_tells, leb-true)
 own_or_other : (p q : ℕ) → (p ≡ q) ⊎ (p ≢ q)
 own_or_other p q = elim (eqb_tells p q) [ inl own ↦ inl own.1 | inr other ↦ inr other.1 ]
 
+-- an atomic write writes its gate twice, and every other word at most once
 pub atomic_wear_law : AtomicWearLaw
 atomic_wear_law j size list high atomic =
     let g = geo j size list high atomic in

@@ -16,6 +16,7 @@ use Rattle.law_family.proofs.LoadCommands.{IsFiller, AreFillers, load_front, cre
 use Rattle.law_wear.specs.Most.{most_atomic_of_manager, most_atomic_of_route}
 use Rattle.law_wear.specs.Laws.{atomic_writes}
 
+-- the number of atomic writes of two lists of items is the sum
 pub atomic_writes_append : (is js : List Item) → atomic_writes (is ++ js) ≡ atomic_writes is + atomic_writes js
 atomic_writes_append [] js = omega arith
 atomic_writes_append (Plain ∷ is) js = atomic_writes_append is js
@@ -77,5 +78,6 @@ send_atoms c session_state budget (b ∷ bs) h =
     let r = command c session_state b budget in
     sent_atoms (is_done r.outcome) r (send (card_done c r.items) r.session_state budget (bs ++ create_bytes ∷ [])) 0 1 (filler_atoms c session_state b budget h.0) (send_atoms (card_done c r.items) r.session_state budget bs h.1)
 
+-- the commands of a load make at most one atomic write
 pub load_atoms : (c : Card) (session_state : SessionState) (budget : ℕ) (u : UnitParts) (fixed session : ℕ) → atomic_writes (send c session_state budget (load_commands u fixed session)).items ≤ 1
 load_atoms c session_state budget u fixed session = send_atoms c session_state budget (load_front u fixed session) (front_fillers u fixed session)

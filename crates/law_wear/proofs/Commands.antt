@@ -53,6 +53,7 @@ module _ (c : Card) (session_state : SessionState) (a : ApduParts) where
   most_of_order Deletes = most_of_deletion
   most_of_order _ = 0
 
+  -- a command of the manager makes at most the device writes of its order
   pub made_few : (o : Order) (r : Command) → AreOnCard c.apps → LoadFits session_state.load → IsCommand c session_state a o r → moves r.items ≤ most_of_order o
   made_few o r on fits h = grind (arith, plains_moves, LoadFits, zeros_few, created_headers, deleted_headers)
 
@@ -104,11 +105,13 @@ routed_atoms : (c : Card) (session_state : SessionState) (budget : ℕ) (r : Rou
     → atomic_writes (by_route c session_state budget r).items ≤ most_atomic_of_route (instructions (by_route c session_state budget r).turns) r
 routed_atoms c session_state budget r limited on h = grind (arith, route_atoms, run_atoms)
 
+-- a command makes at most the atomic writes of its route
 pub command_atoms : (c : Card) (session_state : SessionState) (b : List ℕ) (budget : ℕ) → Limited c.apps → AreOnCard c.apps → SessionStateStands c.apps session_state
     → atomic_writes (command c session_state b budget).items ≤ most_atomic_of_route (instructions (command c session_state b budget).turns) (route b)
 unfolding command
 command_atoms c session_state b budget limited on h = routed_atoms c session_state budget (route b) limited on h
 
+-- a command makes at most the device writes of its route, and runs at most its budget
 pub command_wears : (c : Card) (session_state : SessionState) (b : List ℕ) (budget : ℕ) → SessionStateFits c.apps session_state → Limited c.apps → AreOnCard c.apps → SessionStateStands c.apps session_state
     → CommandWears (λ k. most_of_route k (route b)) budget (command c session_state b budget)
 unfolding command

@@ -266,6 +266,7 @@ module _ (c : Card) where
       let most : count fresh (head ∷ with_used (spans d) hs) ≤ count fresh (span_headers (spans d)) + (count fresh hs + differs (first_place (gaps c)) (first_place (gaps d))) = omega (arith, all, used, one) in
       most
 
+  -- a creation writes at most three header words
   pub created_headers : (n : List ℕ) (a : App) → lookup c.apps n ≡ None → length (step_of c (record c { apps = insert c.apps n a })) ≤ 3
   unfolding FewNew
   created_headers n a none =
@@ -287,5 +288,6 @@ module _ (c : Card) where
       let all = counted apps in
       omega (arith, used, few, all)
 
+  -- a deletion writes at most two header words
   pub deleted_headers : (n : List ℕ) → AscendByName c.apps → length (step_of c (record c { apps = remove c.apps n })) ≤ 2
   deleted_headers n ascending = deleted_by (remove c.apps n) (removed c.apps n ascending)

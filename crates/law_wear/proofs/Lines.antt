@@ -34,6 +34,7 @@ delete_most : (k : ℕ) (n : List ℕ) → most_of_route k (route (delete_bytes 
 unfolding apdu_read
 delete_most k n = delete_by k (rest_read (length n ∷ n))
 
+-- a line makes at most the device writes of its row of the table
 pub line_wears : (c : Card) (session_state : SessionState) (budget : ℕ) (l : DeckLine) → IsLine l → Good c session_state → CommandWears (λ k. most_writes k l) budget (line_command c session_state budget l)
 line_wears c session_state budget (line.Sent (line.Select n)) is h =
     let r = command c session_state (select_bytes n) budget in
@@ -68,6 +69,7 @@ delete_atomic : (k : ℕ) (n : List ℕ) → most_atomic_of_route k (route (dele
 unfolding apdu_read
 delete_atomic k n = delete_atomic_by k (rest_read (length n ∷ n))
 
+-- a line makes at most the atomic writes of its row of the table
 pub line_atomic : (c : Card) (session_state : SessionState) (budget : ℕ) (l : DeckLine) → Good c session_state → let r = line_command c session_state budget l in atomic_writes r.items ≤ most_atomic (instructions r.turns) l
 line_atomic c session_state budget (line.Sent (line.Select n)) h = grind (arith, command_atoms, select_atomic)
 line_atomic c session_state budget (line.Sent (line.Delete n)) h = grind (arith, command_atoms, delete_atomic)
@@ -80,6 +82,7 @@ line_atomic c session_state budget _ h = omega arith
 route_more : (k n : ℕ) (r : Route) → k ≤ n → most_of_route k r ≤ most_of_route n r
 route_more k n r h = grind arith
 
+-- more instructions have no fewer device writes at the most
 pub most_more : (k n : ℕ) (l : DeckLine) → k ≤ n → most_writes k l ≤ most_writes n l
 most_more k n (line.Sent (line.Apdu b)) h = route_more k n (route b) h
 most_more k n _ h = omega arith

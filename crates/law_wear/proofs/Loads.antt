@@ -38,6 +38,7 @@ pub record Good (c : Card) (session_state : SessionState) : Type 0 where
   pub on : AreOnCard c.apps
   pub stands : SessionStateStands c.apps session_state
 
+-- a card within the limits stays so after a command that may be sent
 pub good_after : (c : Card) (session_state : SessionState) (b : List ℕ) (budget : ℕ) → IsSent b → Good c session_state → let r = command c session_state b budget in Good (card_done c r.items) r.session_state
 good_after c session_state b budget sent h =
     let r = command c session_state b budget in
@@ -218,6 +219,7 @@ open_steps budget u fixed session c session_state good =
 sizes_sent : (u : UnitParts) (fixed session : ℕ) → AreBytes (open_body u fixed session)
 sizes_sent u fixed session = grind (arith, all_append, pair_bytes)
 
+-- the commands of a load make at most the device writes of the load, and run nothing
 pub load_sends : (budget : ℕ) (u : UnitParts) (fixed session : ℕ) (c : Card) (session_state : SessionState) → AreBytes u.code → AreBytes u.init → AreBytes u.dir → AreBytes u.fci → Good c session_state
     → Sends (most_of_load u fixed) (send c session_state budget (load_commands u fixed session))
 load_sends budget u fixed session c session_state code init dir fci good =

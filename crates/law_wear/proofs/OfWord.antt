@@ -49,6 +49,7 @@ made_times size _ _ high (PlainFirst w is ws low m) p = grind (arith, hits, plai
 made_times size _ _ high (AtomicFirst list c is ws atomic m) p =
     grind (arith, made_times size is ws high m p, atomic_times Two p list (atomic_wear_law Two size list high atomic), one_more (p == gate Two) (atomic_writes is), times_append p (writes Two list) ws)
 
+-- items write the gate twice for each atomic write, and any other word at most once for each
 pub item_wear_law : ItemWearLaw
 item_wear_law size is ws high m = record { count = made_counts size is ws high m; each = λ p. made_times size is ws high m p }
 
@@ -76,5 +77,6 @@ play_times : (size p : ℕ) (ts : List Step) (ws : List (ℕ × List ℕ)) → s
 play_times size p _ _ high few NoLines = omega arith
 play_times size p _ _ high few (LineFirst t ts ws vs m rest) = grind (arith, line_times, times_append, play_times size p ts vs high few.1 rest)
 
+-- no word is written more often than the sum of what the lines of a play write it at the most
 pub word_wear_law : WordWearLaw
 word_wear_law ls m ws may image n are made is p = play_times (length m) p (take n (plays (start m) ls ws)) made image.high (wear_law ls m ws may image n are).each is

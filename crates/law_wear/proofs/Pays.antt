@@ -71,6 +71,7 @@ shape_pays : (s : Shape) (most : ℕ) → OnWrite s.act (most ≡ 33) → (f : F
 shape_pays s most few f public =
     flags_pay most f.pieces s.flags (act_effect s.act (record f { dt = s.dt }) public) (act_pays s.act most few (record f { dt = s.dt }) public)
 
+-- a row writes few words, commits, or leaves what waits
 pub effect_pays : (i : Ins) (f : Frame) (public : List ℕ) (x : Around) → Pays (most_words i) f.pieces (effect i f public x).effect
 effect_pays i f public x =
     subst (λ (d : Done). Pays (most_words i) f.pieces d.effect) (sym (shapes i f public x))

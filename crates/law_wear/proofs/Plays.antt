@@ -135,5 +135,6 @@ summed : (ts : List Step) → EachWritesFew ts → writes_of_play ts ≤ most_of
 summed [] h = omega arith
 summed (t ∷ ts) h = let first = h.0.within in let rest = summed ts h.1 in omega (arith, first, rest)
 
+-- no line of a play makes more device writes than its row of the table allows
 pub wear_law : WearLaw
 wear_law ls m ws may image n are = grind (arith, each_from, summed)

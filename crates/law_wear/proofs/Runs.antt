@@ -152,6 +152,7 @@ acted_pays ch h = fetched_pays ch (instruction_at (code_in (lookup ch.map ch.fra
 
 -- ---- runs
 
+-- a run makes at most 78 device writes and one atomic write an instruction, beside `least`
 pub record RanFew (budget least : ℕ) (r : Ran) : Type 0 where
   pub writes : written r.writes ≤ least + 78 * instructions r.turns
   pub atomic : atomic r.writes ≤ instructions r.turns

@@ -8,6 +8,7 @@ use Rattle.law_family.specs.model_device.specs.Card.{App, words_of_app}
 use Rattle.law_family.specs.model_device.specs.Layout.{put_at, spans_of}
 use Rattle.law_family.specs.model_device.proofs.MapLemmas.{same_name, not_after}
 
+-- the place and the number of words of an application's block
 abbrev pub Span : Type 0
 Span = ℕ × ℕ
 
@@ -22,6 +23,7 @@ abbrev FirstFrom : ℕ → List Span → Type 0
 FirstFrom k [] = ⊤
 FirstFrom k (x ∷ xs) = k ≤ x.0
 
+-- spans ascend by their places
 abbrev pub Sorted : List Span → Type 0
 Sorted [] = ⊤
 Sorted (x ∷ xs) = FirstFrom x.0 xs × Sorted xs
@@ -42,6 +44,7 @@ sorted_put p w (x ∷ xs) h = by (nat_lt p x.0) refl (sorted_put p w xs h.1)
     by true e r = (let low : p < x.0 = ltb-true p x.0 e in omega (arith, low), h)
     by false e r = (first_put x.0 p w xs (grind (arith, e)) h.0, r)
 
+-- the spans of a map are sorted
 pub sorted_spans : (m : List (List ℕ × App)) → Sorted (spans_of m)
 sorted_spans [] = tt
 sorted_spans (e ∷ es) = sorted_put (e.1).place (words_of_app e.1) (spans_of es) (sorted_spans es)
@@ -87,6 +90,7 @@ put_both s p w (x ∷ xs) less sorted (inr later) =
 abbrev span_of : App → Span
 span_of a = (a.place, words_of_app a)
 
+-- a creation adds the span of its application
 pub inserted : (m : List (List ℕ × App)) (n : List ℕ) (a : App) → lookup m n ≡ None → Without (span_of a) (spans_of (insert m n a)) (spans_of m)
 inserted [] n a none = put_without a.place (words_of_app a) []
 inserted (e ∷ es) n a none = by (bytes_eq e.0 n) (name_before n e.0) none (λ h. inserted es n a h)
@@ -112,6 +116,7 @@ rest_kept (e ∷ es) n h = by (bytes_eq e.0 n) refl (rest_kept es n h.1)
 abbrev pub Removed : List (List ℕ × App) → List (List ℕ × App) → Type 0
 Removed m d = (d ≡ m) ⊎ ((s : Span) × Without s (spans_of m) (spans_of d))
 
+-- a deletion takes one span away at most
 pub removed : (m : List (List ℕ × App)) (n : List ℕ) → AscendByName m → Removed m (remove m n)
 removed [] n h = inl refl
 removed (e ∷ es) n h = by (bytes_eq e.0 n) refl (removed es n h.1)

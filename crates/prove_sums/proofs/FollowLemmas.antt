@@ -27,10 +27,12 @@ pub record Even (names : List (List ℕ)) (ts : List Total) (fs : Offs) (bs : Li
   pub rests : OptionalsAre rest gs
   pub same : sums.are_even left gs ≡ true → sums.are_even ts fs ≡ true
 
+-- before the first total the totals that are left are all of them
 pub even_start : (names : List (List ℕ)) (ts : List Total) (fs : Offs) (bs : List Balance) (rest : List (Option Form)) → AreTotals names ts bs → OptionalsAre rest fs
     → Even names ts fs bs rest
 even_start names ts fs bs rest are rests = record { left = ts; are = are; gs = fs; rests = rests; same = λ h. h }
 
+-- if a total is even, those after it decide whether all are
 pub even_next : (names : List (List ℕ)) (ts : List Total) (fs : Offs) (bs : List Balance) (i : ℕ) (b : Balance) (rest more : List (Option Form)) (p : Option Form) → b ≡ get_or bs i b
     → i < length bs → rest ≡ p ∷ more → ((t : Total) (f : Off) → IsTotal names t b → OptionalIs p f → sums.is_even t f ≡ true)
     → Even names ts fs (drop i bs) rest → Even names ts fs (drop (i + 1) bs) more
@@ -47,6 +49,7 @@ even_next names ts fs bs i b rest more p k l e one w =
           (ap (λ (x : List Total). sums.are_even x w.gs) t.same ∙ ap (λ (x : Offs). sums.are_even (t.total ∷ t.more) x) o.same) h);
     }
 
+-- if no total is left, all are even
 pub even_end : (names : List (List ℕ)) (ts : List Total) (fs : Offs) (bs : List Balance) (i : ℕ) (rest : List (Option Form)) → length bs ≤ i
     → Even names ts fs (drop i bs) rest → sums.are_even ts fs ≡ true
 even_end names ts fs bs i rest l w = w.same (ap (λ (x : List Total). sums.are_even x w.gs) (no_total names w.left bs i l w.are))
@@ -71,9 +74,11 @@ pub record Has (rs : Mores) (q : sums.More) (ps : List More) : Type 0 where
   pub are : MoresAre ps left
   pub same : sums.has_more left q ≡ true → sums.has_more rs q ≡ true
 
+-- before the first loaded block the blocks that are left are all of them
 pub has_start : (rs : Mores) (q : sums.More) (ps : List More) → MoresAre ps rs → Has rs q ps
 has_start rs q ps are = record { left = rs; are = are; same = λ h. h }
 
+-- the blocks after one that is not the other decide whether one of all is
 pub has_next : (rs : Mores) (q : sums.More) (ps : List More) (i : ℕ) (p : More) → p ≡ get_or ps i p → i < length ps → Has rs q (drop i ps) → Has rs q (drop (i + 1) ps)
 has_next rs q ps i p e l w =
     let f = first_more w.left ps i p e l w.are in
@@ -83,6 +88,7 @@ has_next rs q ps i p e l w =
       same = λ h. w.same (later (is_this f.one q) (sums.has_more f.more q) (sums.has_more w.left q) (ap (λ (x : Mores). sums.has_more x q) f.same) h);
     }
 
+-- a block that is the other is one of all
 pub has_here : (rs : Mores) (q : sums.More) (ps : List More) (i : ℕ) (p : More) → p ≡ get_or ps i p → i < length ps → ((r : sums.More) → MoreIs p r → is_this r q ≡ true)
     → Has rs q (drop i ps) → sums.has_more rs q ≡ true
 has_here rs q ps i p e l one w =
@@ -95,9 +101,11 @@ pub record Follow (rs qs : Mores) (ps : List More) : Type 0 where
   pub are : MoresAre ps left
   pub same : sums.mores_follow rs left ≡ true → sums.mores_follow rs qs ≡ true
 
+-- before the first loaded block the blocks that are left are all of them
 pub follow_start : (rs qs : Mores) (ps : List More) → MoresAre ps qs → Follow rs qs ps
 follow_start rs qs ps are = record { left = qs; are = are; same = λ h. h }
 
+-- if a block is in the list, those after it decide whether all are
 pub follow_next : (rs qs : Mores) (ps : List More) (i : ℕ) (p : More) → p ≡ get_or ps i p → i < length ps → ((q : sums.More) → MoreIs p q → sums.has_more rs q ≡ true)
     → Follow rs qs (drop i ps) → Follow rs qs (drop (i + 1) ps)
 follow_next rs qs ps i p e l one w =
@@ -109,6 +117,7 @@ follow_next rs qs ps i p e l one w =
           (both (sums.has_more rs f.one) (sums.mores_follow rs f.more) (sums.mores_follow rs w.left) (one f.one f.is) (ap (λ (x : Mores). sums.mores_follow rs x) f.same) h);
     }
 
+-- if no block is left, all are in the list
 pub follow_end : (rs qs : Mores) (ps : List More) (i : ℕ) → length ps ≤ i → Follow rs qs (drop i ps) → sums.mores_follow rs qs ≡ true
 follow_end rs qs ps i l w = w.same (ap (λ (x : Mores). sums.mores_follow rs x) (no_more w.left ps i l w.are))
 
@@ -124,11 +133,13 @@ pub record Paired (names : List (List ℕ)) (ts : List Total) (fs gs : Offs) (bs
   pub seconds : OptionalsAre others second
   pub same : sums.offs_follow left first second ≡ true → sums.offs_follow ts fs gs ≡ true
 
+-- before the first total by how much those that are left are off is all of it
 pub offs_start : (names : List (List ℕ)) (ts : List Total) (fs gs : Offs) (bs : List Balance) (rest others : List (Option Form)) → AreTotals names ts bs → OptionalsAre rest fs
     → OptionalsAre others gs → Paired names ts fs gs bs rest others
 offs_start names ts fs gs bs rest others are firsts seconds =
     record { left = ts; are = are; first = fs; firsts = firsts; second = gs; seconds = seconds; same = λ h. h }
 
+-- if by how much a total is off follows, the totals after it decide for all
 pub offs_next : (names : List (List ℕ)) (ts : List Total) (fs gs : Offs) (bs : List Balance) (i : ℕ) (b : Balance) (rest others more most : List (Option Form)) (p q : Option Form)
     → b ≡ get_or bs i b → i < length bs → rest ≡ p ∷ more → others ≡ q ∷ most
     → ((t : Total) (f g : Off) → IsTotal names t b → OptionalIs p f → OptionalIs q g → sums.off_follows t f g ≡ true)

@@ -19,6 +19,7 @@ use Rattle.prove_sums.proofs.WalkLemmas.{Off, Offs}
 
 -- ---- terms
 
+-- the terms of a line: whether each is subtracted, and the name of its sum
 abbrev pub Terms : Type 0
 Terms = List (Bool × List ℕ)
 
@@ -45,10 +46,12 @@ pub record Fold (names : List (List ℕ)) (n : ℕ) (l : SumLine) (g : Off) (ts 
   pub is : OptionalIs p off
   pub same : off_after_line n l g left off ≡ off_after_line n l g ts f
 
+-- before the first term the terms that are left are all of them
 pub fold_start : (names : List (List ℕ)) (n : ℕ) (l : SumLine) (g : Off) (ts : Terms) (f : Off) (ss : List SignedSum) (p : Option Form) → AreTerms names ts ss → OptionalIs p f
     → Fold names n l g ts f ss p
 fold_start names n l g ts f ss p are is = record { left = ts; are = are; off = f; is = is; same = refl }
 
+-- a term that moves a total leaves those after it to move it further
 pub fold_next : (names : List (List ℕ)) (n : ℕ) (l : SumLine) (g : Off) (ts : Terms) (f : Off) (ss : List SignedSum) (i : ℕ) (s : SignedSum) (p q : Option Form) → s ≡ get_or ss i s
     → i < length ss → ((t : Bool × List ℕ) (o : Off) → IsTerm names t s → OptionalIs p o → OptionalIs q (off_by n l g t o))
     → Fold names n l g ts f (drop i ss) p → Fold names n l g ts f (drop (i + 1) ss) q
@@ -64,6 +67,7 @@ fold_next names n l g ts f ss i s p q e less one w =
       same = sym (ap (λ (x : Terms). off_after_line n l g x w.off) t.same) ∙ w.same;
     }
 
+-- if no term is left, the total is moved by all of them
 pub fold_end : (names : List (List ℕ)) (n : ℕ) (l : SumLine) (g : Off) (ts : Terms) (f : Off) (ss : List SignedSum) (i : ℕ) (p : Option Form) → length ss ≤ i
     → Fold names n l g ts f (drop i ss) p → OptionalIs p (off_after_line n l g ts f)
 fold_end names n l g ts f ss i p less w =
@@ -103,10 +107,12 @@ pub record Lines (names : List (List ℕ)) (ts : List Total) (ls : List SumLine)
   pub is : OptionalsAre ps offs
   pub same : offs_after_event ts left text o offs ≡ offs_after_event ts ls text o fs
 
+-- before the first line the lines that are left are all of them
 pub lines_start : (names : List (List ℕ)) (ts : List Total) (ls : List SumLine) (text : List ℕ) (o : Origins) (fs : Offs) (ons : List On) (ps : List (Option Form)) → AreSumLines names ls ons
     → OptionalsAre ps fs → Lines names ts ls text o fs ons ps
 lines_start names ts ls text o fs ons ps are is = record { left = ls; are = are; offs = fs; is = is; same = refl }
 
+-- a line that moves the totals leaves those after it to move them further
 pub lines_next : (names : List (List ℕ)) (ts : List Total) (ls : List SumLine) (text : List ℕ) (o : Origins) (fs : Offs) (ons : List On) (i : ℕ) (on : On) (ps qs : List (Option Form))
     → on ≡ get_or ons i on → i < length ons
     → ((l : Option SumLine) (gs : Offs) → IsLineOf names l on → OptionalsAre ps gs → OptionalsAre qs (offs_by ts l text o gs))
@@ -122,6 +128,7 @@ lines_next names ts ls text o fs ons i on ps qs e less one w =
       same = sym (f.same ts text o w.offs) ∙ w.same;
     }
 
+-- if no line is left, the totals are moved by all of them
 pub lines_end : (names : List (List ℕ)) (ts : List Total) (ls : List SumLine) (text : List ℕ) (o : Origins) (fs : Offs) (ons : List On) (i : ℕ) (ps : List (Option Form)) → length ons ≤ i
     → Lines names ts ls text o fs (drop i ons) ps → OptionalsAre ps (offs_after_event ts ls text o fs)
 lines_end names ts ls text o fs ons i ps less w =
@@ -143,6 +150,7 @@ apart_by : (b : Bool) (fs gs : Offs) (ps : List (Option Form)) → b ≡ false �
 apart_by true fs gs ps e are = absurd (cc e)
 apart_by false fs gs ps e are = are
 
+-- a line that applies leaves by how much totals are off as it moves them
 pub fitting_by : (b : Bool) (fs gs : Offs) (ps : List (Option Form)) → b ≡ true → OptionalsAre ps fs → OptionalsAre ps (cond b fs gs)
 fitting_by true fs gs ps e are = are
 fitting_by false fs gs ps e are = absurd (cc e)

@@ -7,6 +7,7 @@ use Rattle.prove_forms.specs.model_sums.specs.Writes.{more_of}
 use Rattle.prove_sums.specs.declared.values.More.{More}
 use Rattle.prove_sums.specs.Values.{MoreIs, MoresAre}
 
+-- loaded blocks as the definition has them
 abbrev pub Mores : Type 0
 Mores = List sums.More
 
@@ -47,6 +48,7 @@ first_by : (left : Mores) (p : More) (ps : List More) → MoresAre (p ∷ ps) le
 first_by [] p ps are = absurd are
 first_by (r ∷ rs) p ps are = record { one = r; is = are.0; more = rs; are = are.1; same = refl }
 
+-- the block at a place is the first of those that are left from there
 pub first_more : (left : Mores) (ps : List More) (i : ℕ) (p : More) → p ≡ get_or ps i p → i < length ps → MoresAre (drop i ps) left → FirstMore left p (drop (i + 1) ps)
 first_more left ps i p e l are =
     first_by left p (drop (i + 1) ps) (subst (λ (x : List More). MoresAre x left) (drop_more ps i p l ∙ ap (λ (x : More). x ∷ drop (i + 1) ps) (sym e)) are)
@@ -66,10 +68,12 @@ pub record Flat (R : sums.More → Mores) (rs : Mores) (ps mores : List More) : 
   pub made : MoresAre mores done
   pub same : flat_map R rs ≡ done ++ flat_map R left
 
+-- before the first block nothing is made yet
 pub flat_start : (R : sums.More → Mores) (rs : Mores) (ps mores : List More) → MoresAre ps rs → mores ≡ [] → Flat R rs ps mores
 flat_start R rs ps mores are e =
     record { left = rs; are = are; done = []; made = subst (λ (x : List More). MoresAre x []) (sym e) tt; same = refl }
 
+-- what a function makes of a block comes after what it made of those before
 pub flat_next : (R : sums.More → Mores) (rs : Mores) (ps : List More) (i : ℕ) (p : More) (old new : List More) → p ≡ get_or ps i p → i < length ps
     → ((r : sums.More) (qs : Mores) → MoreIs p r → MoresAre old qs → MoresAre new (qs ++ R r))
     → Flat R rs (drop i ps) old → Flat R rs (drop (i + 1) ps) new
@@ -83,6 +87,7 @@ flat_next R rs ps i p old new e l grows w =
       same = w.same ∙ ap (λ (x : Mores). w.done ++ flat_map R x) f.same ∙ sym (append_assoc w.done (R f.one) (flat_map R f.more));
     }
 
+-- if no block is left, what was made is what the function makes of all
 pub flat_end : (R : sums.More → Mores) (rs : Mores) (ps : List More) (i : ℕ) (mores : List More) → length ps ≤ i → Flat R rs (drop i ps) mores → MoresAre mores (flat_map R rs)
 flat_end R rs ps i mores l w =
     subst (λ (x : Mores). MoresAre mores x)
@@ -96,5 +101,6 @@ pub record Of (a b n : ℕ) (rs : Mores) (ps : List More) : Type 0 where
   pub are : MoresAre ps left
   pub same : more_of left a b n ≡ more_of rs a b n
 
+-- before the first block the blocks that are left are all of them
 pub of_start : (a b n : ℕ) (rs : Mores) (ps : List More) → MoresAre ps rs → Of a b n rs ps
 of_start a b n rs ps are = record { left = rs; are = are; same = refl }

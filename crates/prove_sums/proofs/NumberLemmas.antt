@@ -10,6 +10,7 @@ use Rattle.prove_forms.specs.Forms.{reduced_terms, term_value}
 use Rattle.mc_arith.proofs.BlockLemmas.{num_below}
 use Rattle.prove_works.proofs.NumberLemmas.{number_next}
 
+-- the number of values of 16 bytes
 abbrev pub modulus : ℕ
 modulus = 256 ^ 16
 
@@ -34,6 +35,7 @@ low_whole l n a s e =
     let most : 256 ^ length l ≤ 256 ^ 16 = pow-le-pow_right {n = 256} (omega arith) {i = length l} {j = 16} s in
     e ∙ mod-eq_of_lt (omega (arith, low, most))
 
+-- a number that is one modulo those of 16 bytes is so again
 pub low_again : (n k : ℕ) → n ≡ k % modulus → n % modulus ≡ k % modulus
 low_again n k e = ap (λ (x : ℕ). x % modulus) e ∙ mod-mod k modulus
 

@@ -38,10 +38,12 @@ pub record Copied (fs : Offs) (ps copies : List (Option Form)) : Type 0 where
   pub made : OptionalsAre copies done
   pub same : fs ≡ done ++ left
 
+-- before the first total nothing is copied yet
 pub copied_start : (fs : Offs) (ps copies : List (Option Form)) → OptionalsAre ps fs → copies ≡ [] → Copied fs ps copies
 copied_start fs ps copies are e =
     record { left = fs; are = are; done = []; made = subst (λ (x : List (Option Form)). OptionalsAre x []) (sym e) tt; same = refl }
 
+-- a copy of by how much a total is off comes after those of the totals before
 pub copied_next : (fs : Offs) (ps : List (Option Form)) (i : ℕ) (p : Option Form) (old new : List (Option Form)) (q : Option Form) → p ≡ get_or ps i p
     → i < length ps → ((f : Off) → OptionalIs p f → OptionalIs q f)
     → ((gs : Offs) (f : Off) → OptionalsAre old gs → OptionalIs q f → OptionalsAre new (gs ++ f ∷ []))
@@ -62,6 +64,7 @@ no_form : (gs : Offs) (ps : List (Option Form)) (i : ℕ) → length ps ≤ i �
 no_form [] ps i l are = refl
 no_form (g ∷ gs) ps i l are = absurd (subst (λ (x : List (Option Form)). OptionalsAre x (g ∷ gs)) (drop_all i ps l) are)
 
+-- if no total is left, the copies are all of them
 pub copied_end : (fs : Offs) (ps : List (Option Form)) (i : ℕ) (copies : List (Option Form)) → length ps ≤ i → Copied fs (drop i ps) copies → OptionalsAre copies fs
 copied_end fs ps i copies l w =
     subst (λ (x : Offs). OptionalsAre copies x) (sym (w.same ∙ ap (λ (x : Offs). w.done ++ x) (no_form w.left ps i l w.are) ∙ append-nil w.done)) w.made

@@ -15,9 +15,11 @@ use Rattle.prove_forms.specs.declared.forms.Form.{Form}
 use Rattle.prove_forms.specs.Forms.{OptionalIs, OptionalsAre}
 use Rattle.prove_rules.specs.Sums.{AreTotals, IsTotal}
 
+-- by how much a total is off, if that is known
 abbrev pub Off : Type 0
 Off = Option forms.Form
 
+-- by how much each total is off
 abbrev pub Offs : Type 0
 Offs = List Off
 
@@ -66,6 +68,7 @@ pub record Evens (names : List (List ℕ)) (ts : List Total) (bs : List Balance)
   pub made : OptionalsAre offs done
   pub same : evens ts ≡ done ++ evens left
 
+-- before the first total none is taken as even yet
 pub evens_start : (names : List (List ℕ)) (ts : List Total) (bs : List Balance) (offs : List (Option Form)) → AreTotals names ts bs → offs ≡ [] → Evens names ts bs offs
 evens_start names ts bs offs are e =
     record { left = ts; are = are; done = []; made = subst (λ (x : List (Option Form)). OptionalsAre x []) (sym e) tt; same = refl }
@@ -74,6 +77,7 @@ evens_start names ts bs offs are e =
 abbrev pub Grows : List (Option Form) → List (Option Form) → Off → Type 0
 Grows old new f = (fs : Offs) → OptionalsAre old fs → OptionalsAre new (fs ++ f ∷ [])
 
+-- one more total is taken as off by zero
 pub evens_next : (names : List (List ℕ)) (ts : List Total) (bs : List Balance) (i : ℕ) (b : Balance) (old new : List (Option Form)) → b ≡ get_or bs i b → i < length bs
     → Evens names ts (drop i bs) old → Grows old new (Some (forms.number 0)) → Evens names ts (drop (i + 1) bs) new
 evens_next names ts bs i b old new e l w g =
@@ -86,6 +90,7 @@ evens_next names ts bs i b old new e l w g =
       same = w.same ∙ ap (λ (x : List Total). w.done ++ evens x) f.same ∙ sym (append_assoc w.done (Some (forms.number 0) ∷ []) (evens f.more));
     }
 
+-- if no total is left, each is taken as even
 pub evens_end : (names : List (List ℕ)) (ts : List Total) (bs : List Balance) (i : ℕ) (offs : List (Option Form)) → length bs ≤ i
     → Evens names ts (drop i bs) offs → OptionalsAre offs (evens ts)
 evens_end names ts bs i offs l w =
@@ -110,11 +115,13 @@ pub record Walk (F : Total → Off → Off) (names : List (List ℕ)) (ts : List
   pub made : OptionalsAre offs done
   pub same : each F ts fs ≡ done ++ each F left gs
 
+-- before the first total the walk has all of them before it
 pub walk_start : (F : Total → Off → Off) (names : List (List ℕ)) (ts : List Total) (fs : Offs) (bs : List Balance) (rest offs : List (Option Form))
     → AreTotals names ts bs → OptionalsAre rest fs → offs ≡ [] → Walk F names ts fs bs rest offs
 walk_start F names ts fs bs rest offs are rests e =
     record { left = ts; are = are; gs = fs; rests = rests; done = []; made = subst (λ (x : List (Option Form)). OptionalsAre x []) (sym e) tt; same = refl }
 
+-- by how much the first total is off, and what is left
 pub record FirstOff (gs : Offs) (p : Option Form) (ps : List (Option Form)) : Type 0 where
   pub off : Off
   pub is : OptionalIs p off
@@ -122,10 +129,12 @@ pub record FirstOff (gs : Offs) (p : Option Form) (ps : List (Option Form)) : Ty
   pub are : OptionalsAre ps more
   pub same : gs ≡ off ∷ more
 
+-- a list of by how much totals are off begins with the first
 pub first_off : (gs : Offs) (p : Option Form) (ps : List (Option Form)) → OptionalsAre (p ∷ ps) gs → FirstOff gs p ps
 first_off [] p ps are = absurd are
 first_off (f ∷ gs) p ps are = record { off = f; is = are.0; more = gs; are = are.1; same = refl }
 
+-- the function of a total comes after those of the totals before
 pub walk_next : (F : Total → Off → Off) (names : List (List ℕ)) (ts : List Total) (fs : Offs) (bs : List Balance) (i : ℕ) (b : Balance) (rest more : List (Option Form)) (p : Option Form)
     (old new : List (Option Form)) (q : Option Form) → b ≡ get_or bs i b → i < length bs → rest ≡ p ∷ more
     → ((t : Total) (f : Off) → IsTotal names t b → OptionalIs p f → OptionalIs q (F t f))
@@ -146,6 +155,7 @@ walk_next F names ts fs bs i b rest more p old new q k l e one grows w =
           ∙ sym (append_assoc w.done (x ∷ []) (each F t.more o.more));
     }
 
+-- a list of none of them is empty
 pub no_off : (gs : Offs) (ps : List (Option Form)) → ps ≡ [] → OptionalsAre ps gs → gs ≡ []
 no_off [] ps e are = refl
 no_off (g ∷ gs) ps e are = absurd (subst (λ (x : List (Option Form)). OptionalsAre x (g ∷ gs)) e are)
@@ -176,6 +186,7 @@ pub record Blocks (a n : ℕ) (names : List (List ℕ)) (ts : List Total) (bs : 
   pub are : AreTotals names left bs
   pub same : is_total_block left a n ≡ is_total_block ts a n
 
+-- before the first total the totals that are left are all of them
 pub blocks_start : (a n : ℕ) (names : List (List ℕ)) (ts : List Total) (bs : List Balance) → AreTotals names ts bs → Blocks a n names ts bs
 blocks_start a n names ts bs are = record { left = ts; are = are; same = refl }
 
@@ -190,6 +201,7 @@ takes : (b c : Bool) → b ≡ true → (b || c) ≡ true
 takes true c e = refl
 takes false c e = absurd (cc e)
 
+-- a total that is not this block leaves those after it to be so
 pub blocks_next : (a n : ℕ) (names : List (List ℕ)) (ts : List Total) (bs : List Balance) (i : ℕ) (b : Balance) (c : Bool) → b ≡ get_or bs i b → i < length bs
     → c ≡ is_block a n b.at b.n → c ≡ false → Blocks a n names ts (drop i bs) → Blocks a n names ts (drop (i + 1) bs)
 blocks_next a n names ts bs i b c k l e isnt w =
@@ -201,6 +213,7 @@ blocks_next a n names ts bs i b c k l e isnt w =
           ∙ passes (is_block a n t.total.at t.total.n) (is_total_block t.more a n) (same_block a n names t.total b t.is ∙ sym e ∙ isnt)) ∙ w.same;
     }
 
+-- a total that is this block makes it one of a total
 pub blocks_here : (a n : ℕ) (names : List (List ℕ)) (ts : List Total) (bs : List Balance) (i : ℕ) (b : Balance) (c : Bool) → b ≡ get_or bs i b → i < length bs
     → c ≡ is_block a n b.at b.n → c ≡ true → Blocks a n names ts (drop i bs) → true ≡ is_total_block ts a n
 blocks_here a n names ts bs i b c k l e is w =
@@ -208,6 +221,7 @@ blocks_here a n names ts bs i b c k l e is w =
     sym (takes (is_block a n t.total.at t.total.n) (is_total_block t.more a n) (same_block a n names t.total b t.is ∙ sym e ∙ is))
     ∙ sym (ap (λ (x : List Total). is_total_block x a n) t.same) ∙ w.same
 
+-- if no total is left, the block is none of a total
 pub blocks_end : (a n : ℕ) (names : List (List ℕ)) (ts : List Total) (bs : List Balance) (i : ℕ) → length bs ≤ i → Blocks a n names ts (drop i bs) → false ≡ is_total_block ts a n
 blocks_end a n names ts bs i l w = sym (ap (λ (x : List Total). is_total_block x a n) (no_total names w.left bs i l w.are)) ∙ w.same
 
