@@ -4,6 +4,8 @@ use Rattle.law_explore.specs.model_play.specs.Play.{armed_stop_in, is_card_line}
 use Rattle.law_explore.specs.model_play.specs.DeckGrammar.{DeckLine}
 use Rattle.law_explore.specs.model_play.specs.DeckGrammar as line
 use Rattle.mc_text.specs.Texts.{Sunk, Writes, Fails}
+use Rattle.mc_script.specs.declared.job.JobFault.{JobFault}
+use Rattle.mc_script.specs.declared.job.JobFault.TheVariants as fault
 use Rattle.mc_lab.specs.Sweeps.{state_on_blank, is_unarmed, is_swept, line_sweep, sweeps_with, are_fine, is_broken, MarksLeft, Row, Swept, sweep_behind, total, writes_behind, names_from}
 use Rattle.mc_lab.specs.Remarks.{Remark}
 use Rattle.mc_lab.specs.declared.sweep_marks.Pending.{Pending}
@@ -12,8 +14,6 @@ use Rattle.mc_lab.specs.declared.sweep_text.Sums.{Sums}
 use Rattle.mc_lab.specs.declared.sweep_word.SweepWord.{SweepWord}
 use Rattle.mc_lab.specs.declared.sweep_line.Ends.{Ends}
 use Rattle.mc_lab.specs.declared.sweep_line.Pair.{Pair}
-use Rattle.mc_lab.specs.declared.sweeping.SweepFault.{SweepFault}
-use Rattle.mc_lab.specs.declared.sweeping.SweepFault.TheVariants as fault
 use Rattle.mc_lab.specs.SweepBodies.{line_at, front_of, line_in, names_in, AccountsHaveRoom}
 
 -- ---- lines
@@ -88,7 +88,7 @@ pub record IsRoom (ls : List (ℕ × DeckLine)) (names : List (List ℕ)) (e : E
   pub few : words ≤ 4294967295
 
 -- the text was written, by the result of the call; without room nothing was
-abbrev pub ReportsSweep : Sunk → List ℕ → Result Bool SweepFault → Sunk → Type 0
+abbrev pub ReportsSweep : Sunk → List ℕ → Result Bool JobFault → Sunk → Type 0
 ReportsSweep a text (Ok whole) b = Writes a text b
 ReportsSweep a text (Err fault.WriteFault) b = Fails a text b
 ReportsSweep a text (Err fault.NoMemory) b = b ≡ a

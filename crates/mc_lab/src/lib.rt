@@ -24,6 +24,7 @@ mod sweep_text;
 mod sweep_trial;
 mod sweep_word;
 mod sweeping;
+mod truth;
 
 pub use expected_deck::{ExpectationRefusal, ExpectedDeck, read_expected_deck};
 pub use expecting::expect;
@@ -35,4 +36,4 @@ pub use sweep_laws::{
 };
 pub use sweep_text::{Sums, put_sums, put_swept};
 pub use sweep_word::SweepWord;
-pub use sweeping::{SweepFault, sweep};
+pub use sweeping::sweep;

@@ -1,5 +1,5 @@
 // One line of a sweep: each of its writes is cut, and each write of the recovery after it.
-ghost use Rattle.std.specs.Prelude.{◌≡◌, ℕ, ◌&&◌, ◌+◌, ◌≤◌, ◌<◌, ◌*◌, length, map, take, IfNone, IfOk, IfSome, MatchOption};
+ghost use Rattle.std.specs.Prelude.{◌≡◌, ℕ, ◌+◌, ◌≤◌, ◌<◌, ◌*◌, length, map, take, IfNone, IfOk, IfSome, MatchOption};
 ghost use Rattle.mc_lab.specs.Sweeps.{all_same, count_from, plays_of};
 ghost use Rattle.mc_lab.specs.SweepBodies.{account_value, again_in, front_of, lines_through, recovery_states_at, state_at_place};
 ghost use Rattle.mc_lab.specs.SweepBodies.{cut_write_at, word_with};
@@ -11,6 +11,7 @@ ghost use Rattle.mc_lab.specs.declared.sweep_trial.TrialLines.TheVariants as tri
 use crate::sweep_account::Account;
 use crate::sweep_trial::{Place, TrialLines, Trials};
 use crate::sweep_word::SweepWord;
+use crate::truth::both;
 use mc_base::{NoMemory, Steps};
 use std::alloc::Global;
 use std::sync::ledger::Ledger;
@@ -54,13 +55,6 @@ pub struct Tried {
 pub struct Swept {
     pub writes: usize,
     pub plays: u64,
-}
-
-// Whether both hold.
-fn both(a: bool, b: bool) -> bool
-    ensures { result ≡ (a && b) }
-{
-    a && b
 }
 
 // The word of a write, by whether all its states are equal, and equal to the state before and to the state

@@ -10,6 +10,7 @@ ghost use Rattle.mc_lab.specs.Remarked.{remark_values};
 use crate::remark::Remark;
 use crate::sweep_text::put_mark;
 use crate::sweep_word::SweepWord;
+use crate::truth::both;
 use mc_streams::{Sink, WriteFault};
 
 // Whether a remark is about the line with a number.
@@ -82,13 +83,6 @@ fn is_above(number: Option<u32>, mark: &Remark<'_>) -> bool
         None => true,
         Some(number) => mark.number < number,
     }
-}
-
-// Whether both hold.
-fn both(a: bool, b: bool) -> bool
-    ensures { result ≡ (a && b) }
-{
-    a && b
 }
 
 // Writes the line of a mark, unless it is of a swept line.

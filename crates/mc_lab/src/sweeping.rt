@@ -1,5 +1,5 @@
 // Sweeps of a deck.
-ghost use Rattle.std.specs.Prelude.{◌≡◌, ℕ, ◌+◌, ◌*◌, ◌≤◌, ◌<◌, ◌&&◌, Bool, List, [], ◌∷◌, length, not, take, true, false};
+ghost use Rattle.std.specs.Prelude.{◌≡◌, ℕ, ◌+◌, ◌*◌, ◌≤◌, ◌<◌, ◌&&◌, Bool, [], ◌∷◌, length, not, take, true, false};
 ghost use Rattle.std.specs.Prelude.{IfNone, IfOk, IfSome, MatchOption, OnOk};
 ghost use Rattle.law_explore.specs.model_play.specs.Play.{armed_stop_in, is_card_line};
 ghost use Rattle.mc_deck.specs.Lines.{line_of};
@@ -22,19 +22,13 @@ use crate::sweep_play::Laboratory;
 use crate::sweep_text::{Sums, put_sums, put_swept};
 use crate::sweep_trial::{Place, Trials};
 use crate::sweep_word::SweepWord;
+use crate::truth::both;
 use mc_base::{Aid, NoMemory, Steps};
 use mc_deck::{Deck, Line};
+use mc_script::JobFault;
 use mc_streams::{Sink, WriteFault};
 use std::alloc::Global;
 use std::sync::ledger::Ledger;
-
-/// Why a sweep ended early: it was out of memory, and nothing was written; or its text was not completely
-/// written.
-#[derive(Clone, Copy, Debug, PartialEq, Eq)]
-pub enum SweepFault {
-    NoMemory,
-    WriteFault,
-}
 
 /// The room of a sweep: the names of the deck, the device and the observed states, and the words of the
 /// writes of one line.
@@ -245,13 +239,6 @@ fn sweep_place<D: Trials + Drop, T: Sink, L: Ledger>(
     Ok(())
 }
 
-// Whether both hold.
-fn both(a: bool, b: bool) -> bool
-    ensures { result ≡ (a && b) }
-{
-    a && b
-}
-
 // Sweeps the line at a place, if it may be swept.
 fn sweep_at<D: Trials + Drop, T: Sink, L: Ledger>(
     sweeper: &mut LineSweeper<D>,
@@ -460,7 +447,7 @@ pub fn sweep<T: Sink, L: Ledger>(
     marks: &[Remark<'_>],
     out: &mut T,
     steps: &mut Steps<L>,
-) -> Result<bool, SweepFault>
+) -> Result<bool, JobFault>
     ensures reported { ReportsSweep (sunk T.Sink out.old)
         (sweep_text (remark_values marks.now) deck.now) result
         (sunk T.Sink out.new) }
@@ -468,12 +455,6 @@ pub fn sweep<T: Sink, L: Ledger>(
     // At most the steps of its plays, as if each were played from the beginning of the deck.
     ensures steps { steps.new ≤ steps.old + most_of_sweep deck.now }
 {
-    let mut room = match room_for(alloc, deck, steps) {
-        Ok(room) => room,
-        Err(_) => return Err(SweepFault::NoMemory),
-    };
-    match sweep_in(&mut room, deck, marks, out, steps) {
-        Ok(whole) => Ok(whole),
-        Err(_) => Err(SweepFault::WriteFault),
-    }
+    let mut room = room_for(alloc, deck, steps)?;
+    Ok(sweep_in(&mut room, deck, marks, out, steps)?)
 }

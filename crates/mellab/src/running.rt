@@ -22,9 +22,8 @@ use mc_base::Steps;
 use mc_filter::{
     Rejection, Status, blank_device, deck_of, ended, number, read_input, refused, reject,
 };
-use mc_lab::{
-    ExpectationRefusal, ExpectedDeck, Mark, SweepFault, expect, read_expected_deck, remarks, sweep,
-};
+use mc_lab::{ExpectationRefusal, ExpectedDeck, Mark, expect, read_expected_deck, remarks, sweep};
+use mc_script::JobFault;
 use mc_streams::{Sink, Source, WriteFault, put_all};
 use std::alloc::Global;
 use std::sync::ledger::Ledger;
@@ -111,8 +110,8 @@ fn sweep_input<S: Source, T: Sink, L: Ledger>(
     let marks = remarks(alloc, text.as_slice(), Mark::Whole)?;
     match sweep(alloc, &deck, marks.as_slice(), out, steps) {
         Ok(whole) => Ok(status_by(whole)),
-        Err(SweepFault::WriteFault) => Ok(Status::WriteFault),
-        Err(SweepFault::NoMemory) => Err(Rejection::NoMemory),
+        Err(JobFault::WriteFault) => Ok(Status::WriteFault),
+        Err(JobFault::NoMemory) => Err(Rejection::NoMemory),
     }
 }
 

@@ -2,7 +2,8 @@ ghost use Rattle.std.specs.Prelude.{◌≡◌, ◌^◌, ◌<◌, length};
 
 use mc_base::{NoMemory, Steps};
 use mc_deck::read_deck;
-use mc_lab::{Mark, SweepFault, remarks, sweep};
+use mc_lab::{Mark, remarks, sweep};
+use mc_script::JobFault;
 use mc_streams::MemSink;
 use std::alloc::Global;
 use std::marker::Brand;
@@ -28,7 +29,7 @@ const ARMED_TEXT: &[u8] =
 /// The end of a sweep, and its output.
 #[derive(Drop)]
 struct End {
-    result: Result<bool, SweepFault>,
+    result: Result<bool, JobFault>,
     text: Vec<u8>,
 }
 
@@ -86,7 +87,7 @@ fn armed(rt: HostRuntime) -> Result<(), Fail> {
 #[test]
 fn byte_too_little(rt: HostRuntime) -> Result<(), Fail> {
     let end = swept(rt.alloc(), COUNTER, TEXT.len() - 1)?;
-    assert!(rt; end.result == Err(SweepFault::WriteFault));
+    assert!(rt; end.result == Err(JobFault::WriteFault));
     assert_eq!(rt; end.text.as_slice(), &TEXT[..TEXT.len() - 1]);
     Ok(())
 }

@@ -3,12 +3,12 @@ use Rattle.std.specs.Prelude.{OnOk}
 use Rattle.std.proofs.lemmas.Result.{IfOk-at_ok}
 use Rattle.mc_streams.specs.declared.refusals.WriteFault.{WriteFault as Fault}
 use Rattle.mc_deck.specs.model_play.specs.DeckGrammar.{DeckLine, deck_read}
+use Rattle.mc_script.specs.declared.job.JobFault.{JobFault}
 use Rattle.mc_lab.specs.declared.remark.Mark.TheVariants as mark
 use Rattle.mc_lab.specs.Remarks.{Remark, remarks}
 use Rattle.mc_lab.specs.Remarked.{remark_values}
 use Rattle.mc_lab.specs.Sweeps.{sweep_text}
 use Rattle.mc_lab.specs.SweepEnds.{ReportsSweep}
-use Rattle.mc_lab.specs.declared.sweeping.SweepFault.{SweepFault}
 use Rattle.mc_filter.specs.declared.status.Status.TheVariants.{WriteFault}
 use Rattle.mc_filter.specs.Outside.{outside, Outside}
 use Rattle.mellab.specs.Statuses.{status_by}
@@ -39,5 +39,5 @@ returns-in-Err-WriteFault-clause-done g c =
     let found = marks_found c.as_slice-2.result.now ls (remark_values c.in_ok-marks.marks.items) (ap deck_read c.as_slice-2.ensures.value ∙ is) c.in_ok-marks.ensures in
     let marked = ap remark_values c.as_slice-3.ensures.value ∙ found ∙ ap (remarks mark.Whole) c.as_slice-2.ensures.value in
     let failed : Fault = record {} in
-    let reported = subst (λ (e : SweepFault). ReportsSweep a.out_old (sweep_text marks ls) (Err e) a.out) c.in-Err-WriteFault.field-0-is c.in-Err-WriteFault.ensures.reported in
+    let reported = subst (λ (e : JobFault). ReportsSweep a.out_old (sweep_text marks ls) (Err e) a.out) c.in-Err-WriteFault.field-0-is c.in-Err-WriteFault.ensures.reported in
     says_swept a c.in_ok-text.text.items marks ls (Err failed) WriteFault c.in_ok-text.ensures.read is marked refl reported
