@@ -1,7 +1,6 @@
 -- The last value whose number is below a bound, if the numbers ascend.
 use Rattle.std.proofs.Common.{◌≡◌, ◌+◌, ◌<◌, ◌≤◌, refl, sym, ◌∙◌, ap, ℕ, zero, suc, List, [], ◌∷◌, length, drop, Bool, true, false, cond, Option, Some, None, arith}
 use Rattle.std.specs.Prelude.{nat_lt, slice_get}
-use Rattle.std.proofs.Math.ListN.{drop_of_length-le}
 use Rattle.mc_lab.specs.Rising.{Rising, count_below, last_of}
 use Rattle.mc_lab.specs.Expectations.{last_below, later_or, where_is}
 
@@ -62,12 +61,6 @@ module _ {A : Type 0} (number : A → ℕ) where
   pub count_stop : (n : ℕ) (xs : List A) (i : ℕ) (x : A) → slice_get xs i ≡ Some x → n ≤ number x → i + count_below number n (drop i xs) ≡ count_below number n xs → i ≡ count_below number n xs
   count_stop n xs i x e h k =
       let here : count_below number n (drop i xs) ≡ 0 = count_here n xs i x false e (grind (arith, h)) in
-      omega (arith, here, k)
-
-  -- there is no next number
-  pub count_none : (n : ℕ) (xs : List A) (i : ℕ) → length xs ≤ i → i + count_below number n (drop i xs) ≡ count_below number n xs → i ≡ count_below number n xs
-  count_none n xs i e k =
-      let here : count_below number n (drop i xs) ≡ 0 = ap (count_below number n) (drop_of_length-le xs e) in
       omega (arith, here, k)
 
   count_on_by : (m n : ℕ) (x : A) (xs : List A) (b : Bool) → nat_lt (number x) m ≡ b → m ≤ n → count_below number m xs + count_below number n (drop (count_below number m xs) xs) ≡ count_below number n xs

@@ -1,5 +1,5 @@
 -- Decks with their expectations: the lines above an expectation, and the expectations without a result.
-use Rattle.std.proofs.Common.{◌≡◌, ◌+◌, ◌<◌, refl, sym, ◌∙◌, ap, subst, ℕ, suc, List, [], ◌∷◌, length, drop, Bool, true, false, cond, Option, Some, None, Result, Ok, Err, arith}
+use Rattle.std.proofs.Common.{◌≡◌, ◌+◌, ◌<◌, refl, sym, ◌∙◌, ap, subst, ℕ, suc, List, [], ◌∷◌, length, drop, Bool, true, false, cond, Option, Some, Result, Ok, Err, arith}
 use Rattle.std.specs.Prelude.{◌==◌, nat_lt}
 use Rattle.std.proofs.lemmas.Bool.Decides.{nat_tests}
 use Rattle.law_explore.specs.model_play.specs.DeckGrammar.{DeckLine, deck_read}
@@ -58,9 +58,6 @@ pub unanswered_on : (ls : List (ℕ × DeckLine)) (left : List Remark) (e : Rema
 unanswered_on ls left e es count b whole i h k t f w =
     let here : is_answered (last_below line_number e.number ls) ≡ true = sym (answered_is ls e.number count b h k t) ∙ f in
     sym (ap (λ b. cond b (first_unanswered ls es) (Some e.number)) here) ∙ sym (ap (first_unanswered ls) i) ∙ w
-
-pub unanswered_none : (ls : List (ℕ × DeckLine)) (left : List Remark) (whole : Option ℕ) → left ≡ [] → first_unanswered ls left ≡ whole → None ≡ whole
-unanswered_none ls left whole i w = sym (ap (first_unanswered ls) i) ∙ w
 
 -- ---- what was read
 

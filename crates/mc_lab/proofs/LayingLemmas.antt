@@ -1,5 +1,5 @@
 -- Results laid out by the words of a pattern.
-use Rattle.std.proofs.Common.{◌≡◌, ◌+◌, ◌<◌, refl, sym, ◌∙◌, ap, ℕ, zero, suc, List, [], ◌∷◌, ◌++◌, length, take, drop, Bool, true, false, Option, Some, None, arith, append_assoc, append-nil}
+use Rattle.std.proofs.Common.{◌≡◌, ◌<◌, refl, sym, ◌∙◌, ap, ℕ, zero, suc, List, [], ◌∷◌, ◌++◌, length, take, drop, Bool, true, false, Option, Some, None, arith, append_assoc, append-nil}
 use Rattle.std.specs.Prelude.{min, ⊤}
 use Rattle.law_explore.specs.model_text.specs.Text.{first_cut, is_blank, pieces, pieces_with_character}
 use Rattle.law_explore.specs.model_play.specs.Patterns.{without_blanks}
@@ -8,25 +8,9 @@ use Rattle.mc_lab.specs.Expectations.{after_blank, laid_by}
 
 -- ---- blanks
 
-pub blank_goes : (c : ℕ) → is_blank c ≡ true → without_blanks (c ∷ []) ≡ []
-blank_goes c e = rw e refl
-
-pub other_stays : (c : ℕ) → is_blank c ≡ false → without_blanks (c ∷ []) ≡ c ∷ []
-other_stays c e = rw e refl
-
 kept_by : (c : ℕ) (t : List ℕ) (b : Bool) → is_blank c ≡ b → without_blanks (c ∷ t) ≡ without_blanks (c ∷ []) ++ without_blanks t
 kept_by c t true e = rw e refl
 kept_by c t false e = rw e refl
-
--- one more character
-pub kept_on : (text kept now : List ℕ) (i c : ℕ) → drop i text ≡ c ∷ drop (i + 1) text → now ≡ kept ++ without_blanks (c ∷ [])
-    → kept ++ without_blanks (drop i text) ≡ without_blanks text → now ++ without_blanks (drop (i + 1) text) ≡ without_blanks text
-kept_on text kept now i c next is h =
-    ap (λ (l : List ℕ). l ++ without_blanks (drop (i + 1) text)) is
-    ∙ append_assoc kept (without_blanks (c ∷ [])) (without_blanks (drop (i + 1) text))
-    ∙ ap (λ (l : List ℕ). kept ++ l) (sym (kept_by c (drop (i + 1) text) (is_blank c) refl))
-    ∙ ap (λ (l : List ℕ). kept ++ without_blanks l) (sym next)
-    ∙ h
 
 -- ---- words
 

@@ -1,6 +1,6 @@
 -- Lines that are remarks, and lines that are not.
-use Rattle.std.proofs.Common.{◌≡◌, ◌+◌, ◌<◌, refl, sym, ◌∙◌, ap, ℕ, suc, List, [], ◌∷◌, ◌++◌, Bool, true, false, not, Option, Some, None, append_assoc, append-nil, arith}
-use Rattle.std.specs.Prelude.{◌&&◌, ◌==◌, Result, Ok, Err}
+use Rattle.std.proofs.Common.{◌≡◌, ◌+◌, refl, sym, ◌∙◌, ap, ℕ, suc, List, [], ◌∷◌, ◌++◌, Bool, true, false, Option, Some, None, append_assoc, append-nil, arith}
+use Rattle.std.specs.Prelude.{◌==◌, Result, Ok, Err}
 use Rattle.law_explore.specs.model_text.specs.Text.{fields, lines, with_numbers}
 use Rattle.law_explore.specs.model_play.specs.declared.deck.DeckCause.{DeckCause}
 use Rattle.law_explore.specs.model_play.specs.DeckGrammar.{Mode, Between, LineTurn, turn_at}

@@ -1,8 +1,7 @@
 -- The lines of a deck that are swept one by one, and their text.
-use Rattle.std.specs.Prelude.{◌≡◌, ℕ, ◌+◌, ◌<◌, ◌≤◌, Bool, true, false, cond, ◌&&◌, nat_le, ◌==◌, codes, decimal, List, [], ◌∷◌, ◌++◌, length, map, take, drop, slice_get, Option, Some, None, Result, refl}
-use Rattle.std.proofs.Common.{arith, ap, sym, subst, inl, inr, ◌∙◌, append_assoc, length-append}
+use Rattle.std.specs.Prelude.{◌≡◌, ℕ, ◌+◌, ◌<◌, ◌≤◌, Bool, true, false, ◌&&◌, nat_le, List, [], ◌∷◌, ◌++◌, length, map, take, drop, slice_get, Option, Some, None, refl}
+use Rattle.std.proofs.Common.{arith, ap, sym, subst, inl, inr, ◌∙◌, length-append}
 use Rattle.std.proofs.lemmas.Bool.{le-leb, cases_lt, and_from, and_left, and_parts}
-use Rattle.std.proofs.lemmas.List.{append-nil}
 use Rattle.std.proofs.Math.ListN.{drop_of_length-le}
 use Rattle.law_explore.specs.model_device.specs.Card.{Card}
 use Rattle.law_explore.specs.model_play.specs.Play.{Live, Running, Unpowered, Muted, Warm, State, BeforePower, AfterPower, FailedWrite, step, card_line, line_command, hit_of, play_at_power, power_moves, power_after, stopped_power, line_after, armed_stop_in, is_card_line, plays, steady_failures}
@@ -104,9 +103,6 @@ not_swept p h = sym (ap (λ (b : Bool). sweeps_with b (line_sweep (names_in p) (
 
 pub none_swept : (p : Place) → writes_in p ≡ 0 → [] ≡ sweeps_at p
 none_swept p none = not_swept p (swept_false p none)
-
-pub shut_swept : (p : Place) → is_open_at p.deck.now p.at ≡ false → [] ≡ sweeps_at p
-shut_swept p shut = not_swept p (and_left (is_open (front_of p) (line_in p)) (nat_le 1 (writes_in p)) shut)
 
 -- ---- the greatest number of writes
 

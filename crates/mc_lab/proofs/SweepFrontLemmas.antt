@@ -1,5 +1,5 @@
 -- What is kept of a play with a card that runs, and the play that it is put back to.
-use Rattle.std.specs.Prelude.{◌≡◌, ℕ, ◌+◌, ◌<◌, ◌≤◌, Bool, true, false, cond, ◌==◌, List, [], ◌∷◌, length, take, Option, Some, None, IfSome, refl}
+use Rattle.std.specs.Prelude.{◌≡◌, ℕ, ◌≤◌, true, false, cond, ◌==◌, List, [], ◌∷◌, length, take, Option, Some, None, IfSome, refl}
 use Rattle.std.proofs.Common.{arith, ap, sym, subst, ◌∙◌}
 use Rattle.std.proofs.lemmas.List.{length-take-le, take-take}
 use Rattle.law_explore.specs.model_device.specs.Card.{Card}
@@ -13,11 +13,11 @@ use Rattle.law_explore.specs.model_play.specs.DeckGrammar.{DeckLine}
 use Rattle.law_explore.specs.model_play.specs.DeckGrammar as line
 use Rattle.law_explore.specs.model_play.specs.Family.{is_running, live_in}
 use Rattle.law_explore.specs.model_play.specs.Play as play
-use Rattle.law_explore.specs.model_play.specs.Play.{Armed, Unarmed, Running, Unpowered, Muted, Warm, State, BeforePower, AfterPower, FailedWrite, start, step, steady_at, moves_of, armed_stop_in, play_at_power, power_after, power_live, words_left}
+use Rattle.law_explore.specs.model_play.specs.Play.{Unarmed, Running, Unpowered, Muted, Warm, State, BeforePower, AfterPower, FailedWrite, start, step, armed_stop_in, play_at_power, power_after, power_live, words_left}
 use Rattle.mc_store.specs.GoingLaws.{going_is}
 use Rattle.mc_store.specs.Power.{HoldsBase, base_of_words, count_of}
 use Rattle.mc_card.specs.declared.card.Card.{Card as CodeCard}
-use Rattle.mc_card.specs.Parts.{card_in, device_in}
+use Rattle.mc_card.specs.Parts.{card_in}
 use Rattle.mc_card.specs.Saved.{SavedState}
 use Rattle.mc_script.specs.declared.answer.Answer.{Answer}
 use Rattle.mc_script.specs.declared.armed.Armed.{Armed as CodeArmed}
@@ -32,7 +32,7 @@ use Rattle.mc_script.specs.Lines.{LineDone, Stepped}
 use Rattle.mc_script.specs.Players.{armed_value, device_of, IsCardOfPlay, IsPlayerAt, LiveIs}
 use Rattle.mc_script.specs.Stops.{has_stop}
 use Rattle.mc_script.proofs.UpLemmas.{up_base}
-use Rattle.mc_lab.specs.Sweeps.{state_on_blank, state_after_lines}
+use Rattle.mc_lab.specs.Sweeps.{state_on_blank}
 use Rattle.mc_lab.specs.SweepFronts.{is_card, HasPlayed, IsKeptAt, ShowsPlay}
 use Rattle.mc_lab.specs.SweepPlayers.{IsPoweredUp, IsSteadyAt, LineOn}
 use Rattle.lab_branch.specs.Branches.{BranchState}

@@ -1,16 +1,16 @@
 -- Players in the plays of a sweep: the states that they represent, and the observed states.
-use Rattle.std.specs.Prelude.{◌≡◌, ℕ, zero, suc, ◌+◌, ◌<◌, ◌≤◌, Bool, true, false, List, [], ◌∷◌, ◌++◌, length, map, take, drop, slice_get, slice_set, get_or, Option, Some, None, option_map, refl, ⊤}
+use Rattle.std.specs.Prelude.{◌≡◌, ℕ, zero, suc, ◌+◌, ◌≤◌, Bool, true, List, [], ◌∷◌, ◌++◌, length, map, take, drop, slice_get, slice_set, get_or, Option, Some, None, option_map, refl, ⊤}
 use Rattle.std.proofs.Common.{arith, ap, sym, subst, ◌∙◌}
 use Rattle.std.proofs.lemmas.List.{length-set, take_all}
 use Rattle.mc_blocks.specs.declared.image.Unusable.{Unusable}
 use Rattle.law_explore.specs.model_device.specs.Bytes.{lookup}
 use Rattle.law_explore.specs.model_device.specs.Card.{App, heap_start}
 use Rattle.law_explore.specs.model_machine.specs.Chain.{Turn}
-use Rattle.law_explore.specs.model_device.specs.Device.{blank_words, device_words, DeviceState, BenchState, Entry}
+use Rattle.law_explore.specs.model_device.specs.Device.{DeviceState, BenchState, Entry}
 use Rattle.law_explore.specs.model_device.specs.declared.device.Stop.{Stop}
 use Rattle.law_explore.specs.model_device.specs.declared.device.Stop.TheVariants as stop
 use Rattle.law_explore.specs.model_card.specs.Items.{StopAt}
-use Rattle.law_explore.specs.model_play.specs.Play.{Armed, Live, Running, Unpowered, Muted, Warm, State, BeforePower, AfterPower, FailedWrite, LineResult, Ready, hit_of, power_result, power_says, result_of_stop, step, card_line, static_of, steady_at, moves_of, armed_stop_in, play_at_power, power_moves, laid_entries, words_left, start, formatted_image, plays, steady_failures}
+use Rattle.law_explore.specs.model_play.specs.Play.{Armed, Live, Running, Unpowered, Muted, Warm, State, BeforePower, AfterPower, FailedWrite, LineResult, Ready, hit_of, power_result, power_says, result_of_stop, step, card_line, static_of, steady_at, moves_of, armed_stop_in, play_at_power, power_moves, laid_entries, words_left, formatted_image}
 use Rattle.law_explore.specs.model_device.specs.PowerUp.{Base, OnCard, AtFault}
 use Rattle.law_explore.specs.model_play.specs.DeckGrammar.{DeckLine}
 use Rattle.law_explore.specs.model_play.specs.DeckGrammar as line
@@ -27,14 +27,13 @@ use Rattle.mc_script.specs.Cuts.{is_off, off_in}
 use Rattle.mc_script.specs.Players.{answer_value, device_of, dump_value, statics_by, statics_in, LiveIs, StateIs, IsPlayerAt, IsPlaying}
 use Rattle.mc_script.specs.Lines.{LineDone}
 use Rattle.law_explore.specs.model_device.proofs.ImageLemmas.{length_laid as laid-size}
-use Rattle.mc_lab.specs.Sweeps.{steady_step, state_on_blank, state_after_lines, state_after_power, state_by_result, Holds, static_bytes_under, running_apps, running_in, cut_statement, under_cut}
+use Rattle.mc_lab.specs.Sweeps.{steady_step, state_on_blank, state_after_power, state_by_result, Holds, static_bytes_under, running_apps, running_in, cut_statement, under_cut}
 use Rattle.mc_lab.specs.SweepBodies.{state_by_fault, next, trial_lines, hits, front_of, line_in, names_in, state_at_place, hit_in, again_in, IsRecoveryBound}
 use Rattle.mc_lab.specs.SweepPlayers.{fault_in, most_in, TrialOn, CutOn, IsSteadyAt, LineOn}
 use Rattle.mc_lab.specs.declared.sweep_trial.TrialLines.{TrialLines}
 use Rattle.mc_lab.specs.declared.sweep_trial.Place.{Place}
 use Rattle.mc_lab.specs.declared.sweep_trial.TrialLines.TheVariants as trial
 use Rattle.mc_lab.proofs.SweepPlays.{played_one, played_two}
-use Rattle.mc_lab.proofs.SweepLoops.{take_set, map_append}
 
 -- ---- lists
 
@@ -165,14 +164,6 @@ module _ {N : Type 0} (state : N → DeviceState) (bench : N → BenchState) whe
 
   -- ---- the lines before a line
 
-  pub front_start : (d : N) (p : Player N) → IsPlayerAt state bench p (start (state d).words) → device_of p ≡ d → (bench d).steady ≡ true → (state d).words ≡ blank_words device_words → (ls : List (ℕ × DeckLine)) → IsSteadyAt state bench p (state_on_blank (take 0 ls))
-  unfolding state_after_lines plays steady_failures
-  front_start d p at device steady words ls =
-      record {
-        at = subst (λ (m : List (List ℕ)). IsPlayerAt state bench p (start m)) words at;
-        steady = ap (λ (e : N). (bench e).steady) device ∙ steady;
-      }
-
   pub front_on : (p q : Player N) (ls : List (ℕ × DeckLine)) (i n : ℕ) (l : DeckLine) (a : Option Answer) → slice_get ls i ≡ Some (n, l)
       → ((s : State) (n : ℕ) → IsSteadyAt state bench p s → LineOn state bench s (n, l) a q) → IsSteadyAt state bench p (state_on_blank (take i ls)) → IsSteadyAt state bench q (state_on_blank (take (i + 1) ls))
   front_on p q ls i n l a here on h =
@@ -193,9 +184,6 @@ module _ {N : Type 0} (state : N → DeviceState) (bench : N → BenchState) whe
 
   at_lines : (q : Player N) (s t : State) → t ≡ s → IsSteadyAt state bench q s → IsSteadyAt state bench q t
   at_lines q s t e h = subst (λ (u : State). IsSteadyAt state bench q u) (sym e) h
-
-  pub nothing_on : (p : Player N) (hit : Bool) → hit ≡ true → (front : List (ℕ × DeckLine)) (l : ℕ × DeckLine) → IsSteadyAt state bench p (state_on_blank front) → TrialOn state bench front l trial.Nothing hit p
-  nothing_on p hit is front l h = record { at = h; says = is }
 
   pub whole_on : (q : Player N) (l : DeckLine) (a : Option Answer) (p : Player N) (hit : Bool) → hit ≡ true → ((s : State) (n : ℕ) → IsSteadyAt state bench p s → LineOn state bench s (n, l) a q)
       → (front : List (ℕ × DeckLine)) (n : ℕ) → IsSteadyAt state bench p (state_on_blank front) → TrialOn state bench front (n, l) trial.Whole hit q
@@ -322,17 +310,3 @@ held_is_statics None n m held into h is size kept = absurd (cc h)
 held_is_statics (Some fixed) n m held into h is size kept =
     let long : n ≡ length fixed = cc h in
     ap Some (kept ∙ is fixed refl ∙ take_all m fixed (omega (arith, size, long)))
-
-pub held_more : {A B C : Type 0} (f : A → C) (g : B → C) (i : ℕ) (held : List A) (names : List B) (x : A) (n : B) → i < length held → slice_get names i ≡ Some n → f x ≡ g n
-    → map f (take i held) ≡ map g (take i names) → map f (take (i + 1) (slice_set held i x)) ≡ map g (take (i + 1) names)
-held_more f g i held names x n lt here is h =
-    ap (map f) (take_set i held x lt)
-    ∙ map_append f (take i held) (x ∷ [])
-    ∙ ap (λ l. l ++ f x ∷ []) h
-    ∙ ap (λ y. map g (take i names) ++ y ∷ []) is
-    ∙ sym (ap (map g) (take_one i names n here) ∙ map_append g (take i names) (n ∷ []))
-
-pub held_all : {A B C : Type 0} (f : A → C) (g : B → C) (i : ℕ) (held : List A) (names : List B) → length held ≡ length names → length names ≤ i
-    → map f (take i held) ≡ map g (take i names) → map f held ≡ map g names
-held_all f g i held names size all h =
-    ap (map f) (sym (take_all i held (omega (arith, size, all)))) ∙ h ∙ ap (map g) (take_all i names all)

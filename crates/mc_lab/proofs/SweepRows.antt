@@ -1,5 +1,5 @@
 -- The rows of a sweep's text: swept lines, and marks that are of none.
-use Rattle.std.specs.Prelude.{◌≡◌, ◌+◌, ◌<◌, ◌≤◌, ℕ, zero, suc, drop, get_or, Bool, true, false, not, ◌&&◌, codes, decimal, length, List, [], ◌∷◌, ◌++◌, Option, Some, None, Result, Ok, Err, refl}
+use Rattle.std.specs.Prelude.{◌≡◌, ◌+◌, ◌<◌, ◌≤◌, ℕ, zero, suc, drop, get_or, Bool, true, false, not, ◌&&◌, codes, decimal, length, List, [], ◌∷◌, ◌++◌, Option, Some, None, Result, Ok, refl}
 use Rattle.std.proofs.Common.{ap, sym, subst, ◌∙◌, append_assoc, arith}
 use Rattle.std.proofs.lemmas.List.{append-nil}
 use Rattle.mc_streams.specs.declared.refusals.WriteFault.{WriteFault}
@@ -9,7 +9,7 @@ use Rattle.mc_lab.specs.Remarks.{Remark}
 use Rattle.mc_lab.specs.Remarked.{remark_value, remark_values}
 use Rattle.mc_lab.specs.declared.remark.Remark.{Remark as Found}
 use Rattle.mc_lab.specs.declared.sweep_word.SweepWord.{SweepWord}
-use Rattle.mc_lab.specs.Sweeps.{all_marks, are_fine, is_above, is_broken, is_fine, is_guarded, left_behind, left_if, line_end, mark_text, marks_after, row_text, row_unless, rows_above, rows_if, rows_of, rows_text, rows_to, runs, runs_text, swept_text, MarkRow, MarksLeft, Row, Swept, SweptRow}
+use Rattle.mc_lab.specs.Sweeps.{all_marks, are_fine, is_above, is_broken, is_fine, is_guarded, left_behind, left_if, line_end, mark_text, marks_after, row_text, row_unless, rows_above, rows_if, rows_of, rows_text, rows_to, runs, runs_text, swept_text, MarksLeft, Row, Swept, SweptRow}
 use Rattle.mc_lab.specs.SweepEnds.{AddsFine, IsLineOf}
 
 -- ---- rows

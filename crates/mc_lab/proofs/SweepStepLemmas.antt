@@ -1,6 +1,6 @@
 -- The steps of a sweep: those of its plays, and sums of them.
-use Rattle.std.specs.Prelude.{◌≡◌, ℕ, zero, suc, ◌+◌, ◌*◌, ◌^◌, ◌<◌, ◌≤◌, Bool, true, false, List, [], ◌∷◌, ◌++◌, length, map, take, slice_get, Option, Some, None, IfSome, IfNone, refl}
-use Rattle.std.proofs.Common.{arith, ap, sym, subst, inl, inr, ◌∙◌}
+use Rattle.std.specs.Prelude.{◌≡◌, ℕ, zero, suc, ◌+◌, ◌*◌, ◌^◌, ◌<◌, ◌≤◌, Bool, true, false, List, [], ◌∷◌, ◌++◌, length, map, take, slice_get, Option, Some, None, IfSome, refl}
+use Rattle.std.proofs.Common.{arith, ap, subst, inl, inr, ◌∙◌}
 use Rattle.std.proofs.Math.Nat.{add-mul, mul-le-mul_left, mul-le-mul_right, one-mul, pow-succ'}
 use Rattle.std.proofs.lemmas.Bool.{cases_lt}
 use Rattle.std.proofs.Math.Pow.{pow_mono}
@@ -214,10 +214,6 @@ sum_up f (suc i) (suc n) le = elim (cases_lt i n) [
 ]
 
 -- ---- a line of a deck
-
--- the plays of a line and one to go on from it
-pub line_then : (n s old mid new : ℕ) → mid ≤ old + n * s → new ≤ mid + s → new ≤ old + (n + 1) * s
-line_then n s old mid new first second = next_play n s old mid new first second
 
 -- a line that may not be swept
 pub shut_most : (b : Bool) (n s old : ℕ) → b ≡ false → old ≤ old + if_open b n * s

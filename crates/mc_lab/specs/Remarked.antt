@@ -1,5 +1,5 @@
 -- Lines and remarks as the code has them.
-use Rattle.std.specs.Prelude.{ℕ, List, [], map, Option, None, Some}
+use Rattle.std.specs.Prelude.{ℕ, List, map, Option, None, Some}
 use Rattle.mc_asm.specs.declared.line.NumberedLine.{NumberedLine}
 use Rattle.mc_lab.specs.Remarks as model
 use Rattle.mc_lab.specs.declared.remark.Remark.{Remark}

@@ -1,5 +1,5 @@
 -- The pass of the laboratory over a deck's text, which keeps of the deck's reader only whether it is in a section.
-use Rattle.std.specs.Prelude.{ℕ, Bool, false, not, List, [], ◌∷◌, ◌++◌}
+use Rattle.std.specs.Prelude.{ℕ, Bool, false, List, [], ◌∷◌, ◌++◌}
 use Rattle.law_explore.specs.model_text.specs.Text.{fields, lines, with_numbers}
 use Rattle.law_explore.specs.Rules.{stays_inside}
 use Rattle.mc_lab.specs.declared.remark.Mark.{Mark}

@@ -1,6 +1,6 @@
 -- The laws of sweeps: no line is torn, a card is between two states only if two items change it, and one change splits
 -- its line where its gate opens.
-use Rattle.std.specs.Prelude.{◌≡◌, ◌≢◌, ℕ, ◌+◌, ◌≤◌, Bool, true, false, cond, not, nat_le, List, [], ◌∷◌, ◌++◌, Option, Some, None, ⊤}
+use Rattle.std.specs.Prelude.{◌≡◌, ◌≢◌, ℕ, ◌+◌, ◌≤◌, Bool, true, cond, not, nat_le, List, [], ◌∷◌, ◌++◌, None, ⊤}
 use Rattle.std.specs.List.{AllByRecursion}
 use Rattle.law_explore.specs.model_device.specs.Image.{Two}
 use Rattle.law_explore.specs.model_device.specs.Stopped.{opens_at}

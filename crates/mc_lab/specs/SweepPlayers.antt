@@ -1,5 +1,5 @@
 -- The states of the model that a player represents in the plays of a sweep.
-use Rattle.std.specs.Prelude.{◌≡◌, ℕ, true, false, Bool, List, option_map, Option, Some, None}
+use Rattle.std.specs.Prelude.{◌≡◌, ℕ, true, Bool, List, option_map, Option, Some, None}
 use Rattle.mc_blocks.specs.declared.image.Unusable.{Unusable}
 use Rattle.law_explore.specs.model_device.specs.Device.{DeviceState, BenchState}
 use Rattle.law_explore.specs.model_device.specs.Card.{Card}

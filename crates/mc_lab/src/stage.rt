@@ -1,8 +1,7 @@
 // Lines of a deck played one by one, and the text of the last one's result.
 ghost use Rattle.std.specs.Prelude.{◌≡◌, ◌≤◌, ℕ, List, length, option_map, take};
-ghost use Rattle.law_explore.specs.model_play.specs.DeckGrammar.{DeckLine};
 ghost use Rattle.law_explore.specs.model_play.specs.Play.{Step};
-ghost use Rattle.mc_script.specs.Players.{answer_value, device_of};
+ghost use Rattle.mc_script.specs.Players.{answer_value};
 ghost use Rattle.mc_script.specs.Benches.{IsPlaying};
 ghost use Rattle.mc_script.specs.StepCounts.{PlaySteps};
 ghost use Rattle.mc_lab.specs.Expectations.{result_text};

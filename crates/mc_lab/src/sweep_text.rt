@@ -1,6 +1,6 @@
 // The text of a sweep.
 ghost use Rattle.std.specs.Prelude.{◌≡◌, ◌++◌, ◌+◌, ◌-◌, ◌<◌, ◌≤◌, ℕ, ◌∷◌, codes, decimal, drop, get_or, length};
-ghost use Rattle.mc_lab.specs.Sweeps.{is_word, line_end, mark_text, run_text, runs, runs_text, sums_text, word_text};
+ghost use Rattle.mc_lab.specs.Sweeps.{is_word, line_end, mark_text, run_text, runs, runs_text, sums_text};
 ghost use Rattle.mc_lab.specs.declared.sweep_word.SweepWord.TheVariants.{Before};
 ghost use Rattle.mc_text.specs.Texts.{sunk, Puts};
 

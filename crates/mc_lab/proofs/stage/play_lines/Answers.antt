@@ -1,6 +1,5 @@
-use Rattle.std.proofs.Common.{◌≡◌, ◌≤◌, ℕ, List, arith, rules, subst, take}
+use Rattle.std.proofs.Common.{◌≡◌, ◌≤◌, ℕ, arith, rules, subst, take}
 use Rattle.mc_deck.specs.Lines.{line_of}
-use Rattle.law_explore.specs.model_play.specs.Play.{Step}
 use Rattle.mc_script.specs.StepCounts.{PlaySteps}
 use Rattle.mc_lab.proofs.StageLemmas.{counted_on, staged_on, playing_on}
 use Rattle.mc_lab.proofs.stage.play_lines.Goals as goal

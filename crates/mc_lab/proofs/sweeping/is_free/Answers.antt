@@ -1,4 +1,4 @@
-use Rattle.std.proofs.Common.{◌≡◌, ◌+◌, ◌-◌, ◌∙◌, arith, refl, sym, ap, rules}
+use Rattle.std.proofs.Common.{◌≡◌, ◌+◌, ◌-◌, ◌∙◌, arith, sym, ap}
 use Rattle.mc_deck.specs.Lines.{line_of}
 use Rattle.mc_lab.proofs.SweepDecks.{free_start, free_same, free_decided, is_free_at}
 use Rattle.mc_lab.proofs.sweeping.is_free.Goals as goal

@@ -1,6 +1,6 @@
-use Rattle.std.proofs.Common.{◌∙◌, List, ℕ, Ok, refl, subst}
+use Rattle.std.proofs.Common.{◌∙◌, List, ℕ, refl, subst}
 use Rattle.mc_text.specs.Texts.{Sunk, sunk_in, Fails, Writes}
-use Rattle.mc_text.proofs.TextLemmas.{fails_before, fails_then, puts_as, writes_then}
+use Rattle.mc_text.proofs.TextLemmas.{fails_before, fails_then, writes_then}
 use Rattle.mc_lab.specs.Remarked.{remark_values}
 use Rattle.mc_lab.specs.SweepEnds.{pending_value}
 use Rattle.mc_lab.proofs.ExpectLemmas.{fails_done}

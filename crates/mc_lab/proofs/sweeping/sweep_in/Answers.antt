@@ -1,8 +1,8 @@
-use Rattle.std.proofs.Common.{◌≡◌, ◌∙◌, ◌++◌, Bool, ℕ, List, ap, length, refl, subst, sym, true, Ok}
+use Rattle.std.proofs.Common.{◌∙◌, Bool, ℕ, List, length, subst}
 use Rattle.mc_text.specs.Texts.{Sunk, sunk_in, Fails, Writes}
-use Rattle.mc_text.proofs.TextLemmas.{fails_before, fails_then, writes_then}
+use Rattle.mc_text.proofs.TextLemmas.{fails_then, writes_then}
 use Rattle.mc_lab.specs.Remarked.{remark_values}
-use Rattle.mc_lab.specs.Sweeps.{all_marks, marks_after, rows_above, rows_text, rows_to, sums_text, sweep_text, total, MarksLeft}
+use Rattle.mc_lab.specs.Sweeps.{all_marks, rows_to, sums_text, total}
 use Rattle.mc_lab.specs.SweepEnds.{pending_value, sweeps_from, AddsFine}
 use Rattle.mc_lab.proofs.ExpectLemmas.{fails_done}
 use Rattle.mc_lab.proofs.SweepDecks.{text_is, text_whole, whole_is}

@@ -1,10 +1,9 @@
-use Rattle.std.proofs.Common.{◌≡◌, ◌≤◌, ◌∙◌, ap, refl, sym, subst, rules, ℕ, Bool, ◌&&◌, List, [], ◌∷◌, Ok}
+use Rattle.std.proofs.Common.{◌≡◌, ◌≤◌, ◌∙◌, ap, sym, subst, rules, Bool, ◌&&◌, List, Ok}
 use Rattle.mc_text.specs.Texts.{Sunk, sunk_in, Fails}
 use Rattle.mc_text.proofs.TextLemmas.{puts_as, puts_failed, writes_none}
 use Rattle.mc_lab.specs.Remarked.{remark_values}
 use Rattle.mc_lab.specs.Sweeps.{marks_after, rows_text, rows_to, Swept}
-use Rattle.mc_lab.specs.SweepEnds.{pending_value, sweeps_at, AddsFine, IsLineOf}
-use Rattle.mc_lab.proofs.ExpectLemmas.{fails_done}
+use Rattle.mc_lab.specs.SweepEnds.{pending_value, sweeps_at, AddsFine}
 use Rattle.mc_lab.proofs.SweepLoops.{SweptAs}
 use Rattle.mc_lab.proofs.SweepRows.{fine_none}
 use Rattle.mc_lab.proofs.SweepDecks.{adds_none, line_of_place, none_swept, place_adds, place_line}

@@ -1,4 +1,4 @@
-use Rattle.std.proofs.Common.{◌≡◌, ◌<◌, false, length, arith, rules, sym, ◌∙◌, ◌≤◌, true, ◌+◌, ◌*◌, ℕ, subst}
+use Rattle.std.proofs.Common.{◌≡◌, ◌<◌, false, length, arith, rules, ◌∙◌, ◌≤◌, true, ◌+◌, ◌*◌, ℕ, subst}
 use Rattle.std.proofs.lemmas.List.{length-set}
 use Rattle.law_explore.specs.model_device.specs.Bytes.{zeros}
 use Rattle.mc_lab.specs.SweepBodies.{writes_in}

@@ -1,5 +1,5 @@
-use Rattle.std.proofs.Common.{arith, rules}
-use Rattle.mc_lab.proofs.SweepFrontLemmas.{kept_on_words, played_before, played_on_root, played_up_to}
+use Rattle.std.proofs.Common.{arith}
+use Rattle.mc_lab.proofs.SweepFrontLemmas.{kept_on_words, played_before}
 use Rattle.mc_lab.proofs.sweep_play.LaboratoryTrials.advance.Goals as goal
 
 pub play_on-device-requires-clause-kept : goal.play_on-device-requires-clause-kept
