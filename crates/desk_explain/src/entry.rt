@@ -1,5 +1,6 @@
 // One line of what is explained.
-ghost use Rattle.std.specs.Prelude.{◌≡◌, IfOk};
+ghost use Rattle.std.specs.Prelude.{◌≡◌, IfOk, OnOk};
+ghost use Rattle.desk_explain.specs.Explained.{causes};
 
 use crate::column::column_at;
 use crate::part::Part;
@@ -60,6 +61,7 @@ pub fn entry_of(
 }
 
 /// Adds a warning of a part of a line.
+#[tactic(auto, using(crate::proofs::ExplainLemmas::warned))]
 pub fn warn(
     alloc: Global,
     entries: &mut Vec<Entry>,
@@ -67,7 +69,9 @@ pub fn warn(
     line: &[u8],
     part: Part<'_>,
     warning: Warning,
-) -> Result<(), AllocError> {
+) -> Result<(), AllocError>
+    ensures { OnOk result (causes entries.new.items ≡ causes entries.old.items) }
+{
     let entry = entry_of(
         alloc,
         number,

@@ -1,15 +1,17 @@
 // All that is wrong with a draft.
-ghost use Rattle.std.specs.Prelude.{◌≡◌, ◌++◌, ℕ, List, codes, decimal, Err, IfOk, OnOk, Ok};
+ghost use Rattle.std.specs.Prelude.{◌≡◌, ◌++◌, [], ℕ, List, codes, decimal, true, IfOk, OnOk};
+ghost use Rattle.std.specs.List.Sorted.{IsNonDecreasingBy, IsPermutation};
 ghost use Rattle.mc_deck.specs.model_play.specs.Words.{deck_word};
-ghost use Rattle.desk_draft.specs.Listings.{desk_read, Desk};
-ghost use Rattle.desk_explain.specs.Explained.{explained_line, BeginsWith, Explains};
+ghost use Rattle.desk_draft.specs.Listings.{desk_read};
+ghost use Rattle.desk_draft.specs.Loads.{desk_value};
+ghost use Rattle.desk_explain.specs.Explained.{causes, entry_lines, explained_line, Explains, ExplainsRead, ExplainsRefused, JudgesCodes, ShowsEntries};
 
 use crate::entry::{Entry, entry_of};
 use crate::kind::{Kind, kind_in_section};
 use crate::lines::{line_numbered, lines_of};
 use crate::part::Part;
 use crate::place::part_of;
-use crate::refusals::{Reading, Refused, first_refusal, read_all};
+use crate::refusals::{Reading, Refused, read_all};
 use crate::rule::rule_part;
 use crate::sentence::refusal_sentence;
 use crate::text::{push, push_number};
@@ -17,7 +19,7 @@ use crate::uses::Uses;
 use crate::verdicts::judge_codes;
 use crate::warnings::warn_of_section;
 use desk_draft::{Desk, Section, Source, read_desk, read_draft};
-use mc_deck::DeckCause;
+use mc_deck::{DeckCause, DeckRefusal};
 use std::alloc::{AllocError, Global};
 
 /// What is explained of a draft, and whether it passes: nothing of it is refused, though it may be warned of something.
@@ -122,7 +124,9 @@ fn warn_of_sections<'a>(
     sections: &[Section<'a>],
     sources: &[Source<'a>],
     refusals: &[Refused],
-) -> Result<(), AllocError> {
+) -> Result<(), AllocError>
+    ensures { OnOk result (causes entries.new.items ≡ causes entries.old.items) }
+{
     for i in 0..sections.len().min(sources.len()) {
         let uses = uses_of(alloc, lines, &sections[i])?;
         warn_of_section(
@@ -138,63 +142,106 @@ fn warn_of_sections<'a>(
     Ok(())
 }
 
-// Adds what is said of a draft that is read: its refused code, and what it is warned of. Returns whether all its code
-// is accepted.
-fn judge_desk<'a>(
+// Adds the warnings of a text, nothing if it is no draft.
+fn warn_of_draft<'a>(
     alloc: Global,
     entries: &mut Vec<Entry>,
     lines: &[&'a [u8]],
     text: &'a [u8],
-    desk: &Desk<'a>,
+    sources: &[Source<'a>],
     refusals: &[Refused],
-) -> Result<bool, AllocError> {
-    let passes = judge_codes(alloc, entries, lines, desk)?;
-    let Ok(draft) = read_draft(alloc, text) else {
-        return Err(AllocError);
-    };
-    let sections = draft.sections.as_slice();
-    warn_of_sections(
-        alloc,
-        entries,
-        lines,
-        sections,
-        desk.sources.as_slice(),
-        refusals,
-    )?;
-    Ok(passes)
+) -> Result<(), AllocError>
+    ensures { OnOk result (causes entries.new.items ≡ causes entries.old.items) }
+{
+    match read_draft(alloc, text) {
+        Ok(draft) => {
+            let sections = draft.sections.as_slice();
+            warn_of_sections(alloc, entries, lines, sections, sources, refusals)
+        }
+        Err(DeckRefusal::At(..)) => Ok(()),
+        Err(DeckRefusal::NoMemory) => Err(AllocError),
+    }
 }
 
-// Adds what is said of a text that is read, which is a draft without its refused lines.
-fn judge<'a>(
+// Adds what is said of a text that is read, which is a draft or what is left of it without its refused lines: its
+// refused code, and what it is warned of. Returns whether all its code is accepted.
+fn judge_desk<'a>(
     alloc: Global,
     entries: &mut Vec<Entry>,
     draft: &'a [u8],
     text: &'a [u8],
+    desk: &Desk<'a>,
     refusals: &[Refused],
-) -> Result<bool, AllocError> {
+) -> Result<bool, AllocError>
+    ensures { IfOk result (λ passes. JudgesCodes (desk_value desk.now) desk.now.deck
+        (true, causes entries.old.items) (passes, causes entries.new.items)) }
+{
     let lines = lines_of(alloc, draft)?;
+    let passes = judge_codes(alloc, entries, lines.as_slice(), desk)?;
+    let sources = desk.sources.as_slice();
+    warn_of_draft(alloc, entries, lines.as_slice(), text, sources, refusals)?;
+    Ok(passes)
+}
+
+// Adds what is said of what is left of a draft without its refused lines, nothing if it is not read.
+fn judge_rest(
+    alloc: Global,
+    entries: &mut Vec<Entry>,
+    draft: &[u8],
+    reading: &Reading,
+) -> Result<(), AllocError> {
+    let text = reading.text.as_slice();
     match read_desk(alloc, text) {
-        Ok(desk) => judge_desk(alloc, entries, lines.as_slice(), text, &desk, refusals),
-        Err(_) => Err(AllocError),
+        Ok(desk) => {
+            let refusals = reading.refusals.as_slice();
+            judge_desk(alloc, entries, draft, text, &desk, refusals)?;
+            Ok(())
+        }
+        Err(DeckRefusal::At(..)) => Ok(()),
+        Err(DeckRefusal::NoMemory) => Err(AllocError),
     }
 }
 
-// Adds entries in the order of their lines.
-fn push_sorted(text: &mut Vec<u8>, name: &[u8], entries: Vec<Entry>) -> Result<(), AllocError>
-    ensures { OnOk result ((rest : List ℕ) × (text.new.items ≡ text.old.items ++ rest)) }
+// Adds the lines of entries.
+fn push_entries(text: &mut Vec<u8>, name: &[u8], entries: &[Entry]) -> Result<(), AllocError>
+    ensures { OnOk result (text.new.items ≡ text.old.items ++ entry_lines name.now entries.now) }
 {
-    let mut entries = entries;
-    entries.sort_by_key(|entry| entry.number)?;
-    for entry in &entries {
+    for entry in entries {
         push_line(text, name, entry)?;
     }
     Ok(())
 }
 
+// Sorts entries by the numbers of their lines.
+fn sort_entries(entries: &mut Vec<Entry>) -> Result<(), AllocError>
+    ensures same { IsPermutation entries.old.items entries.new.items }
+    ensures order { OnOk result (IsNonDecreasingBy (λ (e : Entry). e.number) entries.new.items) }
+{
+    entries.sort_by_key(|entry| entry.number)?;
+    Ok(())
+}
+
+// Adds the lines of entries in the order of their numbers.
+fn push_sorted(text: &mut Vec<u8>, name: &[u8], entries: Vec<Entry>) -> Result<(), AllocError>
+    ensures { OnOk result ((rest : List ℕ) × (text.new.items ≡ text.old.items ++ rest)
+        × ShowsEntries name.now entries.items rest) }
+{
+    let mut entries = entries;
+    sort_entries(&mut entries)?;
+    push_entries(text, name, entries.as_slice())
+}
+
 // What is explained of a draft that is read.
-fn explain_read(alloc: Global, name: &[u8], draft: &[u8]) -> Result<Explained, AllocError> {
+fn explain_read<'a>(
+    alloc: Global,
+    name: &[u8],
+    draft: &'a [u8],
+    desk: &Desk<'a>,
+) -> Result<Explained, AllocError>
+    ensures { IfOk result (λ e. ExplainsRead name.now (desk_value desk.now) e.passes e.text.items) }
+{
     let mut entries = Vec::new(alloc);
-    let passes = judge(alloc, &mut entries, draft, draft, &[])?;
+    let passes = judge_desk(alloc, &mut entries, draft, draft, desk, &[])?;
     let mut text = Vec::new(alloc);
     push_sorted(&mut text, name, entries)?;
     Ok(Explained { text, passes })
@@ -207,13 +254,7 @@ fn later_entries(alloc: Global, draft: &[u8], reading: &Reading) -> Result<Vec<E
     let refusals = reading.refusals.as_slice();
     add_later(alloc, &mut entries, lines.as_slice(), refusals)?;
     if reading.is_read {
-        judge(
-            alloc,
-            &mut entries,
-            draft,
-            reading.text.as_slice(),
-            refusals,
-        )?;
+        judge_rest(alloc, &mut entries, draft, reading)?;
     }
     Ok(entries)
 }
@@ -234,7 +275,7 @@ fn refused_text(
     number: u32,
     cause: DeckCause,
 ) -> Result<Vec<u8>, AllocError>
-    ensures { IfOk result (λ t. BeginsWith name.now (number, cause) t.items) }
+    ensures { IfOk result (λ t. ExplainsRefused name.now (number, cause) t.items) }
 {
     let lines = lines_of(alloc, draft)?;
     let reading = read_all(alloc, draft, number, cause)?;
@@ -256,7 +297,8 @@ fn refused_text(
 
 /// Returns all that is wrong with a draft, as lines `NAME:LINE:COLUMN: CAUSE: TEXT`. If the draft is refused, the first
 /// line is that of its first refusal; the rest are in the order of their lines, and `warning` is the cause of what
-/// refuses nothing.
+/// refuses nothing. Of a draft that is read, the lines of other causes are those of the code that the stack checker
+/// refuses.
 ///
 /// # Errors
 ///
@@ -265,11 +307,12 @@ fn refused_text(
 pub fn explain(alloc: Global, name: &[u8], draft: &[u8]) -> Result<Explained, AllocError>
     ensures { IfOk result (λ e. Explains name.now (desk_read draft.now) e.passes e.text.items) }
 {
-    match first_refusal(alloc, draft)? {
-        None => explain_read(alloc, name, draft),
-        Some((number, cause)) => Ok(Explained {
+    match read_desk(alloc, draft) {
+        Ok(desk) => explain_read(alloc, name, draft, &desk),
+        Err(DeckRefusal::At(number, cause)) => Ok(Explained {
             text: refused_text(alloc, name, draft, number, cause)?,
             passes: false,
         }),
+        Err(DeckRefusal::NoMemory) => Err(AllocError),
     }
 }

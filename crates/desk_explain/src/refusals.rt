@@ -55,12 +55,8 @@ fn text_of(alloc: Global, lines: &[Vec<u8>]) -> Result<Vec<u8>, AllocError> {
     Ok(text)
 }
 
-/// The line and the cause for which a draft or its deck is refused first, or `None` if it is read.
-///
-/// # Errors
-///
-/// Returns `AllocError` if out of memory.
-pub fn first_refusal(alloc: Global, draft: &[u8]) -> Result<Option<(u32, DeckCause)>, AllocError>
+// The line and the cause for which a draft or its deck is refused first, or `None` if it is read.
+fn first_refusal(alloc: Global, draft: &[u8]) -> Result<Option<(u32, DeckCause)>, AllocError>
     ensures { IfOk result (λ o. MatchOption o ((d : Desk) × (desk_read draft.now ≡ Ok d))
         (λ r. desk_read draft.now ≡ Err r)) }
 {

@@ -1,6 +1,12 @@
 // What is said of code that the stack checker refuses.
-ghost use Rattle.std.specs.Prelude.{◌≤◌, length};
+ghost use Rattle.std.specs.Prelude.{◌≡◌, ◌≤◌, ◌∷◌, ◌&&◌, [], Bool, true, length, option_map, IfOk, OnOk};
 ghost use Rattle.mc_isa.specs.model_device.specs.Limits.{most_code};
+ghost use Rattle.mc_text.specs.model_text.specs.CheckWords.{check_word};
+ghost use Rattle.mc_deck.specs.Lines.{line_of, GoodLine};
+ghost use Rattle.desk_draft.specs.Listings as listings;
+ghost use Rattle.desk_draft.specs.Loads.{desk_value, AreLoads};
+ghost use Rattle.desk_draft.specs.Sources.{source_value};
+ghost use Rattle.desk_explain.specs.Explained.{causes, has_entry, place_number, with_cause, JudgesCode, JudgesCodes};
 
 use crate::column::column_at;
 use crate::entry::{Entry, push_sentence};
@@ -24,22 +30,6 @@ struct Judged {
     load: u32,
     place: u16,
     cause: CheckCause,
-}
-
-// The place and the cause for which code is refused, or `None` if it is accepted.
-fn refused_place(
-    alloc: Global,
-    code: &[u8],
-    session: u16,
-) -> Result<Option<(u16, CheckCause)>, AllocError> {
-    if code.is_empty() || code.len() > MOST_CODE {
-        return Ok(None);
-    }
-    match check(alloc, code, session) {
-        Ok(Verdict::Accept { .. }) => Ok(None),
-        Ok(Verdict::Refuse { place, cause }) => Ok(Some((place, cause))),
-        Err(_) => Err(AllocError),
-    }
 }
 
 // Adds the line of a place of code, or the place if its code is of no section.
@@ -149,7 +139,9 @@ fn text_of(
 }
 
 // Whether an entry says what is said already, as of code that two lines load.
-fn is_known(entries: &[Entry], number: u32, word: &'static str) -> bool {
+fn is_known(entries: &[Entry], number: u32, word: &'static str) -> bool
+    ensures { result ≡ has_entry number word.now entries.now }
+{
     for entry in entries {
         if entry.number == number && entry.word == word {
             return true;
@@ -158,8 +150,45 @@ fn is_known(entries: &[Entry], number: u32, word: &'static str) -> bool {
     false
 }
 
-// Adds an entry of code that is refused, at the line of the place, or at the line that loads the code if it is of no
-// section.
+// The number of the line of a place of code: of the draft, if the code is of a section, or else of the line that loads
+// it.
+fn place_number(source: Option<&Source<'_>>, load: u32, place: u16) -> u32
+    ensures { result ≡ place_number (option_map (λ s. source_value s.now) source.entry) load place }
+{
+    let Some(source) = source else {
+        return load;
+    };
+    match source.line_at(place) {
+        Some(line) => line.number,
+        None => load,
+    }
+}
+
+// The entry of code that is refused, at a line of the draft.
+fn judged_entry(
+    alloc: Global,
+    lines: &[&[u8]],
+    source: Option<&Source<'_>>,
+    code: &[u8],
+    judged: Judged,
+    number: u32,
+) -> Result<Entry, AllocError>
+    ensures number { IfOk result (λ e. e.number ≡ number) }
+    ensures word { IfOk result (λ e. e.word.now ≡ check_word judged.cause) }
+{
+    let line = line_numbered(lines, number);
+    let part = word_part(line);
+    let text = text_of(alloc, trim(without_comment(line)), source, code, judged)?;
+    Ok(Entry {
+        number,
+        column: column_at(line, part.at),
+        word: judged.cause.word(),
+        text,
+    })
+}
+
+// Adds an entry of code that is refused, at the line of its place, unless it is there.
+#[tactic(auto, using(crate::proofs::ExplainLemmas::cause_known, crate::proofs::ExplainLemmas::cause_added))]
 fn push_judged(
     alloc: Global,
     entries: &mut Vec<Entry>,
@@ -167,31 +196,49 @@ fn push_judged(
     source: Option<&Source<'_>>,
     code: &[u8],
     judged: Judged,
-) -> Result<(), AllocError> {
-    let number = match source {
-        Some(source) => match source.line_at(judged.place) {
-            Some(line) => line.number,
-            None => judged.load,
-        },
-        None => judged.load,
-    };
-    let word = judged.cause.word();
-    if is_known(entries.as_slice(), number, word) {
+) -> Result<(), AllocError>
+    ensures { OnOk result (causes entries.new.items ≡ with_cause (causes entries.old.items) (
+      place_number (option_map (λ s. source_value s.now) source.entry) judged.load judged.place,
+      check_word judged.cause,
+    )) }
+{
+    let number = place_number(source, judged.load, judged.place);
+    if is_known(entries.as_slice(), number, judged.cause.word()) {
         return Ok(());
     }
-    let line = line_numbered(lines, number);
-    let part = word_part(line);
-    let text = text_of(alloc, trim(without_comment(line)), source, code, judged)?;
-    entries.push(Entry {
-        number,
-        column: column_at(line, part.at),
-        word,
-        text,
-    })?;
+    let entry = judged_entry(alloc, lines, source, code, judged, number)?;
+    entries.push(entry)?;
     Ok(())
 }
 
-// Whether code of a line of a deck is accepted, which adds an entry if it is not.
+// Whether the code of the `load` line with a number is accepted, which adds an entry if it is not.
+#[tactic(auto, using(crate::proofs::ExplainLemmas::code_accepted, crate::proofs::ExplainLemmas::code_refused))]
+fn judge_code(
+    alloc: Global,
+    entries: &mut Vec<Entry>,
+    lines: &[&[u8]],
+    loads: &Loads<'_, '_>,
+    load: u32,
+    code: &[u8],
+    session: u16,
+) -> Result<bool, AllocError>
+    requires low { 1 ≤ length code.now }
+    requires high { length code.now ≤ most_code }
+    ensures { IfOk result (λ accepted. (d : listings.Desk) → AreLoads loads.now d.deck d.sources
+        → JudgesCode d load code.now session accepted (causes entries.old.items) (causes entries.new.items)) }
+{
+    match check(alloc, code, session) {
+        Ok(Verdict::Accept { deepest: _ }) => Ok(true),
+        Ok(Verdict::Refuse { place, cause }) => {
+            let judged = Judged { load, place, cause };
+            push_judged(alloc, entries, lines, loads.source(load), code, judged)?;
+            Ok(false)
+        }
+        Err(_) => Err(AllocError),
+    }
+}
+
+// Whether the code of a line of a deck is accepted, which adds an entry if it is not.
 fn judge_line(
     alloc: Global,
     entries: &mut Vec<Entry>,
@@ -199,16 +246,24 @@ fn judge_line(
     loads: &Loads<'_, '_>,
     load: u32,
     line: &Line<'_>,
-) -> Result<bool, AllocError> {
+) -> Result<bool, AllocError>
+    requires { GoodLine (line_of line.now) }
+    ensures { IfOk result (λ accepted. (d : listings.Desk) → AreLoads loads.now d.deck d.sources → (passes : Bool)
+        → JudgesCodes d ((load, line_of line.now) ∷ []) (passes, causes entries.old.items)
+        (passes && accepted, causes entries.new.items)) }
+{
     let Line::Load { unit, session, .. } = line else {
         return Ok(true);
     };
-    let Some((place, cause)) = refused_place(alloc, unit.code, *session)? else {
-        return Ok(true);
-    };
-    let judged = Judged { load, place, cause };
-    push_judged(alloc, entries, lines, loads.source(load), unit.code, judged)?;
-    Ok(false)
+    let accepted = judge_code(alloc, entries, lines, loads, load, unit.code, *session)?;
+    Ok(accepted)
+}
+
+// Whether two are true.
+fn both(one: bool, other: bool) -> bool
+    ensures { result ≡ (one && other) }
+{
+    one && other
 }
 
 /// Adds an entry for the code of each `load` line that the stack checker refuses, and returns whether it accepts all.
@@ -222,13 +277,16 @@ pub fn judge_codes(
     entries: &mut Vec<Entry>,
     lines: &[&[u8]],
     desk: &Desk<'_>,
-) -> Result<bool, AllocError> {
+) -> Result<bool, AllocError>
+    ensures { IfOk result (λ passes. JudgesCodes (desk_value desk.now) desk.now.deck
+        (true, causes entries.old.items) (passes, causes entries.new.items)) }
+{
     let loads = Loads::new(alloc, desk.text.as_slice(), desk.sources.as_slice())?;
     let mut passes = true;
     for i in 0..desk.deck.len() {
         let (load, line) = desk.deck.line(i);
         let accepted = judge_line(alloc, entries, lines, &loads, load, &line)?;
-        passes = passes && accepted;
+        passes = both(passes, accepted);
     }
     Ok(passes)
 }

@@ -1,4 +1,6 @@
 // What a draft is warned of, section by section.
+ghost use Rattle.std.specs.Prelude.{◌≡◌, OnOk};
+ghost use Rattle.desk_explain.specs.Explained.{causes};
 
 use crate::entry::{Entry, warn};
 use crate::lines::line_numbered;
@@ -75,7 +77,9 @@ fn warn_of_word<'a>(
     entries: &mut Vec<Entry>,
     sizes: &Sizes<'a>,
     line: &SourceLine<'a>,
-) -> Result<(), AllocError> {
+) -> Result<(), AllocError>
+    ensures { OnOk result (causes entries.new.items ≡ causes entries.old.items) }
+{
     match missed_word(sizes, line.draft) {
         Some(part) => warn(
             alloc,
@@ -96,7 +100,9 @@ fn warn_of_name<'a>(
     uses: &Uses<'a>,
     line: &SourceLine<'a>,
     name: &'a [u8],
-) -> Result<(), AllocError> {
+) -> Result<(), AllocError>
+    ensures { OnOk result (causes entries.new.items ≡ causes entries.old.items) }
+{
     if uses.has_name(name) {
         return Ok(());
     }
@@ -117,7 +123,9 @@ fn warn_of_label<'a>(
     entries: &mut Vec<Entry>,
     uses: &Uses<'a>,
     line: &SourceLine<'a>,
-) -> Result<(), AllocError> {
+) -> Result<(), AllocError>
+    ensures { OnOk result (causes entries.new.items ≡ causes entries.old.items) }
+{
     let Some(label) = label_in(line.draft) else {
         return Ok(());
     };
@@ -157,7 +165,9 @@ fn warn_of_line<'a>(
     declared: &mut Declared,
     sizes: &mut Sizes<'a>,
     line: &SourceLine<'a>,
-) -> Result<(), AllocError> {
+) -> Result<(), AllocError>
+    ensures { OnOk result (causes entries.new.items ≡ causes entries.old.items) }
+{
     if let Some(named) = named_in(declared, line.draft) {
         keep_size(sizes, named.name, named.meaning)?;
         return warn_of_name(alloc, entries, uses, line, named.name);
@@ -183,7 +193,9 @@ fn warn_of_abends(
     entries: &mut Vec<Entry>,
     lines: &[&[u8]],
     source: &Source<'_>,
-) -> Result<(), AllocError> {
+) -> Result<(), AllocError>
+    ensures { OnOk result (causes entries.new.items ≡ causes entries.old.items) }
+{
     for line in &source.lines {
         if abends(source.code.as_slice(), line) {
             let text = line_numbered(lines, line.number);
@@ -207,7 +219,9 @@ fn warn_of_stretches(
     lines: &[&[u8]],
     source: &Source<'_>,
     reach: &Reach,
-) -> Result<(), AllocError> {
+) -> Result<(), AllocError>
+    ensures { OnOk result (causes entries.new.items ≡ causes entries.old.items) }
+{
     let mut reached = true;
     for line in &source.lines {
         let now = reach.has(line.place);
@@ -246,7 +260,9 @@ fn warn_of_reach(
     entries: &mut Vec<Entry>,
     lines: &[&[u8]],
     source: &Source<'_>,
-) -> Result<(), AllocError> {
+) -> Result<(), AllocError>
+    ensures { OnOk result (causes entries.new.items ≡ causes entries.old.items) }
+{
     if source.code.len() > MOST_CODE {
         return Ok(());
     }
@@ -271,7 +287,9 @@ pub fn warn_of_section<'a>(
     source: &Source<'a>,
     uses: &Uses<'a>,
     refusals: &[Refused],
-) -> Result<(), AllocError> {
+) -> Result<(), AllocError>
+    ensures { OnOk result (causes entries.new.items ≡ causes entries.old.items) }
+{
     let mut declared = Declared::none();
     let mut sizes: Sizes<'a> = BTreeMap::new(alloc);
     for line in &section.lines {
