@@ -21,6 +21,7 @@ module _ {A : Type 0} (number : A → ℕ) where
       let rest : last_below number n xs ≡ None = none_below (suc (number x)) n xs (omega (arith, h, r.0)) r.1 in
       ap (λ (b : Bool). later_or (where_is b x) (last_below number n xs)) first ∙ ap (λ (o : Option A). later_or None o) rest
 
+  -- the count is at most the length of the list
   pub count_most : (n : ℕ) (xs : List A) → count_below number n xs ≤ length xs
   count_most n [] = omega arith
   count_most n (x ∷ xs) = elim (nat_lt (number x) n) as (λ b. cond b (suc (count_below number n xs)) 0 ≤ suc (length xs)) [ true ↦ omega (arith, count_most n xs) | false ↦ omega arith ]

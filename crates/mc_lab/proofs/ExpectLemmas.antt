@@ -19,6 +19,7 @@ use Rattle.mc_lab.specs.Judged.{done_of, text_left}
 abbrev pub no_remark : Found
 no_remark = record { number = 0; text = no_line.text; above = no_line }
 
+-- the expectations from one on are it and those after it
 pub expectation_at : (es : List Found) (i : ℕ) (d : Found) → i < length es → drop i (remark_values es) ≡ remark_value (slice_index_or es i d) ∷ drop (i + 1) (remark_values es)
 expectation_at [] i d h = absurd (omega (arith, h))
 expectation_at (e ∷ es) zero d h = refl
@@ -26,6 +27,7 @@ expectation_at (e ∷ es) (suc i) d h =
     let one : suc i + 1 ≡ suc (i + 1) = omega arith in
     expectation_at es i d (omega (arith, h)) ∙ ap (λ j. remark_value (slice_index_or es i d) ∷ drop j (remark_value e ∷ remark_values es)) (sym one)
 
+-- no expectation is left past the last one
 pub expectation_none : (es : List Found) (i : ℕ) → length es ≤ i → drop i (remark_values es) ≡ []
 expectation_none [] zero h = refl
 expectation_none [] (suc i) h = refl
@@ -42,6 +44,7 @@ count_filter test false x xs e = rw e refl
 pub count_met : (ts : List Step) (e : Remark) (es : List Remark) → is_met ts e ≡ true → count_failed ts (e ∷ es) ≡ count_failed ts es
 count_met ts e es h = count_filter (λ e. not (is_met ts e)) false e es (ap not h)
 
+-- an expectation that is not met adds one to the count of the failed
 pub count_unmet : (ts : List Step) (e : Remark) (es : List Remark) → is_met ts e ≡ false → count_failed ts (e ∷ es) ≡ suc (count_failed ts es)
 count_unmet ts e es h = count_filter (λ e. not (is_met ts e)) true e es (ap not h)
 
@@ -58,19 +61,23 @@ reported_on ts left e es all text x y r z i is wrote rest =
     let here : expectation_line (fits e.text text) e text ≡ expectation_line (is_met ts e) e (result_above ts e.number) = ap (λ t. expectation_line (fits e.text t) e t) is in
     puts_as x z r (ap (λ t. t ++ text_left ts es all) here ∙ sym (left_on ts e es all) ∙ ap (λ l. text_left ts l all) (sym i)) (puts_then z (text_left ts es all) r wrote rest)
 
+-- a text that failed at an expectation failed in the report of those that are left
 pub reported_fails : (ts : List Step) (left : List Remark) (e : Remark) (es all : List Remark) (text : List ℕ) (x y : Sunk)
     → left ≡ e ∷ es → text ≡ result_above ts e.number → Fails x (expectation_line (fits e.text text) e text) y → Fails x (text_left ts left all) y
 reported_fails ts left e es all text x y i is failed =
     let here : expectation_line (fits e.text text) e text ≡ expectation_line (is_met ts e) e (result_above ts e.number) = ap (λ t. expectation_line (fits e.text t) e t) is in
     subst (λ (t : List ℕ). Fails x t y) (ap (λ t. t ++ text_left ts es all) here ∙ sym (left_on ts e es all) ∙ ap (λ l. text_left ts l all) (sym i)) (fails_before (text_left ts es all) failed)
 
+-- before the first expectation the report of those that are left is the whole
 pub reported_start : (ts : List Step) (es : List Remark) → text_left ts es es ≡ expect_text ts es
 unfolding expect_text
 reported_start ts es = refl
 
+-- if no expectation is left, the report is their count
 pub reported_end : (ts : List Step) (left all : List Remark) → left ≡ [] → text_left ts left all ≡ count_text (length all) (count_failed ts all)
 reported_end ts left all e = ap (λ l. text_left ts l all) e
 
+-- there are as many remarks as were found
 pub numbered_length : (es : List Found) → length (remark_values es) ≡ length es
 numbered_length [] = refl
 numbered_length (e ∷ es) = ap suc (numbered_length es)
@@ -84,6 +91,7 @@ count_left ts left e es false i h =
     let more : count_failed ts (e ∷ es) ≡ suc (count_failed ts es) = count_unmet ts e es (sym h) in
     ap (count_failed ts) i ∙ more ∙ omega arith
 
+-- one more or none after at most i is at most one more than i
 pub one_more : (held : Bool) (n i : ℕ) → n ≤ i → n + cond held 0 1 ≤ i + 1
 one_more true n i h = omega (arith, h)
 one_more false n i h = omega (arith, h)

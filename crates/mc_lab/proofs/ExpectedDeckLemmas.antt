@@ -27,6 +27,7 @@ count_zero (l ∷ ls) =
     let no : nat_lt l.0 0 ≡ false = grind arith in
     sym (ap (λ b. cond b (suc (count_below line_number 0 ls)) 0) no)
 
+-- before the first expectation no line is above it
 pub above_start : (ls : List (ℕ × DeckLine)) (es : List Remark) → Rising remark_number 1 es → LinesAbove ls 0 es
 above_start ls es h = (0, count_zero ls, rising_lower remark_number 0 1 es (omega arith) h)
 
@@ -36,6 +37,7 @@ above_from ls count left e es i h =
     let rises : Rising remark_number h.0 (e ∷ es) = subst (λ (l : List Remark). Rising remark_number h.0 l) i h.2 in
     subst (λ (k : ℕ). k + count_below line_number e.number (drop k ls) ≡ count_below line_number e.number ls) (sym h.1) (count_on line_number h.0 e.number ls rises.0)
 
+-- the lines above an expectation are counted from those above the one before
 pub above_on : (ls : List (ℕ × DeckLine)) (count now : ℕ) (left : List Remark) (e : Remark) (es : List Remark) → left ≡ e ∷ es → now ≡ count_below line_number e.number ls → LinesAbove ls count left → LinesAbove ls now es
 above_on ls count now left e es i k h =
     let rises : Rising remark_number h.0 (e ∷ es) = subst (λ (l : List Remark). Rising remark_number h.0 l) i h.2 in
@@ -47,12 +49,14 @@ above_on ls count now left e es i k h =
 answered_is : (ls : List (ℕ × DeckLine)) (n count : ℕ) (b : Bool) → Rising line_number 1 ls → count ≡ count_below line_number n ls → b ≡ is_answered (last_of count ls) → b ≡ is_answered (last_below line_number n ls)
 answered_is ls n count b h k e = e ∙ ap (λ c. is_answered (last_of c ls)) k ∙ ap is_answered (sym (last_is line_number 1 n ls h))
 
+-- an expectation whose line has no result is the first without one
 pub unanswered_first : (ls : List (ℕ × DeckLine)) (left : List Remark) (e : Remark) (es : List Remark) (count : ℕ) (b : Bool) (whole : Option ℕ)
     → left ≡ e ∷ es → Rising line_number 1 ls → count ≡ count_below line_number e.number ls → b ≡ is_answered (last_of count ls) → b ≡ false → first_unanswered ls left ≡ whole → Some e.number ≡ whole
 unanswered_first ls left e es count b whole i h k t f w =
     let here : is_answered (last_below line_number e.number ls) ≡ false = sym (answered_is ls e.number count b h k t) ∙ f in
     sym (ap (λ b. cond b (first_unanswered ls es) (Some e.number)) here) ∙ sym (ap (first_unanswered ls) i) ∙ w
 
+-- an expectation whose line has a result leaves those after it
 pub unanswered_on : (ls : List (ℕ × DeckLine)) (left : List Remark) (e : Remark) (es : List Remark) (count : ℕ) (b : Bool) (whole : Option ℕ)
     → left ≡ e ∷ es → Rising line_number 1 ls → count ≡ count_below line_number e.number ls → b ≡ is_answered (last_of count ls) → b ≡ true → first_unanswered ls left ≡ whole → first_unanswered ls es ≡ whole
 unanswered_on ls left e es count b whole i h k t f w =
@@ -61,14 +65,17 @@ unanswered_on ls left e es count b whole i h k t f w =
 
 -- ---- what was read
 
+-- an expected deck is read as its deck and its remarks are
 pub read_as : (text : List ℕ) (es : List Remark) (r : Result (List (ℕ × DeckLine)) (ℕ × DeckCause)) → es ≡ remarks mark.Expectation text → deck_read text ≡ r → expected_deck_read text ≡ expected_deck_of es r
 unfolding expected_deck_read
 read_as text es r e h = ap (expected_deck_of (remarks mark.Expectation text)) h ∙ ap (λ es. expected_deck_of es r) (sym e)
 
+-- a deck that was refused is refused with its cause
 pub read_deck : (text : List ℕ) (n : ℕ) (c : DeckCause) → deck_read text ≡ Err (n, c) → expected_deck_read text ≡ Err (DeckFault n c)
 unfolding expected_deck_read
 read_deck text n c h = ap (expected_deck_of (remarks mark.Expectation text)) h
 
+-- a deck that was read is refused if an expectation has no result
 pub read_expected_deck : (text : List ℕ) (ls : List (ℕ × DeckLine)) (es : List Remark) (o : Option ℕ) → es ≡ remarks mark.Expectation text → deck_read text ≡ Ok ls → o ≡ first_unanswered ls es → expected_deck_read text ≡ expected_deck_unless ls es o
 read_expected_deck text ls es o e h w = read_as text es (Ok ls) e h ∙ ap (expected_deck_unless ls es) (sym w)
 
@@ -84,6 +91,7 @@ expected_deck_none text ls (e ∷ es) n h len none =
     let zero_long : n ≡ 0 = grind (arith, nat_tests) in
     absurd (omega (arith, len, zero_long))
 
+-- an expected deck with at least one expectation is read
 pub expected_deck_some : (text : List ℕ) (ls : List (ℕ × DeckLine)) (es : List Found) (n : ℕ) → expected_deck_read text ≡ expected_deck_with ls (remark_values es) → length es ≡ n → (n == 0) ≡ false → expected_deck_read text ≡ Ok (record { lines = ls; expected = remark_values es })
 expected_deck_some text ls [] n h len some =
     let long : 0 < n = grind (arith, nat_tests) in

@@ -43,6 +43,7 @@ pub lines_done : (k : Mark) (so whole : List Remark) (inside : Bool) (above : �
 unfolding scanned_from
 lines_done k so whole inside above n t e h = sym (append-nil so) ∙ ap (λ ls. so ++ scanned_from k inside above ls) (sym (numbered_none n t e)) ∙ h
 
+-- before the first line the remarks that are left are all
 pub scanned_are : (k : Mark) (text : List ℕ) → with_left k [] false (0, []) 1 text ≡ scanned k text
 unfolding scanned
 scanned_are k text = refl

@@ -12,6 +12,7 @@ use Rattle.law_explore.specs.model_play.specs.DeckGrammar as line
 use Rattle.mc_lab.specs.Rising.{Rising}
 use Rattle.mc_lab.specs.Expectations.{line_number}
 
+-- numbers that ascend from one on ascend from any lower one
 pub rising_lower : {A : Type 0} (number : A → ℕ) (m n : ℕ) (ls : List A) → m ≤ n → Rising number n ls → Rising number m ls
 rising_lower number m n [] h r = tt
 rising_lower number m n (l ∷ ls) h r = (omega (arith, h, r.0), r.1)

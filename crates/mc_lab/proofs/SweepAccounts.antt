@@ -14,5 +14,6 @@ lengths_apart [] (y ∷ ys) h = refl
 lengths_apart (x ∷ xs) [] h = refl
 lengths_apart (x ∷ xs) (y ∷ ys) h = neither_same (is_same_held x y) (are_same_held xs ys) (lengths_apart xs ys (λ e. h (omega (arith, e))))
 
+-- accounts of different lengths are not equal
 pub mapped_apart : {A : Type 0} (f : A → Option (List ℕ)) (a b : List A) → length a ≢ length b → false ≡ are_same_held (map f a) (map f b)
 mapped_apart f a b h = lengths_apart (map f a) (map f b) (λ e. h (sym (map-length f a) ∙ e ∙ map-length f b))

@@ -24,6 +24,7 @@ held_itself : (a : Option (List ℕ)) → is_same_held a a ≡ true
 held_itself None = refl
 held_itself (Some a) = (bytes_eq-Decides a a).1 refl
 
+-- accounts that the test finds the same are equal
 pub all_same_held : (a b : List (Option (List ℕ))) → are_same_held a b ≡ true → a ≡ b
 all_same_held [] [] h = refl
 all_same_held (x ∷ xs) (y ∷ ys) h =
@@ -34,6 +35,7 @@ all_same_held (x ∷ xs) (y ∷ ys) h =
 all_same_held [] (y ∷ ys) h = absurd (cc h)
 all_same_held (x ∷ xs) [] h = absurd (cc h)
 
+-- an account is the same as itself
 pub all_held_itself : (a : List (Option (List ℕ))) → are_same_held a a ≡ true
 all_held_itself [] = refl
 all_held_itself (x ∷ xs) = joined (is_same_held x x) (are_same_held xs xs) (held_itself x) (all_held_itself xs)
@@ -42,6 +44,7 @@ other_way : (a b : List (Option (List ℕ))) (t : Bool) → are_same_held a b �
 other_way a b true h e = absurd (cc (h, subst (λ (x : List (Option (List ℕ))). are_same_held x b ≡ true) (all_same_held b a e) (all_held_itself b)))
 other_way a b false h e = refl
 
+-- accounts that differ do so either way round
 pub apart_turned : (a b : List (Option (List ℕ))) → are_same_held a b ≡ false → are_same_held b a ≡ false
 apart_turned a b h = other_way a b (are_same_held b a) h refl
 
@@ -81,6 +84,7 @@ module _ (names : List (List ℕ)) where
       let same : static_bytes_under names apps ≡ static_bytes_under names (apps_after_change c apps) = kept apps (Atomic w c) z.0 in
       chosen_held apps (nat_le k (cost Two w)) _ _ _ (flight_held apps w c k (stands Two w k x) same) (none_stopped is (apps_after_change c apps) (k - cost Two w) x z.1 ∙ sym same)
 
+  -- items that change no observed bytes leave the static bytes under the names
   pub none_done : (is : List Item) (apps : List (List ℕ × App)) → count_of_changes names apps is ≡ 0 → static_bytes_under names (apps_after_items apps is) ≡ static_bytes_under names apps
   none_done [] apps h = refl
   none_done (Plain ∷ is) apps h = let z = zero_first (changes names apps Plain) (count_of_changes names apps is) h in none_done is apps z.1
@@ -189,6 +193,7 @@ module _ (names : List (List ℕ)) where
   plain_one true n e h = absurd (cc e)
   plain_one false n e h = omega arith
 
+  -- one item that changes the observed state does so with the write that opens its gate
   pub one_splits : (is : List Item) (apps : List (List ℕ × App)) → count_of_changes names apps is ≡ 1 → Splits apps is
   one_splits [] apps h = absurd (omega arith)
   one_splits (Plain ∷ is) apps h = plain_splits is apps (one_splits is apps (plain_one (changes names apps Plain) (count_of_changes names apps is) (plain_kept apps) h))

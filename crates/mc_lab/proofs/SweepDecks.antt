@@ -53,10 +53,12 @@ free_step (AfterPower s) n (line.Sent sent) w = card_free n (line.Sent sent) s s
 free_step (BeforePower m b a) n _ w = refl
 free_step (AfterPower s) n _ w = refl
 
+-- before the first line no stop is armed
 pub free_start : (ls : List (ℕ × DeckLine)) → true ≡ is_unarmed (armed_stop_in (state_on_blank (take 0 ls)))
 unfolding state_after_lines plays steady_failures
 free_start ls = refl
 
+-- whether a stop is armed after a line follows from the line and what was before it
 pub free_on : (ls : List (ℕ × DeckLine)) (i n : ℕ) (l : DeckLine) (free : Bool) → slice_get ls i ≡ Some (n, l) → free ≡ is_unarmed (armed_stop_in (state_on_blank (take i ls)))
     → free_behind l free ≡ is_unarmed (armed_stop_in (state_on_blank (take (i + 1) ls)))
 free_on ls i n l free here is =
@@ -78,17 +80,21 @@ free_decided ls i k n l free next here h = ap (is_free_at ls) next ∙ sym (free
 
 -- ---- lines that may be swept
 
+-- a place that is open is a line without an armed stop
 pub open_is : (p : Place) → is_open_at p.deck.now p.at ≡ true → IsUnarmedLine p
 open_is p h =
     let q = and_parts (is_card_line (line_in p).1) (is_unarmed (armed_stop_in (state_on_blank (front_of p)))) h in
     record { card = q.0; unarmed = q.1 }
 
+-- a line that is not sent to the card is not open
 pub shut_card : (front : List (ℕ × DeckLine)) (l : ℕ × DeckLine) → is_card_line l.1 ≡ false → is_open front l ≡ false
 shut_card front l h = and_left (is_card_line l.1) (is_unarmed (armed_stop_in (state_on_blank front))) h
 
+-- a line after which a stop is armed is not open
 pub shut_armed : (front : List (ℕ × DeckLine)) (l : ℕ × DeckLine) → is_unarmed (armed_stop_in (state_on_blank front)) ≡ false → is_open front l ≡ false
 shut_armed front l h = ap (λ (b : Bool). is_card_line l.1 && b) h ∙ and_false (is_card_line l.1)
 
+-- a line to the card with no stop armed is open
 pub open_both : (front : List (ℕ × DeckLine)) (l : ℕ × DeckLine) → is_card_line l.1 ≡ true → is_unarmed (armed_stop_in (state_on_blank front)) ≡ true → is_open front l ≡ true
 open_both front l card free = and_from (is_card_line l.1) (is_unarmed (armed_stop_in (state_on_blank front))) card free
 
@@ -101,11 +107,13 @@ swept_false p none = ap (λ (n : ℕ). is_open (front_of p) (line_in p) && nat_l
 not_swept : (p : Place) → is_swept (front_of p) (line_in p) ≡ false → [] ≡ sweeps_at p
 not_swept p h = sym (ap (λ (b : Bool). sweeps_with b (line_sweep (names_in p) (front_of p) (line_in p)) []) h)
 
+-- a line that writes nothing is not swept
 pub none_swept : (p : Place) → writes_in p ≡ 0 → [] ≡ sweeps_at p
 none_swept p none = not_swept p (swept_false p none)
 
 -- ---- the greatest number of writes
 
+-- the most writes of the lines up to one bound those up to the next
 pub most_more : (ls : List (ℕ × DeckLine)) (n most w new : ℕ) → AtMost ls n most → (is_open_at ls n ≡ true → writes_behind (take n ls) (line_at ls n) ≤ w) → most ≤ new → w ≤ new → AtMost ls (n + 1) new
 most_more ls n most w new so_far here old now i lt is_open_there = elim (cases_lt i n) [
   | inl below ↦ (let e = so_far i below is_open_there in omega (arith, e, old))
@@ -118,6 +126,7 @@ most_more ls n most w new so_far here old now i lt is_open_there = elim (cases_l
 
 -- ---- sums
 
+-- no swept line adds nothing to the sums
 pub adds_none : (a : Sums) (ss : List Swept) → [] ≡ ss → AddsSums a ss a
 adds_none a ss none = subst (λ (ts : List Swept). AddsSums a ts a) none (record { lines = omega arith; writes = omega arith; plays = omega arith })
 
@@ -125,6 +134,7 @@ total_append : (f : Swept → ℕ) (xs ys : List Swept) → total f (xs ++ ys) �
 total_append f [] ys = omega arith
 total_append f (x ∷ xs) ys = let e = total_append f xs ys in omega (arith, e)
 
+-- the sums of two lists of swept lines add up
 pub adds_on : (a b c : Sums) (xs ys : List Swept) → AddsSums a xs b → AddsSums b ys c → AddsSums a (xs ++ ys) c
 adds_on a b c xs ys one rest =
     let long = length-append xs ys in
@@ -161,6 +171,7 @@ pub place_line : (p : Place) (number n : ℕ) (words : List SweepWord) (plays : 
     → (s : Swept) × (sweeps_at p ≡ s ∷ []) × (s.number ≡ number) × (s.words ≡ take n words)
 place_line p number n words plays is s o some = (record { number = number; words = take n words; plays = plays }, one_swept p number n words plays is s o some, refl, refl)
 
+-- the words of a place are those of its swept line
 pub line_of_place : (marks : List Remark) (s : Swept) (number n : ℕ) (words : List SweepWord) (broken : Bool) → s.number ≡ number → s.words ≡ take n words → broken ≡ is_broken_at marks number (take n words)
     → IsLineOf marks s number (take n words) broken
 line_of_place marks s number n words broken k w b =
@@ -170,6 +181,7 @@ taken_length : (p : Place) (n : ℕ) (words : List SweepWord) (plays : ℕ) → 
 taken_length p n words plays s =
     ap length s.words_are ∙ map-length (λ t. t.word) (map (cut_write_at p) (count_from 1 (writes_in p))) ∙ counted_length (cut_write_at p) (writes_in p) ∙ sym s.writes
 
+-- a swept line adds one line, its writes and its plays to the sums
 pub place_adds : (p : Place) (number n : ℕ) (words : List SweepWord) (plays : ℕ) (a b : Sums) → number ≡ (line_in p).0 → SweptAs p n words plays → IsUnarmedLine p → 1 ≤ n
     → b.lines ≡ a.lines + 1 → b.writes ≡ a.writes + n → b.plays ≡ a.plays + plays → AddsSums a (sweeps_at p) b
 place_adds p number n words plays a b is s o some x y z =
@@ -204,9 +216,11 @@ left_by names ls i x here =
 abbrev pub swept_at : List (List ℕ) → List (ℕ × DeckLine) → ℕ → List Swept
 swept_at names ls i = sweeps_with (is_swept (take i ls) (line_at ls i)) (line_sweep names (take i ls) (line_at ls i)) []
 
+-- the swept lines from a place on are its own and those after it
 pub left_step : (names : List (List ℕ)) (ls : List (ℕ × DeckLine)) (i : ℕ) → i < length ls → sweeps_from names ls i ≡ swept_at names ls i ++ sweeps_from names ls (i + 1)
 left_step names ls i h = left_by names ls i (line_at ls i) (slice_get-get_or ls i (0, line.Named) h)
 
+-- no swept line is left past the last line
 pub left_none : (names : List (List ℕ)) (ls : List (ℕ × DeckLine)) (i : ℕ) → length ls ≤ i → [] ≡ sweeps_from names ls i
 left_none names ls i h = sym (ap (λ (l : List (ℕ × DeckLine)). sweep_behind names (take i ls) l) (drop_of_length-le ls h) ∙ behind_none names (take i ls))
 
@@ -216,6 +230,7 @@ module _ (marks : List Remark) (ls : List (ℕ × DeckLine)) (names : List (List
   abbrev all_swept : List Swept
   all_swept = sweeps_from names ls 0
 
+  -- the text of all swept lines is that of the sweep
   pub text_whole : text_of marks all_swept ≡ sweep_text marks ls
   unfolding sweep_text sweep
   text_whole = ap (λ (ns : List (List ℕ)). text_of marks (sweep_behind ns [] ls)) is
@@ -225,6 +240,7 @@ module _ (marks : List Remark) (ls : List (ℕ × DeckLine)) (names : List (List
   unfolding is_whole sweep
   whole_is b e = e ∙ ap (λ (ns : List (List ℕ)). are_fine marks (rows_of (all_marks marks) (sweep_behind ns [] ls))) is
 
+  -- the rows and the sums that were written are the text of the sweep
   pub text_is : (a b : Sums) → a.lines ≡ 0 → a.writes ≡ 0 → a.plays ≡ 0 → AddsSums a all_swept b
       → rows_text marks (rows_of (all_marks marks) all_swept) ++ sums_text b.lines b.writes b.plays ≡ sweep_text marks ls
   text_is a b x y z adds =

@@ -172,6 +172,7 @@ module _ {N : Type 0} (state : N → DeviceState) (bench : N → BenchState) whe
         unarmed = up_unarmed m b;
       }
 
+  -- a power line on words without a stop leaves what power does
   pub powered_up : {R : Type 0} (reported : R → List Turn → R → Type 0) (p q : Player N) (before after : R) (a : Option Answer) → LineDone state bench reported p line.Power before after a q
       → (m : List (List ℕ)) (b : ℕ) (c : Card) → IsSteadyAt state bench p (BeforePower m b Unarmed) → HoldsBase (OnCard c) 0 Two m → c.layout ≡ 2 → IsPoweredUp state bench q m b c
   powered_up reported p q before after a done m b c at holds layout =
@@ -184,6 +185,7 @@ module _ {N : Type 0} (state : N → DeviceState) (bench : N → BenchState) whe
   fits_live m live.Muted l h = tt
   fits_live m (live.Running s) l h = h.fits
 
+  -- what was kept of a play fits the words that show it
   pub fits_kept : (q : Player N) (m : List (List ℕ)) (k : Kept) (w : Warm) → (state (device_of q)).words ≡ m → ShowsPlay m k w → FitsLive (state (device_of q)).words k.live
   fits_kept q m k w words shows = subst (λ (n : List (List ℕ)). FitsLive n k.live) (sym words) (fits_live m k.live w.live shows.live)
 
@@ -204,6 +206,7 @@ module _ {N : Type 0} (state : N → DeviceState) (bench : N → BenchState) whe
         unfused = at.unfused;
       }
 
+  -- a player that was put back is where the play was
   pub put_back_at : (q r : Player N) (m : List (List ℕ)) (k : Kept) (w : Warm) (shows : ShowsPlay m k w) → IsPoweredUp state bench q m k.budget shows.card → device_of r ≡ device_of q
       → ((s : Warm) (l : play.Live) → IsPlayerAt state bench q (AfterPower s) → LiveShows (state (device_of q)).words k.live l → is_running s.live ≡ is_running l → IsPlayerAt state bench r (AfterPower (record s { live = l })))
       → IsSteadyAt state bench r (AfterPower w)
@@ -229,6 +232,7 @@ played_no_line m is = played_none (start (blank_words device_words)) ∙ ap (λ 
 pub front_more : (m : List (List ℕ)) (k : Option Kept) (n a : ℕ) (ls : List (ℕ × DeckLine)) → n ≤ a → IsKeptAt m k (state_on_blank (take n ls)) → IsKeptAt m k (state_on_blank (take n (take a ls)))
 front_more m k n a ls most h = subst (λ (l : List (ℕ × DeckLine)). IsKeptAt m k (state_on_blank l)) (sym (take-take n a ls most)) h
 
+-- what was kept of the first lines was kept of fewer of them
 pub front_less : (m : List (List ℕ)) (k : Option Kept) (n a : ℕ) (ls : List (ℕ × DeckLine)) → n ≤ a → IsKeptAt m k (state_on_blank (take n (take a ls))) → IsKeptAt m k (state_on_blank (take n ls))
 front_less m k n a ls most h = subst (λ (l : List (ℕ × DeckLine)). IsKeptAt m k (state_on_blank l)) (take-take n a ls most) h
 

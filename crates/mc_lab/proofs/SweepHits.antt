@@ -72,6 +72,7 @@ armed_hit n i l b o j v g Unarmed k x is card low = after_power_hit n i l b o j 
 armed_hit n i l b o j v g (ArmedCut h y) k x is card low = absurd (cc is)
 armed_hit n i l b o j v g (ArmedFail h) k x is card low = absurd (cc is)
 
+-- a cut hits its line exactly if the line makes that write
 pub line_hit : (s : State) (l : ℕ × DeckLine) (i k : ℕ) (x : List ℕ) → armed_stop_in s ≡ Unarmed → is_card_line l.1 ≡ true → 1 ≤ k
     → is_off (steady_step (next s (cut_statement i k x)) l).result ≡ nat_le k (moves_of s l)
 line_hit (BeforePower m b Unarmed) l i k x is card low = before_power_hit l.0 i l.1 m b k x card low

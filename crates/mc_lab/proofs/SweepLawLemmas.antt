@@ -75,12 +75,15 @@ each_swept : (P : List (ℕ × DeckLine) → ℕ × DeckLine → Type 0) → ((f
 each_swept P h front [] = tt
 each_swept P h front (l ∷ ls) = ((λ is. h front l (swept_at front l is)), each_swept P h (front ++ l ∷ []) ls)
 
+-- each swept line with at most one item that changes the observed state has no run `between`
 pub each_between : OfEach BetweenChanges
 each_between ls = each_swept (BetweenChanges (names_from [] ls)) (between_changes (names_from [] ls)) [] ls
 
+-- each swept line with exactly one such item is split at the write that opens its gate
 pub each_splits : OfEach SplitsAtGate
 each_splits ls = each_swept (SplitsAtGate (names_from [] ls)) (splits_at_gate (names_from [] ls)) [] ls
 
+-- in each swept line without such an item every cut leaves the same state
 pub each_stays : OfEach StaysSame
 each_stays ls = each_swept (StaysSame (names_from [] ls)) (stays_same (names_from [] ls)) [] ls
 
@@ -94,6 +97,7 @@ behind_not_torn names front [] = tt
 behind_not_torn names front (l ∷ ls) =
     with_swept NotTorn (is_swept front l) (line_sweep names front l) (sweep_behind names (front ++ l ∷ []) ls) (λ is. not_torn names front l (swept_at front l is)) (behind_not_torn names (front ++ l ∷ []) ls)
 
+-- no line of a sweep has a run `torn`
 pub never_torn : NeverTorn
 unfolding sweep
 never_torn ls = behind_not_torn (names_from [] ls) [] ls

@@ -34,22 +34,27 @@ module _ (p : Place) (open_line : IsUnarmedLine p) where
 
 -- ---- counts
 
+-- one number more is the next one after those that were counted
 pub count_more : (k n : ℕ) → count_from k (n + 1) ≡ count_from k n ++ (k + n) ∷ []
 count_more k zero = ap (λ (i : ℕ). i ∷ []) (let e : k ≡ k + 0 = omega arith in e)
 count_more k (suc n) = ap (λ (m : ℕ). count_from k m) (let e : suc n + 1 ≡ suc (n + 1) = omega arith in e) ∙ ap (λ (l : List ℕ). k ∷ l) (count_more (k + 1) n ∙ ap (λ (i : ℕ). count_from (k + 1) n ++ i ∷ []) (let e : k + 1 + n ≡ k + suc n = omega arith in e))
 
+-- a map over two lists is both maps one after the other
 pub map_append : {A B : Type 0} (f : A → B) (xs ys : List A) → map f (xs ++ ys) ≡ map f xs ++ map f ys
 map_append f [] ys = refl
 map_append f (x ∷ xs) ys = ap (λ l. f x ∷ l) (map_append f xs ys)
 
+-- a map over one number more has one more at the end
 pub map_more : {A : Type 0} (f : ℕ → A) (n : ℕ) → map f (count_from 1 (n + 1)) ≡ map f (count_from 1 n) ++ f (n + 1) ∷ []
 map_more f n =
     ap (map f) (count_more 1 n) ∙ map_append f (count_from 1 n) ((1 + n) ∷ []) ∙ ap (λ (i : ℕ). map f (count_from 1 n) ++ f i ∷ []) (let e : 1 + n ≡ n + 1 = omega arith in e)
 
+-- n numbers are counted
 pub count_length : (k n : ℕ) → length (count_from k n) ≡ n
 count_length k zero = refl
 count_length k (suc n) = ap suc (count_length (k + 1) n)
 
+-- a map over n numbers has n elements
 pub counted_length : {A : Type 0} (f : ℕ → A) (n : ℕ) → length (map f (count_from 1 n)) ≡ n
 counted_length f n = map-length f (count_from 1 n) ∙ count_length 1 n
 
@@ -65,6 +70,7 @@ and_swap true false = refl
 and_swap false true = refl
 and_swap false false = refl
 
+-- all states of two lists are the same if those of each are
 pub same_append : (t : ReportedState) (xs ys : List ReportedState) → all_same t (xs ++ ys) ≡ (all_same t xs && all_same t ys)
 same_append t [] ys = refl
 same_append t (x ∷ xs) ys = ap (λ (b : Bool). is_same x t && b) (same_append t xs ys) ∙ and_assoc (is_same x t) (all_same t xs) (all_same t ys)
@@ -74,9 +80,11 @@ pub record Recovering (p : Place) (k : ℕ) (fill : List ℕ) (first : ReportedS
   pub within : made ≤ again_in p k fill
   pub is : same ≡ all_same first (map (λ j. state_at_place p (trial.Twice k fill j)) (count_from 1 made))
 
+-- before the first cut no recovery was cut, and nothing differs
 pub recovering_none : (p : Place) (k : ℕ) (fill : List ℕ) (first : ReportedState) → Recovering p k fill first 0 true
 recovering_none p k fill first = record { within = omega arith; is = refl }
 
+-- a cut that hit a recovery adds its observed state
 pub recovering_more : (p : Place) (k : ℕ) (fill : List ℕ) (first now : ReportedState) (made : ℕ) (same now_same hit : Bool) → Recovering p k fill first made same
     → hit ≡ nat_le (made + 1) (again_in p k fill) → hit ≡ true → now ≡ state_at_place p (trial.Twice k fill (made + 1)) → now_same ≡ is_same now first
     → Recovering p k fill first (made + 1) (now_same && same)
@@ -105,6 +113,7 @@ recovered_all p k fill first made same r e =
       count = e ∙ sym (counted_length (λ j. state_at_place p (trial.Twice k fill j)) (again_in p k fill));
     }
 
+-- a cut that hit no recovery ends them
 pub recovered_missed : (p : Place) (k : ℕ) (fill : List ℕ) (first : ReportedState) (made : ℕ) (same hit : Bool) → Recovering p k fill first made same
     → hit ≡ nat_le (made + 1) (again_in p k fill) → hit ≡ false → Recovered p k fill first made same
 recovered_missed p k fill first made same hit r test missed =
@@ -112,6 +121,7 @@ recovered_missed p k fill first made same hit r test missed =
     let within = r.within in
     recovered_all p k fill first made same r (omega arith)
 
+-- after the last cut the recoveries of a write are done
 pub recovered_last : (p : Place) (k : ℕ) (fill : List ℕ) (first : ReportedState) (made most : ℕ) (same : Bool) → Recovering p k fill first made same → made ≡ most → again_in p k fill ≤ most → Recovered p k fill first made same
 recovered_last p k fill first made most same r last few =
     let within = r.within in
@@ -124,6 +134,7 @@ pub record TriedAs (p : Place) (k : ℕ) (w : SweepWord) (n : ℕ) : Type 0 wher
   pub word : w ≡ (cut_write_at p k).word
   pub plays : n ≡ (cut_write_at p k).plays
 
+-- the word and the plays of a write are those of its cuts
 pub tried_as : (p : Place) (k : ℕ) (first before after now : ReportedState) (zeros_same ones_first ones_same : Bool) (n m : ℕ)
     → first ≡ state_at_place p (trial.Cut k (zeros 8)) → before ≡ state_at_place p trial.Nothing → after ≡ state_at_place p trial.Whole → now ≡ state_at_place p (trial.Cut k ones)
     → zeros_same ≡ all_same first (recovery_states_at p k (zeros 8)) → ones_first ≡ is_same now first → ones_same ≡ all_same first (recovery_states_at p k ones)
@@ -155,6 +166,7 @@ tried_as p k first before after now zeros_same ones_first ones_same n m first_is
 pub hit_within : (p : Place) (k : ℕ) (hit : Bool) → IsUnarmedLine p → 1 ≤ k → (fill : List ℕ) → hit ≡ hit_in p (trial.Cut k fill) → hit ≡ true → k ≤ writes_in p
 hit_within p k hit open_line low fill is hits_it = leb-true k (writes_in p) (sym (is ∙ hit_cut p open_line k fill low) ∙ hits_it)
 
+-- a cut that hits nothing is past the writes of the line
 pub missed_past : (p : Place) (k : ℕ) (hit : Bool) → IsUnarmedLine p → 1 ≤ k → (fill : List ℕ) → hit ≡ hit_in p (trial.Cut k fill) → hit ≡ false → writes_in p < k
 missed_past p k hit open_line low fill is misses_it =
     let past : nat_le k (writes_in p) ≡ false = sym (is ∙ hit_cut p open_line k fill low) ∙ misses_it in
@@ -162,6 +174,7 @@ missed_past p k hit open_line low fill is misses_it =
 
 -- ---- the writes of a line
 
+-- one element more is that which was set
 pub take_set : {A : Type 0} (i : ℕ) (xs : List A) (x : A) → i < length xs → take (i + 1) (slice_set xs i x) ≡ take i xs ++ x ∷ []
 take_set i [] x lt = absurd (omega arith)
 take_set zero (y ∷ ys) x lt = refl
@@ -179,9 +192,11 @@ pub record Sweeping (p : Place) (i : ℕ) (words : List SweepWord) (plays : ℕ)
   pub plays_are : plays ≡ plays_of (map (cut_write_at p) (count_from 1 i))
   pub few_plays : plays ≤ 131072 * i
 
+-- before the first write no word was found
 pub sweeping_none : (p : Place) (words : List SweepWord) → Sweeping p 0 words 0
 sweeping_none p words = record { within = omega arith; words_are = refl; plays_are = refl; few_plays = omega arith }
 
+-- a write that was cut adds its word and its plays
 pub sweeping_more : (p : Place) (i : ℕ) (words : List SweepWord) (plays : ℕ) (w : SweepWord) (n : ℕ) → Sweeping p i words plays → i < length words → i + 1 ≤ writes_in p
     → w ≡ (cut_write_at p (i + 1)).word → n ≡ (cut_write_at p (i + 1)).plays → n ≤ 131072 → Sweeping p (i + 1) (slice_set words i w) (plays + n)
 sweeping_more p i words plays w n s lt within w_is n_is few =
@@ -207,6 +222,7 @@ pub record SweptAs (p : Place) (n : ℕ) (words : List SweepWord) (plays : ℕ) 
   pub words_are : take n words ≡ map (λ t. t.word) (map (cut_write_at p) (count_from 1 (writes_in p)))
   pub plays_are : plays ≡ plays_of (map (cut_write_at p) (count_from 1 (writes_in p)))
 
+-- if each write was cut, the words and plays are those of the line
 pub swept_as : (p : Place) (n : ℕ) (words : List SweepWord) (plays : ℕ) → Sweeping p n words plays → n ≡ writes_in p → SweptAs p n words plays
 swept_as p n words plays s e =
     record {
@@ -226,6 +242,7 @@ pub if_none : {P : Type 0} (o : Option ℕ) → P → IfNone o P
 if_none None h = h
 if_none (Some v) h = tt
 
+-- what follows for no value follows
 pub if_none_then : {P Q : Type 0} (o : Option ℕ) → (P → Q) → IfNone o P → IfNone o Q
 if_none_then None f h = f h
 if_none_then (Some v) f h = tt

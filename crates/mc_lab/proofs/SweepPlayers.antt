@@ -37,12 +37,14 @@ use Rattle.mc_lab.proofs.SweepPlays.{played_one, played_two}
 
 -- ---- lists
 
+-- the first i + 1 elements are the first i and the one at i
 pub take_one : {A : Type 0} (i : ℕ) (xs : List A) (x : A) → slice_get xs i ≡ Some x → take (i + 1) xs ≡ take i xs ++ x ∷ []
 take_one i [] x h = absurd (cc h)
 take_one zero (y ∷ ys) x h = let e : y ≡ x = cc h in ap (λ (z : _). z ∷ []) e
 take_one (suc i) (y ∷ ys) x h =
     ap (λ (n : ℕ). take n (y ∷ ys)) (let e : suc i + 1 ≡ suc (i + 1) = omega arith in e) ∙ ap (λ l. y ∷ l) (take_one i ys x h)
 
+-- an element at a place is read whatever the default
 pub got_or : {A : Type 0} (xs : List A) (i : ℕ) (d x : A) → slice_get xs i ≡ Some x → get_or xs i d ≡ x
 got_or [] i d x h = absurd (cc h)
 got_or (y ∷ ys) zero d x h = cc h
@@ -135,6 +137,7 @@ module _ {N : Type 0} (state : N → DeviceState) where
 module _ {N : Type 0} (state : N → DeviceState) (bench : N → BenchState) where
   -- ---- a line
 
+  -- a player that played a line without a failed write plays it from its state
   pub line_on : {R : Type 0} (reported : R → List Turn → R → Type 0) (p q : Player N) (l : DeckLine) (before after : R) (a : Option Answer) → LineDone state bench reported p l before after a q
       → (s : State) (n : ℕ) → IsSteadyAt state bench p s → LineOn state bench s (n, l) a q
   line_on reported p q l before after a done s n h =
@@ -146,6 +149,7 @@ module _ {N : Type 0} (state : N → DeviceState) (bench : N → BenchState) whe
         answers = st.answers ∙ ap (λ (w : Option FailedWrite). (step s (n, l) w).result) worn;
       }
 
+  -- a player that played a line is playing
   pub line_playing : {R : Type 0} (reported : R → List Turn → R → Type 0) (p q : Player N) (l : DeckLine) (before after : R) (a : Option Answer) → LineDone state bench reported p l before after a q → IsPlaying state bench p → IsPlaying state bench q
   line_playing reported p q l before after a done h =
       let d = done h.0 0 h.1 in
@@ -155,6 +159,7 @@ module _ {N : Type 0} (state : N → DeviceState) (bench : N → BenchState) whe
   words_of p c (BeforePower m b a) h = h.1
   words_of p c (AfterPower w) h = tt
 
+  -- a player that played a line has a device of the same size
   pub line_size : {R : Type 0} (reported : R → List Turn → R → Type 0) (p q : Player N) (l : DeckLine) (before after : R) (a : Option Answer) → LineDone state bench reported p l before after a q → IsPlaying state bench p
       → length (state (device_of q)).words ≡ length (state (device_of p)).words
   line_size reported p q l before after a done h =
@@ -164,6 +169,7 @@ module _ {N : Type 0} (state : N → DeviceState) (bench : N → BenchState) whe
 
   -- ---- the lines before a line
 
+  -- a player that plays the next line of a deck is after one line more
   pub front_on : (p q : Player N) (ls : List (ℕ × DeckLine)) (i n : ℕ) (l : DeckLine) (a : Option Answer) → slice_get ls i ≡ Some (n, l)
       → ((s : State) (n : ℕ) → IsSteadyAt state bench p s → LineOn state bench s (n, l) a q) → IsSteadyAt state bench p (state_on_blank (take i ls)) → IsSteadyAt state bench q (state_on_blank (take (i + 1) ls))
   front_on p q ls i n l a here on h =
@@ -171,6 +177,7 @@ module _ {N : Type 0} (state : N → DeviceState) (bench : N → BenchState) whe
 
   -- ---- a line with a write cut
 
+  -- a player that arms a cut and plays the line has played that cut
   pub cut_on : (p m q : Player N) (l : DeckLine) (k : ℕ) (fill : List ℕ) (armed a : Option Answer) (hit : Bool)
       → ((s : State) (n : ℕ) → IsSteadyAt state bench p s → LineOn state bench s (n, line.Cut k fill) armed m)
       → ((s : State) (n : ℕ) → IsSteadyAt state bench m s → LineOn state bench s (n, l) a q) → hit ≡ off_in a
@@ -185,17 +192,20 @@ module _ {N : Type 0} (state : N → DeviceState) (bench : N → BenchState) whe
   at_lines : (q : Player N) (s t : State) → t ≡ s → IsSteadyAt state bench q s → IsSteadyAt state bench q t
   at_lines q s t e h = subst (λ (u : State). IsSteadyAt state bench q u) (sym e) h
 
+  -- a player that plays the line is on its whole trial
   pub whole_on : (q : Player N) (l : DeckLine) (a : Option Answer) (p : Player N) (hit : Bool) → hit ≡ true → ((s : State) (n : ℕ) → IsSteadyAt state bench p s → LineOn state bench s (n, l) a q)
       → (front : List (ℕ × DeckLine)) (n : ℕ) → IsSteadyAt state bench p (state_on_blank front) → TrialOn state bench front (n, l) trial.Whole hit q
   whole_on q l a p hit is on front n h =
       record { at = at_lines q (next (state_on_blank front) (n, l)) (state_on_blank (front ++ (n, l) ∷ [])) (played_one front (n, l)) (on (state_on_blank front) n h).at; says = is }
 
+  -- a player that arms a cut before a line is on its trial
   pub cut_behind : (p q : Player N) (l : DeckLine) (k : ℕ) (fill : List ℕ) (hit : Bool) → ((s : State) (i n : ℕ) → IsSteadyAt state bench p s → CutOn state bench s (n, l) i k fill hit q)
       → (front : List (ℕ × DeckLine)) (n : ℕ) → IsSteadyAt state bench p (state_on_blank front) → TrialOn state bench front (n, l) (trial.Cut k fill) hit q
   cut_behind p q l k fill hit on front n h =
       let c = on (state_on_blank front) n n h in
       record { at = at_lines q (next (next (state_on_blank front) (cut_statement n k fill)) (n, l)) (state_on_blank (front ++ cut_statement n k fill ∷ (n, l) ∷ [])) (played_two front (cut_statement n k fill) (n, l)) c.at; says = c.says }
 
+  -- a player that arms a cut in the recovery after a cut is on the trial of both
   pub twice_behind : (p m q : Player N) (l : DeckLine) (k : ℕ) (fill : List ℕ) (again : ℕ) (first hit : Bool)
       → ((s : State) (i n : ℕ) → IsSteadyAt state bench p s → CutOn state bench s (n, l) i k fill first m)
       → ((s : State) (i n : ℕ) → IsSteadyAt state bench m s → CutOn state bench s (n, line.Power) i again fill hit q)
@@ -211,6 +221,7 @@ module _ {N : Type 0} (state : N → DeviceState) (bench : N → BenchState) whe
 
   -- ---- the observed state after a power line
 
+  -- what is reported after a power line is the observed state of its card
   pub reported_on : (q : Player N) (ls : List (ℕ × DeckLine)) (names : List (List ℕ)) (a : Option Answer) (f : Option Unusable) (held : List (Option (List ℕ)))
       → LineOn state bench (state_on_blank ls) (0, line.Power) a q → f ≡ fault_in a → held ≡ map (statics_in state q) names → state_by_fault f held ≡ state_after_power names ls
   unfolding state_after_power
@@ -232,6 +243,7 @@ module _ {N : Type 0} (state : N → DeviceState) (bench : N → BenchState) whe
       let most = migration_most w.base in
       omega (arith, few, is, most)
 
+  -- a power line makes at most 65,535 device writes
   pub power_few : (p : Player N) (s : State) (n : ℕ) → IsSteadyAt state bench p s → moves_of s (n, line.Power) ≤ 65535
   power_few p s n h = power_few_by p.power p.card s n h.at.stands
 
@@ -275,12 +287,14 @@ module _ {N : Type 0} (state : N → DeviceState) (bench : N → BenchState) whe
     line_is : x ≡ line_in p
     line_is = sym (got_or p.deck.now p.at (0, line.Named) x here)
 
+    -- what a trial reports is the observed state after it
     pub trial_reported : (q : Player N) (a : Option Answer) (f : Option Unusable) (held : List (Option (List ℕ))) → ((s : State) (n : ℕ) → IsSteadyAt state bench m s → LineOn state bench s (n, line.Power) a q)
         → f ≡ fault_in a → held ≡ map (statics_in state q) (names_in p) → state_by_fault f held ≡ state_at_place p b
     trial_reported q a f held on f_is held_is =
         let ls = trial_lines (front_of p) x b in
         reported_on q ls (names_in p) a f held (on (state_on_blank ls) 0 behind_on.at) f_is held_is ∙ ap (λ (l : ℕ × DeckLine). state_after_power (names_in p) (trial_lines (front_of p) l b)) line_is
 
+    -- whether a cut hit is whether the trial's write was made
     pub trial_hit : hit ≡ hit_in p b
     trial_hit = behind_on.says ∙ ap (λ (l : ℕ × DeckLine). hits (front_of p) l b) line_is
 
@@ -299,12 +313,14 @@ module _ {N : Type 0} (state : N → DeviceState) (bench : N → BenchState) whe
   few_by p (trial.Cut k fill) hit m q a power_on on = few_cut p k fill hit m q a power_on on
   few_by p (trial.Twice k fill again) hit m q a power_on on = tt
 
+  -- the writes of a trial's recovery bound those that it may make
   pub trial_few : (p : Place) (b : TrialLines) (x : ℕ × DeckLine) → slice_get p.deck.now p.at ≡ Some x → (hit : Bool) (m q : Player N) (a : Option Answer) → PowerOn m q a → TrialOn state bench (front_of p) x b hit m → IsRecoveryBound p b (most_in a)
   trial_few p b x here hit m q a power_on on =
       few_by p b hit m q a power_on (subst (λ (l : ℕ × DeckLine). TrialOn state bench (front_of p) l b hit m) (sym (got_or p.deck.now p.at (0, line.Named) x here)) on)
 
 -- ---- the static bytes under names
 
+-- the bytes that were held are the static bytes under a name
 pub held_is_statics : (o : Option (List ℕ)) (n m : ℕ) (held into : List ℕ) → Some n ≡ option_map length o → ((fixed : List ℕ) → o ≡ Some fixed → into ≡ take m (drop 0 fixed)) → m ≡ n → held ≡ into → Some held ≡ o
 held_is_statics None n m held into h is size kept = absurd (cc h)
 held_is_statics (Some fixed) n m held into h is size kept =

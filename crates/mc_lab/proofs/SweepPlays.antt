@@ -24,14 +24,17 @@ use Rattle.law_explore.specs.model_play.proofs.LineKinds.{past_power}
 abbrev pub next : State → ℕ × DeckLine → State
 next s l = (steady_step s l).after
 
+-- a play of a line and others is the line before the others
 pub played_line : (s : State) (l : ℕ × DeckLine) (ls : List (ℕ × DeckLine)) → state_after_lines s (l ∷ ls) ≡ state_after_lines (next s l) ls
 unfolding state_after_lines plays steady_failures
 played_line s l ls = refl
 
+-- a play of no line is the state as it was
 pub played_none : (s : State) → state_after_lines s [] ≡ s
 unfolding state_after_lines plays steady_failures
 played_none s = refl
 
+-- a play of two lists of lines is one after the other
 pub played_append : (s : State) (xs ys : List (ℕ × DeckLine)) → state_after_lines s (xs ++ ys) ≡ state_after_lines (state_after_lines s xs) ys
 played_append s [] ys = ap (λ (t : State). state_after_lines t ys) (sym (played_none s))
 played_append s (l ∷ xs) ys = played_line s l (xs ++ ys) ∙ played_append (next s l) xs ys ∙ ap (λ (t : State). state_after_lines t ys) (sym (played_line s l xs))
@@ -40,6 +43,7 @@ played_append s (l ∷ xs) ys = played_line s l (xs ++ ys) ∙ played_append (ne
 pub played_one : (front : List (ℕ × DeckLine)) (l : ℕ × DeckLine) → state_on_blank (front ++ l ∷ []) ≡ next (state_on_blank front) l
 played_one front l = played_append _ front (l ∷ []) ∙ played_line (state_on_blank front) l [] ∙ played_none _
 
+-- a play of two lines after others is both of them in turn
 pub played_two : (front : List (ℕ × DeckLine)) (k l : ℕ × DeckLine) → state_on_blank (front ++ k ∷ l ∷ []) ≡ next (next (state_on_blank front) k) l
 played_two front k l = played_append _ front (k ∷ l ∷ []) ∙ played_line (state_on_blank front) k (l ∷ []) ∙ played_line (next (state_on_blank front) k) l [] ∙ played_none _
 
@@ -55,6 +59,7 @@ abbrev pub shown : List (List ℕ) → Base → ReportedState
 shown names (OnCard c) = Holds (static_bytes_under names c.apps)
 shown names (AtFault cause place) = NoCard cause place
 
+-- the observed state after a migration is that before it
 pub shown_migrated : (names : List (List ℕ)) (b : Base) → shown names (base_after_migration b) ≡ shown names b
 shown_migrated names (OnCard c) = refl
 shown_migrated names (AtFault cause place) = refl
@@ -68,6 +73,7 @@ reported_warm : (names : List (List ℕ)) (before : State) (s : Warm) (a : Armed
 reported_warm names before s a is =
     ap (λ (x : Armed). state_of_step names (power_step 0 before s (hit_of x (power_moves s) None))) is ∙ reported_base names before s.base s.owed s.by s.live s.budget s.armed
 
+-- a power line with no stop shows the observed state of the base
 pub reported_state : (names : List (List ℕ)) (s : State) → armed_stop_in s ≡ Unarmed → state_of_step names (steady_step s (0, line.Power)) ≡ shown names (base_in s)
 unfolding step
 reported_state names (BeforePower m b Unarmed) is = reported_warm names (BeforePower m b Unarmed) (play_at_power m b Unarmed) Unarmed refl
@@ -77,6 +83,7 @@ reported_state names (AfterPower s) is =
     ap (λ (w : Option FailedWrite). state_of_step names (power_step 0 (AfterPower s) s (hit_of s.armed (power_moves s) w))) (ap (λ (a : Armed). steady_at a line.Power (moves_of (AfterPower s) (0, line.Power))) is)
     ∙ reported_warm names (AfterPower s) s s.armed is
 
+-- so does a power line after lines
 pub reported_lines : (names : List (List ℕ)) (ls : List (ℕ × DeckLine)) (s : State) → state_on_blank ls ≡ s → armed_stop_in s ≡ Unarmed → state_after_power names ls ≡ shown names (base_in s)
 unfolding state_after_power
 reported_lines names ls s is unarmed = ap (λ (t : State). state_of_step names (steady_step t (0, line.Power))) is ∙ reported_state names s unarmed
@@ -88,13 +95,16 @@ abbrev pub base_done : Base → List Item → Base
 base_done (OnCard c) is = OnCard (card_done c is)
 base_done (AtFault cause place) is = AtFault cause place
 
+-- no item leaves the observed state
 pub shown_none : (names : List (List ℕ)) (b : Base) → shown names (base_done b []) ≡ shown names b
 shown_none names (OnCard c) = refl
 shown_none names (AtFault cause place) = refl
 
+-- a word of zeros opens no gate
 pub zeros_shut : OpensNoGate (zeros 8)
 zeros_shut = refl
 
+-- a word of ones opens no gate
 pub ones_shut : OpensNoGate ones
 ones_shut = refl
 
@@ -106,6 +116,7 @@ either_whole : (b : Bool) (s t u v : Stopped) → s.whole ≡ u.whole → t.whol
 either_whole true s t u v first second = first
 either_whole false s t u v first second = second
 
+-- a cut leaves the same items whole with any word that opens no gate
 pub whole_same : (is : List Item) (k : ℕ) (x y : List ℕ) → OpensNoGate x → OpensNoGate y → (at_stop is k x).whole ≡ (at_stop is k y).whole
 whole_same [] k x y hx hy = refl
 whole_same (Plain ∷ is) k x y hx hy = either_whole (k == 1) _ _ _ _ refl (ap (λ (js : List Item). Plain ∷ js) (whole_same is (k - 1) x y hx hy))
@@ -288,6 +299,7 @@ unfolding step moves_of
 after_power_on n (line.Sent sent) s = card_on n (line.Sent sent) s _ _ (omega arith) (card_items n (line.Sent sent) s.base s.owed s.by s.live s.budget s.armed)
 after_power_on n _ s = inl refl
 
+-- a line makes no item, or those of the card that it is played on
 pub items_on : (s : State) (l : ℕ × DeckLine) → ItemsOn s l
 items_on (BeforePower m b a) l = before_power_on l.0 l.1 m b a
 items_on (AfterPower s) l = after_power_on l.0 l.1 s
@@ -297,6 +309,7 @@ pub power_items : (s : Warm) (n : ℕ) → (step (AfterPower s) (power n) None).
 unfolding step
 power_items s n = refl
 
+-- a stop that the test finds unarmed is not armed
 pub unarmed_is : (a : Armed) → is_unarmed a ≡ true → a ≡ Unarmed
 unarmed_is Unarmed h = refl
 unarmed_is (ArmedCut k fill) h = absurd (cc h)

@@ -35,11 +35,13 @@ all_the_same t (u ∷ us) all =
 
 -- ---- a line that is swept
 
+-- a line that is swept: a card line without an armed stop that makes a write
 pub record SweptAt (front : List (ℕ × DeckLine)) (l : ℕ × DeckLine) : Type 0 where
   pub card : is_card_line l.1 ≡ true
   pub unarmed : armed_stop_in (state_on_blank front) ≡ Unarmed
   pub some : 1 ≤ writes_behind front l
 
+-- a line that the test finds swept is one
 pub swept_at : (front : List (ℕ × DeckLine)) (l : ℕ × DeckLine) → is_swept front l ≡ true → SweptAt front l
 swept_at front l h =
     let p = and_parts (is_card_line l.1 && is_unarmed (armed_stop_in (state_on_blank front))) (nat_le 1 (writes_behind front l)) h in
@@ -199,6 +201,7 @@ module _ (names : List (List ℕ)) (front : List (ℕ × DeckLine)) (l : ℕ × 
 
   -- ---- any swept line
 
+  -- a write of a line that changes nothing has the word `same`
   pub word_none : (k : ℕ) → 1 ≤ k → k ≤ writes_behind front l → changing_behind names front l ≡ 0 → word_at k ≡ Same
   word_none k low high none = elim (items_on state l) [
     | inl empty ↦ word_reported k low high ∙ no_items k low high (items_behind front l) empty
@@ -212,6 +215,7 @@ module _ (names : List (List ℕ)) (front : List (ℕ × DeckLine)) (l : ℕ × 
     pub before : (k : ℕ) → 1 ≤ k → k ≤ opening_behind names front l → word_at k ≡ Before
     pub after : (k : ℕ) → opening_behind names front l < k → k ≤ writes_behind front l → word_at k ≡ After
 
+  -- a line that one item changes splits at the write that opens its gate
   pub splits_line : changing_behind names front l ≡ 1 → SplitsLine
   splits_line one = elim (items_on state l) [
     | inl empty ↦ absurd (let e : changing_behind names front l ≡ 0 = no_changes (items_behind front l) (apps_in state) empty in omega (arith, e, one))

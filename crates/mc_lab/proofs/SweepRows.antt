@@ -14,6 +14,7 @@ use Rattle.mc_lab.specs.SweepEnds.{AddsFine, IsLineOf}
 
 -- ---- rows
 
+-- the text of two lists of rows is one after the other
 pub rows_append : (marks : List Remark) (xs ys : List Row) → rows_text marks (xs ++ ys) ≡ rows_text marks xs ++ rows_text marks ys
 rows_append marks [] ys = refl
 rows_append marks (x ∷ xs) ys = ap (λ (t : List ℕ). row_text marks x ++ t) (rows_append marks xs ys) ∙ sym (append_assoc (row_text marks x) (rows_text marks xs) (rows_text marks ys))
@@ -22,6 +23,7 @@ and_assoc : (a b c : Bool) → ((a && b) && c) ≡ (a && (b && c))
 and_assoc true b c = refl
 and_assoc false b c = refl
 
+-- two lists of rows are fine if each is
 pub fine_append : (marks : List Remark) (xs ys : List Row) → are_fine marks (xs ++ ys) ≡ (are_fine marks xs && are_fine marks ys)
 fine_append marks [] ys = refl
 fine_append marks (x ∷ xs) ys = ap (λ (b : Bool). is_fine marks x && b) (fine_append marks xs ys) ∙ sym (and_assoc (is_fine marks x) (are_fine marks xs) (are_fine marks ys))
@@ -35,6 +37,7 @@ if_text : (marks : List Remark) (b : Bool) (rs ss : List Row) → rows_text mark
 if_text marks true rs ss e = e
 if_text marks false rs ss e = refl
 
+-- the text of the marks above a line is that of the marks alone
 pub above_text : (marks : List Remark) (number last : Option ℕ) (ms : List Remark) → rows_text marks (rows_above number last ms) ≡ rows_text [] (rows_above number last ms)
 above_text marks number last [] = refl
 above_text marks number last (m ∷ ms) =
@@ -49,6 +52,7 @@ if_fine : (marks : List Remark) (b : Bool) (rs ss : List Row) → are_fine marks
 if_fine marks true rs ss e = e
 if_fine marks false rs ss e = refl
 
+-- so is whether they are fine
 pub above_fine : (marks : List Remark) (number last : Option ℕ) (ms : List Remark) → are_fine marks (rows_above number last ms) ≡ are_fine [] (rows_above number last ms)
 above_fine marks number last [] = refl
 above_fine marks number last (m ∷ ms) =
@@ -61,12 +65,15 @@ above_fine marks number last (m ∷ ms) =
 pub above_step : (number last : Option ℕ) (m : Remark) (ms : List Remark) → is_above number m ≡ true → rows_above number last (m ∷ ms) ≡ row_unless (is_guarded last m) m.number (rows_above number last ms)
 above_step number last m ms h = ap (λ (b : Bool). rows_if b (row_unless (is_guarded last m) m.number (rows_above number last ms))) h
 
+-- the marks above a line end at the first that is not
 pub above_end : (number last : Option ℕ) (m : Remark) (ms : List Remark) → is_above number m ≡ false → rows_above number last (m ∷ ms) ≡ []
 above_end number last m ms h = ap (λ (b : Bool). rows_if b (row_unless (is_guarded last m) m.number (rows_above number last ms))) h
 
+-- a mark above a line is left out of those after it
 pub behind_step : (number : Option ℕ) (m : Remark) (ms : List Remark) → is_above number m ≡ true → left_behind number (m ∷ ms) ≡ left_behind number ms
 behind_step number m ms h = ap (λ (b : Bool). left_if b (left_behind number ms) (m ∷ ms)) h
 
+-- the marks after a line begin with the first that is not above it
 pub behind_end : (number : Option ℕ) (m : Remark) (ms : List Remark) → is_above number m ≡ false → left_behind number (m ∷ ms) ≡ m ∷ ms
 behind_end number m ms h = ap (λ (b : Bool). left_if b (left_behind number ms) (m ∷ ms)) h
 
@@ -84,6 +91,7 @@ pub record AboveLeft (number last : Option ℕ) (all ms : List Remark) (whole : 
   pub fine : (whole && are_fine [] (rows_above number last ms)) ≡ are_fine [] (rows_above number last all)
   pub behind : left_behind number ms ≡ left_behind number all
 
+-- before the first mark all of them are left to do
 pub above_start : (number last : Option ℕ) (ms : List Remark) (a : Sunk) → AboveLeft number last ms ms true a a
 above_start number last ms a = record { reported = λ r c p. p; fine = refl; behind = refl }
 
@@ -185,6 +193,7 @@ module _ (number last : Option ℕ) (found : List Found) (all : List Remark) (i 
 
 -- ---- swept lines, one after the other
 
+-- the rows of two lists of swept lines are one after the other
 pub to_append : (q : MarksLeft) (xs ys : List Swept) → rows_to q (xs ++ ys) ≡ rows_to q xs ++ rows_to (marks_after q xs) ys
 to_append q [] ys = refl
 to_append q (x ∷ xs) ys =
@@ -193,6 +202,7 @@ to_append q (x ∷ xs) ys =
     ap (λ (rs : List Row). rows_above n q.last q.left ++ SweptRow x ∷ rs) (to_append r xs ys)
     ∙ sym (append_assoc (rows_above n q.last q.left) (SweptRow x ∷ rows_to r xs) (rows_to (marks_after r xs) ys))
 
+-- the marks left after two lists of swept lines are those after the second
 pub after_append : (q : MarksLeft) (xs ys : List Swept) → marks_after q (xs ++ ys) ≡ marks_after (marks_after q xs) ys
 after_append q [] ys = refl
 after_append q (x ∷ xs) ys = after_append (record { last = Some x.number; left = left_behind (Some x.number) q.left }) xs ys
@@ -204,6 +214,7 @@ one_text marks q s =
     ∙ ap (λ (t : List ℕ). rows_text marks (rows_above (Some s.number) q.last q.left) ++ t) (sym (append-nil (swept_text marks s)))
     ∙ sym (rows_append marks (rows_above (Some s.number) q.last q.left) (SweptRow s ∷ []))
 
+-- a swept line is fine if the marks above it are and it is not broken
 pub one_fine : (marks : List Remark) (q : MarksLeft) (s : Swept) → (are_fine [] (rows_above (Some s.number) q.last q.left) && not (is_broken marks s)) ≡ are_fine marks (rows_to q (s ∷ []))
 one_fine marks q s =
     ap (λ (b : Bool). b && not (is_broken marks s)) (sym (above_fine marks (Some s.number) q.last q.left))
@@ -220,16 +231,19 @@ module _ (marks : List Remark) (q : MarksLeft) (s : Swept) (number : ℕ) (words
       ap (λ (n : ℕ). text_by n words broken) (sym of.number_is) ∙ ap (λ (ws : List SweepWord). text_by s.number ws broken) (sym of.words_are)
       ∙ ap (λ (b : Bool). text_by s.number s.words b) of.broken_is
 
+  -- the text of a swept line has the marks above it
   pub place_text : rows_text [] (rows_above (Some number) q.last q.left) ++ text_by number words broken ≡ rows_text marks (rows_to q (s ∷ []))
   place_text =
       ap (λ (n : ℕ). rows_text [] (rows_above (Some n) q.last q.left) ++ text_by number words broken) (sym of.number_is)
       ∙ ap (λ (t : List ℕ). rows_text [] (rows_above (Some s.number) q.last q.left) ++ t) line_is ∙ one_text marks q s
 
+  -- a swept line is fine by the marks above it and by whether it is broken
   pub place_fine : (whole : Bool) → whole ≡ are_fine [] (rows_above (Some number) q.last q.left) → (whole && not broken) ≡ are_fine marks (rows_to q (s ∷ []))
   place_fine whole e =
       ap (λ (b : Bool). b && not broken) (e ∙ ap (λ (n : ℕ). are_fine [] (rows_above (Some n) q.last q.left)) (sym of.number_is))
       ∙ ap (λ (b : Bool). are_fine [] (rows_above (Some s.number) q.last q.left) && not b) of.broken_is ∙ one_fine marks q s
 
+-- the marks after a swept line are those that the next one begins with
 pub place_left : (q p : MarksLeft) (s : Swept) (number : ℕ) → s.number ≡ number → p.last ≡ Some number → p.left ≡ left_behind (Some number) q.left → p ≡ marks_after q (s ∷ [])
 place_left q p s number e last left =
     ap (λ (o : Option ℕ). record { last = o; left = p.left }) (last ∙ ap Some (sym e))
@@ -240,6 +254,7 @@ pub fine_on : (marks : List Remark) (a b c : Bool) (xs ys : List Row) → AddsFi
 fine_on marks a b c xs ys one rest =
     rest ∙ ap (λ (x : Bool). x && are_fine marks ys) one ∙ and_assoc a (are_fine marks xs) (are_fine marks ys) ∙ ap (λ (x : Bool). a && x) (sym (fine_append marks xs ys))
 
+-- no row leaves whether all are fine
 pub fine_none : (marks : List Remark) (a : Bool) (rs : List Row) → [] ≡ rs → AddsFine marks a rs a
 fine_none marks a rs e = subst (λ (xs : List Row). AddsFine marks a xs a) e (sym (and_true a))
 
@@ -250,23 +265,28 @@ module _ (marks : List Remark) (q : MarksLeft) (all xs ys : List Swept) (is : al
   text_split : rows_text marks (rows_to q all) ≡ rows_text marks (rows_to q xs) ++ rows_text marks (rows_to (marks_after q xs) ys)
   text_split = ap (rows_text marks) to_split ∙ rows_append marks (rows_to q xs) (rows_to (marks_after q xs) ys)
 
+  -- rows that were written before others are written with them
   pub rows_on : (p : MarksLeft) (a b c : Sunk) (r : Result (Unit {0}) WriteFault) → p ≡ marks_after q xs → Writes a (rows_text marks (rows_to q xs)) b → Puts b (rows_text marks (rows_to p ys)) r c → Puts a (rows_text marks (rows_to q all)) r c
   rows_on p a b c r e first rest =
       puts_as a c r (sym text_split) (puts_then c (rows_text marks (rows_to (marks_after q xs) ys)) r first (subst (λ (z : MarksLeft). Puts b (rows_text marks (rows_to z ys)) r c) e rest))
 
+  -- rows that failed in their front failed as a whole
   pub rows_fail : (a b : Sunk) → Fails a (rows_text marks (rows_to q xs)) b → Fails a (rows_text marks (rows_to q all)) b
   rows_fail a b f = subst (λ (t : List ℕ). Fails a t b) (sym text_split) (fails_before (rows_text marks (rows_to (marks_after q xs) ys)) f)
 
+  -- two lists of rows are fine together if each is
   pub rows_fine : (p : MarksLeft) (a b c : Bool) → p ≡ marks_after q xs → AddsFine marks a (rows_to q xs) b → AddsFine marks b (rows_to p ys) c → AddsFine marks a (rows_to q all) c
   rows_fine p a b c e one rest =
       subst (λ (rs : List Row). AddsFine marks a rs c) (sym to_split)
       (fine_on marks a b c (rows_to q xs) (rows_to (marks_after q xs) ys) one (subst (λ (z : MarksLeft). AddsFine marks b (rows_to z ys) c) e rest))
 
+  -- the marks left after all swept lines are those left after the last
   pub rows_left : (p z : MarksLeft) → p ≡ marks_after q xs → z ≡ marks_after p ys → z ≡ marks_after q all
   rows_left p z e f = f ∙ ap (λ (w : MarksLeft). marks_after w ys) e ∙ sym (ap (marks_after q) is ∙ after_append q xs ys)
 
 -- ---- the whole text
 
+-- the rows of all marks and swept lines are the whole text
 pub whole_rows : (marks : List Remark) (ss : List Swept) (p : MarksLeft) → p ≡ marks_after (all_marks marks) ss
     → rows_text marks (rows_to (all_marks marks) ss) ++ rows_text [] (rows_above None p.last p.left) ≡ rows_text marks (rows_of (all_marks marks) ss)
 whole_rows marks ss p e =
@@ -275,6 +295,7 @@ whole_rows marks ss p e =
     ∙ ap (λ (t : List ℕ). rows_text marks (rows_to q ss) ++ t) (sym (above_text marks None (marks_after q ss).last (marks_after q ss).left))
     ∙ sym (rows_append marks (rows_to q ss) (rows_above None (marks_after q ss).last (marks_after q ss).left))
 
+-- a sweep is fine if its rows and the marks left are
 pub whole_fine : (marks : List Remark) (ss : List Swept) (p : MarksLeft) (a b : Bool) → p ≡ marks_after (all_marks marks) ss → AddsFine marks true (rows_to (all_marks marks) ss) a
     → b ≡ are_fine [] (rows_above None p.last p.left) → (a && b) ≡ are_fine marks (rows_of (all_marks marks) ss)
 whole_fine marks ss p a b e first rest =

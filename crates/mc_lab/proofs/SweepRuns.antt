@@ -7,6 +7,7 @@ use Rattle.mc_lab.specs.Sweeps.{Tried, count_from, Run, is_word, with_write, run
 use Rattle.mc_lab.specs.declared.sweep_word.SweepWord.{SweepWord}
 use Rattle.mc_lab.specs.declared.sweep_word.SweepWord.TheVariants.{Before, After, Same, Between, Torn}
 
+-- a word is the same as itself
 pub word_itself : (w : SweepWord) → is_word w w ≡ true
 word_itself Before = refl
 word_itself After = refl
@@ -30,6 +31,7 @@ module _ (P : SweepWord → Type 0) where
   with_all k w [] here all = (here, tt)
   with_all k w (r ∷ rs) here all = joined_all (is_word w r.word) k w r rs here all.0 all.1
 
+  -- a property of each write is one of each run
   pub all_runs : (k : ℕ) (ts : List Tried) → AllByRecursion (λ t. P t.word) ts → AllByRecursion (λ r. P r.word) (runs k (words ts))
   all_runs k [] all = tt
   all_runs k (t ∷ ts) all = with_all k t.word (runs (k + 1) (words ts)) all.0 (all_runs (k + 1) ts all.1)
@@ -41,12 +43,14 @@ all_counted Q f k (suc n) h = (h k (omega arith) (omega arith), all_counted Q f 
 
 -- ---- writes of one word, and of two
 
+-- a write with the word of the run before it makes that run longer
 pub with_same : (k last : ℕ) (v w : SweepWord) (rs : List Run) → v ≡ w → with_write k v (record { first = k + 1; last = last; word = w } ∷ rs) ≡ record { first = k; last = last; word = w } ∷ rs
 with_same k last v w rs e =
     ap (λ (x : SweepWord). with_write k x (record { first = k + 1; last = last; word = w } ∷ rs)) e
     ∙ ap (λ (b : Bool). cond b (record { first = k; last = last; word = w } ∷ rs) (record { first = k; last = k; word = w } ∷ record { first = k + 1; last = last; word = w } ∷ rs)) (word_itself w)
 
 module _ (f : ℕ → Tried) where
+  -- writes of one word are one run
   pub runs_all : (w : SweepWord) (n k : ℕ) → ((j : ℕ) → k ≤ j → j < k + suc n → (f j).word ≡ w) → runs k (words (map f (count_from k (suc n)))) ≡ record { first = k; last = k + n; word = w } ∷ []
   runs_all w zero k h =
       ap (λ (x : SweepWord). record { first = k; last = k; word = x } ∷ []) (h k (omega arith) (omega arith))

@@ -30,6 +30,7 @@ no_power (Running session_state) (AtFault cause p) b = refl
 no_power Unpowered base b = refl
 no_power Muted base b = refl
 
+-- a power line makes no steps
 pub power_free : (s : State) → most_of_line s line.Power ≡ 0
 power_free (BeforePower m b a) = refl
 power_free (AfterPower w) = no_power w.live w.base w.budget
@@ -64,6 +65,7 @@ module _ {N : Type 0} (state : N → DeviceState) (bench : N → BenchState) whe
   line_most : (p : Player N) (l : DeckLine) (a : Option Answer) (old new : ℕ) (s : State) → CountsLine state bench p l a old new → IsSteadyAt state bench p s → new ≤ old + most_of_line s l
   line_most p l a old new s counts at = (counts s at.at).most
 
+  -- a line makes at most its steps
   pub whole_most : (p : Player N) (l : DeckLine) (a : Option Answer) (old new : ℕ) → CountsLine state bench p l a old new → (s : State) → IsSteadyAt state bench p s → new ≤ old + most_of_line s l
   whole_most p l a old new counts s at = line_most p l a old new s counts at
 
@@ -74,6 +76,7 @@ module _ {N : Type 0} (state : N → DeviceState) (bench : N → BenchState) whe
       let none = power_free playing.0 in
       omega (arith, most, none)
 
+  -- a budget line makes no steps
   pub budget_most : (p : Player N) (n : ℕ) (a : Option Answer) (old new : ℕ) → CountsLine state bench p (line.Budget n) a old new → IsPlaying state bench p → new ≤ old
   budget_most p n a old new counts playing =
       let most = (counts playing.0 playing.1).most in
@@ -115,6 +118,7 @@ most_append s (x ∷ ls) l =
     let same = ap (λ (t : State). most_of_line t l.1) (played_line s x ls) in
     omega (arith, first, rest, front, same)
 
+-- the steps up to a line are those before it and its own
 pub front_next : (ls : List (ℕ × DeckLine)) (i : ℕ) (l : ℕ × DeckLine) → slice_get ls i ≡ Some l → most_of_front ls (i + 1) ≡ most_of_front ls i + most_of_line (state_on_blank (take i ls)) l.1
 front_next ls i l here = ap (most_of_lines (start (blank_words device_words))) (take_one i ls l here) ∙ most_append _ (take i ls) l
 
@@ -129,32 +133,40 @@ most_taken s (l ∷ ls) (suc i) (suc k) le =
     let b = most_on s l (take k ls) in
     omega (arith, rest, a, b)
 
+-- the steps up to an earlier line are no more
 pub front_up : (ls : List (ℕ × DeckLine)) (i k : ℕ) → i ≤ k → most_of_front ls i ≤ most_of_front ls k
 front_up ls i k le = most_taken (start (blank_words device_words)) ls i k le
 
 -- ---- plays of the same steps
 
+-- no play makes no steps
 pub no_play : (s old : ℕ) → old ≤ old + 0 * s
 no_play s old = omega arith
 
+-- one play makes at most its steps
 pub one_play : (s old new : ℕ) → new ≤ old + s → new ≤ old + 1 * s
 one_play s old new h = let e = one-mul s in omega (arith, h, e)
 
+-- plays one after the other add their steps
 pub more_plays : (n k s old mid new : ℕ) → mid ≤ old + n * s → new ≤ mid + k * s → new ≤ old + (n + k) * s
 more_plays n k s old mid new first second = let e = add-mul n k s in omega (arith, first, second, e)
 
+-- one play more adds its steps
 pub next_play : (n s old mid new : ℕ) → mid ≤ old + n * s → new ≤ mid + s → new ≤ old + (n + 1) * s
 next_play n s old mid new first second = more_plays n 1 s old mid new first (one_play s mid new second)
 
+-- fewer plays make no more steps
 pub fewer_plays : (n k s old new : ℕ) → n ≤ k → new ≤ old + n * s → new ≤ old + k * s
 fewer_plays n k s old new le h = let e = mul-le-mul_right s le in omega (arith, h, e)
 
+-- a wider bound of one play bounds several
 pub wider_plays : (n s t old new : ℕ) → s ≤ t → new ≤ old + n * s → new ≤ old + n * t
 wider_plays zero s t old new le h = omega (arith, h)
 wider_plays (suc n) s t old new le h = let e = mul-le-mul_left (suc n) le in omega (arith, h, e)
 
 -- ---- bounds
 
+-- a bound of zero was doubled no times
 pub doubled_none : IsDoubled 0 0
 doubled_none = record { few = omega arith; least = λ small. omega arith }
 
@@ -164,6 +176,7 @@ few_doublings d small = elim (cases_lt d 32) [
   | inr above ↦ (let e : 2 ^ 32 ≤ 2 ^ d = pow_mono above in let n : 2 ^ 32 ≡ 4294967296 = refl in absurd (omega (arith, e, n, small)))
 ]
 
+-- a bound that was doubled once more was doubled one time more
 pub doubled_on : (d n m : ℕ) → IsDoubled d n → n < 4294967294 → (m < 4294967294 → m ≡ 2 * n + 1) → IsDoubled (d + 1) m
 doubled_on d n m h below twice =
     let least = h.least below in
@@ -202,9 +215,11 @@ last_steps (suc n) plays w s old mid new some is first last =
 
 -- ---- sums
 
+-- the sum below a number and its value is the sum below the next
 pub sum_next : (f : ℕ → ℕ) (n : ℕ) → sum_below f (n + 1) ≡ sum_below f n + f n
 sum_next f n = ap (sum_below f) (let e : n + 1 ≡ suc n = omega arith in e)
 
+-- the sum below an earlier number is no more
 pub sum_up : (f : ℕ → ℕ) (i n : ℕ) → i ≤ n → sum_below f i ≤ sum_below f n
 sum_up f zero n le = omega arith
 sum_up f (suc i) zero le = absurd (omega (arith, le))
@@ -220,16 +235,19 @@ pub shut_most : (b : Bool) (n s old : ℕ) → b ≡ false → old ≤ old + if_
 shut_most false n s old e = omega arith
 shut_most true n s old e = absurd (cc e)
 
+-- a line that is open makes at most the steps of its plays
 pub open_most : (b : Bool) (n s old new : ℕ) → b ≡ true → new ≤ old + n * s → new ≤ old + if_open b n * s
 open_most true n s old new e h = h
 open_most false n s old new e h = absurd (cc e)
 
+-- a line that is not open measures nothing
 pub shut_measured : (d most s old : ℕ) (b : Bool) → b ≡ false → IsDoubled d most → Measured d (if_open b 1) (Some most) s old old
 shut_measured d most s old true e h = absurd (cc e)
 shut_measured d most s old false e h =
     let few = h.few in
     record { doublings = 0; some = subst (λ (n : ℕ). IsDoubled n most) (let e : d ≡ d + 0 = omega arith in e) h; few = omega (arith, few); steps = omega arith }
 
+-- a line that is open measures its own bound
 pub open_measured : (d : ℕ) (o : Option ℕ) (s old new : ℕ) (b : Bool) → b ≡ true → Measured d 1 o s old new → Measured d (if_open b 1) o s old new
 open_measured d o s old new true e h = h
 open_measured d o s old new false e h = absurd (cc e)
@@ -242,6 +260,7 @@ pub record Measuring (ls : List (ℕ × DeckLine)) (i bound old now : ℕ) : Typ
   pub doubled : IsDoubled doublings bound
   pub steps : now ≤ old + (sum_below (measured_at ls) i + doublings * most_of_front ls (length ls))
 
+-- before the first line nothing was measured
 pub measuring_none : (ls : List (ℕ × DeckLine)) (old : ℕ) → Measuring ls 0 0 old old
 measuring_none ls old = record { doublings = 0; doubled = doubled_none; steps = omega arith }
 
@@ -260,6 +279,7 @@ measured_at_is ls i =
     let one = one-mul s in
     omega (arith, split, one)
 
+-- a line that was measured adds its steps and its doublings
 pub measuring_more : (ls : List (ℕ × DeckLine)) (i most bound old now mid new : ℕ) → i < length ls → (h : Measuring ls i most old now)
     → ((d : ℕ) → IsDoubled d most → Measured d (if_open (is_open_at ls i) 1) (Some bound) (most_of_front ls (i + 1)) now mid) → new ≤ mid + most_of_front ls (i + 1) → Measuring ls (i + 1) bound old new
 measuring_more ls i most bound old now mid new below h line rest =
@@ -274,6 +294,7 @@ measuring_more ls i most bound old now mid new below h line rest =
     let split = add-mul d k t in
     record { doublings = d + k; doubled = m.some; steps = omega (arith, before, here, rest, at, sum, split) }
 
+-- if each line was measured, the steps are those of the deck
 pub measured_all : (ls : List (ℕ × DeckLine)) (i bound old now : ℕ) → i ≤ length ls → Measuring ls i bound old now → now ≤ old + most_of_measure ls
 measured_all ls i bound old now le h =
     let steps = h.steps in
@@ -305,6 +326,7 @@ plays_are : (p : Place) (writes plays : ℕ) → writes ≡ writes_in p → play
 unfolding line_sweep
 plays_are p writes plays w e = ap (λ (n : ℕ). plays_of_sweep n plays) w ∙ ap (plays_of_sweep (writes_in p)) e
 
+-- a place makes at most the steps of its plays
 pub place_steps : (p : Place) (writes plays old new : ℕ) → writes ≡ writes_in p → plays ≡ plays_of (map (cut_write_at p) (count_from 1 (writes_in p))) → new ≤ old + plays_of_sweep writes plays * most_through p
     → new ≤ old + plays_at p * most_through p
 place_steps p writes plays old new w e h = subst (λ (n : ℕ). new ≤ old + n * most_through p) (plays_are p writes plays w e) h
@@ -321,6 +343,7 @@ swept_on names ls i n old now mid new is before here rest =
     let sum = sum_next (swept_steps_at names ls) i in
     omega (arith, before, here, rest, same, split, one, sum)
 
+-- the steps before a place and within it are at most those of all lines
 pub swept_out : (names : List (List ℕ)) (ls : List (ℕ × DeckLine)) (i n old now mid : ℕ) → i < length ls → n ≡ plays_of_sweep (writes_behind (take i ls) (line_at ls i)) (line_sweep names (take i ls) (line_at ls i)).plays
     → now ≤ old + sum_below (swept_steps_at names ls) i → mid ≤ now + if_open (is_open_at ls i) n * most_of_front ls (i + 1) → mid ≤ old + sum_below (swept_steps_at names ls) (length ls)
 swept_out names ls i n old now mid below is before here =
@@ -328,6 +351,7 @@ swept_out names ls i n old now mid below is before here =
     let sum = sum_up (swept_steps_at names ls) (i + 1) (length ls) (omega (arith, below)) in
     omega (arith, next, sum)
 
+-- if each line was swept, the steps are those of the deck
 pub swept_all : (names : List (List ℕ)) (ls : List (ℕ × DeckLine)) (i old now : ℕ) → i ≤ length ls → now ≤ old + sum_below (swept_steps_at names ls) i → now ≤ old + sum_below (swept_steps_at names ls) (length ls)
 swept_all names ls i old now le h = let sum = sum_up (swept_steps_at names ls) i (length ls) le in omega (arith, h, sum)
 
@@ -336,6 +360,7 @@ pub sweep_most : (ls : List (ℕ × DeckLine)) (old mid new : ℕ) → mid ≤ o
 unfolding most_of_sweep
 sweep_most ls old mid new first second = omega (arith, first, second)
 
+-- the steps of a measure are at most those of the sweep
 pub measure_most : (ls : List (ℕ × DeckLine)) (old mid : ℕ) → mid ≤ old + most_of_measure ls → mid ≤ old + most_of_sweep ls
 unfolding most_of_sweep
 measure_most ls old mid first = omega (arith, first)

@@ -64,6 +64,7 @@ fronts_more ws n w all here i lt = elim (cases_lt i n) [
   | inr last ↦ let e : i ≡ n = omega arith in subst (λ (j : ℕ). is_word w (get_or ws j Before) ≡ true) (sym e) here
 ]
 
+-- the first word is the same as itself
 pub fronts_one : (ws : List SweepWord) → Fronts ws 1 (get_or ws 0 Before)
 fronts_one ws zero lt = word_itself (get_or ws 0 Before)
 fronts_one ws (suc i) lt = absurd (omega arith)

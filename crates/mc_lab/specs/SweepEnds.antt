@@ -38,7 +38,7 @@ is_open_at ls i = is_open (take i ls) (line_at ls i)
 abbrev pub AtMost : List (ℕ × DeckLine) → ℕ → ℕ → Type 0
 AtMost ls n most = (i : ℕ) → i < n → is_open_at ls i ≡ true → writes_behind (take i ls) (line_at ls i) ≤ most
 
--- a line that may be swept makes more device writes than the argument of a `cut` may be
+-- a line that may be swept makes 4,294,967,295 device writes or more
 abbrev pub HasTooMany : List (ℕ × DeckLine) → ℕ → Type 0
 HasTooMany ls i = (is_open_at ls i ≡ true) × (4294967295 ≤ writes_behind (take i ls) (line_at ls i))
 

@@ -22,8 +22,8 @@ pub fn no_change_stays_the_same()
     ensures { OfEach StaysSame }
 {}
 
-/// A cut at write `k` hits a line to the card exactly if the line makes at least `k` device writes, and so
-/// does a cut in the recovery after it.
+/// A cut at write `k`, from 1 on, hits a line to the card for which no stop is armed exactly if the line makes at least
+/// `k` device writes, and so does a cut in the recovery after it.
 pub fn a_cut_hits_the_writes_of_its_line()
     ensures { HitsWithin }
 {}

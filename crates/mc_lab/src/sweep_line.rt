@@ -204,10 +204,10 @@ impl<D: Trials + Drop> LineSweeper<D> {
         })
     }
 
-    /// Returns `most` if a line makes at most as many device writes, or else a greater number that they do not
-    /// exceed. Returns `None` if they are more than the argument of a `cut` may be.
+    /// Returns a number from `most` on that the device writes of a line do not exceed, or `None` if they are
+    /// 4,294,967,295 or more.
     ///
-    /// A line that makes at most `most` writes costs one play.
+    /// It plays the line once, and once more each time that the number is doubled.
     pub fn bound<L: Ledger>(
         &mut self,
         place: &Place<'_>,

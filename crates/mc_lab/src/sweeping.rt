@@ -104,7 +104,7 @@ fn open_number(deck: &Deck, at: usize) -> Option<u32>
 }
 
 // `most`, or a greater number that the device writes of a line do not exceed, if it may be swept and makes more.
-// `None` if they are more than the argument of a `cut` may be.
+// `None` if they are 4,294,967,295 or more.
 fn bound_at<D: Trials + Drop, L: Ledger>(
     sweeper: &mut LineSweeper<D>,
     place: &Place<'_>,
@@ -130,8 +130,8 @@ fn bound_at<D: Trials + Drop, L: Ledger>(
     }
 }
 
-// A number that the device writes of no line that may be swept exceed, or `None` if a line makes more than
-// the argument of a `cut` may be.
+// A number that the device writes of no line that may be swept exceed, or `None` if a line makes 4,294,967,295 or
+// more.
 fn most_writes<D: Trials + Drop, L: Ledger>(
     sweeper: &mut LineSweeper<D>,
     deck: &Deck,
@@ -343,7 +343,7 @@ fn new_sweeper(alloc: Global, names: usize) -> Result<LineSweeper<Laboratory>, N
 }
 
 // Measures the writes of the lines of a deck on a device of its own: a number that they exceed in no line that may be
-// swept. It is out of memory, too, if a line makes more than the argument of a `cut` may be.
+// swept. It is out of memory, too, if a line makes 4,294,967,295 or more.
 fn measure<L: Ledger>(
     alloc: Global,
     deck: &Deck,
