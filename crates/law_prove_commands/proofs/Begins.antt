@@ -1,12 +1,11 @@
 -- A command that is sent to the selected application begins its frame in a place that closed tables have.
-use Rattle.std.proofs.Common.{◌≡◌, inl, inr, ℕ, zero, suc, ◌+◌, ◌-◌, ◌/◌, ◌%◌, ◌<◌, ◌≤◌, Bool, true, cond, List, [], ◌∷◌, ◌++◌, length, None, Result, Ok, refl, sym, ap, subst, ◌∙◌, arith}
-use Rattle.std.specs.Prelude.{flat_map, slice_index, get_or}
+use Rattle.std.proofs.Common.{◌≡◌, inl, inr, ℕ, ◌+◌, ◌-◌, ◌/◌, ◌%◌, ◌<◌, ◌≤◌, Bool, true, List, [], ◌∷◌, ◌++◌, length, None, Ok, refl, sym, ap, subst, ◌∙◌, arith}
+use Rattle.std.specs.Prelude.{flat_map, slice_index}
 use Rattle.std.proofs.lemmas.Bool.{lt-ltb}
 use Rattle.std.proofs.lemmas.List.{length-replicate, length-append, take_at, get_or_append_left, get_or-append_right}
 use Rattle.law_prove.specs.model_device.specs.Bytes.{AreBytes, zeros}
-use Rattle.law_prove.specs.model_text.specs.Text.{◌>>=◌}
 use Rattle.law_prove.specs.model_machine.specs.Apdu.{ApduParts}
-use Rattle.law_prove.specs.model_machine.specs.Frame.{Frame, dynamic_base, dynamic_end, public_base, new_frame, new_public, session_of}
+use Rattle.law_prove.specs.model_machine.specs.Frame.{Frame, dynamic_base, public_base, new_frame, new_public, session_of}
 use Rattle.law_prove.specs.model_card.specs.Manager.{ToApplication, route}
 use Rattle.law_prove.specs.law_bytes.specs.OfChains.{IsByteCommand}
 use Rattle.law_prove.specs.law_bytes.proofs.ByteLists.{joined, zero_bytes}
@@ -15,10 +14,9 @@ use Rattle.law_prove.specs.law_promise.specs.Outline.{BySelection}
 use Rattle.law_prove.specs.law_promise.proofs.PublicBytes.{words_of, front_of, front_size}
 use Rattle.law_prove.specs.model_rules.specs.Rules.{Target}
 use Rattle.law_prove.specs.model_rules.specs.Happenings.{History, Commanded}
-use Rattle.law_prove.specs.model_rules.specs.Keeping.{Amounts, Break, Standing, after_occasion, OnCommand, with_allowances, after_event, standing_after}
-use Rattle.law_prove.specs.model_text.specs.Listing.{hex_text}
+use Rattle.law_prove.specs.model_rules.specs.Keeping.{Amounts, Standing, standing_after}
 use Rattle.law_prove.specs.model_prove.specs.Sets.{Set, is_in}
-use Rattle.law_prove.specs.model_prove.specs.Facts.{Facts, Memory, Holds, within, know, know_all, know_bytes}
+use Rattle.law_prove.specs.model_prove.specs.Facts.{Facts, Memory, Holds, know, know_all, know_bytes}
 use Rattle.law_prove.specs.model_prove.specs.Compares.{NoCompare}
 use Rattle.law_prove.specs.model_prove.specs.Keys.{OfClass, Tables}
 use Rattle.law_prove.specs.model_prove.specs.Laws.{AreIn, HoldsBytes}
@@ -61,42 +59,25 @@ chosen_in f t m bs (c ∷ cs) h e =
 -- a command leaves what its lines do
 commanded_stands : (s : Setting) (h : History) (bytes : List ℕ) (class : List Bool) (x : Standing) (b : Amounts) → class ≡ class_of bytes s.rules.ons → standing_after s.rules h ≡ Ok x
     → after_command s class x.allowances ≡ Ok b → standing_after s.rules (Commanded bytes ∷ h) ≡ Ok (record x { allowances = b })
-commanded_stands s h bytes class x b same is e =
-    let after : after_occasion s.rules.ons (OnCommand (hex_text bytes)) x.allowances ≡ Ok b =
-    sym (commanded_is bytes s.rules.ons x.allowances) ∙ (sym (ap (λ (z : List Bool). after_command s z x.allowances) same) ∙ e)
-    in
-    ap (λ (z : Result Standing Break). z >>= after_event s.rules (Commanded bytes)) is ∙ ap (λ (z : Result Amounts Break). z >>= with_allowances x) after
+commanded_stands s h bytes class x b same is e = grind (arith, commanded_is)
 
 -- ---- the public segment
 
 -- the last 13 bytes of a command's public segment
 word_at : (a : ApduParts) (k : ℕ) → length a.body ≤ 1024 → slice_index (new_public a) (1028 + k) ≡ slice_index (words_of a) k
-word_at a k few =
-    let place : 1028 + k - 1028 ≡ k = omega arith in
-    get_or-append_right (front_of a) (words_of a) 1028 (1028 + k) 0 (front_size a few) (omega arith) ∙ ap (λ (i : ℕ). get_or (words_of a) i 0) place
+word_at a k few = grind (arith, get_or-append_right, front_of, words_of, front_size)
 
 -- and the four before them
 zero_before : (a : ApduParts) (j : ℕ) → length a.body ≤ 1024 → j < 4 → slice_index (new_public a) (1024 + j) ≡ 0
-zero_before a j few low =
-    let size = front_size a few in
-    get_or_append_left (front_of a) (words_of a) 0 (1024 + j) (omega (arith, size, low))
-    ∙ (get_or-append_right a.body (zeros (1028 - length a.body)) (length a.body) (1024 + j) 0 refl (omega (arith, few)) ∙ zero_at (1028 - length a.body) (1024 + j - length a.body))
+zero_before a j few low = grind (arith, front_size, get_or_append_left, front_of, words_of, get_or-append_right, zero_at)
 
 -- the header comes first
 header_index : (a : ApduParts) (k : ℕ) → k < 4 → slice_index (words_of a) k ≡ slice_index (a.cla ∷ a.ins ∷ a.p1 ∷ a.p2 ∷ []) k
-header_index a zero h = refl
-header_index a (suc zero) h = refl
-header_index a (suc (suc zero)) h = refl
-header_index a (suc (suc (suc zero))) h = refl
-header_index a (suc (suc (suc (suc k)))) h = absurd (omega (arith, h))
+header_index a k h = grind arith
 
 -- La 0000 and SW 9000
 status_index : (a : ApduParts) (k : ℕ) → k < 4 → slice_index (words_of a) (9 + k) ≡ slice_index (0 ∷ 0 ∷ 0x90 ∷ 0 ∷ []) k
-status_index a zero h = refl
-status_index a (suc zero) h = refl
-status_index a (suc (suc zero)) h = refl
-status_index a (suc (suc (suc zero))) h = refl
-status_index a (suc (suc (suc (suc k)))) h = absurd (omega (arith, h))
+status_index a k h = grind arith
 
 module _ (a : ApduParts) (m : Memory) (few : length a.body ≤ 1024) (public : (i : ℕ) → m (public_base + i) ≡ slice_index (new_public a) i) where
   -- a byte of the header and what follows it
@@ -141,33 +122,14 @@ module _ (s : Setting) (t : Tables) (g : Target) (loadable : IsLoadable s.app) (
     stack_bytes = joined session (zeros (512 - length session)) dynamic (zero_bytes (512 - length session))
 
     command_fits : IsFrameOf s.app (command_frame fixed session)
-    command_fits =
-        let room : dynamic_base + s.app.session ≤ dynamic_end = loadable.session in
-        let filled : length (zeros (512 - length session)) ≡ 512 - length session = length-replicate {A = ℕ} (512 - length session) 0 in
-        let whole : length (session ++ zeros (512 - length session)) ≡ length session + length (zeros (512 - length session)) = length-append session (zeros (512 - length session)) in
-        record {
-          code = refl;
-          deny = refl;
-          session = count;
-          size = size;
-          room = omega (arith, count, room, filled, whole);
-          static = static;
-          pieces = tt;
-          inside = tt;
-          settled = λ e. refl;
-          low = omega arith;
-          high = omega (arith, count, room);
-          base = omega (arith, count, room);
-        }
+    command_fits = grind (arith, length-replicate, length-append)
 
     command_memory : (public : List ℕ) → AreBytes public → HoldsBytes (frame_memory (command_frame fixed session) public)
     command_memory public others = memory_of_bytes (command_frame fixed session) public (record { static = static; pieces = tt; stack = stack_bytes }) others
 
     -- its static bytes are those of the moment
     static_same : (public other : List ℕ) (a : ℕ) → a < length fixed → moment_memory fixed other a ≡ frame_memory (command_frame fixed session) public a
-    static_same public other a low =
-        ap (λ (b : Bool). cond b (slice_index fixed a) (slice_index other (a - dynamic_base))) (lt-ltb a (length fixed) low)
-        ∙ sym (memory_static (length fixed) fixed (session ++ zeros (512 - length session)) public a low)
+    static_same public other a low = grind (arith, lt-ltb, memory_static)
 
     -- and so are its session bytes
     begun_session : (public : List ℕ) (a : ℕ) → dynamic_base ≤ a → a < dynamic_base + s.app.session → moment_memory fixed session a ≡ frame_memory (command_frame fixed session) public a
@@ -176,18 +138,11 @@ module _ (s : Setting) (t : Tables) (g : Target) (loadable : IsLoadable s.app) (
         sym (ap (λ (l : List ℕ). moment_memory fixed l a) first) ∙ sym (session_same s t g loadable (command_frame fixed session) public a command_fits low high)
 
     own_hold : (f : Facts) (public : List ℕ) → Holds f (moment_memory fixed session) → Holds (own_facts s f) (frame_memory (command_frame fixed session) public)
-    own_hold f public h =
-        let m : Memory = moment_memory fixed session in
-        let k : Memory = frame_memory (command_frame fixed session) public in
-        holds_both (static_facts s f) (within dynamic_base (dynamic_base + s.app.session) f) k
-        (within_holds 0 (static_size s) f m k (λ a low high. static_same public session a (subst (λ (n : ℕ). a < n) (sym size) high)) h)
-        (within_holds dynamic_base (dynamic_base + s.app.session) f m k (λ a low high. begun_session public a low high) h)
+    own_hold f public h = grind (arith, holds_both, within_holds, static_same, begun_session)
 
     -- what is known of static bytes is so of what power would leave
     kept_hold : (f : Facts) (public other : List ℕ) → Holds f (frame_memory (command_frame fixed session) public) → Holds (static_facts s f) (moment_memory fixed other)
-    kept_hold f public other h =
-        within_holds 0 (static_size s) f (frame_memory (command_frame fixed session) public) (moment_memory fixed other)
-        (λ a low high. sym (static_same public other a (subst (λ (n : ℕ). a < n) (sym size) high))) h
+    kept_hold f public other h = grind (arith, within_holds, static_same)
 
   is_begun : (bytes : List ℕ) (apdu : ApduParts) (h : History) (fixed session : List ℕ) → route bytes ≡ ToApplication apdu → IsByteCommand apdu → IsMoment s t true h fixed session → length session ≡ s.app.session
       → IsPlace s t (BySelection bytes apdu h) (Commanded bytes ∷ h) (command_frame fixed session) (new_public apdu)

@@ -1,6 +1,6 @@
 -- Each command that reaches an application is in a class: one whose lines match it, and whose header has its bytes.
-use Rattle.std.proofs.Common.{◌≡◌, ◌⊎◌, inl, inr, ℕ, zero, suc, ◌+◌, ◌<◌, ◌≤◌, Bool, true, false, cond, List, [], ◌∷◌, ◌++◌, length, refl, sym, ap, subst, ◌∙◌, arith}
-use Rattle.std.specs.Prelude.{⊤, not, ◌&&◌, ◌||◌, ◌==◌, map, flat_map}
+use Rattle.std.proofs.Common.{◌≡◌, ◌⊎◌, inl, inr, ℕ, zero, suc, ◌<◌, ◌≤◌, Bool, true, false, cond, List, [], ◌∷◌, ◌++◌, length, refl, sym, ap, subst, ◌∙◌, arith}
+use Rattle.std.specs.Prelude.{⊤, not, ◌&&◌, ◌==◌, map, flat_map}
 use Rattle.std.proofs.lemmas.Bool.{or_cases, eqb-true, eq-eqb}
 use Rattle.law_prove.specs.model_text.specs.Listing.{hex_text}
 use Rattle.law_prove.specs.law_explore.specs.Matching.{fits}
@@ -35,16 +35,7 @@ new_left v o [] = inl (refl, is_first v [])
 new_left v o (g ∷ gs) = put_left (same_opens g.0 o) v o g gs (with_left v o gs) refl (new_left v o gs)
 
 kept_left : (b : Bool) (v w : ℕ) (p : Opens) (g : Opens × Set) (gs rest : List (Opens × Set)) → HasLeft p w (g ∷ gs) → (HasLeft p w gs → HasLeft p w rest) → HasLeft p w (cond b ((g.0, with_value v g.1) ∷ gs) (g ∷ rest))
-kept_left true v w p g gs rest h k =
-    elim h [
-      | inl x ↦ inl (x.0, old_is_in w v g.1 x.1)
-      | inr y ↦ inr y
-    ]
-kept_left false v w p g gs rest h k =
-    elim h [
-      | inl x ↦ inl x
-      | inr y ↦ inr (k y)
-    ]
+kept_left b v w p g gs rest h k = grind (arith, old_is_in)
 
 old_left : (v w : ℕ) (o p : Opens) (gs : List (Opens × Set)) → HasLeft p w gs → HasLeft p w (with_left v o gs)
 old_left v w o p [] h = absurd h
@@ -101,11 +92,7 @@ other_value v vs low e = is_kept (λ w. not (is_in w vs)) v all_bytes (is_byte v
 
 -- a value is none of some if it is neither the first nor one of the rest
 none_first : (v w : ℕ) (ws : List ℕ) → (v == w) ≡ false → is_in v ws ≡ false → is_in v (w ∷ ws) ≡ false
-none_first v w ws e f = by (w == v) refl
-  where
-    by : (b : Bool) → (w == v) ≡ b → (b || is_in v ws) ≡ false
-    by true is = absurd (cc (sym e ∙ eq-eqb v w (sym (eqb-true w v is))))
-    by false is = f
+none_first v w ws e f = grind (arith, eq-eqb, eqb-true)
 
 -- what a header leaves of patterns, byte by byte
 abbrev left_after : Opens → ℕ → ℕ → ℕ → ℕ → Opens
@@ -214,16 +201,7 @@ new_class bs c (d ∷ ds) are low = new_by (same_lists same c.matches d.matches)
 
 old_by : (b : Bool) (m : List Bool) (bs : List ℕ) (c d : Class) (ds rest : List Class) → length c.sets ≤ length bs → HasClass m bs (d ∷ ds) → (HasClass m bs ds → HasClass m bs rest)
     → HasClass m bs (cond b (record { matches = d.matches; sets = union_all c.sets d.sets } ∷ ds) (d ∷ rest))
-old_by true m bs c d ds rest low h k =
-    elim h [
-      | inl e ↦ inl (e.0, union_second bs c.sets d.sets low e.1)
-      | inr more ↦ inr more
-    ]
-old_by false m bs c d ds rest low h k =
-    elim h [
-      | inl e ↦ inl e
-      | inr more ↦ inr (k more)
-    ]
+old_by b m bs c d ds rest low h k = grind (arith, union_second)
 
 old_class : (m : List Bool) (bs : List ℕ) (c : Class) (ds : List Class) → length c.sets ≤ length bs → HasClass m bs ds → HasClass m bs (with_class c ds)
 old_class m bs c [] low h = absurd h

@@ -1,5 +1,5 @@
 -- An exit leads to a moment that closed tables have: after the answer of a command, and at the end of a delegation.
-use Rattle.std.proofs.Common.{◌≡◌, inl, inr, ℕ, ◌+◌, ◌-◌, ◌*◌, ◌/◌, ◌%◌, ◌<◌, ◌≤◌, Bool, true, false, cond, min, List, [], ◌∷◌, ◌++◌, length, take, Option, Some, None, Ok, refl, sym, ap, subst, ◌∙◌, arith}
+use Rattle.std.proofs.Common.{◌≡◌, inl, inr, ℕ, ◌+◌, ◌*◌, ◌<◌, ◌≤◌, Bool, true, false, cond, min, List, [], ◌∷◌, ◌++◌, length, take, Option, Some, None, Ok, refl, sym, ap, subst, ◌∙◌, arith}
 use Rattle.std.specs.Prelude.{nat_lt, map, flat_map, slice_index, unwrap_or}
 use Rattle.std.proofs.lemmas.Bool.{ltb-true, ltb-false}
 use Rattle.std.proofs.lemmas.List.{length-take}
@@ -8,7 +8,7 @@ use Rattle.law_prove.specs.model_machine.specs.declared.instruction.Ins.{Ins}
 use Rattle.law_prove.specs.model_machine.specs.declared.instruction.Ins.TheVariants as ins
 use Rattle.law_prove.specs.model_machine.specs.declared.machine.Abend.TheVariants.{A09}
 use Rattle.law_prove.specs.model_machine.specs.Apdu.{ApduParts}
-use Rattle.law_prove.specs.model_machine.specs.Frame.{Frame, dynamic_base, public_base, static_bytes, session_of, la_of, sw_of}
+use Rattle.law_prove.specs.model_machine.specs.Frame.{Frame, dynamic_base, public_base, session_of, la_of, sw_of}
 use Rattle.law_prove.specs.model_machine.specs.Primitives.{Around, Exits}
 use Rattle.law_prove.specs.model_machine.specs.Row.{causes, first_cause, Does}
 use Rattle.law_prove.specs.model_machine.specs.Chain.{Outcome, Abended, frame_at}
@@ -51,10 +51,7 @@ use Rattle.law_prove_commands.proofs.Replies.{reply_among, no_length, may_fit, m
 
 -- the status of a public segment of bytes is its two last bytes
 status_bytes : (x y : ℕ) → x < 256 → y < 256 → bytes2 (256 * x + y) ≡ x ∷ y ∷ []
-status_bytes x y a b =
-    let high : (256 * x + y) / 256 % 256 ≡ x = omega (arith, a, b) in
-    let low : (256 * x + y) % 256 ≡ y = omega (arith, a, b) in
-    ap (λ (v : ℕ). v ∷ ((256 * x + y) % 256) ∷ []) high ∙ ap (λ (v : ℕ). x ∷ v ∷ []) low
+status_bytes x y a b = grind arith
 
 -- the outcome of a reply that is among some
 one_of : (t : Tables) (f : List Bool → List Arrival) (m : List Bool) (ms : List (List Bool)) → Among m ms → includes_all t (flat_map f ms) ≡ true → includes_all t (f m) ≡ true
@@ -98,27 +95,11 @@ module _ (s : Setting) (u t : Tables) (g : Target) (loadable : IsLoadable s.app)
 
   -- a byte of the public segment
   public_byte : (f : Frame) (k : ℕ) → length f.fixed ≤ dynamic_base → frame_memory (frame_at f next) after (public_base + k) ≡ slice_index after k
-  public_byte f k low =
-      let place : public_base + k - public_base ≡ k = omega arith in
-      memory_public (length f.fixed) (static_bytes f) f.dyn after (public_base + k) low (omega arith) ∙ ap (λ (j : ℕ). slice_index after j) place
+  public_byte f k low = grind (arith, memory_public)
 
   module _ (f : Frame) (q : Spot) (framed : IsFrameOf s.app f) (dyn : AreBytes f.dyn) (bytes : AreBytes after) (covers : Covers q (frame_at f next) after) (memory : HoldsBytes (frame_memory (frame_at f next) after)) where
     after_framed : IsFrameOf s.app (frame_at f next)
-    after_framed =
-        record {
-          code = framed.code;
-          deny = framed.deny;
-          session = framed.session;
-          size = framed.size;
-          room = framed.room;
-          static = framed.static;
-          pieces = framed.pieces;
-          inside = framed.inside;
-          settled = framed.settled;
-          low = framed.low;
-          high = framed.high;
-          base = framed.base;
-        }
+    after_framed = grind arith
 
     static_low : length f.fixed ≤ dynamic_base
     static_low = let size : length f.fixed ≡ length s.app.fixed = framed.size in subst (λ (n : ℕ). n ≤ dynamic_base) (sym size) loadable.static
@@ -169,9 +150,7 @@ module _ (s : Setting) (u t : Tables) (g : Target) (loadable : IsLoadable s.app)
         let n : Arrives t r (in_session s q.known) = arrives t None r (in_session s q.known) includes in
         let m : Memory = moment_memory f.fixed (session_of f) in
         let session : AreBytes (session_of f) = taken f.session f.dyn dyn in
-        let own : Holds (session_facts s q.known) m =
-        within_holds dynamic_base (dynamic_base + s.app.session) q.known.bytes (frame_memory (frame_at f next) after) m (λ a low high. session_same s t g loadable (frame_at f next) after a after_framed low high) covers.holds
-        in
+        let own : Holds (session_facts s q.known) m = grind (arith, within_holds, session_same, after_framed) in
         from_memory s t true (Answered bytes outcome ∷ k) f.fixed (session_of f) (record x { allowances = n.allowances }) (answer_stands s k bytes outcome class x n.allowances starts stands n.is)
         framed.size framed.static session
         (moment_included t (record { selected = true; allowances = n.allowances }) (q.known.kept ++ session_facts s q.known) m n.rest (holds_both q.known.kept (session_facts s q.known) m (covers.keeps (session_of f) session) own)

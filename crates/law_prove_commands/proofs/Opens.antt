@@ -1,5 +1,5 @@
 -- What is left of several patterns after bytes in hexadecimal: after a header, and after any bytes that follow it.
-use Rattle.std.proofs.Common.{◌≡◌, inl, inr, ℕ, zero, suc, ◌+◌, ◌/◌, ◌%◌, ◌<◌, ◌≤◌, Bool, true, false, cond, List, [], ◌∷◌, ◌++◌, length, refl, sym, ap, subst, ◌∙◌, arith}
+use Rattle.std.proofs.Common.{◌≡◌, inl, inr, ℕ, zero, suc, ◌/◌, ◌%◌, ◌<◌, ◌≤◌, Bool, true, false, cond, List, [], ◌∷◌, ◌++◌, length, refl, sym, ap, subst, ◌∙◌, arith}
 use Rattle.std.specs.Prelude.{not, ◌&&◌, ◌==◌, map, bytes_eq}
 use Rattle.std.proofs.lemmas.Bool.{and_parts, or_cases, eqb-true}
 use Rattle.law_prove.specs.model_device.proofs.MapLemmas.{same_name}
@@ -138,9 +138,7 @@ digit_after c o (p ∷ os) h a =
 
 -- the two digits of a byte
 plain_digit : (n : ℕ) (t : List ℕ) → n < 16 → plain (hex_digit n ∷ t) ≡ small (hex_digit n) ∷ plain t
-plain_digit n t h =
-    let p = and_parts (is_in (small (hex_digit n)) hex_digits) (not (is_blank (hex_digit n))) (digit_is n h) in
-    plain_first (hex_digit n) t ∙ ap (λ (b : Bool). cond b (small (hex_digit n) ∷ plain t) (plain t)) p.1
+plain_digit n t h = grind (arith, and_parts, digit_is, plain_first)
 
 below_16 : (n : ℕ) → n % 16 < 16
 below_16 n = omega arith
@@ -161,8 +159,7 @@ byte_after b o os a =
     let p = and_parts (is_in (small (hex_digit x)) hex_digits) (not (is_blank (hex_digit x))) (digit_is x (below_16 (b / 16))) in
     let q = and_parts (is_in (small (hex_digit y)) hex_digits) (not (is_blank (hex_digit y))) (digit_is y (below_16 b)) in
     let is : all_after (hex_text (b ∷ [])) o ≡ map (after_character (small (hex_digit y))) (map (after_character (small (hex_digit x))) o) =
-    ap (λ (t : List ℕ). map (after_text t) o) (two_digits b) ∙ two_after (small (hex_digit x)) (small (hex_digit y)) o
-    in
+    grind (arith, two_digits, two_after) in
     subst (λ (z : Opens). Among z (after_digit (after_digit os))) (sym is)
     (digit_after (small (hex_digit y)) (map (after_character (small (hex_digit x))) o) (after_digit os) q.0 (digit_after (small (hex_digit x)) o os p.0 a))
 

@@ -1,6 +1,6 @@
 -- Each reply that La and SW allow is among the combinations of lines that match.
 use Rattle.std.proofs.Common.{◌≡◌, ◌⊎◌, inl, inr, ℕ, ◌+◌, ◌*◌, ◌/◌, ◌%◌, ◌<◌, ◌≤◌, Bool, true, false, cond, List, [], ◌∷◌, ◌++◌, length, refl, sym, ap, subst, ◌∙◌, arith}
-use Rattle.std.specs.Prelude.{◌&&◌, ◌==◌, nat_lt, map, flat_map}
+use Rattle.std.specs.Prelude.{◌==◌, map, flat_map}
 use Rattle.std.proofs.lemmas.Bool.{or_cases, or_left, or_right, and_from, eqb-true, lt-ltb, ltb-false}
 use Rattle.law_prove.specs.model_text.specs.Listing.{hex_digit, hex_text}
 use Rattle.law_prove.specs.law_explore.specs.Matching.{fits}
@@ -64,12 +64,7 @@ combination_is m (n ∷ ms) e =
     ]
 
 put_once : (b : Bool) (m n : List Bool) (ms : List (List Bool)) → has_combination n ms ≡ b → (n ≡ m) ⊎ Among m ms → Among m (cond b ms (n ∷ ms))
-put_once true m n ms e h =
-    elim h [
-      | inl is ↦ subst (λ (z : List Bool). Among z ms) is (combination_is n ms e)
-      | inr more ↦ more
-    ]
-put_once false m n ms e h = h
+put_once b m n ms e h = grind (arith, combination_is)
 
 distinct_has : (m : List Bool) (ms : List (List Bool)) → Among m ms → Among m (distinct ms)
 distinct_has m [] h = absurd h
@@ -114,38 +109,12 @@ some_is test v (w ∷ s) h e =
 module _ (high low : Set) (h l : ℕ) (in_high : is_in h high ≡ true) (in_low : is_in l low ≡ true) where
   -- a reply that may not be long may have no bytes alone
   pub no_length : (lengths_of high low).some ≡ false → 256 * h + l ≡ 0
-  no_length none = by (nat_lt 0 h) (nat_lt 0 l) refl refl
-    where
-      by : (x y : Bool) → nat_lt 0 h ≡ x → nat_lt 0 l ≡ y → 256 * h + l ≡ 0
-      by true y e f = absurd (cc (sym none ∙ or_left (some_value (λ v. nat_lt 0 v) high) (some_value (λ v. nat_lt 0 v) low) (some_is (λ v. nat_lt 0 v) h high in_high e)))
-      by false true e f = absurd (cc (sym none ∙ or_right (some_value (λ v. nat_lt 0 v) high) (some_value (λ v. nat_lt 0 v) low) (some_is (λ v. nat_lt 0 v) l low in_low f)))
-      by false false e f =
-          let a = ltb-false 0 h e in
-          let b = ltb-false 0 l f in
-          omega (arith, a, b)
+  no_length none = grind (arith, or_left, some_is, or_right, ltb-false)
 
   -- a reply of at most 1,024 bytes may fit
   pub may_fit : 256 * h + l ≤ 1024 → (lengths_of high low).fitting ≡ true
-  may_fit few = by (nat_lt h 4) refl
-    where
-      by : (x : Bool) → nat_lt h 4 ≡ x → (lengths_of high low).fitting ≡ true
-      by true e = or_left (some_value (λ v. nat_lt v 4) high) (is_in 4 high && is_in 0 low) (some_is (λ v. nat_lt v 4) h high in_high e)
-      by false e =
-          let least = ltb-false h 4 e in
-          let first : h ≡ 4 = omega (arith, few, least) in
-          let second : l ≡ 0 = omega (arith, few, least) in
-          or_right (some_value (λ v. nat_lt v 4) high) (is_in 4 high && is_in 0 low)
-          (and_from (is_in 4 high) (is_in 0 low) (subst (λ (z : ℕ). is_in z high ≡ true) first in_high) (subst (λ (z : ℕ). is_in z low ≡ true) second in_low))
+  may_fit few = grind (arith, or_left, some_is, ltb-false, or_right, and_from)
 
   -- one of more may be too long
   pub may_be_long : l < 256 → 1024 < 256 * h + l → (lengths_of high low).too_long ≡ true
-  may_be_long byte many = by (nat_lt 4 h) refl
-    where
-      by : (x : Bool) → nat_lt 4 h ≡ x → (lengths_of high low).too_long ≡ true
-      by true e = or_left (some_value (λ v. nat_lt 4 v) high) (is_in 4 high && some_value (λ v. nat_lt 0 v) low) (some_is (λ v. nat_lt 4 v) h high in_high e)
-      by false e =
-          let most = ltb-false 4 h e in
-          let first : h ≡ 4 = omega (arith, byte, many, most) in
-          let second : 0 < l = omega (arith, byte, many, most) in
-          or_right (some_value (λ v. nat_lt 4 v) high) (is_in 4 high && some_value (λ v. nat_lt 0 v) low)
-          (and_from (is_in 4 high) (some_value (λ v. nat_lt 0 v) low) (subst (λ (z : ℕ). is_in z high ≡ true) first in_high) (some_is (λ v. nat_lt 0 v) l low in_low (lt-ltb 0 l second)))
+  may_be_long byte many = grind (arith, or_left, some_is, ltb-false, or_right, and_from, lt-ltb)

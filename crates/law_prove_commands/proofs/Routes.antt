@@ -16,16 +16,10 @@ IsFew n (Some r) = r.p3 < 256 → (length r.body ≤ 1024) × (n ≤ 1030)
 -- Lc is the number of bytes, or that of the bytes before Le
 whole_few : (x y : Bool) (n lc more p : ℕ) (b : List ℕ) (le : Option ℕ) → n ≤ length b + 3 → more ≤ 2 → (p < 256 → lc ≤ 1024) → (length b == lc) ≡ x → (length b == lc + more) ≡ y
     → IsFew n (cond x (Some (record { p3 = p; body = b; le = None })) (cond y (Some (record { p3 = p; body = take lc b; le = le })) None))
-whole_few true y n lc more p b le size two low e f =
-    λ small. let same = eqb-true (length b) lc e in let least = low small in (omega (arith, same, least), omega (arith, same, least, size))
-whole_few false true n lc more p b le size two low e f =
-    λ small. let same = eqb-true (length b) (lc + more) f in let least = low small in (omega (arith, length-take lc b, least), omega (arith, same, least, size, two))
-whole_few false false n lc more p b le size two low e f = tt
+whole_few x y n lc more p b le size two low e f = grind (arith, eqb-true, length-take)
 
 extended_by : (x : Bool) (n lc : ℕ) (b : List ℕ) → n ≤ length b + 3 → (nat_le 1 lc && nat_le lc 1024) ≡ x → IsFew n (cond x (extended_body lc b) None)
-extended_by false n lc b size e = tt
-extended_by true n lc b size e =
-    whole_few (length b == lc) (length b == lc + 2) n lc 2 0 b _ size (omega arith) (λ small. leb-true lc 1024 (and_parts (nat_le 1 lc) (nat_le lc 1024) e).1) refl refl
+extended_by x n lc b size e = grind (arith, whole_few, leb-true, and_parts)
 
 extended_few : (n : ℕ) (b : List ℕ) → n ≤ length b + 1 → IsFew n (extended_rest b)
 extended_few n [] size = tt
@@ -39,9 +33,7 @@ rest_by false n p x xs size =
     whole_few (length (x ∷ xs) == p) (length (x ∷ xs) == p + 1) n p 1 p (x ∷ xs) _ (omega (arith, size)) (omega arith) (λ small. omega (arith, small)) refl refl
 
 rest_few : (b : List ℕ) → IsFew (length b) (rest_read b)
-rest_few [] = λ small. (omega arith, omega arith)
-rest_few (p ∷ []) = λ small. (omega arith, omega arith)
-rest_few (p ∷ x ∷ xs) = rest_by (p == 0) (length (p ∷ x ∷ xs)) p x xs (omega arith)
+rest_few b = grind (arith, rest_by)
 
 -- ---- commands
 

@@ -1,10 +1,10 @@
 -- What is left of a pattern after a front of a text decides whether it fits the whole: `opened` and `after_text` are `fits`.
-use Rattle.std.proofs.Common.{◌≡◌, ℕ, Bool, true, false, cond, List, [], ◌∷◌, ◌++◌, refl, sym, ap, subst, ◌∙◌}
-use Rattle.std.specs.Prelude.{not, ◌&&◌, ◌||◌, ◌==◌, flat_map, bytes_eq}
+use Rattle.std.proofs.Common.{◌≡◌, ℕ, Bool, true, false, cond, List, [], ◌∷◌, ◌++◌, refl, sym, ap, subst, ◌∙◌, arith}
+use Rattle.std.specs.Prelude.{not, ◌&&◌, ◌||◌, flat_map, bytes_eq}
 use Rattle.std.proofs.lemmas.Slice.Eq.{bytes_eq-Decides}
 use Rattle.law_prove.specs.model_device.specs.Bytes.{has_name}
 use Rattle.law_prove.specs.model_text.specs.Text.{is_empty}
-use Rattle.law_prove.specs.model_play.specs.Patterns.{is_star, is_any}
+use Rattle.law_prove.specs.model_play.specs.Patterns.{is_star}
 use Rattle.law_prove.specs.law_explore.specs.Matching.{some_rest, first_and_rest, matches, plain, fits}
 use Rattle.law_prove_commands.specs.Laws.{PatternLaw}
 use Rattle.law_prove.specs.model_prove.specs.Texts.{Open, with_way, both_ways, openings, way_after, all_openings, after_text, is_none_left, openings_unless, opened, is_match}
@@ -20,19 +20,14 @@ or_twice true b = refl
 or_twice false b = refl
 
 or_turned : (a b : Bool) → (a || b) ≡ (b || a)
-or_turned true true = refl
-or_turned true false = refl
-or_turned false true = refl
-or_turned false false = refl
+or_turned a b = grind arith
 
 or_nested : (a b c : Bool) → ((a || b) || c) ≡ (a || (b || c))
 or_nested true b c = refl
 or_nested false b c = refl
 
 or_past : (a b c : Bool) → (a || c) ≡ c → (a || (b || c)) ≡ (b || c)
-or_past true true c e = refl
-or_past true false c e = e
-or_past false b c e = refl
+or_past a b c e = grind arith
 
 -- ---- some way passes a test
 
@@ -53,11 +48,7 @@ module _ (test : List ℕ → Bool) where
       by false same more again = or_past (test p) (test k) (some_way test ks) (again more)
 
   one_more : (p : List ℕ) (ps : Open) → some_way test (with_way p ps) ≡ (test p || some_way test ps)
-  one_more p ps = by (has_name p ps) refl
-    where
-      by : (b : Bool) → has_name p ps ≡ b → some_way test (cond b ps (p ∷ ps)) ≡ (test p || some_way test ps)
-      by true e = sym (there_is p ps e)
-      by false e = refl
+  one_more p ps = grind (arith, there_is)
 
   of_both : (ps qs : Open) → some_way test (both_ways ps qs) ≡ (some_way test ps || some_way test qs)
   of_both [] qs = refl
@@ -97,17 +88,7 @@ openings_go c t (p ∷ ps) = by (is_star p) refl (openings_go c t ps)
   where
     by : (b : Bool) → is_star p ≡ b → some_way (goes_on c t) (openings ps) ≡ matches ps (c ∷ t)
         → some_way (goes_on c t) (cond b (with_way (p ∷ ps) (openings ps)) ((p ∷ ps) ∷ [])) ≡ cond b (some_rest (matches ps) (c ∷ t)) (first_and_rest p (matches ps) (c ∷ t))
-    by true e again =
-        let left : way_after c (p ∷ ps) ≡ (p ∷ ps) ∷ [] = ap (λ (b : Bool). cond {A = Open} b ((p ∷ ps) ∷ []) (cond (is_any p || (c == p)) (ps ∷ []) [])) e in
-        let here : matches (p ∷ ps) t ≡ some_rest (matches ps) t = ap (λ (b : Bool). cond b (some_rest (matches ps) t) (first_and_rest p (matches ps) t)) e in
-        let one : goes_on c t (p ∷ ps) ≡ some_rest (matches ps) t =
-        ap (λ (ws : Open). some_way (λ q. matches q t) ws) left ∙ (or_none (matches (p ∷ ps) t) ∙ here)
-        in
-        one_more (goes_on c t) (p ∷ ps) (openings ps)
-        ∙ (ap (λ (b : Bool). b || some_way (goes_on c t) (openings ps)) one ∙ (ap (λ (b : Bool). some_rest (matches ps) t || b) again ∙ or_turned (some_rest (matches ps) t) (matches ps (c ∷ t))))
-    by false e again =
-        let left : way_after c (p ∷ ps) ≡ cond (is_any p || (c == p)) (ps ∷ []) [] = ap (λ (b : Bool). cond {A = Open} b ((p ∷ ps) ∷ []) (cond (is_any p || (c == p)) (ps ∷ []) [])) e in
-        or_none (goes_on c t (p ∷ ps)) ∙ (ap (λ (ws : Open). some_way (λ q. matches q t) ws) left ∙ one_taken (is_any p || (c == p)) (matches ps t) ps t refl)
+    by b e again = grind (arith, or_none, one_more, or_turned, one_taken)
 
 -- ---- the end of a text
 
