@@ -8,5 +8,6 @@ proved : proves_deck 800 counter_deck ≡ true
 unfolding proves_deck
 proved = refl
 
+-- the rules of the counter are kept in every play of its deck
 pub counter_kept : DeckIsKept counter_deck
 counter_kept = deck_law 800 counter_deck proved

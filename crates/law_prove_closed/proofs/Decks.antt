@@ -17,6 +17,7 @@ bytes_are : (bs : List ℕ) → are_bytes bs ≡ true → AreBytes bs
 bytes_are [] e = tt
 bytes_are (b ∷ bs) e = let p = and_parts (nat_lt b 256) (are_bytes bs) e in (ltb-true b 256 p.0, bytes_are bs p.1)
 
+-- an application that the test finds loadable is loadable
 pub loadable_is : (a : App) → is_loadable a ≡ true → IsLoadable a
 loadable_is a e =
     let p4 = and_parts (are_bytes a.code && nat_lt (length a.code) 65536 && are_bytes a.fixed && nat_le (length a.fixed) dynamic_base) (nat_le (dynamic_base + a.session) dynamic_end) e in
@@ -48,6 +49,7 @@ read_law : (n : ℕ) (z : Result AppRules (ℕ × RuleCause)) → proves_read n 
 read_law n (Err e) is = absurd (cc is)
 read_law n (Ok r) is = for_law n r r.target refl is
 
+-- the rules of a deck that are proved are kept
 pub deck_law : DeckLaw
 unfolding proves_deck
 deck_law n text e = read_law n (app_rules_read text) e

@@ -96,6 +96,7 @@ back_covers r f public other covers =
 -- ---- what follows
 
 module _ (s : Setting) (u t : Tables) (g : Target) (loadable : IsLoadable s.app) (leads : LeadsInto s u t) (e : Entry Event) (h : History) (f : Frame) (public : List ℕ) (depth : ℕ) (p : IsPlace s u e h f public) (deep : FitsDepth e depth) (i : Ins) where
+  -- what follows a delegation is covered: the place after it, its abends and a stop
   pub delegates_covered : (n name : List ℕ) (r : Spot) (after : Frame) → r.key.start ≡ p.start → Covers r after public → IsFrameOf s.app after → IsByteFrame after
       → includes_all t (follows s i false (Delegates n) (before_it s u t g loadable leads e h f public depth p deep i) r) ≡ true
       → RowCovered (domain_of_rules g (covering_of s t)) e h f public depth i (Does (record { effect = frame_effect after public; next = Delegates name }))

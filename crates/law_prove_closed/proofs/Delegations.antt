@@ -435,10 +435,12 @@ module _ (s : Setting) (u t : Tables) (g : Target) (loadable : IsLoadable s.app)
   covered_by (Some cs) e includes = few_covered cs e includes
   covered_by None e includes = coarse_covered includes
 
+-- the row of a delegation leads from covered places into the tables
 pub delegate_lead : (args : List ℕ) → LeadLaw (ins.Prim 0 7 args)
 delegate_lead args =
     law_from (ins.Prim 0 7 args) (λ s u t g loadable leads turn names e.
     covered_by s u t g loadable leads args turn (few_combinations turn.place.known.bytes (first_places s u t g loadable leads args turn)) refl e)
 
+-- the row of a delegation is covered
 pub delegate_law : DelegateLaw
 delegate_law args = of_closed (ins.Prim 0 7 args) (delegate_lead args)

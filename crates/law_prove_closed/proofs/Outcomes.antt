@@ -84,6 +84,7 @@ found_by true false test p ps rest k l passes is e again = again (sym (ap (λ (z
 found_by false true test p ps rest k l passes is e again = absurd (cc (sym passes ∙ (ap test (places_are p.0 k is) ∙ (again e).0)))
 found_by false false test p ps rest k l passes is e again = again e
 
+-- a place of the tables without some keys is one of the tables, and its key is not among them
 pub found : (test : PlaceKey → Bool) (ps : List (PlaceKey × Known)) (k : PlaceKey) (l : Known) → place_at (filter (λ p. test p.0) ps) k ≡ Some l → (test k ≡ true) × (place_at ps k ≡ Some l)
 found test [] k l e = absurd (cc e)
 found test (p ∷ ps) k l e = found_by (test p.0) (same_places p.0 k) test p ps (filter (λ p. test p.0) ps) k l refl refl e (found test ps k l)
@@ -131,6 +132,7 @@ left_moment s t outcomes x h fixed session m =
     let is = moment_found (λ k. some_outcome (ends_at k) outcomes) t.moments key m.facts m.there in
     (from_memory s t x h fixed session m.standing m.stands m.size m.static m.dynamic (record { facts = m.facts; there = is.1; holds = m.holds }), is.0)
 
+-- a key that is left is one of the tables', and one of the outcomes leads to it
 pub left_law : LeftLaw
 left_law = (left_place, left_moment)
 
@@ -184,6 +186,7 @@ one_is s t e h f public p known is =
       dynamic = p.dynamic;
     }
 
+-- what the row of a place leads to is covered by the keys of its outcomes
 pub next_law : NextLaw
 next_law i r g t loadable e h f public depth x next p known is included entry deep names segment at =
     let s : Setting = record { rules = r; app = g.app } in
@@ -193,6 +196,7 @@ next_law i r g t loadable e h f public depth x next p known is included entry de
     all_leads i r g (one_place key known) left loadable (one_leads s left key known (left_all t outcomes outcomes (λ test some. some) included)) e h f public depth x next
     (one_is s t e h f public p known is) entry deep names segment at
 
+-- so is the end, if the budget ends there or no instruction can be fetched
 pub next_end_law : NextEndLaw
 next_end_law r g t loadable e h f public p known is included =
     let s : Setting = record { rules = r; app = g.app } in
@@ -203,6 +207,7 @@ next_end_law r g t loadable e h f public p known is included =
     let here : IsPlace s (one_place key known) e h f public = one_is s t e h f public p known is in
     (is_spent s (one_place key known) left g loadable leads e h f public here, λ fault at. is_unfetched s (one_place key known) left g loadable leads e h f public fault here at)
 
+-- so it is at each place of closed tables
 pub closed_next_law : ClosedNextLaw
 closed_next_law i r g t loadable closed e h f public depth x next p entry deep names segment at =
     let s : Setting = record { rules = r; app = g.app } in

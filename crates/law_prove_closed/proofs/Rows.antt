@@ -91,6 +91,7 @@ primitive_row set number args = set_row (set == 0) (set == 1) (set == 2) (set ==
 
 -- ---- all rows
 
+-- each row leads from covered places into the tables that others lead into
 pub all_leads : AllLeadsLaw
 all_leads ins.Nop = nop_law
 all_leads (ins.Setsw sw) = status_laws.0 sw
@@ -144,5 +145,6 @@ all_leads (ins.Xorn tag off n) = bit_laws.4 tag off n
 pub all_rows : AllRowsLaw
 all_rows i = of_closed i (all_leads i)
 
+-- closed tables keep the rules in every play
 pub closed_law : ClosedLaw
 closed_law = kept_by_rows all_rows

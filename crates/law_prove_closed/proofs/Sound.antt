@@ -44,6 +44,7 @@ module _ (r : AppRules) (g : Target) (t : Tables) (loadable : IsLoadable g.app) 
   fetch_covered e h f public depth x p fits deep names segment (Err fault) at = places.unfetched e h f public fault p at
   fetch_covered e h f public depth x p fits deep names segment (Ok i) at = rows i.0 r g t loadable closed e h f public depth x i.1 p fits deep names segment at
 
+  -- the domain of closed tables is sound
   pub is_sound : IsSound domain
   is_sound =
       record {

@@ -40,9 +40,11 @@ place_in size dt a n =
     )
     )
 
+-- an address lies in the same segment of a scene that stands for a frame
 pub same_where : (z : Scene) (f : Frame) (a n : ℕ) → Stands z f → where_is z.frame a n ≡ where_is f a n
 same_where z f a n stands = ap (λ (k : ℕ). place_in k z.frame.dt a n) stands.size ∙ ap (λ (k : ℕ). place_in (length f.fixed) k a n) stands.dt
 
+-- the same addresses are outside of its segments
 pub same_outside : (z : Scene) (f : Frame) (a n : ℕ) → Stands z f → is_outside z.frame a n ≡ is_outside f a n
 same_outside z f a n stands = ap (λ (o : Option Place). not (n == 0) && is_none o) (same_where z f a n stands)
 
@@ -65,6 +67,7 @@ stands_sized z f small high stands =
 abbrev pub scene_memory : Scene → Memory
 scene_memory z = parts_memory (length z.frame.fixed) z.frame.fixed z.frame.dyn z.public
 
+-- the memory of such a scene is that of its bytes, since nothing waits
 pub memory_is : (z : Scene) (f : Frame) (a : ℕ) → Stands z f → frame_memory z.frame z.public a ≡ scene_memory z a
 memory_is z f a stands = ap (λ (ps : List (ℕ × List ℕ)). parts_memory (length z.frame.fixed) (laid_pieces z.frame.fixed ps) z.frame.dyn z.public a) stands.pieces
 
@@ -180,6 +183,7 @@ module _ (f : Frame) (small : length f.fixed ≤ dynamic_base) (high : f.dt ≤ 
     pub keeps : (b : ℕ) → scene_memory z b ≡ m b → scene_memory y b ≡ m b
     pub has : (b : ℕ) → Among b l → scene_memory y b ≡ m b
 
+  -- a scene has the values that were set, and still stands for the frame
   pub values_set : (m : Memory) (l : List ℕ) (z : Scene) → Stands z f → AllByRecursion {X = ℕ} (λ a. is_outside f a 1 ≡ false) l → HasValues z (with_values z (values_in m l)) m l
   values_set m [] z stands inside = record { stands = stands; keeps = λ b is. is; has = λ b none. absurd none }
   values_set m (a ∷ l) z stands inside =
@@ -197,6 +201,7 @@ module _ (f : Frame) (small : length f.fixed ≤ dynamic_base) (high : f.dt ≤ 
 
 -- ---- lists of places
 
+-- two lists of places inside the segments are so together
 pub all_inside : (f : Frame) (l k : List ℕ) → AllByRecursion {X = ℕ} (λ a. is_outside f a 1 ≡ false) l → AllByRecursion {X = ℕ} (λ a. is_outside f a 1 ≡ false) k → AllByRecursion {X = ℕ} (λ a. is_outside f a 1 ≡ false) (l ++ k)
 all_inside f [] k x y = y
 all_inside f (a ∷ l) k x y = (x.0, all_inside f l k x.1 y)

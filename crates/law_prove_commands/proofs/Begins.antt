@@ -182,6 +182,7 @@ module _ (s : Setting) (t : Tables) (g : Target) (loadable : IsLoadable s.app) (
       spot_arrives s t (BySelection bytes apdu h) (Commanded bytes ∷ h) f public p x covers one.is (commanded_stands s h bytes c.matches m.standing next.allowances one.is m.stands next.is)
       (command_fits fixed session size count m.static m.dynamic) (command_memory fixed session size count m.static m.dynamic public others) (stack_bytes fixed session size count m.static m.dynamic) next.rest
 
+-- a command to the selected application begins its frame at a place of closed tables
 pub begin_law : BeginLaw
 begin_law r g t loadable closed =
     let s : Setting = record { rules = r; app = g.app } in

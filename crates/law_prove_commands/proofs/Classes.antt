@@ -300,6 +300,7 @@ header_class ps cla ins p1 p2 rest bytes no_ff no_be no_select low =
     subst (λ (m : List Bool). HasClass m (cla ∷ ins ∷ p1 ∷ p2 ∷ []) (classes_of (headers ps))) (ap matches_of (sym same) ∙ matches_are (hex_text (cla ∷ ins ∷ p1 ∷ p2 ∷ rest)) ps)
     (class_after rest (cla ∷ ins ∷ p1 ∷ p2 ∷ []) left (headers ps) low (brief_headers ps) there)
 
+-- each command that reaches an application is in a class
 pub class_law : ClassLaw
 class_law r bytes a routed command =
     let head = command.head in

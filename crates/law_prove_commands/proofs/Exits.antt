@@ -258,6 +258,7 @@ exitswla_is : (sw la : ℕ) → IsExit (ins.Exitswla sw la) (Some sw) (Some la)
 unfolding causes shape
 exitswla_is sw la = record { none = λ f public x. refl; leaves = λ f public x. refl; shaped = λ f public. refl }
 
+-- an exit leads to a moment of closed tables
 pub exit_laws : ExitLaw
 exit_laws = (
   law_of ins.Exit (λ s u t g loadable leads turn e. e) (exit_case ins.Exit None None exit_is),

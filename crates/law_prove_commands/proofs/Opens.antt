@@ -46,9 +46,11 @@ texts_append t u [] = refl
 texts_append t u (o ∷ os) =
     ap (λ (x : Open). x ∷ map (after_text (t ++ u)) os) (text_append t u o) ∙ ap (λ (xs : Opens). after_text u (after_text t o) ∷ xs) (texts_append t u os)
 
+-- what is left after two texts is left after the second of what the first left
 pub all_append : (t u : List ℕ) (os : Opens) → all_after (t ++ u) os ≡ all_after u (all_after t os)
 all_append t u os = ap (λ (x : List ℕ). map (after_text x) os) (plain_append t u) ∙ texts_append (plain t) (plain u) os
 
+-- an empty text leaves what was open
 pub all_none : (os : Opens) → all_after [] os ≡ os
 all_none [] = refl
 all_none (o ∷ os) = ap (λ (xs : Opens). o ∷ xs) (all_none os)
@@ -60,6 +62,7 @@ matches_are t (p ∷ ps) = ap (λ (b : Bool). b ∷ matches_of (all_after t (map
 
 -- ---- lists of what is left
 
+-- what the test finds to leave as much open is equal
 pub opens_are : (o p : Opens) → same_opens o p ≡ true → o ≡ p
 opens_are o p e =
     lists_are (same_lists bytes_eq) (λ x y f. lists_are bytes_eq same_name x y f) o p e
@@ -80,9 +83,11 @@ later_there : (b : Bool) (o p : Opens) (os : List Opens) → Among p os → Amon
 later_there true o p os h = h
 later_there false o p os h = inr h
 
+-- what is added to what is left is among it
 pub with_first : (o : Opens) (os : List Opens) → Among o (with_opens o os)
 with_first o os = first_there (is_among o os) o os refl
 
+-- what was left before stays among it
 pub with_later : (o p : Opens) (os : List Opens) → Among p os → Among p (with_opens o os)
 with_later o p os h = later_there (is_among o os) o p os h
 
@@ -212,6 +217,7 @@ any_by : (c : Bool) (n : ℕ) (bs : List ℕ) (o : Opens) (os : List Opens) → 
 any_by true n bs o os e a more = closed_after os (eqb-true (length (both_opens (after_digit (after_digit os)) os)) (length os) e) bs o a
 any_by false n bs o os e a more = more
 
+-- what is left after at most n bytes is among what n bytes of any value leave
 pub any_after : (n : ℕ) (bs : List ℕ) (o : Opens) (os : List Opens) → length bs ≤ n → Among o os → Among (all_after (hex_text bs) o) (after_any n os)
 any_after zero [] o os h a = subst (λ (z : Opens). Among z os) (sym (all_none o)) a
 any_after zero (b ∷ bs) o os h a = absurd (omega (arith, h))

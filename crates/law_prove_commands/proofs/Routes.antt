@@ -81,8 +81,10 @@ reached_by : (o : Option ApduParts) (bytes : List ℕ) (a : ApduParts) → apdu_
 reached_by None bytes a read e = absurd (cc e)
 reached_by (Some b) bytes a read e = classes_by (b.cla == 0xFF) (b.cla == 0 && b.ins == 0xA4 && b.p1 == 4) (b.cla == 0xBE) bytes b a read refl refl refl e
 
+-- a command that is routed to an application reaches it
 pub reached : (bytes : List ℕ) (a : ApduParts) → route bytes ≡ ToApplication a → Reaches bytes a
 reached bytes a e = reached_by (apdu_read bytes) bytes a refl e
 
+-- such a command has its header and what follows it
 pub read_of : (bytes : List ℕ) (a : ApduParts) → route bytes ≡ ToApplication a → a.p3 < 256 → IsRead bytes a
 read_of bytes a e = read_is bytes a (reached bytes a e).read

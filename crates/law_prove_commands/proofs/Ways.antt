@@ -145,5 +145,6 @@ left_is_fit p t =
     text_decides (plain t) (opened p) (λ u. not (is_none_left (plain p)) && matches (plain p) u) (opened_by (is_none_left (plain p)) (plain p) refl)
     ∙ ap (λ (b : Bool). not b && matches (plain p) (plain t)) (none_is_empty (plain p))
 
+-- what is left of a pattern after a front of a text decides whether it fits the whole
 pub pattern_law : PatternLaw
 pattern_law p t = left_is_fit p t
