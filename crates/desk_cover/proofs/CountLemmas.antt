@@ -132,9 +132,6 @@ with_none l = ap (λ (n : ℕ). record l { turns = n; taken = l.taken }) (zero_m
     zero_more : (n : ℕ) → n ≡ n + 0
     zero_more n = omega arith
 
-sum_moves : (a b n : ℕ) → (a + b) + n ≡ a + (b + n)
-sum_moves a b n = omega arith
-
 took_moves : (b : Bool) (t : FullTurn) (l : LineCount) (ts : List FullTurn) → took l.condition t ≡ b → with_turns (line_with_turn t l) ts ≡ with_turns l (t ∷ ts)
 took_moves b t l ts e =
     let rest = filter (λ t. took l.condition t) ts in

@@ -1,5 +1,5 @@
 -- A full turn of a chain: its turn, its code, and the frame that it leaves.
-use Rattle.std.proofs.Common.{◌≡◌, ℕ, zero, suc, List, Option, Some, None, Result, Ok, Err, refl, sym, ap, subst, ◌∙◌}
+use Rattle.std.proofs.Common.{◌≡◌, ℕ, zero, suc, List, Option, Some, None, Result, Ok, Err, refl, sym, ap, ◌∙◌}
 use Rattle.std.specs.Prelude.{unwrap_or, IsSome}
 use Rattle.mc_base.specs.model_device.specs.Bytes.{lookup}
 use Rattle.mc_base.specs.model_device.specs.Card.{App}
@@ -19,8 +19,6 @@ use Rattle.mc_segs.specs.HeldFrames.{Seen}
 use Rattle.mc_machine.specs.Chains.{Chained}
 use Rattle.mc_card.specs.declared.card.Card.{Card}
 use Rattle.mc_card.specs.Parts.{RunsChain, view_in}
-use Rattle.desk_draft.specs.Listings.{Source}
-use Rattle.desk_cover.specs.Sections.{index_of}
 use Rattle.desk_cover.specs.Watching.{code_on, full_turn_of, name_in}
 
 -- ---- registers
@@ -104,14 +102,3 @@ module _ {N : Type 0} (state : N → DeviceState) where
 
   pub same_chain : (c : Card N) (ch : Chain) (left : ℕ) (h : Chained) (r : RunsChain state c ch left) → Some h ≡ c.chain → r.chained ≡ h
   same_chain c ch left h r e = cc (sym r.is ∙ sym e)
-
-  -- the section that the running frame is of
-  pub running_index : (c : Card N) (ch : Chain) (left : ℕ) (h : Chained) (ss : List Source) (o : Option ℕ) → RunsChain state c ch left → Some h ≡ c.chain → o ≡ index_of 0 ss (name_in state c h.running) (code_on state c h.running) → o ≡ index_of 0 ss ch.frame.name (running_code ch)
-  running_index c ch left h ss o r e is =
-      let same = same_chain c ch left h r e in
-      let here : o ≡ index_of 0 ss (name_in state c r.chained.running) (code_on state c r.chained.running) = subst (λ (k : Chained). o ≡ index_of 0 ss (name_in state c k.running) (code_on state c k.running)) (sym same) is in
-      here ∙ ap (λ (n : List ℕ). index_of 0 ss n (code_on state c r.chained.running)) (chained_name c ch left r) ∙ ap (λ (k : List ℕ). index_of 0 ss ch.frame.name k) (chained_code c ch left r)
-
-  -- a card on which a chain runs has one
-  pub no_chain : (c : Card N) (ch : Chain) (left : ℕ) → RunsChain state c ch left → None ≡ c.chain → ⊥
-  no_chain c ch left r e = absurd (cc (e ∙ r.is))

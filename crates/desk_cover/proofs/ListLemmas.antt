@@ -1,9 +1,9 @@
 -- Lists that are changed, compared or grown element by element.
-use Rattle.std.proofs.Common.{◌≡◌, ℕ, zero, suc, ◌+◌, ◌<◌, ◌≤◌, true, false, List, [], ◌∷◌, ◌++◌, length, take, drop, get_or, refl, arith, sym, ap, subst, ◌∙◌, add-one, drop-cons, append_assoc}
+use Rattle.std.proofs.Common.{◌≡◌, ℕ, zero, suc, ◌+◌, ◌<◌, ◌≤◌, true, List, [], ◌∷◌, ◌++◌, length, take, drop, get_or, refl, arith, sym, ap, subst, ◌∙◌, add-one, drop-cons}
 use Rattle.std.specs.Prelude.{bytes_eq, map, slice_set}
 use Rattle.std.proofs.Math.Seq.{take-add}
 use Rattle.std.proofs.lemmas.List.{append-nil}
-use Rattle.mc_base.specs.model_device.proofs.MapLemmas.{name_is_itself, same_name}
+use Rattle.mc_base.specs.model_device.proofs.MapLemmas.{name_is_itself}
 
 -- ---- a list whose elements are changed one after the other
 
@@ -48,14 +48,6 @@ alike_whole a b n h x y =
     whole (x ∷ c) zero h = absurd (omega (arith, h))
     whole (x ∷ c) (suc n) h = ap (λ t. x ∷ t) (whole c n (omega (arith, h)))
 
--- two lists with a piece that differs are not equal
-pub piece_differs : (a b : List ℕ) (i n : ℕ) → (take n (drop i a) ≡ take n (drop i b) → ⊥) → bytes_eq a b ≡ false
-piece_differs a b i n differ = by_bool (bytes_eq a b) refl
-  where
-    by_bool : (c : _) → bytes_eq a b ≡ c → bytes_eq a b ≡ false
-    by_bool true e = absurd (differ (ap (λ t. take n (drop i t)) (same_name a b e)))
-    by_bool false e = e
-
 -- ---- lists of which elements are left
 
 -- what is left from an index on is the element there and those after it
@@ -67,11 +59,6 @@ none_left [] zero h = refl
 none_left [] (suc i) h = refl
 none_left (x ∷ xs) zero h = absurd (omega (arith, h))
 none_left (x ∷ xs) (suc i) h = none_left xs i (omega (arith, h))
-
--- a list that grew by the element at an index, and then by those that are left
-pub grown_on : {A B : Type 0} (f : A → B) (d : A) (xs : List A) (i : ℕ) (grown : List B) (x : B) → i < length xs → x ≡ f (get_or xs i d) → (grown ++ x ∷ []) ++ map f (drop (i + 1) xs) ≡ grown ++ map f (drop i xs)
-grown_on f d xs i grown x h e =
-    append_assoc grown (x ∷ []) (map f (drop (i + 1) xs)) ∙ ap (λ y. grown ++ y ∷ map f (drop (i + 1) xs)) e ∙ ap (λ ys. grown ++ map f ys) (sym (left_at d xs i h))
 
 pub grown_end : {A B : Type 0} (f : A → B) (xs : List A) (i : ℕ) (grown : List B) → length xs ≤ i → grown ≡ grown ++ map f (drop i xs)
 grown_end f xs i grown h = sym (append-nil grown) ∙ ap (λ ys. grown ++ map f ys) (sym (none_left xs i h))

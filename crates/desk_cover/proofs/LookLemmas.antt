@@ -185,15 +185,3 @@ module _ {N : Type 0} (state : N → DeviceState) where
       → stack ≡ cond (bytes_eq (name_in state c h.running) s.name.items) (stack_of h.running.frame) (take (dt - s.floor) s.stack.items) → stack ≡ stack_after f dt next
   stack_seen s c h f code stack dt (Ends o) e scene shows is = absurd (cc (e ∙ shows))
   stack_seen s c h f code stack dt (Continues ch) e scene shows is = stack_on s c h f code stack dt ch shows.0 e scene shows.1 is
-
-  -- a card on which no chain runs
-  no_next : {P : Type 0} (c : Card N) (ch : Chain) → None ≡ c.chain → Shows state c (Continues ch) → P
-  no_next c ch e shows = absurd (cc (e ∙ shows.1.is))
-
-  pub operand_left : (c : Card N) (f : Frame) (p : Option (Place × ℕ)) (bytes : List ℕ) (next : Follows) → None ≡ c.chain → Shows state c next → bytes ≡ [] → bytes ≡ operand_after f p next
-  operand_left c f p bytes (Ends o) e shows is = is
-  operand_left c f p bytes (Continues ch) e shows is = no_next c ch e shows
-
-  pub stack_left : (s : Scene) (c : Card N) (f : Frame) (code : Option (List ℕ)) (stack : List ℕ) (dt : ℕ) (next : Follows) → None ≡ c.chain → IsScene s f code → Shows state c next → stack ≡ take (dt - s.floor) s.stack.items → stack ≡ stack_after f dt next
-  stack_left s c f code stack dt (Ends o) e scene shows is = is ∙ ap (λ (n : ℕ). take (dt - n) s.stack.items) scene.floor ∙ ap (λ (b : List ℕ). take (dt - floor f) b) scene.stack
-  stack_left s c f code stack dt (Continues ch) e scene shows is = no_next c ch e shows

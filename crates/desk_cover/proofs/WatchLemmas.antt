@@ -1,5 +1,5 @@
 -- Cards between the turns of a command: what a watcher may look at.
-use Rattle.std.proofs.Common.{◌≡◌, ℕ, List, Option, Some, Ok, sym, ap, subst, ◌∙◌}
+use Rattle.std.proofs.Common.{◌≡◌, ℕ, List, Option, Some, Ok, sym, ap, subst}
 use Rattle.std.specs.Prelude.{not, IfSome}
 use Rattle.mc_base.specs.model_device.specs.Orders.{Answer}
 use Rattle.mc_base.specs.model_device.specs.Device.{DeviceState}
@@ -22,10 +22,6 @@ module _ {N : Type 0} (state : N → DeviceState) where
   -- a card before a turn
   pub running_watched : (c : Card N) → IsRunning state c → IsWatched state c
   running_watched c h = chain_watched c h.0 h.1 h.2
-
-  -- the running frame of a card
-  pub watched_frame : (c : Card N) (o : Option Chained) (h : Chained) → IsWatched state c → o ≡ c.chain → o ≡ Some h → FrameRuns state c h.running
-  watched_frame c o h w e f = subst (λ (o : Option Chained). IfSome o (λ h. FrameRuns state c h.running)) (sym e ∙ f) w
 
   pub watched_chain : (c : Card N) (h : Chained) → IsWatched state c → Some h ≡ c.chain → FrameRuns state c h.running
   watched_chain c h w e = subst (λ (o : Option Chained). IfSome o (λ h. FrameRuns state c h.running)) (sym e) w

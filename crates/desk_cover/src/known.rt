@@ -5,7 +5,7 @@ ghost use Rattle.mc_arith.specs.model_machine.specs.Chain.{Chain as ModelChain};
 ghost use Rattle.desk_draft.specs.FullTurns.{running_code};
 ghost use Rattle.mc_card.specs.Parts.{IsRunning, RunsChain};
 ghost use Rattle.desk_cover.specs.Looking.{section_at};
-ghost use Rattle.desk_cover.specs.Known.{FitsKnown, IsKnownAfter, Knows};
+ghost use Rattle.desk_cover.specs.Known.{IsKnownAfter, Knows};
 ghost use Rattle.desk_cover.specs.Sections.{index_of};
 ghost use Rattle.desk_cover.specs.Watching.{FrameRuns, IsWatched, code_on, name_in};
 

@@ -1,5 +1,5 @@
 // The record of LCOV (geninfo, "tracefile") of lines of code with their counts.
-ghost use Rattle.std.specs.Prelude.{◌≡◌, ◌+◌, ◌-◌, ◌*◌, ◌≤◌, ◌++◌};
+ghost use Rattle.std.specs.Prelude.{◌≡◌, ◌+◌, ◌-◌, ◌≤◌, ◌++◌};
 ghost use Rattle.std.specs.Prelude.{codes, cond, decimal, filter, length, nat_lt};
 ghost use Rattle.arrayvec.specs.ArrayVec.{array_vec_len};
 ghost use Rattle.mc_text.specs.Texts.{sunk, Puts};
