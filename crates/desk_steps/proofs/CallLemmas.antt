@@ -1,6 +1,6 @@
 -- The lines of a turn: the first frame before it, its own, and that of the frame that it called.
 use Rattle.std.proofs.Common.{◌≡◌, ℕ, zero, suc, ◌+◌, ◌≤◌, Bool, true, false, cond, List, [], ◌++◌, Option, Some, None, codes, Result, Ok, Err, refl, arith, sym, ap, subst, ◌∙◌}
-use Rattle.std.specs.Prelude.{get_or, length, min, option_map, slice_set}
+use Rattle.std.specs.Prelude.{get_or, length, min, slice_set}
 use Rattle.law_steps.specs.model_device.specs.Bytes.{lookup}
 use Rattle.law_steps.specs.model_device.specs.Device.{DeviceState}
 use Rattle.law_steps.specs.model_machine.specs.declared.instruction.Ins.{Ins}

@@ -1,6 +1,6 @@
 -- Shots of the frame that ran a turn, before it and after it.
 use Rattle.std.proofs.Common.{◌≡◌, ◌≢◌, inl, inr, ℕ, ◌-◌, ◌≤◌, Bool, true, false, cond, List, [], ◌∷◌, Option, Some, None, refl, sym, ap, subst, arith, ◌∙◌}
-use Rattle.std.specs.Prelude.{bytes_eq, length, not, take, is_some, option_map, IsSome}
+use Rattle.std.specs.Prelude.{bytes_eq, length, not, take, is_some, IsSome}
 use Rattle.law_steps.specs.model_device.specs.Bytes.{lookup}
 use Rattle.law_steps.specs.model_device.specs.Device.{DeviceState}
 use Rattle.law_steps.specs.model_machine.specs.declared.instruction.Ins.{Ins}

@@ -1,5 +1,5 @@
 // The keys of frames and turns.
-ghost use Rattle.std.specs.Prelude.{◌≡◌, ℕ, ◌≤◌, ◌++◌, length, option_map, Option, Some, IfSome};
+ghost use Rattle.std.specs.Prelude.{ℕ, ◌≤◌, length, Option, Some, IfSome};
 ghost use Rattle.law_steps.specs.model_machine.specs.Code.{Shaped};
 ghost use Rattle.law_steps.specs.model_machine.specs.Chain.{Abended};
 ghost use Rattle.law_steps.specs.model_text.specs.TurnText.{bit_text, ins_text};

@@ -1,5 +1,5 @@
 // What is kept of the frames of a play between two turns: their bytes, their protection and the device writes.
-ghost use Rattle.std.specs.Prelude.{◌≡◌, ◌≤◌, ℕ, bytes_eq, get_or, length, option_map, slice_set, take, false, IsSome, Some, []};
+ghost use Rattle.std.specs.Prelude.{◌≡◌, ◌≤◌, ℕ, bytes_eq, get_or, length, slice_set, take, false, IsSome, Some, []};
 ghost use Rattle.law_steps.specs.model_device.specs.Bytes.{lookup};
 ghost use Rattle.mc_bank.specs.Bank.{app_of};
 ghost use Rattle.law_steps.specs.model_machine.specs.Chain.{depth_of, turn_of, Chain as ModelChain, Follows};

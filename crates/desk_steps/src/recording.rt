@@ -1,5 +1,5 @@
 // The lines of frames and turns, as a recorder writes them.
-ghost use Rattle.std.specs.Prelude.{◌≡◌, ◌≤◌, length, ℕ, Option, [], ◌++◌, codes, get_or, option_map, slice_set, Some, None, true, false, IfSome};
+ghost use Rattle.std.specs.Prelude.{◌≡◌, ◌≤◌, length, ℕ, Option, [], ◌++◌, codes, get_or, slice_set, Some, None, true, false, IfSome};
 ghost use Rattle.law_steps.specs.model_machine.specs.Code.{Shaped};
 ghost use Rattle.law_steps.specs.model_machine.specs.Chain.{depth_of, turn_of, Chain as ModelChain, Follows};
 ghost use Rattle.mc_card.specs.Parts.{IsUp, RunsChain};

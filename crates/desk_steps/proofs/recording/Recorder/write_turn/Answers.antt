@@ -1,5 +1,5 @@
 use Rattle.std.proofs.Common.{◌≡◌, ℕ, List, [], Bool, false, Option, refl, ap, subst, rules, ◌∙◌}
-use Rattle.std.specs.Prelude.{get_or, option_map}
+use Rattle.std.specs.Prelude.{get_or}
 use Rattle.mc_text.specs.Texts.{sunk}
 use Rattle.law_steps.specs.Nexts.{open_by}
 use Rattle.desk_json.specs.Sheets.{PutsOn}
