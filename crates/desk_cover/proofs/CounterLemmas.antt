@@ -12,6 +12,7 @@ use Rattle.desk_cover.specs.Watching.{full_turn_of}
 use Rattle.desk_cover.proofs.CountLemmas.{counted_turn}
 use Rattle.desk_cover.proofs.FullTurnLemmas.{code_is, frame_name, turn_is, turn_registers}
 
+-- a counter that counts a turn counts the full turn of its chain
 pub counted_full : (q r : Counter) (o : Option ℕ) (turn : BriefTurn) (outcome : Outcome) (n : ℕ) (ch : Chain) → (turn_of n ch).turn ≡ turn_value (full_turn turn outcome) (turn_of n ch).turn.wrote → r.sections.now ≡ q.sections.now → o ≡ index_of 0 q.sections.now ch.frame.name (running_code ch) → r.lines.items ≡ lines_by o turn q.lines.items
     → Counted q (full_turn_of n ch ∷ []) r
 counted_full q r o turn outcome n ch turned same index by =

@@ -38,6 +38,7 @@ fetch_registers ch (Err Undefined) = record { dt = refl; c = refl; z = refl }
 fetch_registers ch (Err Past) = record { dt = refl; c = refl; z = refl }
 fetch_registers ch (Ok i) = row_registers ch i.0 (row i.0 (frame_at ch.frame i.1) ch.public (around ch))
 
+-- the frame that a full turn leaves has the registers that the turn records
 pub turn_registers : (n : ℕ) (ch : Chain) → Registers (full_turn_of n ch).frame (turn_of n ch).turn
 unfolding full_turn turn_of_chain
 turn_registers zero ch = record { dt = refl; c = refl; z = refl }
@@ -94,11 +95,13 @@ module _ {N : Type 0} (state : N → DeviceState) where
   pub chained_name : (c : Card N) (ch : Chain) (left : ℕ) (r : RunsChain state c ch left) → name_in state c r.chained.running ≡ ch.frame.name
   chained_name c ch left r = ap (λ (s : Seen). s.name) r.runs.running.same
 
+  -- the code of a chain's running frame on a card is that of the definitions
   pub chained_code : (c : Card N) (ch : Chain) (left : ℕ) (r : RunsChain state c ch left) → code_on state c r.chained.running ≡ running_code ch
   chained_code c ch left r =
       let name = chained_name c ch left r in
       named_code (view_in state c).state.apps ((view_in state c).named r.chained.running.slot) ch.frame.name (there_is ((view_in state c).named r.chained.running.slot) ch.frame.name r.runs.running.fits.there name)
       ∙ ap (λ (m : List (List ℕ × App)). code_in (lookup m ch.frame.name)) (sym r.runs.map)
 
+  -- the chain that a card runs is its only one
   pub same_chain : (c : Card N) (ch : Chain) (left : ℕ) (h : Chained) (r : RunsChain state c ch left) → Some h ≡ c.chain → r.chained ≡ h
   same_chain c ch left h r e = cc (sym r.is ∙ sym e)

@@ -128,6 +128,7 @@ module _ {N : Type 0} (state : N → DeviceState) where
       subst (λ (n : List ℕ). FitsKnown ss n (running_code ch) k) (name_of_frame c ch left h r e)
       (subst (λ (x : List ℕ). FitsKnown ss (name_in state c h.running) x k) (code_of_frame c ch left h r e) running)
 
+  -- what is known of the application that runs is known of its frame
   pub known_followed : (c : Card N) (ss : List Source) (j k : Known) (h : Chained) (f : Held) → Some h ≡ c.chain → f ≡ h.running → IsKnownAfter ss (name_in state c f) (code_on state c f) j k → (ch : Chain) (left : ℕ) → RunsChain state c ch left
       → IsKnownAfter ss ch.frame.name (running_code ch) j k
   known_followed c ss j k h f e same after ch left r =

@@ -13,6 +13,7 @@ map_rest f i [] = []
 map_rest f zero (x ∷ xs) = f x ∷ map f xs
 map_rest f (suc i) (x ∷ xs) = x ∷ map_rest f i xs
 
+-- the elements from the first on are all of them
 pub rest_start : {A : Type 0} (f : A → A) (xs : List A) → map_rest f 0 xs ≡ map f xs
 rest_start f [] = refl
 rest_start f (x ∷ xs) = refl
@@ -22,9 +23,11 @@ rest_next f d [] i h = absurd (omega (arith, h))
 rest_next f d (x ∷ xs) zero h = ap (λ ys. f x ∷ ys) (rest_start f xs)
 rest_next f d (x ∷ xs) (suc i) h = ap (λ ys. x ∷ ys) (rest_next f d xs i (omega (arith, h)))
 
+-- with an element changed, those after it are left to change
 pub rest_step : {A : Type 0} (f : A → A) (d : A) (xs : List A) (i : ℕ) → i < length xs → map_rest f (i + 1) (slice_set xs i (f (get_or xs i d))) ≡ map_rest f i xs
 rest_step f d xs i h = subst (λ (k : ℕ). map_rest f k (slice_set xs i (f (get_or xs i d))) ≡ map_rest f i xs) (sym (add-one i)) (rest_next f d xs i h)
 
+-- no element is left to change from the end on
 pub rest_end : {A : Type 0} (f : A → A) (xs : List A) (n : ℕ) → length xs ≤ n → map_rest f n xs ≡ xs
 rest_end f [] n h = refl
 rest_end f (x ∷ xs) zero h = absurd (omega (arith, h))
@@ -54,12 +57,14 @@ alike_whole a b n h x y =
 pub left_at : {A : Type 0} (d : A) (xs : List A) (i : ℕ) → i < length xs → drop i xs ≡ get_or xs i d ∷ drop (i + 1) xs
 left_at d xs i h = subst (λ (k : ℕ). drop i xs ≡ get_or xs i d ∷ drop k xs) (sym (add-one i)) (drop-cons xs i d h)
 
+-- no element is left from the end on
 pub none_left : {A : Type 0} (xs : List A) (i : ℕ) → length xs ≤ i → drop i xs ≡ []
 none_left [] zero h = refl
 none_left [] (suc i) h = refl
 none_left (x ∷ xs) zero h = absurd (omega (arith, h))
 none_left (x ∷ xs) (suc i) h = none_left xs i (omega (arith, h))
 
+-- a list that grew by all elements is grown
 pub grown_end : {A B : Type 0} (f : A → B) (xs : List A) (i : ℕ) (grown : List B) → length xs ≤ i → grown ≡ grown ++ map f (drop i xs)
 grown_end f xs i grown h = sym (append-nil grown) ∙ ap (λ ys. grown ++ map f ys) (sym (none_left xs i h))
 

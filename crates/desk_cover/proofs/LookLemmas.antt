@@ -34,6 +34,7 @@ register_by f tag false e =
     let six : (tag == 6) ≡ false = grind (arith, nat_tests, e) in
     ap (register f) same ∙ sym (rw (one, two, three, four, five, six) refl)
 
+-- every register number from seven on is one without an address
 pub register_seven : (f : Frame) (tag : ℕ) (off : ℤ) → resolve f (min tag 7) off ≡ resolve f tag off
 register_seven f tag off = ap (λ (r : ℕ). moved_address r off) (register_by f tag (nat_le tag 7) refl)
 
@@ -102,6 +103,7 @@ module _ {N : Type 0} (state : N → DeviceState) where
         public = r.runs.public;
       }
 
+  -- a running chain of a card is that of the definitions in what is looked at
   pub alike : (c : Card N) (ch : Chain) (left : ℕ) (h : Chained) → RunsChain state c ch left → Some h ≡ c.chain → Alike c ch h
   alike c ch left h r e = subst (λ (k : Chained). Alike c ch k) (same_chain state c ch left h r e) (alike_chained c ch left r)
 
@@ -162,6 +164,7 @@ module _ {N : Type 0} (state : N → DeviceState) where
       ∙ ap (λ (n : List ℕ). cond (bytes_eq ch.frame.name n) (bytes_there (frame_in state c h.running) h.public (option_map place_pair s.place)) []) scene.name
       ∙ ap (λ (b : List ℕ). cond (bytes_eq ch.frame.name f.name) b []) there
 
+  -- the bytes of the operand that a watcher keeps are those of the frame
   pub operand_seen : (s : Scene) (c : Card N) (h : Chained) (f : Frame) (code bytes : List ℕ) (next : Follows) → Some h ≡ c.chain → IsScene s f (Some code) → Shows state c next → LiesAfter (place_in f (span_in f code)) next
       → (IfSome s.place (λ p. lies_in_segment h.running.frame h.public p.0 p.1 ≡ true) → bytes ≡ cond (bytes_eq (name_in state c h.running) s.name.items) (bytes_there (frame_in state c h.running) h.public (option_map place_pair s.place)) [])
       → bytes ≡ operand_after f (place_in f (span_in f code)) next
@@ -181,6 +184,7 @@ module _ {N : Type 0} (state : N → DeviceState) where
       ∙ ap (λ (n : ℕ). cond (bytes_eq ch.frame.name f.name) (stack_of ch.frame) (take (dt - n) s.stack.items)) scene.floor
       ∙ ap (λ (b : List ℕ). cond (bytes_eq ch.frame.name f.name) (stack_of ch.frame) (take (dt - floor f) b)) scene.stack
 
+  -- the stack that a watcher keeps is that of the frame
   pub stack_seen : (s : Scene) (c : Card N) (h : Chained) (f : Frame) (code : Option (List ℕ)) (stack : List ℕ) (dt : ℕ) (next : Follows) → Some h ≡ c.chain → IsScene s f code → Shows state c next
       → stack ≡ cond (bytes_eq (name_in state c h.running) s.name.items) (stack_of h.running.frame) (take (dt - s.floor) s.stack.items) → stack ≡ stack_after f dt next
   stack_seen s c h f code stack dt (Ends o) e scene shows is = absurd (cc (e ∙ shows))

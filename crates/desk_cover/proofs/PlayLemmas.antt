@@ -34,9 +34,11 @@ module _ {N : Type 0} (state : N → DeviceState) (bench : N → BenchState) whe
     pub rest : (ws : List (Option FailedWrite)) (b : Bench) (new : ℕ) → Played here left ws (bench_of state bench p) b → PlaySteps (plays here left ws) now new
         → (vs : List (Option FailedWrite)) × Played s ls vs a b × PlaySteps (plays s ls vs) old new × (flat_map turns_of_step (plays s ls vs) ≡ done ++ flat_map turns_of_step (plays here left ws))
 
+  -- before the first line all lines are left, with what the counter has
   pub counting_start : (s : State) (ls : List (ℕ × DeckLine)) (p : Player N) (q : Counter) (old : ℕ) → IsPlayerAt state bench p s → Counting s ls (bench_of state bench p) q old ls p q old
   counting_start s ls p q old at = record { here = s; at = at; done = []; counted = counted_none q; rest = λ ws b new h k. (ws, h, k, refl) }
 
+  -- if no line is left, the counter has the whole play
   pub counting_end : (s : State) (ls : List (ℕ × DeckLine)) (a : Bench) (q : Counter) (p : Player N) (r : Counter) (old now : ℕ) → Counting s ls a q old [] p r now → CountsPlay s ls a (bench_of state bench p) q r old now
   counting_end s ls a q p r old now h =
       let none = plays_none h.here in
@@ -44,6 +46,7 @@ module _ {N : Type 0} (state : N → DeviceState) (bench : N → BenchState) whe
       let are : flat_map turns_of_step (plays s ls all.0) ≡ h.done = all.3 ∙ ap (λ (ts : List Step). h.done ++ flat_map turns_of_step ts) none ∙ append-nil h.done in
       record { worn = all.0; played = all.1; steps = all.2; counted = subst (λ (ts : List FullTurn). Counted q ts r) (sym are) h.counted }
 
+  -- a line that was counted leaves those after it
   pub counting_on : (s : State) (ls : List (ℕ × DeckLine)) (a : Bench) (q : Counter) (left : List (ℕ × DeckLine)) (n : ℕ) (l : DeckLine) (p v : Player N) (before after : Counter) (answer : Option Answer) (old now new : ℕ) → Counting s ls a q old ((n, l) ∷ left) p before now
       → LineDone state bench (Watches full_turn_of Counted (sent_by state p l)) p l before after answer v → CountsLine state bench p l answer now new → Counting s ls a q old left v after new
   counting_on s ls a q left n l p v before after answer old now new h done counts =

@@ -17,14 +17,18 @@ none_left [] (suc i) h = refl
 none_left (c ∷ cs) zero h = absurd (omega (arith, h))
 none_left (c ∷ cs) (suc i) h = none_left cs i (omega (arith, h))
 
+-- the text of lines from one on is its own and that of those after it
 pub line_at : (cs : List LineCount) (i : ℕ) → i < length cs → lines_text (drop i cs) ≡ line_text (get_or cs i no_line) ++ lines_text (drop (i + 1) cs)
 line_at cs i h = ap lines_text (left_at cs i h)
 
+-- no text is left past the last line
 pub no_line_left : (cs : List LineCount) (i : ℕ) → length cs ≤ i → lines_text (drop i cs) ≡ []
 no_line_left cs i h = ap lines_text (none_left cs i h)
 
+-- the text of branches from a line on is its own and that of those after it
 pub branch_at : (cs : List LineCount) (i : ℕ) → i < length cs → branches_text (drop i cs) ≡ branch_text (get_or cs i no_line) ++ branches_text (drop (i + 1) cs)
 branch_at cs i h = ap branches_text (left_at cs i h)
 
+-- no text of branches is left past the last line
 pub no_branch_left : (cs : List LineCount) (i : ℕ) → length cs ≤ i → branches_text (drop i cs) ≡ []
 no_branch_left cs i h = ap branches_text (none_left cs i h)

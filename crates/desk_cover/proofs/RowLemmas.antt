@@ -34,6 +34,7 @@ shape_goes (ins.Exitswla sw la) f public x = tt
 shape_goes (ins.Prim set number args) f public x = tt
 shape_goes i f public x = on_span ((shape i f public x).next ≡ Goes) (span_of i) refl
 
+-- a row that has an operand goes on
 pub row_goes : (i : Ins) (f : Frame) (public : List ℕ) (x : Around) → OnDone (row i f public x) (λ d. SpanGoes i d)
 unfolding row
 row_goes i f public x =

@@ -219,6 +219,7 @@ pub record IsTurnOf (turn : Turn) (ss : List Source) (o : Option ℕ) (t : FullT
   pub same : t.turn ≡ turn_value turn wrote
   pub section : section_at ss o ≡ section_of_turn ss t
 
+-- the turn that a card shows is that of its full turn, with its section
 pub is_turn : (n : ℕ) (ch : Chain) (turn : Turn) (ss : List Source) (o : Option ℕ) → (turn_of n ch).turn ≡ turn_value turn (turn_of n ch).turn.wrote → o ≡ index_of 0 ss ch.frame.name (running_code ch) → IsTurnOf turn ss o (full_turn_of n ch)
 is_turn n ch turn ss o turned e = record { wrote = (turn_of n ch).turn.wrote; same = turn_is n ch ∙ turned; section = section_is n ch ss o e }
 

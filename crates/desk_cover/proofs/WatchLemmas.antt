@@ -23,6 +23,7 @@ module _ {N : Type 0} (state : N → DeviceState) where
   pub running_watched : (c : Card N) → IsRunning state c → IsWatched state c
   running_watched c h = chain_watched c h.0 h.1 h.2
 
+  -- the chain of a card that may be looked at runs its frame
   pub watched_chain : (c : Card N) (h : Chained) → IsWatched state c → Some h ≡ c.chain → FrameRuns state c h.running
   watched_chain c h w e = subst (λ (o : Option Chained). IfSome o (λ h. FrameRuns state c h.running)) (sym e) w
 

@@ -133,6 +133,7 @@ module _ {T : Type 0} (sink : Ghosts T) where
   abbrev pub found_moves : Recorder T → BriefTurn → ℕ
   found_moves f turn = moves_by_shots turn f.memory.before f.memory.after (get_or f.memory.opens (frame_place turn.depth) false) (get_or f.memory.guards (frame_place turn.depth) [])
 
+  -- the words that wait after a turn, by what its recorder kept
   abbrev pub found_waits : Recorder T → BriefTurn → List ℕ
   found_waits f turn = waits_by_shots turn f.memory.before f.memory.after (get_or f.memory.opens (frame_place turn.depth) false) (get_or f.memory.guards (frame_place turn.depth) [])
 

@@ -21,6 +21,7 @@ three_runs s d p a b any first second =
     let last : b ≡ any_run any (s ++ d) = second ∙ ap (λ (x : Bool). any_run x d) first ∙ any_append any s d in
     ap (λ (t : List ℕ). t ++ runs_more b p) two ∙ ap (λ (x : Bool). runs_more any (s ++ d) ++ runs_more x p) last ∙ more_append any (s ++ d) p
 
+-- texts one after the other may be grouped from the second on
 pub bracketed : (o a b c e : List ℕ) → (((o ++ a) ++ b) ++ c) ++ e ≡ (o ++ ((a ++ b) ++ c)) ++ e
 bracketed o a b c e = ap (λ (t : List ℕ). t ++ e) (ap (λ (t : List ℕ). t ++ c) (append_assoc o a b) ∙ append_assoc o (a ++ b) c)
 

@@ -43,9 +43,11 @@ module _ {T : Type 0} (sink : Ghosts T) {N : Type 0} (state : N → DeviceState)
     pub rest : (ws : List (Option FailedWrite)) (b : Bench) (new : ℕ) → Played here left ws (bench_of state bench p) b → PlaySteps (plays here left ws) now new
         → (vs : List (Option FailedWrite)) × Played s ls vs a b × PlaySteps (plays s ls vs) old new × ((more : List ℕ) → ShowsSteps q.sections.now script (plays here left ws) more → ShowsSteps q.sections.now script (plays s ls vs) (text ++ more))
 
+  -- before the first line all lines are left, with what the recorder has
   pub recording_start : (s : State) (ls : List (ℕ × DeckLine)) (p : Player N) (q : Recorder T) (old : ℕ) → IsPlayerAt state bench p s → Recording s ls (bench_of state bench p) q old ls p q old
   recording_start s ls p q old at = record { here = s; at = at; text = []; adds = puts_none sink q; sections = refl; rest = λ ws b new h k. (ws, h, k, λ more shows. shows) }
 
+  -- if no line is left, the recorder has the whole play
   pub recording_end : (s : State) (ls : List (ℕ × DeckLine)) (a : Bench) (q : Recorder T) (p : Player N) (r : Recorder T) (old now : ℕ) → Recording s ls a q old [] p r now → RecordsPlay sink script s ls a (bench_of state bench p) q r old now
   recording_end s ls a q p r old now h =
       let none = plays_none h.here in
@@ -108,6 +110,7 @@ module _ {T : Type 0} (sink : Ghosts T) {N : Type 0} (state : N → DeviceState)
         puts_on sink q m r turns (frame ++ line) adds_turns adds,
       )
 
+  -- a line that was recorded leaves those after it
   pub recording_on : (s : State) (ls : List (ℕ × DeckLine)) (a : Bench) (q : Recorder T) (left : List (ℕ × DeckLine)) (n : ℕ) (l : DeckLine) (p v : Player N) (before begun after last : Recorder T) (answer : Option Answer) (statement frame : List ℕ) (old now new : ℕ) → Recording s ls a q old ((n, l) ∷ left) p before now → statement ≡ statement_at n script
       → begun.out ≡ before.out → begun.fault ≡ before.fault → BeginsLine before.sections.now l begun → LineDone state bench (Watches moment (Recorded sink) (sent_by state p l)) p l begun after answer v → CountsLine state bench p l answer now new
       → StoppedBy after frame → PutsText sink after (frame ++ line_text n statement (option_map (answer_value state v) answer)) last → last.sections.now ≡ after.sections.now → Recording s ls a q old left v last new

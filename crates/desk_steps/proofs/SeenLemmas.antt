@@ -233,6 +233,7 @@ pub record IsTurn (turn : BriefTurn) (n : ℕ) (ch : Chain) : Type 0 where
   pub depth : turn.depth ≡ depth_of ch
   pub place : frame_place turn.depth ≡ length ch.below
 
+-- the device writes that shots of a turn show are those of its chain
 pub moves_shown : (turn : BriefTurn) (s t : Shot) (n : ℕ) (ch : Chain) (os : List Bool) (ws : List (List ℕ)) → Sees s t n ch → IsTurn turn n ch
     → moves_by_shots turn s t (get_or os (frame_place turn.depth) false) (get_or ws (frame_place turn.depth) []) ≡ moves_in os ws n ch
 moves_shown turn s t n ch os ws h is =
@@ -244,6 +245,7 @@ moves_shown turn s t n ch os ws h is =
     ∙ ap (λ (d : ℕ). all u.end u.ins d (frame_place turn.depth)) is.depth ∙ ap (λ (k : ℕ). all u.end u.ins (depth_of ch) k) is.place
     ∙ ap (λ (w : ℕ). writes_of_words w) (now_spans u.end u.ins (span_seen s t (nat_lt 1 (depth_of ch))) (chain_span ch) (get_or os (length ch.below) false) (get_or ws (length ch.below) []) (λ j e goes. seen_span s t n ch j h e goes))
 
+-- the words that wait after a turn by its shots are those of its chain
 pub waits_shown : (turn : BriefTurn) (s t : Shot) (n : ℕ) (ch : Chain) (os : List Bool) (ws : List (List ℕ)) → Sees s t n ch → IsTurn turn n ch
     → (let u = (turn_of n ch).turn in waits_by_shots turn s t (get_or os (frame_place turn.depth) false) (get_or ws (frame_place turn.depth) []) ≡ waits_of u.end u.ins (chain_span ch) (get_or os (length ch.below) false) (get_or ws (length ch.below) []))
 waits_shown turn s t n ch os ws h is =

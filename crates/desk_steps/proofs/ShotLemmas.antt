@@ -217,6 +217,7 @@ module _ {N : Type 0} (state : N → DeviceState) where
   left_lb c name lb old (Ends o) e shows is = is
   left_lb c name lb old (Continues ch) e shows is = absurd (cc (e ∙ shows.1.is))
 
+  -- a card that runs no chain shows what the frame read before
   pub left_reading : (c : Card N) (name : List ℕ) (new old : Reading) (dt : ℕ) (next : Follows) → None ≡ c.chain → Shows state c next → new ≡ old → new ≡ shown_reading next name old dt
   left_reading c name new old dt (Ends o) e shows is = is
   left_reading c name new old dt (Continues ch) e shows is = absurd (cc (e ∙ shows.1.is))
@@ -228,6 +229,7 @@ module _ {N : Type 0} (state : N → DeviceState) where
       let like = alike state c ch shows.0 h shows.1 e in
       ap not (is ∙ ap (λ (m : List ℕ). bytes_eq m name) like.name)
 
+  -- a card that runs no chain has no other frame
   pub left_other : (c : Card N) (name : List ℕ) (next : Follows) → None ≡ c.chain → Shows state c next → false ≡ is_other next name
   left_other c name (Ends o) e shows = refl
   left_other c name (Continues ch) e shows = absurd (cc (e ∙ shows.1.is))
