@@ -6,18 +6,18 @@ use Rattle.law_histories.specs.model_text.specs.Text.{◌>>=◌, err_as, fields,
 use Rattle.law_histories.specs.model_play.specs.declared.deck.DeckCause.{DeckCause}
 use Rattle.law_histories.specs.model_play.specs.DeckGrammar.{DeckLine}
 use Rattle.law_histories.specs.law_explore.specs.Rules as model
-use Rattle.law_histories.specs.law_explore.specs.Rules.{begins_with, is_marked, line_if, marked_lines, move_line, stays_inside, with_line, with_rule, without_field}
+use Rattle.law_histories.specs.law_explore.specs.Rules.{is_marked, line_if, marked_lines, move_line, stays_inside, with_line, with_rule, without_field}
 use Rattle.law_histories.specs.Histories.{is_rule_of}
 use Rattle.mc_text.specs.Reading.{next_line}
 use Rattle.mc_text.proofs.ReadingLemmas.{lines_at, lines_from}
-use Rattle.mc_deck.specs.Refused.{DeckRefuses}
+use Rattle.mc_deck.specs.Refused.{DeckRefuses, Faulty}
 use Rattle.lab_rules.specs.declared.rules.Move.{Move}
 use Rattle.lab_rules.specs.declared.rules.Allowance.{Allowance}
 use Rattle.lab_rules.specs.declared.rules.OnRule.{OnRule}
 use Rattle.lab_rules.specs.declared.rules.Rules.{Rules}
-use Rattle.lab_rules.specs.declared.fault.Fault.{Fault}
-use Rattle.lab_rules.specs.declared.fault.Fault.TheVariants as fault
-use Rattle.lab_rules.specs.Meanings.{refusal_at, rules_with, AreRuleLists, AreRules, AreRulesRead, Faulty}
+use Rattle.mc_deck.specs.declared.refusal.Fault.{Fault}
+use Rattle.mc_deck.specs.declared.refusal.Fault.TheVariants as fault
+use Rattle.lab_rules.specs.Meanings.{refusal_at, rules_with, AreRuleLists, AreRules, AreRulesRead}
 use Rattle.lab_moves.specs.Moves.{moves_from, moves_only, moves_read, moves_with, with_move, with_move_of, AreMovesRead, AreOnlyMoves}
 
 -- ---- one line

@@ -3,15 +3,15 @@ ghost use Rattle.std.specs.Prelude.{◌≡◌, ◌≤◌, ◌&&◌, List, codes,
 ghost use Rattle.law_histories.specs.model_text.specs.Text.{fields, lines};
 ghost use Rattle.law_histories.specs.law_explore.specs.Rules as model;
 ghost use Rattle.law_histories.specs.Histories.{is_rule_of};
-ghost use Rattle.mc_deck.specs.Refused.{DeckRefuses};
+ghost use Rattle.mc_deck.specs.Refused.{DeckRefuses, Faulty};
 ghost use Rattle.lab_rules.specs.Fields.{IsOneLine};
-ghost use Rattle.lab_rules.specs.Meanings.{AreRules, Faulty};
+ghost use Rattle.lab_rules.specs.Meanings.{AreRules};
 ghost use Rattle.lab_moves.specs.Moves.{moves_only, moves_read, moves_with, AreMovesRead, AreOnlyMoves};
 
 use crate::named::is_rule_of;
 use lab_match::stays_inside;
-use lab_rules::{Fault, Move, Rules, add_line, refusal_at};
-use mc_deck::DeckRefusal;
+use lab_rules::{Move, Rules, add_line, refusal_at};
+use mc_deck::{DeckRefusal, Fault};
 use mc_text::next_line;
 use std::alloc::Global;
 

@@ -13,18 +13,14 @@ use Rattle.lab_match.specs.law_explore.specs.Rules.{full_parts, move_line, name_
 use Rattle.lab_rules.specs.declared.rules.Move.{Move}
 use Rattle.lab_rules.specs.declared.rules.Allowance.{Allowance}
 use Rattle.lab_rules.specs.declared.rules.OnRule.{OnRule}
-use Rattle.lab_rules.specs.declared.fault.Fault.{Fault}
-use Rattle.lab_rules.specs.declared.fault.Fault.TheVariants as fault
+use Rattle.mc_deck.specs.declared.refusal.Fault.{Fault}
+use Rattle.mc_deck.specs.declared.refusal.Fault.TheVariants as fault
 use Rattle.lab_rules.specs.Moves.{IsMoveDeck}
 use Rattle.lab_rules.specs.Parts.{AreFullParts, IsParts}
-use Rattle.lab_rules.specs.Meanings.{allowance_value, allowance_values, effect_value, effected_on, named_on, occasion_value, on_from, on_of, place_of, AlikeLists, AreDistinct, AreListsRead, AreRuleLists, Faulty, IsMove, IsOn, IsOnRead}
+use Rattle.mc_deck.specs.Refused.{Faulty}
+use Rattle.lab_rules.specs.Meanings.{allowance_value, allowance_values, effect_value, effected_on, named_on, occasion_value, on_from, on_of, place_of, AlikeLists, AreDistinct, AreListsRead, AreRuleLists, IsMove, IsOn, IsOnRead}
 
 -- ---- refusals
-
--- a refusal is that of what follows
-pub faulty_on : {A B : Type 0} (x : Result A DeckCause) (step : A → Result B DeckCause) (e : Fault) → Faulty x e → Faulty (x >>= step) e
-faulty_on x step (fault.Cause c) h = ap (λ r. r >>= step) h
-faulty_on x step fault.NoMemory h = tt
 
 pub faulty_as : {A B : Type 0} (f : A → B) (x : Result A DeckCause) (e : Fault) → Faulty x e → Faulty (ok_as f x) e
 faulty_as f x (fault.Cause c) h = ap (ok_as f) h
@@ -179,13 +175,6 @@ unfolding with_rule
 on_rule r n text fs = sym (on_read_from n r (full_parts (parts_of occasion_words fs)))
 
 -- ---- an `on` line from its parts
-
--- refused in its second parts
-pub second_refused : (n : ℕ) (held : List (List ℕ × ℕ)) (x : Result (Parts model.Occasion) DeckCause) (moves rest : List ℕ) (v : model.Occasion) (e : Fault) → AreFullParts moves v rest x
-    → Faulty (full_parts (parts_of effect_words (fields rest))) e → Faulty (on_from n held x) e
-second_refused n held (Ok m) moves rest v e h g =
-    faulty_on (full_parts (parts_of effect_words m.2)) (λ o. named_on n held m o (name_and_amount o.2)) e (subst (λ (fs : List (List ℕ)). Faulty (full_parts (parts_of effect_words fs)) e) h.behind g)
-second_refused n held (Err c) moves rest v e h g = absurd h
 
 -- with all parts: what follows is read of its name and amount
 named_from : (n : ℕ) (held : List (List ℕ × ℕ)) (m : Parts model.Occasion) (y : Result (Parts model.Effect) DeckCause) (pattern rest : List ℕ) (v : model.Effect) → AreFullParts pattern v rest y

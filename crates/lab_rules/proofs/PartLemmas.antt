@@ -84,13 +84,6 @@ module _ {W : Type 0} (words : List (List ℕ × W)) where
       let i : full_parts (parts_of words all) ≡ Ok (h.front, v, fields rest) = ap full_parts (found all left pattern f (fields rest) v e n h) ∙ full_by false (h.front, v, fields rest) full in
       subst (AreFullParts pattern v rest) (sym i) (record { is = h.is; word = refl; behind = refl })
 
-  -- none before it
-  pub parts_bare : (all left : List (List ℕ)) (pattern f : List ℕ) (fs : List (List ℕ)) (v : W) → left ≡ f ∷ fs → Some v ≡ lookup words f → nat_eq (length pattern) 0 ≡ true → PartsLeft all left pattern
-      → full_parts (parts_of words all) ≡ Err BadLine
-  parts_bare all left pattern f fs v e n b h =
-      let none : is_empty h.front ≡ true = sym h.empty ∙ ap is_empty (sym h.is) ∙ length_empty pattern true b in
-      ap full_parts (found all left pattern f fs v e n h) ∙ full_by true (h.front, v, fs) none
-
   -- no word
   pub parts_none : (all left : List (List ℕ)) (pattern : List ℕ) → left ≡ [] → PartsLeft all left pattern → full_parts (parts_of words all) ≡ Err BadLine
   parts_none all left pattern e h = ap full_parts (h.leads ∙ ap (λ ls. with_front h.front (parts_of words ls)) e)

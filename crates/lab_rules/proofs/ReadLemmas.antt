@@ -13,19 +13,19 @@ use Rattle.mc_text.specs.Reading.{next_line}
 use Rattle.mc_text.proofs.ReadingLemmas.{lines_at, lines_from}
 use Rattle.mc_deck.specs.declared.refusal.DeckRefusal.{DeckRefusal}
 use Rattle.mc_deck.specs.declared.refusal.DeckRefusal.TheVariants as refusal
-use Rattle.mc_deck.specs.Refused.{DeckRefuses}
+use Rattle.mc_deck.specs.Refused.{DeckRefuses, Faulty}
 use Rattle.lab_rules.specs.declared.rules.Move.{Move}
 use Rattle.lab_rules.specs.declared.rules.Allowance.{Allowance}
 use Rattle.lab_rules.specs.declared.rules.OnRule.{OnRule}
-use Rattle.lab_rules.specs.declared.fault.Fault.{Fault}
-use Rattle.lab_rules.specs.declared.fault.Fault.TheVariants as fault
+use Rattle.mc_deck.specs.declared.refusal.Fault.{Fault}
+use Rattle.mc_deck.specs.declared.refusal.Fault.TheVariants as fault
 use Rattle.lab_rules.specs.declared.reading.Exploration.{Exploration}
 use Rattle.lab_match.specs.Fields.{rest_of}
 use Rattle.lab_match.proofs.FieldLemmas.{fields_trimmed}
 use Rattle.lab_rules.specs.Fields.{IsOneLine}
 use Rattle.lab_rules.proofs.FieldLemmas.{one_line_rest, one_line_trim, trim_rest}
 use Rattle.lab_rules.specs.declared.rules.Rules.{Rules}
-use Rattle.lab_rules.specs.Meanings.{is_plain_mark, is_rule, line_refusal, refusal_at, rule_of, rules_with, AlikeLists, AreListsRead, AreRuleLists, AreRules, AreRulesRead, IsMove, IsOn, RefusesExploration, Faulty, IsExplorationRead, IsRuleText}
+use Rattle.lab_rules.specs.Meanings.{is_plain_mark, is_rule, line_refusal, refusal_at, rule_of, rules_with, AlikeLists, AreListsRead, AreRuleLists, AreRules, AreRulesRead, IsMove, IsOn, RefusesExploration, IsExplorationRead, IsRuleText}
 
 -- ---- one line
 

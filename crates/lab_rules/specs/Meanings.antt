@@ -6,6 +6,8 @@ use Rattle.lab_match.specs.model_play.specs.declared.deck.DeckCause.{DeckCause}
 use Rattle.lab_match.specs.model_play.specs.declared.deck.DeckCause.TheVariants.{BadLine, UnknownName}
 use Rattle.mc_deck.specs.declared.refusal.DeckRefusal.{DeckRefusal}
 use Rattle.mc_deck.specs.declared.refusal.DeckRefusal.TheVariants as refusal
+use Rattle.mc_deck.specs.declared.refusal.Fault.{Fault}
+use Rattle.mc_deck.specs.declared.refusal.Fault.TheVariants as fault
 use Rattle.lab_match.specs.law_explore.specs.Matching.{plain}
 use Rattle.lab_match.specs.law_explore.specs.Rules as model
 use Rattle.lab_rules.specs.declared.refusal.ExplorationRefusal.{ExplorationRefusal}
@@ -24,15 +26,8 @@ use Rattle.lab_rules.specs.declared.reading.Kind.TheVariants as kind
 use Rattle.lab_rules.specs.declared.reading.Exploration.{Exploration}
 use Rattle.lab_rules.specs.Fields.{IsOneLine}
 use Rattle.lab_rules.specs.Moves.{move_deck}
-use Rattle.lab_rules.specs.declared.fault.Fault.{Fault}
-use Rattle.lab_rules.specs.declared.fault.Fault.TheVariants as fault
 
 -- ---- refusals
-
--- the refusal of a line, without its number, is the one of the definition, or out of memory
-abbrev pub Faulty : {A : Type 0} → Result A DeckCause → Fault → Type 0
-Faulty r (fault.Cause c) = r ≡ Err c
-Faulty r fault.NoMemory = ⊤
 
 -- the refusal of a line with this number
 abbrev pub refusal_at : ℕ → Fault → DeckRefusal

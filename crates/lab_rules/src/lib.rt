@@ -3,9 +3,7 @@
 //! The rules of a deck, which are comments of it: the moves of a terminal, the allowances of an application,
 //! and what a move does to an allowance.
 
-mod fault;
 mod field;
-mod growth;
 mod laws;
 mod occasions;
 mod parts;
@@ -14,7 +12,6 @@ mod reading;
 mod refusal;
 mod rules;
 
-pub use fault::Fault;
 pub use laws::counts_are_times;
 pub use occasions::{applications, apply_all, count, count_turn, has_turns};
 pub use pattern::plain_into;

@@ -10,35 +10,34 @@ ghost use Rattle.lab_match.specs.law_explore.specs.Tries.{allowances_after, turn
 ghost use Rattle.lab_rules.specs.Meanings.{effect_value, occasion_value, AlikeLists, AreRules};
 ghost use Rattle.lab_rules.specs.Occasions.{amount_once, amount_times, amounts_after_rule, amounts_from, capped, counts_after, counts_with, has_turns, is_counted, is_same_occasion, row_of, AmountsAre, AreSpent, CountsMove, IsRow};
 
-use crate::growth::push;
 use crate::pattern::{plain, plain_into};
 use crate::rules::{Effect, Move, Occasion, OnRule, Rules};
 use arrayvec::ArrayVec;
 use lab_match::fits;
 use mc_base::NoMemory;
 use mc_text::cut;
-use std::alloc::Global;
+use std::alloc::{AllocError, Global};
 
 // Returns for each `on` line whether it applies to a move whose plain text is `plain`.
-fn row(alloc: Global, ons: &[OnRule], plain: &[u8]) -> Result<Vec<bool>, NoMemory>
+fn row(alloc: Global, ons: &[OnRule], plain: &[u8]) -> Result<Vec<bool>, AllocError>
     ensures { IfOk result (λ v. v.items ≡ row_of ons.now plain.now) }
 {
     let mut row = Vec::new(alloc);
     for on in ons {
-        push(&mut row, fits(on.moves.as_slice(), plain))?;
+        row.push(fits(on.moves.as_slice(), plain))?;
     }
     Ok(row)
 }
 
 // Returns the row of each move.
-fn rows(alloc: Global, moves: &[Move<'_>], ons: &[OnRule]) -> Result<Vec<Vec<bool>>, NoMemory>
+fn rows(alloc: Global, moves: &[Move<'_>], ons: &[OnRule]) -> Result<Vec<Vec<bool>>, AllocError>
     ensures { IfOk result (λ v. map (λ r. r.items) v.items ≡ map (λ m. row_of ons.now (plain m.text.now)) moves.now) }
 {
     let mut rows = Vec::new(alloc);
     for chosen in moves {
         let text = plain(alloc, chosen.text)?;
         let row = row(alloc, ons, text.as_slice())?;
-        push(&mut rows, row)?;
+        rows.push(row)?;
     }
     Ok(rows)
 }
@@ -52,7 +51,7 @@ pub fn applications(alloc: Global, rules: &Rules<'_>) -> Result<Vec<Vec<bool>>, 
     ensures { IfOk result (λ v. (r : model.Rules) → AreRules rules.now r
         → AlikeLists (IsRow r.ons) v.items r.moves) }
 {
-    rows(alloc, rules.moves.as_slice(), rules.ons.as_slice())
+    Ok(rows(alloc, rules.moves.as_slice(), rules.ons.as_slice())?)
 }
 
 // Whether the `on` line with an index applies.

@@ -3,14 +3,14 @@ ghost use Rattle.std.specs.Prelude.{◌≡◌, option_map, MatchResult};
 ghost use Rattle.mc_base.specs.model_device.specs.Bytes.{lookup};
 ghost use Rattle.mc_text.specs.model_text.specs.Text.{fields};
 ghost use Rattle.lab_match.specs.law_explore.specs.Rules.{effect_words, full_parts, occasion_words, parts_of};
-ghost use Rattle.lab_rules.specs.Meanings.{effect_value, occasion_value, Faulty};
+ghost use Rattle.mc_deck.specs.Refused.{Faulty};
+ghost use Rattle.lab_rules.specs.Meanings.{effect_value, occasion_value};
 ghost use Rattle.lab_rules.specs.Parts.{AreFullParts};
 
-use crate::fault::Fault;
 use crate::pattern::add_plain;
 use crate::rules::{Effect, Occasion};
 use lab_match::first_field;
-use mc_deck::DeckCause;
+use mc_deck::{DeckCause, Fault};
 use std::alloc::Global;
 
 // Returns the occasion that a word names.

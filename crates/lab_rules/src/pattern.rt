@@ -3,24 +3,22 @@ ghost use Rattle.std.specs.Prelude.{◌≡◌, ◌≤◌, ◌+◌, ◌++◌, len
 ghost use Rattle.arrayvec.specs.ArrayVec.{array_vec_len};
 ghost use Rattle.lab_match.specs.law_explore.specs.Matching.{plain};
 
-use crate::growth::push;
 use arrayvec::ArrayVec;
 use lab_match::small;
-use mc_base::NoMemory;
 use mc_text::is_blank;
-use std::alloc::Global;
+use std::alloc::{AllocError, Global};
 
 /// Appends a text without its blanks, capital letters as small ones.
 ///
 /// # Errors
 ///
-/// Returns `NoMemory` if it is out of memory.
-pub fn add_plain(into: &mut Vec<u8>, text: &[u8]) -> Result<(), NoMemory>
+/// Returns `AllocError` if it is out of memory.
+pub fn add_plain(into: &mut Vec<u8>, text: &[u8]) -> Result<(), AllocError>
     ensures { OnOk result (into.new.items ≡ into.old.items ++ plain text.now) }
 {
     for character in text {
         if !is_blank(*character) {
-            push(into, small(*character))?;
+            into.push(small(*character))?;
         }
     }
     Ok(())
@@ -30,8 +28,8 @@ pub fn add_plain(into: &mut Vec<u8>, text: &[u8]) -> Result<(), NoMemory>
 ///
 /// # Errors
 ///
-/// Returns `NoMemory` if it is out of memory.
-pub fn plain(alloc: Global, text: &[u8]) -> Result<Vec<u8>, NoMemory>
+/// Returns `AllocError` if it is out of memory.
+pub fn plain(alloc: Global, text: &[u8]) -> Result<Vec<u8>, AllocError>
     ensures { IfOk result (λ v. v.items ≡ plain text.now) }
 {
     let mut text_plain = Vec::new(alloc);

@@ -1,25 +1,23 @@
 // The rules of a deck, read from its comments that begin with `#@`.
-ghost use Rattle.std.specs.Prelude.{◌≡◌, ◌≤◌, ℕ, List, false, true, is_some, length, option_map, Ok, IfErr, IfNone, IfOk, IfSome, MatchResult, OnOk};
+ghost use Rattle.std.specs.Prelude.{◌≡◌, ◌≤◌, ℕ, List, false, true, is_some, length, option_map, Ok, IfErr, IfOk, MatchResult, OnOk};
 ghost use Rattle.mc_base.specs.model_device.specs.Bytes.{lookup};
 ghost use Rattle.mc_text.specs.model_text.specs.Text.{fields, lines, trim};
 ghost use Rattle.lab_match.specs.law_explore.specs.Rules as model;
 ghost use Rattle.lab_match.specs.law_explore.specs.Rules.{exploration_read, is_marked, move_line, move_words, rule_words, rules_read, with_rule, AllowWord, MoveWord, OnWord};
 ghost use Rattle.lab_match.specs.model_play.specs.declared.deck.DeckCause.TheVariants.{BadLine};
-ghost use Rattle.lab_rules.specs.declared.fault.Fault.TheVariants.{Cause};
-ghost use Rattle.mc_deck.specs.Refused.{DeckRefuses};
+ghost use Rattle.mc_deck.specs.declared.refusal.Fault.TheVariants.{Cause};
+ghost use Rattle.mc_deck.specs.Refused.{DeckRefuses, Faulty};
 ghost use Rattle.lab_rules.specs.Fields.{is_move, IsOneLine};
 ghost use Rattle.lab_rules.specs.Meanings.{allowance_values, is_plain_mark, kind_value, on_of, refusal_at, rule_of, rules_with};
 ghost use Rattle.lab_rules.specs.Moves.{IsMoveDeck};
-ghost use Rattle.lab_rules.specs.Meanings.{AreRules, AreRulesRead, Faulty, IsExplorationRead, IsOnRead, IsRuleText, RefusesExploration};
+ghost use Rattle.lab_rules.specs.Meanings.{AreRules, AreRulesRead, IsExplorationRead, IsOnRead, IsRuleText, RefusesExploration};
 
-use crate::fault::Fault;
 use crate::field::name_and_amount;
-use crate::growth::push;
 use crate::parts::{effect_parts, occasion_parts};
 use crate::refusal::{ExplorationRefusal, line_refusal};
 use crate::rules::{Allowance, Move, OnRule, Rules};
 use lab_match::{first_field, stays_inside};
-use mc_deck::{Deck, DeckCause, DeckRefusal, read_deck};
+use mc_deck::{Deck, DeckCause, DeckRefusal, Fault, read_deck};
 use mc_text::{next_line, trim};
 use std::alloc::Global;
 
@@ -86,13 +84,13 @@ fn add_move<'a>(alloc: Global, rules: &mut Rules<'a>, statement: &'a [u8]) -> Re
         Ok(deck) => deck,
         Err(fault) => return Err(fault),
     };
-    push(
-        &mut rules.moves,
-        Move {
-            text: statement,
-            deck,
-        },
-    )?;
+    let added = Move {
+        text: statement,
+        deck,
+    };
+    let Ok(()) = rules.moves.push(added) else {
+        return Err(Fault::NoMemory);
+    };
     Ok(())
 }
 
@@ -110,7 +108,9 @@ fn add_allowance<'a>(rules: &mut Rules<'a>, text: &'a [u8]) -> Result<(), Fault>
     if rules.allowance_named(name).is_some() {
         return Err(Fault::Cause(DeckCause::NameTwice));
     }
-    push(&mut rules.allowances, Allowance { name, amount })?;
+    let Ok(()) = rules.allowances.push(Allowance { name, amount }) else {
+        return Err(Fault::NoMemory);
+    };
     Ok(())
 }
 
@@ -158,7 +158,9 @@ fn add_on(alloc: Global, rules: &mut Rules<'_>, number: u32, text: &[u8]) -> Res
         Ok(rule) => rule,
         Err(fault) => return Err(fault),
     };
-    push(&mut rules.ons, rule)?;
+    let Ok(()) = rules.ons.push(rule) else {
+        return Err(Fault::NoMemory);
+    };
     Ok(())
 }
 

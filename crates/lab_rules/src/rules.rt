@@ -5,7 +5,6 @@ ghost use Rattle.mc_deck.specs.Lines.{line_of, GoodLine};
 ghost use Rattle.lab_rules.specs.Meanings.{allowance_values, place_of};
 ghost use Rattle.lab_rules.specs.Moves.{move_deck};
 
-use crate::growth::push;
 use mc_base::NoMemory;
 use mc_deck::{Deck, Line};
 
@@ -99,10 +98,7 @@ impl<'a> Rules<'a> {
     pub fn amounts(&self) -> Result<Vec<u32>, NoMemory>
         ensures { IfOk result (λ v. v.items ≡ map (λ a. a.1) (allowance_values self.now.allowances.items)) }
     {
-        let mut amounts = Vec::new(*self.allowances.allocator());
-        for allowance in &self.allowances {
-            push(&mut amounts, allowance.amount)?;
-        }
-        Ok(amounts)
+        let alloc = *self.allowances.allocator();
+        Ok(self.allowances.iter().map(|one| one.amount).collect(alloc)?)
     }
 }

@@ -1,7 +1,8 @@
 use Rattle.std.proofs.Common.{◌≡◌, arith, false, true, List}
 use Rattle.std.proofs.lemmas.Result.{on_ok_weaker, IfErr-weaker}
 use Rattle.law_histories.specs.law_explore.specs.Rules as model
-use Rattle.lab_rules.specs.Meanings.{rules_with, AreRules, Faulty}
+use Rattle.mc_deck.specs.Refused.{Faulty}
+use Rattle.lab_rules.specs.Meanings.{rules_with, AreRules}
 use Rattle.lab_moves.specs.Moves.{moves_only, moves_with}
 use Rattle.lab_moves.proofs.MoveLemmas.{move_added, move_refused, moves_still}
 use Rattle.lab_moves.proofs.moves.add_move.Goals as goal

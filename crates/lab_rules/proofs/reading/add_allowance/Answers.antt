@@ -13,5 +13,5 @@ returns-then-is_some-clause-refused c = λ r n statement are.
 
 pub returns-clause-added : goal.returns-clause-added
 returns-clause-added c = λ r n statement are.
-    allow_new c.args.rules.now.moves.items c.args.rules.now.allowances.items c.push.new.list.items c.args.rules.now.ons.items r n statement (record { name = c.in-Ok.fields.0; amount = c.in-Ok.fields.1 }) c.allowance_named.result (fields c.args.text.now)
-    c.in_ok-push.ensures c.in-Ok.ensures c.allowance_named.ensures (grind (arith, c.is_some.ensures, c.if-is_some.false)) are
+    allow_new c.args.rules.now.moves.items c.args.rules.now.allowances.items c.push.new.self.items c.args.rules.now.ons.items r n statement (record { name = c.in-Ok.fields.0; amount = c.in-Ok.fields.1 }) c.allowance_named.result (fields c.args.text.now)
+    c.in-Ok-push.ensures.items c.in-Ok.ensures c.allowance_named.ensures (grind (arith, c.is_some.ensures, c.if-is_some.false)) are

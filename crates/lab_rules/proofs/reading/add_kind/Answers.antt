@@ -4,7 +4,8 @@ use Rattle.std.proofs.lemmas.Result.{on_ok_weaker, IfErr-weaker}
 use Rattle.mc_text.specs.model_text.specs.Text.{fields, trim}
 use Rattle.lab_match.specs.law_explore.specs.Rules as model
 use Rattle.lab_match.specs.law_explore.specs.Rules.{with_rule, MoveWord, RuleWord}
-use Rattle.lab_rules.specs.Meanings.{kind_value, AreRules, AreRulesRead, Faulty}
+use Rattle.mc_deck.specs.Refused.{Faulty}
+use Rattle.lab_rules.specs.Meanings.{kind_value, AreRules, AreRulesRead}
 use Rattle.lab_match.proofs.FieldLemmas.{fields_trimmed}
 use Rattle.lab_rules.proofs.reading.add_kind.Goals as goal
 

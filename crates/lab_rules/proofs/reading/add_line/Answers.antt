@@ -1,9 +1,10 @@
-use Rattle.std.proofs.Common.{◌≡◌, arith, true, subst, sym, refl}
+use Rattle.std.proofs.Common.{◌≡◌, arith, true, subst, sym}
 use Rattle.std.proofs.lemmas.Result.{on_ok_weaker, IfErr-weaker}
 use Rattle.mc_text.specs.model_text.specs.Text.{fields}
 use Rattle.lab_match.specs.law_explore.specs.Rules as model
 use Rattle.lab_match.specs.law_explore.specs.Rules.{is_marked}
-use Rattle.lab_rules.specs.Meanings.{is_rule, rule_of, rules_with, AreRules, AreRulesRead, Faulty, IsRuleText}
+use Rattle.mc_deck.specs.Refused.{Faulty}
+use Rattle.lab_rules.specs.Meanings.{rule_of, rules_with, AreRules, AreRulesRead}
 use Rattle.lab_rules.proofs.ReadLemmas.{longer_fault, outside_rule, rule_line}
 use Rattle.lab_rules.proofs.reading.add_line.Goals as goal
 

@@ -1,7 +1,7 @@
 use Rattle.std.proofs.Common.{arith}
 use Rattle.mc_text.specs.model_text.specs.Text.{fields}
 use Rattle.lab_match.specs.model_play.specs.declared.deck.DeckCause.TheVariants.{BadLine}
-use Rattle.lab_rules.specs.declared.fault.Fault.TheVariants as fault
+use Rattle.mc_deck.specs.declared.refusal.Fault.TheVariants as fault
 use Rattle.lab_rules.proofs.MoveLemmas.{not_move}
 use Rattle.lab_rules.proofs.OnLemmas.{move_faulty, move_added}
 use Rattle.lab_rules.proofs.reading.add_move.Goals as goal
@@ -15,5 +15,5 @@ returns-in-Err-clause-refused c = λ r n are. move_faulty r n c.args.statement.n
 
 pub returns-clause-added : goal.returns-clause-added
 returns-clause-added c = λ r n h.
-    move_added c.args.rules.now.moves.items c.push.new.list.items r n (record { text = c.args.statement; deck = c.in-Ok.deck }) c.args.rules.now.allowances.items c.args.rules.now.ons.items
-    (fields c.args.statement.now) c.in_ok-push.ensures (c.in-Ok.ensures n) h
+    move_added c.args.rules.now.moves.items c.push.new.self.items r n (record { text = c.args.statement; deck = c.in-Ok.deck }) c.args.rules.now.allowances.items c.args.rules.now.ons.items
+    (fields c.args.statement.now) c.in-Ok-push.ensures.items (c.in-Ok.ensures n) h

@@ -9,5 +9,5 @@ returns-in-Err-clause-refused c = λ r statement are.
 
 pub returns-clause-added : goal.returns-clause-added
 returns-clause-added c = λ r statement are.
-    on_added c.args.rules.now.moves.items c.args.rules.now.allowances.items c.args.rules.now.ons.items c.push.new.list.items r c.args.number statement (fields c.args.text.now) c.in-Ok.rule
-    c.in_ok-push.ensures c.in-Ok.ensures are
+    on_added c.args.rules.now.moves.items c.args.rules.now.allowances.items c.args.rules.now.ons.items c.push.new.self.items r c.args.number statement (fields c.args.text.now) c.in-Ok.rule
+    c.in-Ok-push.ensures.items c.in-Ok.ensures are
