@@ -17,4 +17,5 @@ pub mod EndingLemmas
 mod PathLemmas
 pub mod HaltLemmas
 pub mod StartLemmas
+mod StepCountLemmas
 mod DepthLemmas

@@ -8,4 +8,5 @@ pub mod Kept
 pub mod Beginnings
 pub mod Tallies
 pub mod Rounds
+pub mod ExplorationSteps
 pub mod Endings

@@ -205,12 +205,10 @@ impl Search {
     {
         let mut path = Vec::new(alloc);
         push(&mut path, last)?;
-        let mut at = last.before;
+        let mut at = last.before.min(self.last_steps.len());
         while at > 0 {
-            let Some(step) = self.last_steps.get(at - 1) else {
-                return Err(NoMemory);
-            };
-            push(&mut path, *step)?;
+            let step = self.last_steps[at - 1];
+            push(&mut path, step)?;
             at = step.before.min(at - 1);
         }
         path.as_mut_slice().reverse();
