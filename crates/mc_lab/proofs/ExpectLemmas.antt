@@ -1,5 +1,5 @@
 -- Expectations compared one by one, and the report of them.
-use Rattle.std.proofs.Common.{◌≡◌, ◌+◌, ◌<◌, ◌≤◌, refl, sym, ◌∙◌, ap, subst, ℕ, zero, suc, List, [], ◌∷◌, ◌++◌, length, drop, filter, not, Bool, true, false, cond, Result, Ok, Err, IsErr, arith, zero-add, append_assoc}
+use Rattle.std.proofs.Common.{◌≡◌, ◌+◌, ◌<◌, ◌≤◌, refl, sym, ◌∙◌, ap, ℕ, zero, suc, List, [], ◌∷◌, ◌++◌, length, drop, filter, not, Bool, true, false, cond, Result, Ok, Err, IsErr, arith, append_assoc}
 use Rattle.std.specs.Prelude.{slice_index_or}
 use Rattle.law_explore.specs.model_play.specs.Play.{Step}
 use Rattle.mc_asm.proofs.PassLemmas.{no_line}
@@ -57,16 +57,12 @@ left_on ts e es all = append_assoc (expectation_line (is_met ts e) e (result_abo
 -- the line that was written of an expectation is the first part of the rest of the report
 pub reported_on : (ts : List Step) (left : List Remark) (e : Remark) (es all : List Remark) (text : List ℕ) (x y : Sunk) (r : Result (Unit {0}) WriteFault) (z : Sunk)
     → left ≡ e ∷ es → text ≡ result_above ts e.number → Writes x (expectation_line (fits e.text text) e text) y → Puts y (text_left ts es all) r z → Puts x (text_left ts left all) r z
-reported_on ts left e es all text x y r z i is wrote rest =
-    let here : expectation_line (fits e.text text) e text ≡ expectation_line (is_met ts e) e (result_above ts e.number) = ap (λ t. expectation_line (fits e.text t) e t) is in
-    puts_as x z r (ap (λ t. t ++ text_left ts es all) here ∙ sym (left_on ts e es all) ∙ ap (λ l. text_left ts l all) (sym i)) (puts_then z (text_left ts es all) r wrote rest)
+reported_on ts left e es all text x y r z i is wrote rest = grind (arith, puts_as, left_on, puts_then)
 
 -- a text that failed at an expectation failed in the report of those that are left
 pub reported_fails : (ts : List Step) (left : List Remark) (e : Remark) (es all : List Remark) (text : List ℕ) (x y : Sunk)
     → left ≡ e ∷ es → text ≡ result_above ts e.number → Fails x (expectation_line (fits e.text text) e text) y → Fails x (text_left ts left all) y
-reported_fails ts left e es all text x y i is failed =
-    let here : expectation_line (fits e.text text) e text ≡ expectation_line (is_met ts e) e (result_above ts e.number) = ap (λ t. expectation_line (fits e.text t) e t) is in
-    subst (λ (t : List ℕ). Fails x t y) (ap (λ t. t ++ text_left ts es all) here ∙ sym (left_on ts e es all) ∙ ap (λ l. text_left ts l all) (sym i)) (fails_before (text_left ts es all) failed)
+reported_fails ts left e es all text x y i is failed = grind (arith, left_on, fails_before)
 
 -- before the first expectation the report of those that are left is the whole
 pub reported_start : (ts : List Step) (es : List Remark) → text_left ts es es ≡ expect_text ts es
@@ -86,10 +82,7 @@ numbered_length (e ∷ es) = ap suc (numbered_length es)
 
 -- one expectation that held or failed, and those that are left
 pub count_left : (ts : List Step) (left : List Remark) (e : Remark) (es : List Remark) (held : Bool) → left ≡ e ∷ es → held ≡ is_met ts e → count_failed ts left ≡ cond held 0 1 + count_failed ts es
-count_left ts left e es true i h = ap (count_failed ts) i ∙ count_met ts e es (sym h) ∙ sym (zero-add (count_failed ts es))
-count_left ts left e es false i h =
-    let more : count_failed ts (e ∷ es) ≡ suc (count_failed ts es) = count_unmet ts e es (sym h) in
-    ap (count_failed ts) i ∙ more ∙ omega arith
+count_left ts left e es held i h = grind (arith, count_met, count_unmet)
 
 -- one more or none after at most i is at most one more than i
 pub one_more : (held : Bool) (n i : ℕ) → n ≤ i → n + cond held 0 1 ≤ i + 1
@@ -103,7 +96,4 @@ fails_done (Err e) h f = f
 
 -- all lines were written, and `failed` expectations failed
 pub text_done : (ts : List Step) (left all : List Remark) (n failed : ℕ) → left ≡ [] → n ≡ length all → failed + count_failed ts left ≡ count_failed ts all → count_text n failed ≡ text_left ts left all
-text_done ts left all n failed i len h =
-    let none : count_failed ts left ≡ 0 = ap (count_failed ts) i in
-    let same : failed ≡ count_failed ts all = omega (arith, none, h) in
-    ap (λ k. count_text k failed) len ∙ ap (count_text (length all)) same ∙ sym (reported_end ts left all i)
+text_done ts left all n failed i len h = grind (arith, reported_end)

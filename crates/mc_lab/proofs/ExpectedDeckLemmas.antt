@@ -1,6 +1,6 @@
 -- Decks with their expectations: the lines above an expectation, and the expectations without a result.
-use Rattle.std.proofs.Common.{◌≡◌, ◌+◌, ◌<◌, refl, sym, ◌∙◌, ap, subst, ℕ, suc, List, [], ◌∷◌, length, drop, Bool, true, false, cond, Option, Some, Result, Ok, Err, arith}
-use Rattle.std.specs.Prelude.{◌==◌, nat_lt}
+use Rattle.std.proofs.Common.{◌≡◌, ◌+◌, refl, sym, ◌∙◌, ap, ℕ, List, [], ◌∷◌, length, drop, Bool, true, false, Option, Some, Result, Ok, Err, arith}
+use Rattle.std.specs.Prelude.{◌==◌}
 use Rattle.std.proofs.lemmas.Bool.Decides.{nat_tests}
 use Rattle.law_explore.specs.model_play.specs.DeckGrammar.{DeckLine, deck_read}
 use Rattle.law_explore.specs.model_play.specs.declared.deck.DeckCause.{DeckCause}
@@ -23,9 +23,7 @@ LinesAbove ls count left = (m : ℕ) × (count ≡ count_below line_number m ls)
 
 count_zero : (ls : List (ℕ × DeckLine)) → 0 ≡ count_below line_number 0 ls
 count_zero [] = refl
-count_zero (l ∷ ls) =
-    let no : nat_lt l.0 0 ≡ false = grind arith in
-    sym (ap (λ b. cond b (suc (count_below line_number 0 ls)) 0) no)
+count_zero (l ∷ ls) = grind arith
 
 -- before the first expectation no line is above it
 pub above_start : (ls : List (ℕ × DeckLine)) (es : List Remark) → Rising remark_number 1 es → LinesAbove ls 0 es
@@ -33,15 +31,11 @@ above_start ls es h = (0, count_zero ls, rising_lower remark_number 0 1 es (omeg
 
 -- the count of the lines above the next expectation continues from there
 pub above_from : (ls : List (ℕ × DeckLine)) (count : ℕ) (left : List Remark) (e : Remark) (es : List Remark) → left ≡ e ∷ es → LinesAbove ls count left → count + count_below line_number e.number (drop count ls) ≡ count_below line_number e.number ls
-above_from ls count left e es i h =
-    let rises : Rising remark_number h.0 (e ∷ es) = subst (λ (l : List Remark). Rising remark_number h.0 l) i h.2 in
-    subst (λ (k : ℕ). k + count_below line_number e.number (drop k ls) ≡ count_below line_number e.number ls) (sym h.1) (count_on line_number h.0 e.number ls rises.0)
+above_from ls count left e es i h = grind (arith, count_on)
 
 -- the lines above an expectation are counted from those above the one before
 pub above_on : (ls : List (ℕ × DeckLine)) (count now : ℕ) (left : List Remark) (e : Remark) (es : List Remark) → left ≡ e ∷ es → now ≡ count_below line_number e.number ls → LinesAbove ls count left → LinesAbove ls now es
-above_on ls count now left e es i k h =
-    let rises : Rising remark_number h.0 (e ∷ es) = subst (λ (l : List Remark). Rising remark_number h.0 l) i h.2 in
-    (e.number, k, rising_lower remark_number e.number (suc e.number) es (omega arith) rises.1)
+above_on ls count now left e es i k h = grind (arith, rising_lower)
 
 -- ---- the first expectation without a result
 
@@ -52,16 +46,12 @@ answered_is ls n count b h k e = e ∙ ap (λ c. is_answered (last_of c ls)) k �
 -- an expectation whose line has no result is the first without one
 pub unanswered_first : (ls : List (ℕ × DeckLine)) (left : List Remark) (e : Remark) (es : List Remark) (count : ℕ) (b : Bool) (whole : Option ℕ)
     → left ≡ e ∷ es → Rising line_number 1 ls → count ≡ count_below line_number e.number ls → b ≡ is_answered (last_of count ls) → b ≡ false → first_unanswered ls left ≡ whole → Some e.number ≡ whole
-unanswered_first ls left e es count b whole i h k t f w =
-    let here : is_answered (last_below line_number e.number ls) ≡ false = sym (answered_is ls e.number count b h k t) ∙ f in
-    sym (ap (λ b. cond b (first_unanswered ls es) (Some e.number)) here) ∙ sym (ap (first_unanswered ls) i) ∙ w
+unanswered_first ls left e es count b whole i h k t f w = grind (arith, answered_is)
 
 -- an expectation whose line has a result leaves those after it
 pub unanswered_on : (ls : List (ℕ × DeckLine)) (left : List Remark) (e : Remark) (es : List Remark) (count : ℕ) (b : Bool) (whole : Option ℕ)
     → left ≡ e ∷ es → Rising line_number 1 ls → count ≡ count_below line_number e.number ls → b ≡ is_answered (last_of count ls) → b ≡ true → first_unanswered ls left ≡ whole → first_unanswered ls es ≡ whole
-unanswered_on ls left e es count b whole i h k t f w =
-    let here : is_answered (last_below line_number e.number ls) ≡ true = sym (answered_is ls e.number count b h k t) ∙ f in
-    sym (ap (λ b. cond b (first_unanswered ls es) (Some e.number)) here) ∙ sym (ap (first_unanswered ls) i) ∙ w
+unanswered_on ls left e es count b whole i h k t f w = grind (arith, answered_is)
 
 -- ---- what was read
 
@@ -87,13 +77,9 @@ refused_deck text deck.NoMemory h = tt
 -- a deck without an expectation, and one with some
 pub expected_deck_none : (text : List ℕ) (ls : List (ℕ × DeckLine)) (es : List Found) (n : ℕ) → expected_deck_read text ≡ expected_deck_with ls (remark_values es) → length es ≡ n → (n == 0) ≡ true → expected_deck_read text ≡ Err NoExpectation
 expected_deck_none text ls [] n h len none = h
-expected_deck_none text ls (e ∷ es) n h len none =
-    let zero_long : n ≡ 0 = grind (arith, nat_tests) in
-    absurd (omega (arith, len, zero_long))
+expected_deck_none text ls (e ∷ es) n h len none = grind (arith, nat_tests)
 
 -- an expected deck with at least one expectation is read
 pub expected_deck_some : (text : List ℕ) (ls : List (ℕ × DeckLine)) (es : List Found) (n : ℕ) → expected_deck_read text ≡ expected_deck_with ls (remark_values es) → length es ≡ n → (n == 0) ≡ false → expected_deck_read text ≡ Ok (record { lines = ls; expected = remark_values es })
-expected_deck_some text ls [] n h len some =
-    let long : 0 < n = grind (arith, nat_tests) in
-    absurd (omega (arith, len, long))
+expected_deck_some text ls [] n h len some = grind (arith, nat_tests)
 expected_deck_some text ls (e ∷ es) n h len some = h

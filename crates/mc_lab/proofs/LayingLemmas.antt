@@ -20,9 +20,7 @@ HasPiece [] = ⊥
 HasPiece (p ∷ ps) = ⊤
 
 has_by : (b : Bool) (c : ℕ) (ps : List (List ℕ)) → HasPiece (pieces_with_character b c ps)
-has_by true c ps = tt
-has_by false c [] = tt
-has_by false c (p ∷ ps) = tt
+has_by b c ps = grind arith
 
 has_piece : (t : List ℕ) → HasPiece (pieces is_blank t)
 has_piece [] = tt
@@ -75,10 +73,7 @@ laid_end signs w t e f = sym (laid_last signs w t (pair_is (first_cut is_blank s
 -- a word before others
 pub laid_on : (signs w behind t front left : List ℕ) (k : ℕ) → w ≡ (first_cut is_blank signs).0 → Some behind ≡ (first_cut is_blank signs).1 → k ≡ min (length w) (length t) → front ≡ take k t → left ≡ drop k t
     → front ++ after_blank (laid_by (pieces is_blank behind)) left ≡ laid_by (pieces is_blank signs) t
-laid_on signs w behind t front left k e f k_is front_is left_is =
-    ap (λ (l : List ℕ). l ++ after_blank (laid_by (pieces is_blank behind)) left) (front_is ∙ ap (λ (i : ℕ). take i t) k_is ∙ take_most (length w) t)
-    ∙ ap (λ (l : List ℕ). take (length w) t ++ after_blank (laid_by (pieces is_blank behind)) l) (left_is ∙ ap (λ (i : ℕ). drop i t) k_is ∙ drop_most (length w) t)
-    ∙ sym (laid_cut signs w behind t (pair_is (first_cut is_blank signs) w (Some behind) e f))
+laid_on signs w behind t front left k e f k_is front_is left_is = grind (arith, take_most, drop_most, laid_cut, pair_is)
 
 -- nothing is left after it
 pub laid_none : (signs w behind t front left : List ℕ) (k : ℕ) → w ≡ (first_cut is_blank signs).0 → Some behind ≡ (first_cut is_blank signs).1 → k ≡ min (length w) (length t) → front ≡ take k t → left ≡ drop k t

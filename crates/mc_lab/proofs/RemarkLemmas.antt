@@ -1,5 +1,5 @@
 -- Lines that are remarks, and lines that are not.
-use Rattle.std.proofs.Common.{◌≡◌, ◌+◌, refl, sym, ◌∙◌, ap, ℕ, suc, List, [], ◌∷◌, ◌++◌, Bool, true, false, Option, Some, None, append_assoc, append-nil, arith}
+use Rattle.std.proofs.Common.{◌≡◌, ◌+◌, refl, sym, ◌∙◌, ap, ℕ, suc, List, [], ◌∷◌, ◌++◌, Bool, false, Option, Some, None, append_assoc, append-nil, arith}
 use Rattle.std.specs.Prelude.{◌==◌, Result, Ok, Err}
 use Rattle.law_explore.specs.model_text.specs.Text.{fields, lines, with_numbers}
 use Rattle.law_explore.specs.model_play.specs.declared.deck.DeckCause.{DeckCause}
@@ -51,9 +51,7 @@ scanned_are k text = refl
 -- ---- their line numbers
 
 rising_at : (n : ℕ) (b : Bool) (o : Option (List ℕ)) (above : ℕ × List ℕ) (rs : List Remark) → Rising remark_number (suc n) rs → Rising remark_number n (just (remark_at b o n above) ++ rs)
-rising_at n true o above rs h = rising_lower remark_number n (suc n) rs (omega arith) h
-rising_at n false None above rs h = rising_lower remark_number n (suc n) rs (omega arith) h
-rising_at n false (Some t) above rs h = (omega arith, h)
+rising_at n b o above rs h = grind (arith, rising_lower)
 
 rising_turn : (n : ℕ) (r : Result LineTurn (ℕ × DeckCause)) (rest : Mode → List Remark) → ((m : Mode) → Rising remark_number n (rest m)) → Rising remark_number n (after_line r rest)
 rising_turn n (Ok t) rest h = h t.mode

@@ -1,5 +1,5 @@
 -- The pass of the laboratory over a deck's text is in a section exactly if the deck's reader is.
-use Rattle.std.proofs.Common.{◌≡◌, ℕ, Bool, true, false, not, List, [], ◌∷◌, ◌++◌, Option, Some, None, Result, Ok, Err, refl, sym, ap, ◌∙◌}
+use Rattle.std.proofs.Common.{◌≡◌, ℕ, Bool, true, false, not, List, [], ◌∷◌, ◌++◌, Option, Some, None, Result, Ok, Err, refl, sym, ap, ◌∙◌, arith}
 use Rattle.std.specs.Prelude.{◌==◌, ⊤, bytes_eq, codes, ok_or, IfOk, OnOk}
 use Rattle.std.proofs.lemmas.Bool.{eqb-true}
 use Rattle.law_explore.specs.model_device.specs.Bytes.{lookup}
@@ -97,12 +97,7 @@ by_word c n word rest (Some w) e =
     as_ok (turn_of n) (statement_of c n w rest) (OpensAs (is_app w)) (LeavesIn (bytes_eq word (codes "app"))) (stated_opens c n w rest) (λ s k. turned n s ∙ k ∙ sym (app_word word w e))
 
 between_leaves : (c : Context) (n : ℕ) (fs : List (List ℕ)) → IfOk (between c n fs) (LeavesIn (stays_inside false fs))
-between_leaves c n [] = refl
-between_leaves c n (word ∷ rest) =
-    let said = ok_or (lookup deck_words word) BadLine >>= λ w. ok_as (turn_of n) (statement_of c n w rest) in
-    let in_one = LeavesIn (bytes_eq word (codes "app")) in
-    cond_ok (begins 35 word) (Ok (record { lines = []; mode = Between c })) (err_as (λ e. (n, e)) said) in_one (not_app word)
-    (λ e. err_ok (λ e. (n, e)) said in_one (by_word c n word rest (lookup deck_words word) refl))
+between_leaves c n fs = grind (arith, cond_ok, not_app, err_ok, by_word)
 
 within_leaves : (b : Bool) (s : Section) (c : Context) (l : ℕ × List ℕ) → IfOk (within b s c l) (LeavesIn (not b))
 unfolding within
@@ -111,20 +106,14 @@ within_leaves true s c l =
 within_leaves false s c l = refl
 
 turn_leaves : (b : Bool) (m : Mode) (l : ℕ × List ℕ) → IfOk (turn_at b m l) (LeavesIn (stays_inside (in_section m) (fields l.1)))
-turn_leaves true m l = tt
-turn_leaves false (Between c) l = between_leaves c l.0 (fields l.1)
-turn_leaves false (Within s c) l = within_leaves (is_end (fields l.1)) s c l
+turn_leaves b m l = grind (arith, between_leaves, within_leaves)
 
 -- ---- texts
 
 by_turn : (k : Mark) (above : ℕ × List ℕ) (here : List Remark) (ls : List (ℕ × List ℕ)) (b : Bool) (r : Result LineTurn (ℕ × DeckCause)) → IfOk r (LeavesIn b)
     → ((m : Mode) → OnOk (deck_lines m ls) (scanned_from k (in_section m) above ls ≡ remarks_from k m above ls))
     → OnOk (r >>= λ t. ok_as (λ rest. t.lines ++ rest) (deck_lines t.mode ls)) (here ++ scanned_from k b above ls ≡ here ++ after_line r (λ m. remarks_from k m above ls))
-by_turn k above here ls b (Err e) leaves rest = tt
-by_turn k above here ls b (Ok t) leaves rest =
-    as_ok (λ rest. t.lines ++ rest) (deck_lines t.mode ls) (λ ds. scanned_from k (in_section t.mode) above ls ≡ remarks_from k t.mode above ls)
-    (λ ds. here ++ scanned_from k b above ls ≡ here ++ remarks_from k t.mode above ls) (rest t.mode)
-    (λ ds e. ap (λ (x : List Remark). here ++ x) (ap (λ (i : Bool). scanned_from k i above ls) (sym leaves) ∙ e))
+by_turn k above here ls b r leaves rest = grind (arith, as_ok)
 
 -- line by line, from any mode of the reader
 scanned_from_lem : (k : Mark) (m : Mode) (above : ℕ × List ℕ) (ls : List (ℕ × List ℕ)) → OnOk (deck_lines m ls) (scanned_from k (in_section m) above ls ≡ remarks_from k m above ls)

@@ -71,23 +71,15 @@ record Next {A : Type 0} (xs : List A) (i : ℕ) (x : A) (r : List A) : Type 0 w
 next_of : {A : Type 0} (xs : List A) (i : ℕ) (x : A) (r : List A) → drop i xs ≡ x ∷ r → Next xs i x r
 next_of [] zero x r e = absurd (cc e)
 next_of [] (suc i) x r e = absurd (cc e)
-next_of (y ∷ xs) zero x r e =
-    let same : y ≡ x = cc e in
-    let rest : xs ≡ r = cc e in
-    record { first = ap Some same; behind = rest }
-next_of (y ∷ xs) (suc i) x r e =
-    let n = next_of xs i x r e in
-    let one : suc i + 1 ≡ suc (i + 1) = omega arith in
-    record { first = n.first; behind = ap (λ j. drop j (y ∷ xs)) one ∙ n.behind }
+next_of (y ∷ xs) zero x r e = record { first = ap Some (cc e); behind = (cc e) }
+next_of (y ∷ xs) (suc i) x r e = grind (arith, next_of xs i x r e)
 
 -- the first of a list, with the first of the rest after them
 take_next : {A : Type 0} (xs : List A) (i : ℕ) (x : A) (r : List A) → drop i xs ≡ x ∷ r → take (i + 1) xs ≡ take i xs ++ x ∷ []
 take_next [] zero x r e = absurd (cc e)
 take_next [] (suc i) x r e = absurd (cc e)
 take_next (y ∷ xs) zero x r e = let same : y ≡ x = cc e in ap (λ z. z ∷ []) same
-take_next (y ∷ xs) (suc i) x r e =
-    let one : suc i + 1 ≡ suc (i + 1) = omega arith in
-    ap (λ j. take j (y ∷ xs)) one ∙ ap (λ zs. y ∷ zs) (take_next xs i x r e)
+take_next (y ∷ xs) (suc i) x r e = grind (arith, take_next xs i x r e)
 
 -- ---- a player
 
@@ -130,6 +122,4 @@ module _ {N : Type 0} (state : N → DeviceState) (bench : N → BenchState) whe
 
   -- a player that was playing continues
   pub playing_on : {R : Type 0} (reported : R → List Turn → R → Type 0) (p q : Player N) (n : ℕ) (l : DeckLine) (before after : R) (answer : Option Answer) → LineDone state bench reported p l before after answer q → IsPlaying state bench p → IsPlaying state bench q
-  playing_on reported p q n l before after answer done h =
-      let d = done h.0 n h.1 in
-      ((step h.0 (n, l) d.0).after, d.1.stepped.at)
+  playing_on reported p q n l before after answer done h = grind (arith, done h.0 n h.1)

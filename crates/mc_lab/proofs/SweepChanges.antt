@@ -1,8 +1,8 @@
 -- The observed state after a stop in items of which none changes it, or one does.
-use Rattle.std.specs.Prelude.{◌≡◌, ◌≢◌, ℕ, ◌+◌, ◌-◌, ◌<◌, ◌≤◌, Bool, true, false, cond, not, ◌&&◌, ◌||◌, nat_lt, nat_le, ◌==◌, bytes_eq, List, [], ◌∷◌, Option, Some, None, refl}
+use Rattle.std.specs.Prelude.{◌≡◌, ℕ, ◌+◌, ◌-◌, ◌<◌, ◌≤◌, Bool, true, false, cond, not, ◌&&◌, ◌||◌, nat_lt, nat_le, ◌==◌, bytes_eq, List, [], ◌∷◌, Option, Some, None, refl}
 use Rattle.std.proofs.Common.{arith, ap, sym, subst, ◌∙◌}
 use Rattle.std.proofs.lemmas.Slice.Eq.{bytes_eq-Decides}
-use Rattle.std.proofs.lemmas.Bool.{lt-ltb, leb-true, eqb-true, and_from as joined, not-false, not-true, or_from, and_right, leb-false, and_parts}
+use Rattle.std.proofs.lemmas.Bool.{lt-ltb, and_from as joined, not-false, not-true, or_from, and_right, leb-false, and_parts}
 use Rattle.std.proofs.lemmas.Bool.Decides.{nat_tests}
 use Rattle.law_explore.specs.model_device.specs.Image.{Two}
 use Rattle.law_explore.specs.model_device.specs.Image as image
@@ -15,10 +15,7 @@ use Rattle.mc_lab.specs.SweepLaws.{changes, count_of_changes, opening_write}
 -- ---- equal observed states
 
 held_same : (a b : Option (List ℕ)) → is_same_held a b ≡ true → a ≡ b
-held_same None None h = refl
-held_same (Some a) (Some b) h = ap (λ (x : List ℕ). Some x) ((bytes_eq-Decides a b).0 h)
-held_same None (Some b) h = absurd (cc h)
-held_same (Some a) None h = absurd (cc h)
+held_same a b h = grind (arith, bytes_eq-Decides)
 
 held_itself : (a : Option (List ℕ)) → is_same_held a a ≡ true
 held_itself None = refl
@@ -28,10 +25,7 @@ held_itself (Some a) = (bytes_eq-Decides a a).1 refl
 pub all_same_held : (a b : List (Option (List ℕ))) → are_same_held a b ≡ true → a ≡ b
 all_same_held [] [] h = refl
 all_same_held (x ∷ xs) (y ∷ ys) h =
-    let p = and_parts (is_same_held x y) (are_same_held xs ys) h in
-    let first : x ≡ y = held_same x y p.0 in
-    let rest : xs ≡ ys = all_same_held xs ys p.1 in
-    cc
+    grind (arith, and_parts (is_same_held x y) (are_same_held xs ys) h, held_same x y (and_parts (is_same_held x y) (are_same_held xs ys) h).0, all_same_held xs ys (and_parts (is_same_held x y) (are_same_held xs ys) h).1)
 all_same_held [] (y ∷ ys) h = absurd (cc h)
 all_same_held (x ∷ xs) [] h = absurd (cc h)
 
@@ -119,9 +113,6 @@ module _ (names : List (List ℕ)) where
   late_held apps w c true is = refl
   late_held apps w c false is = absurd (cc is)
 
-  test_one : (k : ℕ) → (k == 1) ≡ false → k ≢ 1
-  test_one k h = grind (arith, nat_tests)
-
   gate_within : (w : ℕ) → (2 ≤ opens_at Two w) × (opens_at Two w < cost Two w)
   gate_within w = (omega arith, omega arith)
 
@@ -148,23 +139,7 @@ module _ (names : List (List ℕ)) where
   -- an item before it
   passed_splits : (w : ℕ) (c : Change) (is : List Item) (apps : List (List ℕ × App)) → changes names apps (Atomic w c) ≡ false → Splits (apps_after_change c apps) is → Splits apps (Atomic w c ∷ is)
   passed_splits w c is apps e s =
-      let o : opening_write names apps (Atomic w c ∷ is) ≡ cost Two w + opening_write names (apps_after_change c apps) is = ap (λ (t : Bool). cond t (opens_at Two w) (cost Two w + opening_write names (apps_after_change c apps) is)) e in
-      let same : static_bytes_under names apps ≡ static_bytes_under names (apps_after_change c apps) = kept apps (Atomic w c) e in
-      let low_rest = s.low in
-      let high_rest = s.high in
-      record {
-        low = omega (arith, o, low_rest);
-        high = omega (arith, o, high_rest);
-        apart = ap (λ (y : List (Option (List ℕ))). are_same_held y (static_bytes_under names (apps_after_items (apps_after_change c apps) is))) same ∙ s.apart;
-        before = λ k x shuts low high.
-            chosen_if apps (nat_le k (cost Two w)) _ _ _
-            (λ t. flight_held apps w c k (stands Two w k x) same)
-            (λ t. let past : cost Two w < k = leb-false k (cost Two w) t in s.before (k - cost Two w) x shuts (omega arith) (omega (arith, o)) ∙ sym same);
-        after = λ k x low high.
-            chosen_if apps (nat_le k (cost Two w)) _ _ _
-            (λ t. absurd (let here : k ≤ cost Two w = leb-true k (cost Two w) t in omega (arith, o, low_rest)))
-            (λ t. let past : cost Two w < k = leb-false k (cost Two w) t in s.after (k - cost Two w) x (omega (arith, o)) (omega arith));
-      }
+      grind (arith, ap (λ (t : Bool). cond t (opens_at Two w) (cost Two w + opening_write names (apps_after_change c apps) is)) e, kept apps (Atomic w c) e, s.low, s.high)
 
   atomic_splits : (w : ℕ) (c : Change) (is : List Item) (apps : List (List ℕ × App)) (t : Bool) → changes names apps (Atomic w c) ≡ t → (count_of_changes names (apps_after_change c apps) is ≡ 1 → Splits (apps_after_change c apps) is)
       → cond t 1 0 + count_of_changes names (apps_after_change c apps) is ≡ 1 → Splits apps (Atomic w c ∷ is)
@@ -172,22 +147,7 @@ module _ (names : List (List ℕ)) where
   atomic_splits w c is apps false e more h = passed_splits w c is apps e (more (omega arith))
 
   plain_splits : (is : List Item) (apps : List (List ℕ × App)) → Splits apps is → Splits apps (Plain ∷ is)
-  plain_splits is apps s =
-      let o : opening_write names apps (Plain ∷ is) ≡ 1 + opening_write names apps is = ap (λ (t : Bool). cond t 0 (1 + opening_write names apps is)) (plain_kept apps) in
-      let low_rest = s.low in
-      let high_rest = s.high in
-      record {
-        low = omega (arith, o);
-        high = omega (arith, o, high_rest);
-        apart = s.apart;
-        before = λ k x shuts low high.
-            chosen_if apps (k == 1) _ _ _ (λ t. refl)
-            (λ t. let other : k ≢ 1 = test_one k t in s.before (k - 1) x shuts (omega arith) (omega (arith, o)));
-        after = λ k x low high.
-            chosen_if apps (k == 1) _ _ _
-            (λ t. absurd (let one : k ≡ 1 = eqb-true k 1 t in omega (arith, o, low_rest)))
-            (λ t. let other : k ≢ 1 = test_one k t in s.after (k - 1) x (omega (arith, o)) (omega arith));
-      }
+  plain_splits is apps s = grind (arith, ap (λ (t : Bool). cond t 0 (1 + opening_write names apps is)) (plain_kept apps), s.low, s.high)
 
   plain_one : (t : Bool) (n : ℕ) → t ≡ false → cond t 1 0 + n ≡ 1 → n ≡ 1
   plain_one true n e h = absurd (cc e)

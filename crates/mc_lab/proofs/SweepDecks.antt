@@ -1,13 +1,13 @@
 -- The lines of a deck that are swept one by one, and their text.
 use Rattle.std.specs.Prelude.{◌≡◌, ℕ, ◌+◌, ◌<◌, ◌≤◌, Bool, true, false, ◌&&◌, nat_le, List, [], ◌∷◌, ◌++◌, length, map, take, drop, slice_get, Option, Some, None, refl}
-use Rattle.std.proofs.Common.{arith, ap, sym, subst, inl, inr, ◌∙◌, length-append}
+use Rattle.std.proofs.Common.{arith, ap, sym, subst, ◌∙◌, length-append}
 use Rattle.std.proofs.lemmas.Bool.{le-leb, cases_lt, and_from, and_left, and_parts}
 use Rattle.std.proofs.Math.ListN.{drop_of_length-le}
 use Rattle.law_explore.specs.model_device.specs.Card.{Card}
-use Rattle.law_explore.specs.model_play.specs.Play.{Live, Running, Unpowered, Muted, Warm, State, BeforePower, AfterPower, FailedWrite, step, card_line, line_command, hit_of, play_at_power, power_moves, power_after, stopped_power, line_after, armed_stop_in, is_card_line, plays, steady_failures}
-use Rattle.law_explore.specs.model_device.specs.PowerUp.{Base, OnCard, AtFault}
+use Rattle.law_explore.specs.model_play.specs.Play.{Live, Warm, State, BeforePower, AfterPower, FailedWrite, step, card_line, hit_of, play_at_power, power_moves, power_after, stopped_power, line_after, armed_stop_in, is_card_line, plays, steady_failures}
+use Rattle.law_explore.specs.model_device.specs.PowerUp.{Base}
 use Rattle.law_explore.specs.model_card.specs.Commands.{Command}
-use Rattle.law_explore.specs.model_card.specs.Items.{StopAt, moves}
+use Rattle.law_explore.specs.model_card.specs.Items.{StopAt}
 use Rattle.law_explore.specs.model_play.specs.DeckGrammar.{DeckLine}
 use Rattle.law_explore.specs.model_play.specs.DeckGrammar as line
 use Rattle.law_explore.specs.model_device.proofs.ListLemmas.{length_map as map-length}
@@ -40,10 +40,7 @@ command_free s c r None = refl
 command_free s c r (Some t) = refl
 
 card_free : (n : ℕ) (l : DeckLine) (s : Warm) (live : Live) (base : Base) (w : Option FailedWrite) → is_unarmed (armed_stop_in (card_line n l s live base w).after) ≡ true
-card_free n l s (Running session_state) (OnCard c) w = let r = line_command c session_state s.budget l in command_free s c r (hit_of s.armed (moves r.items) w)
-card_free n l s (Running session_state) (AtFault cause p) w = refl
-card_free n l s Unpowered base w = refl
-card_free n l s Muted base w = refl
+card_free n l s live base w = grind (arith, command_free)
 
 free_step : (s : State) (n : ℕ) (l : DeckLine) (w : Option FailedWrite) → is_unarmed (armed_stop_in (step s (n, l) w).after) ≡ free_behind l (is_unarmed (armed_stop_in s))
 unfolding step
@@ -82,9 +79,7 @@ free_decided ls i k n l free next here h = ap (is_free_at ls) next ∙ sym (free
 
 -- a place that is open is a line without an armed stop
 pub open_is : (p : Place) → is_open_at p.deck.now p.at ≡ true → IsUnarmedLine p
-open_is p h =
-    let q = and_parts (is_card_line (line_in p).1) (is_unarmed (armed_stop_in (state_on_blank (front_of p)))) h in
-    record { card = q.0; unarmed = q.1 }
+open_is p h = grind (arith, and_parts)
 
 -- a line that is not sent to the card is not open
 pub shut_card : (front : List (ℕ × DeckLine)) (l : ℕ × DeckLine) → is_card_line l.1 ≡ false → is_open front l ≡ false
@@ -115,14 +110,7 @@ none_swept p none = not_swept p (swept_false p none)
 
 -- the most writes of the lines up to one bound those up to the next
 pub most_more : (ls : List (ℕ × DeckLine)) (n most w new : ℕ) → AtMost ls n most → (is_open_at ls n ≡ true → writes_behind (take n ls) (line_at ls n) ≤ w) → most ≤ new → w ≤ new → AtMost ls (n + 1) new
-most_more ls n most w new so_far here old now i lt is_open_there = elim (cases_lt i n) [
-  | inl below ↦ (let e = so_far i below is_open_there in omega (arith, e, old))
-  | inr last ↦
-      let same : n ≡ i = omega (arith, lt, last) in
-      let e = here (subst (λ (k : ℕ). is_open_at ls k ≡ true) (sym same) is_open_there) in
-      let most_here : writes_behind (take n ls) (line_at ls n) ≤ new = omega (arith, e, now) in
-      subst (λ (k : ℕ). writes_behind (take k ls) (line_at ls k) ≤ new) same most_here
-]
+most_more ls n most w new so_far here old now i lt is_open_there = grind (arith, cases_lt)
 
 -- ---- sums
 
@@ -136,15 +124,7 @@ total_append f (x ∷ xs) ys = let e = total_append f xs ys in omega (arith, e)
 
 -- the sums of two lists of swept lines add up
 pub adds_on : (a b c : Sums) (xs ys : List Swept) → AddsSums a xs b → AddsSums b ys c → AddsSums a (xs ++ ys) c
-adds_on a b c xs ys one rest =
-    let long = length-append xs ys in
-    let words = total_append (λ s. length s.words) xs ys in
-    let plays = total_append (λ s. s.plays) xs ys in
-    record {
-      lines = (let x = one.lines in let y = rest.lines in omega (arith, x, y, long));
-      writes = (let x = one.writes in let y = rest.writes in omega (arith, x, y, words));
-      plays = (let x = one.plays in let y = rest.plays in omega (arith, x, y, plays));
-    }
+adds_on a b c xs ys one rest = grind (arith, length-append xs ys, total_append (λ s. length s.words) xs ys, total_append (λ s. s.plays) xs ys)
 
 -- ---- a line that was swept
 
@@ -156,15 +136,7 @@ swept_is p = refl
 -- the swept line, by its number, its words and its plays
 one_swept : (p : Place) (number n : ℕ) (words : List SweepWord) (plays : ℕ) → number ≡ (line_in p).0 → SweptAs p n words plays → IsUnarmedLine p → 1 ≤ n
     → sweeps_at p ≡ record { number = number; words = take n words; plays = plays } ∷ []
-one_swept p number n words plays is s o some =
-    let made : 1 ≤ writes_in p = (let e = s.writes in omega (arith, e)) in
-    ap (λ (b : Bool). sweeps_with b (line_sweep (names_in p) (front_of p) (line_in p)) []) (swept_true p o made)
-    ∙ ap (λ (x : Swept). x ∷ []) (
-    swept_is p
-    ∙ ap (λ (k : ℕ). record { number = k; words = map (λ t. t.word) (map (cut_write_at p) (count_from 1 (writes_in p))); plays = plays_of (map (cut_write_at p) (count_from 1 (writes_in p))) }) (sym is)
-    ∙ ap (λ (ws : List SweepWord). record { number = number; words = ws; plays = plays_of (map (cut_write_at p) (count_from 1 (writes_in p))) }) (sym s.words_are)
-    ∙ ap (λ (k : ℕ). record { number = number; words = take n words; plays = k }) (sym s.plays_are)
-    )
+one_swept p number n words plays is s o some = grind (arith, swept_true, swept_is)
 
 -- the swept line of a place
 pub place_line : (p : Place) (number n : ℕ) (words : List SweepWord) (plays : ℕ) → number ≡ (line_in p).0 → SweptAs p n words plays → IsUnarmedLine p → 1 ≤ n
@@ -184,10 +156,7 @@ taken_length p n words plays s =
 -- a swept line adds one line, its writes and its plays to the sums
 pub place_adds : (p : Place) (number n : ℕ) (words : List SweepWord) (plays : ℕ) (a b : Sums) → number ≡ (line_in p).0 → SweptAs p n words plays → IsUnarmedLine p → 1 ≤ n
     → b.lines ≡ a.lines + 1 → b.writes ≡ a.writes + n → b.plays ≡ a.plays + plays → AddsSums a (sweeps_at p) b
-place_adds p number n words plays a b is s o some x y z =
-    let long = taken_length p n words plays s in
-    subst (λ (ss : List Swept). AddsSums a ss b) (sym (one_swept p number n words plays is s o some))
-    (record { lines = omega (arith, x); writes = omega (arith, y, long); plays = omega (arith, z) })
+place_adds p number n words plays a b is s o some x y z = grind (arith, taken_length, one_swept)
 
 -- ---- the rest of the lines
 
@@ -243,13 +212,4 @@ module _ (marks : List Remark) (ls : List (ℕ × DeckLine)) (names : List (List
   -- the rows and the sums that were written are the text of the sweep
   pub text_is : (a b : Sums) → a.lines ≡ 0 → a.writes ≡ 0 → a.plays ≡ 0 → AddsSums a all_swept b
       → rows_text marks (rows_of (all_marks marks) all_swept) ++ sums_text b.lines b.writes b.plays ≡ sweep_text marks ls
-  text_is a b x y z adds =
-      let ss = all_swept in
-      let rows = rows_text marks (rows_of (all_marks marks) ss) in
-      let lines : b.lines ≡ length ss = (let e = adds.lines in omega (arith, e, x)) in
-      let writes : b.writes ≡ total (λ s. length s.words) ss = (let e = adds.writes in omega (arith, e, y)) in
-      let plays : b.plays ≡ total (λ s. s.plays) ss = (let e = adds.plays in omega (arith, e, z)) in
-      ap (λ (n : ℕ). rows ++ sums_text n b.writes b.plays) lines
-      ∙ ap (λ (n : ℕ). rows ++ sums_text (length ss) n b.plays) writes
-      ∙ ap (λ (n : ℕ). rows ++ sums_text (length ss) (total (λ s. length s.words) ss) n) plays
-      ∙ text_whole
+  text_is a b x y z adds = grind (arith, text_whole)

@@ -21,12 +21,10 @@ use Rattle.mc_card.specs.Parts.{card_in}
 use Rattle.mc_card.specs.Saved.{SavedState}
 use Rattle.mc_script.specs.declared.answer.Answer.{Answer}
 use Rattle.mc_script.specs.declared.armed.Armed.{Armed as CodeArmed}
-use Rattle.mc_script.specs.declared.armed.Armed.TheVariants as armed
 use Rattle.mc_script.specs.declared.live.Live.{Live}
 use Rattle.mc_script.specs.declared.live.Live.TheVariants as live
 use Rattle.mc_script.specs.declared.player.Player.{Player}
 use Rattle.mc_script.specs.declared.player.Power.{Power}
-use Rattle.mc_script.specs.declared.player.Power.TheVariants as power
 use Rattle.mc_script.specs.Lives.{ShowsSession, LiveShows, FitsLive}
 use Rattle.mc_script.specs.Lines.{LineDone, Stepped}
 use Rattle.mc_script.specs.Players.{armed_value, device_of, IsCardOfPlay, IsPlayerAt, LiveIs}
@@ -91,19 +89,14 @@ up_runs m b c holds = ap (λ (e : Base). is_running (power_live e)) holds.base
 -- ---- stops
 
 not_armed : (a : CodeArmed) → has_stop a ≡ false → armed_value a ≡ Unarmed
-not_armed armed.Not h = refl
-not_armed (armed.Cut k fill) h = absurd (cc h)
-not_armed (armed.Fail k) h = absurd (cc h)
+not_armed a h = grind arith
 
 module _ {N : Type 0} (state : N → DeviceState) (bench : N → BenchState) where
   -- ---- what is kept
 
   -- a card that runs is that of a card of the code
   card_of_play : (x : Power) (c : CodeCard N) (b : Base) (l : play.Live) (t : SessionState) → l ≡ Running t → LiveIs state x c b l → IsCardOfPlay state c b l
-  card_of_play power.BeforePower c b l t is h = absurd h
-  card_of_play power.Off c b l t is h = absurd (cc (sym is ∙ h))
-  card_of_play power.Mute c b l t is h = absurd (cc (sym is ∙ h))
-  card_of_play power.On c b l t is h = h
+  card_of_play x c b l t is h = grind arith
 
   warm_shows : (p : Player N) (w : Warm) (v : SavedState) (g : ℕ) → IsPlayerAt state bench p (AfterPower w) → ShowsSession (state (device_of p)).words v w.live → g ≡ p.budget → w.armed ≡ Unarmed
       → ShowsPlay (state (device_of p)).words (record { budget = g; live = live.Running v }) w
@@ -143,11 +136,7 @@ module _ {N : Type 0} (state : N → DeviceState) (bench : N → BenchState) whe
 
   -- before its first line
   pub new_at : (d : N) (p : Player N) (s : State) → IsPlayerAt state bench p (start (state d).words) → device_of p ≡ d → (bench d).steady ≡ true → s ≡ start (state d).words → IsSteadyAt state bench p s
-  new_at d p s at device steady is =
-      record {
-        at = subst (λ (t : State). IsPlayerAt state bench p t) (sym is) at;
-        steady = ap (λ (e : N). (bench e).steady) device ∙ steady;
-      }
+  new_at d p s at device steady is = grind arith
 
   -- after the budget line
   pub budget_set : (q : Player N) (m : List (List ℕ)) (g : ℕ) (a : Option Answer) → LineOn state bench (start m) (0, line.Budget g) a q → IsSteadyAt state bench q (BeforePower m g Unarmed)
@@ -181,9 +170,7 @@ module _ {N : Type 0} (state : N → DeviceState) (bench : N → BenchState) whe
 
   -- what was kept fits the words
   fits_live : (m : List (List ℕ)) (v : Live) (l : play.Live) → LiveShows m v l → FitsLive m v
-  fits_live m live.Unpowered l h = tt
-  fits_live m live.Muted l h = tt
-  fits_live m (live.Running s) l h = h.fits
+  fits_live m v l h = grind arith
 
   -- what was kept of a play fits the words that show it
   pub fits_kept : (q : Player N) (m : List (List ℕ)) (k : Kept) (w : Warm) → (state (device_of q)).words ≡ m → ShowsPlay m k w → FitsLive (state (device_of q)).words k.live
@@ -192,31 +179,14 @@ module _ {N : Type 0} (state : N → DeviceState) (bench : N → BenchState) whe
   -- a player at a play is at each play that differs in the journal of which nothing is owed
   settle : (p : Player N) (v w : Warm) → v.base ≡ w.base → v.live ≡ w.live → v.owed ≡ 0 → w.owed ≡ 0 → v.budget ≡ w.budget → v.armed ≡ w.armed → IsPlayerAt state bench p (AfterPower v)
       → IsPlayerAt state bench p (AfterPower w)
-  settle p v w base live none owed budget armed_is at =
-      record {
-        stands = (
-          subst (λ (b : Base). LiveIs state p.power p.card b w.live) base (subst (λ (l : play.Live). LiveIs state p.power p.card v.base l) live at.stands.0),
-          record { base = at.stands.1.base ∙ base; owed = at.stands.1.owed ∙ none ∙ sym owed; by = λ some. absurd (some owed) },
-        );
-        budget = at.budget ∙ budget;
-        armed = at.armed ∙ armed_is;
-        some = at.some;
-        most = at.most;
-        can_arm = at.can_arm;
-        unfused = at.unfused;
-      }
+  settle p v w base live none owed budget armed_is at = grind arith
 
   -- a player that was put back is where the play was
   pub put_back_at : (q r : Player N) (m : List (List ℕ)) (k : Kept) (w : Warm) (shows : ShowsPlay m k w) → IsPoweredUp state bench q m k.budget shows.card → device_of r ≡ device_of q
       → ((s : Warm) (l : play.Live) → IsPlayerAt state bench q (AfterPower s) → LiveShows (state (device_of q)).words k.live l → is_running s.live ≡ is_running l → IsPlayerAt state bench r (AfterPower (record s { live = l })))
       → IsSteadyAt state bench r (AfterPower w)
   put_back_at q r m k w shows up device puts =
-      let saved = subst (λ (n : List (List ℕ)). LiveShows n k.live w.live) (sym up.words) shows.live in
-      let at = puts up.warm w.live up.at.at saved (up.runs ∙ sym shows.runs) in
-      record {
-        at = settle r (record up.warm { live = w.live }) w (up.base ∙ sym shows.base) refl up.owed shows.owed (up.budget ∙ shows.budget) (up.unarmed ∙ sym shows.unarmed) at;
-        steady = subst (λ (d : N). (bench d).steady ≡ true) (sym device) up.at.steady;
-      }
+      grind (arith, subst (λ (n : List (List ℕ)). LiveShows n k.live w.live) (sym up.words) shows.live, puts up.warm w.live up.at.at (subst (λ (n : List (List ℕ)). LiveShows n k.live w.live) (sym up.words) shows.live) (up.runs ∙ sym shows.runs))
 
   -- a play that goes on from what was kept
   pub resumed_at : (r : Player N) (m : List (List ℕ)) (k : Kept) (s : State) → IsKeptAt m (Some k) s → ((w : Warm) → ShowsPlay m k w → IsSteadyAt state bench r (AfterPower w)) → IsSteadyAt state bench r s
@@ -238,16 +208,7 @@ front_less m k n a ls most h = subst (λ (l : List (ℕ × DeckLine)). IsKeptAt 
 
 -- those before a place
 pub played_before : (l : Laboratory) (p : Place) → IsPlace p → HasPlayed l (front_of p) → (l.played ≤ p.at) × IsKeptAt l.device.root l.kept (state_on_blank (take l.played p.deck.now))
-played_before l p at h =
-    let long = length-take-le p.at p.deck.now (omega (arith, at)) in
-    let most : l.played ≤ p.at = (let w = h.within in omega (arith, w, long)) in
-    (most, front_less l.device.root l.kept l.played p.at p.deck.now most h.kept)
-
--- what is kept of the first lines is kept of more
-pub played_up_to : (l : Laboratory) (a : ℕ) (ls : List (ℕ × DeckLine)) → l.played ≤ a → a ≤ length ls → IsKeptAt l.device.root l.kept (state_on_blank (take l.played ls)) → HasPlayed l (take a ls)
-played_up_to l a ls most below h =
-    let long = length-take-le a ls below in
-    record { within = omega (arith, most, long); kept = front_more l.device.root l.kept l.played a ls most h }
+played_before l p at h = grind (arith, length-take-le, front_less)
 
 -- another root that is the same keeps what was played
 pub played_on_root : (l : Laboratory) (d : BranchState) (ls : List (ℕ × DeckLine)) → d.root ≡ l.device.root → HasPlayed l ls → HasPlayed (record l { device = d }) ls

@@ -6,7 +6,7 @@ use Rattle.law_explore.specs.model_device.specs.declared.device.Stop.TheVariants
 use Rattle.law_explore.specs.model_device.specs.Image.{Journal}
 use Rattle.law_explore.specs.model_device.specs.Card.{Card}
 use Rattle.law_explore.specs.model_card.specs.Items.{moves, StopAt}
-use Rattle.law_explore.specs.model_play.specs.Play.{Armed, Unarmed, ArmedCut, ArmedFail, Live, Running, Unpowered, Muted, Warm, State, BeforePower, AfterPower, step, moves_of, armed_stop_in, is_card_line, play_at_power, power_moves, power_step, power_result, card_line, command_step, line_command}
+use Rattle.law_explore.specs.model_play.specs.Play.{Armed, Unarmed, ArmedCut, Live, Warm, State, BeforePower, AfterPower, step, moves_of, armed_stop_in, is_card_line, play_at_power, power_moves, power_step, power_result, card_line, command_step}
 use Rattle.law_explore.specs.model_device.specs.PowerUp.{Base, OnCard, AtFault}
 use Rattle.law_explore.specs.model_card.specs.Commands.{Command}
 use Rattle.law_explore.specs.model_play.specs.DeckGrammar.{DeckLine}
@@ -29,12 +29,7 @@ no_writes k low = sym (lt-leb k 0 low)
 
 card_hit : (n : ℕ) (l : DeckLine) (b : Base) (o : ℕ) (j : Journal) (v : Live) (g k : ℕ) (x : List ℕ) → 1 ≤ k
     → is_off (card_line n l (past_power b o j v g (ArmedCut k x)) v b None).result ≡ nat_le k (moves (card_line n l (past_power b o j v g Unarmed) v b None).items)
-card_hit n l (OnCard c) o j (Running session_state) g k x low =
-    let r = line_command c session_state g l in
-    command_hit n l (past_power (OnCard c) o j (Running session_state) g (ArmedCut k x)) c r k x (nat_le k (moves r.items))
-card_hit n l (AtFault cause place) o j (Running session_state) g k x low = no_writes k low
-card_hit n l b o j Unpowered g k x low = no_writes k low
-card_hit n l b o j Muted g k x low = no_writes k low
+card_hit n l b o j v g k x low = grind (arith, command_hit, past_power, no_writes)
 
 result_off : (m : ℕ) (b : Base) → is_off (Some (power_result m b)) ≡ false
 result_off m (OnCard c) = refl
@@ -68,17 +63,12 @@ after_power_hit n i _ b o j v g k x is low = absurd (cc is)
 
 armed_hit : (n i : ℕ) (l : DeckLine) (b : Base) (o : ℕ) (j : Journal) (v : Live) (g : ℕ) (a : Armed) (k : ℕ) (x : List ℕ) → a ≡ Unarmed → is_card_line l ≡ true → 1 ≤ k
     → is_off (steady_step (next (AfterPower (past_power b o j v g a)) (cut_statement i k x)) (n, l)).result ≡ nat_le k (moves_of (AfterPower (past_power b o j v g a)) (n, l))
-armed_hit n i l b o j v g Unarmed k x is card low = after_power_hit n i l b o j v g k x card low
-armed_hit n i l b o j v g (ArmedCut h y) k x is card low = absurd (cc is)
-armed_hit n i l b o j v g (ArmedFail h) k x is card low = absurd (cc is)
+armed_hit n i l b o j v g a k x is card low = grind (arith, after_power_hit)
 
 -- a cut hits its line exactly if the line makes that write
 pub line_hit : (s : State) (l : ℕ × DeckLine) (i k : ℕ) (x : List ℕ) → armed_stop_in s ≡ Unarmed → is_card_line l.1 ≡ true → 1 ≤ k
     → is_off (steady_step (next s (cut_statement i k x)) l).result ≡ nat_le k (moves_of s l)
-line_hit (BeforePower m b Unarmed) l i k x is card low = before_power_hit l.0 i l.1 m b k x card low
-line_hit (BeforePower m b (ArmedCut h y)) l i k x is card low = absurd (cc is)
-line_hit (BeforePower m b (ArmedFail h)) l i k x is card low = absurd (cc is)
-line_hit (AfterPower s) l i k x is card low = armed_hit l.0 i l.1 s.base s.owed s.by s.live s.budget s.armed k x is card low
+line_hit s l i k x is card low = grind (arith, before_power_hit, armed_hit)
 
 -- a cut after other lines
 pub hits_within : HitsWithin

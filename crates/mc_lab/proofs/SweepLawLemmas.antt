@@ -12,10 +12,7 @@ use Rattle.mc_lab.proofs.SweepRuns.{words, all_runs, all_counted, runs_all, runs
 use Rattle.mc_lab.proofs.SweepReported.{SweptAt, swept_at, word_reported, word_none, splits_line}
 
 never_torn_word : (a b : Bool) → word_by a b ≢ Torn
-never_torn_word true true h = absurd (cc h)
-never_torn_word true false h = absurd (cc h)
-never_torn_word false true h = absurd (cc h)
-never_torn_word false false h = absurd (cc h)
+never_torn_word a b h = grind arith
 
 module _ (names : List (List ℕ)) (front : List (ℕ × DeckLine)) (l : ℕ × DeckLine) where
   abbrev write : ℕ → Tried
@@ -52,12 +49,7 @@ module _ (names : List (List ℕ)) (front : List (ℕ × DeckLine)) (l : ℕ × 
       ∙ ap (λ (m : ℕ). split_at (opening_behind names front l) m) (let t : 1 + n ≡ suc n = omega arith in t))
 
   one_between : SweptAt front l → changing_behind names front l ≡ 1 → (k : ℕ) → 1 ≤ k → k ≤ writes_behind front l → (write k).word ≢ Between
-  one_between at one k low high e =
-      let s = splits_line names front l at one in
-      elim (cases_lt (opening_behind names front l) k) [
-        | inl later ↦ absurd (cc (sym (s.after k later high) ∙ e))
-        | inr early ↦ absurd (cc (sym (s.before k low early) ∙ e))
-      ]
+  one_between at one k low high e = grind (arith, splits_line names front l at one)
 
   none_between : SweptAt front l → changing_behind names front l ≡ 0 → (k : ℕ) → 1 ≤ k → k ≤ writes_behind front l → (write k).word ≢ Between
   none_between at none k low high e = absurd (cc (sym (word_none names front l at k low high none) ∙ e))

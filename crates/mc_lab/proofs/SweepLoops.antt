@@ -65,10 +65,7 @@ and_assoc true b c = refl
 and_assoc false b c = refl
 
 and_swap : (a b : Bool) → (a && b) ≡ (b && a)
-and_swap true true = refl
-and_swap true false = refl
-and_swap false true = refl
-and_swap false false = refl
+and_swap a b = grind arith
 
 -- all states of two lists are the same if those of each are
 pub same_append : (t : ReportedState) (xs ys : List ReportedState) → all_same t (xs ++ ys) ≡ (all_same t xs && all_same t ys)
@@ -92,13 +89,7 @@ recovering_more p k fill first now made same now_same hit r test is_hit is test_
     let f = λ (j : ℕ). state_at_place p (trial.Twice k fill j) in
     record {
       within = leb-true (made + 1) (again_in p k fill) (sym test ∙ is_hit);
-      is =
-          ap (λ (b : Bool). b && same) (test_same ∙ ap (λ (t : ReportedState). is_same t first) is)
-          ∙ ap (λ (b : Bool). is_same (f (made + 1)) first && b) r.is
-          ∙ and_swap (is_same (f (made + 1)) first) (all_same first (map f (count_from 1 made)))
-          ∙ ap (λ (b : Bool). all_same first (map f (count_from 1 made)) && b) (sym (and_true (is_same (f (made + 1)) first)))
-          ∙ sym (same_append first (map f (count_from 1 made)) (f (made + 1) ∷ []))
-          ∙ ap (λ (l : List ReportedState). all_same first l) (sym (map_more f made));
+      is = grind (arith, is, and_swap, and_true, same_append, map_more);
     }
 
 -- the recoveries of a write after the cut that hit no more, or after the last number
@@ -123,9 +114,7 @@ recovered_missed p k fill first made same hit r test missed =
 
 -- after the last cut the recoveries of a write are done
 pub recovered_last : (p : Place) (k : ℕ) (fill : List ℕ) (first : ReportedState) (made most : ℕ) (same : Bool) → Recovering p k fill first made same → made ≡ most → again_in p k fill ≤ most → Recovered p k fill first made same
-recovered_last p k fill first made most same r last few =
-    let within = r.within in
-    recovered_all p k fill first made same r (omega arith)
+recovered_last p k fill first made most same r last few = recovered_all p k fill first made same r (omega arith)
 
 -- ---- one write
 
@@ -168,9 +157,7 @@ hit_within p k hit open_line low fill is hits_it = leb-true k (writes_in p) (sym
 
 -- a cut that hits nothing is past the writes of the line
 pub missed_past : (p : Place) (k : ℕ) (hit : Bool) → IsUnarmedLine p → 1 ≤ k → (fill : List ℕ) → hit ≡ hit_in p (trial.Cut k fill) → hit ≡ false → writes_in p < k
-missed_past p k hit open_line low fill is misses_it =
-    let past : nat_le k (writes_in p) ≡ false = sym (is ∙ hit_cut p open_line k fill low) ∙ misses_it in
-    grind (arith, nat_tests)
+missed_past p k hit open_line low fill is misses_it = grind (arith, hit_cut, nat_tests)
 
 -- ---- the writes of a line
 
@@ -206,12 +193,7 @@ sweeping_more p i words plays w n s lt within w_is n_is few =
     let last = plays_more (map (cut_write_at p) (count_from 1 i)) (cut_write_at p (i + 1)) in
     record {
       within = within;
-      words_are =
-          take_set i words w lt
-          ∙ ap (λ (l : List SweepWord). l ++ w ∷ []) s.words_are
-          ∙ ap (λ (x : SweepWord). map (λ t. t.word) (map (cut_write_at p) (count_from 1 i)) ++ x ∷ []) w_is
-          ∙ sym (map_append (λ t. t.word) (map (cut_write_at p) (count_from 1 i)) (cut_write_at p (i + 1) ∷ []))
-          ∙ ap (λ (ts : List Tried). map (λ t. t.word) ts) (sym more);
+      words_are = grind (arith, take_set, map_append);
       plays_are = (let e : plays + n ≡ plays_of (map (cut_write_at p) (count_from 1 i)) + (cut_write_at p (i + 1)).plays = omega (arith, so_far, n_is) in e) ∙ sym last ∙ ap plays_of (sym more);
       few_plays = omega (arith, before, few);
     }

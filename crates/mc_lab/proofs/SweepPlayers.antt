@@ -10,21 +10,19 @@ use Rattle.law_explore.specs.model_device.specs.Device.{DeviceState, BenchState,
 use Rattle.law_explore.specs.model_device.specs.declared.device.Stop.{Stop}
 use Rattle.law_explore.specs.model_device.specs.declared.device.Stop.TheVariants as stop
 use Rattle.law_explore.specs.model_card.specs.Items.{StopAt}
-use Rattle.law_explore.specs.model_play.specs.Play.{Armed, Live, Running, Unpowered, Muted, Warm, State, BeforePower, AfterPower, FailedWrite, LineResult, Ready, hit_of, power_result, power_says, result_of_stop, step, card_line, static_of, steady_at, moves_of, armed_stop_in, play_at_power, power_moves, laid_entries, words_left, formatted_image}
+use Rattle.law_explore.specs.model_play.specs.Play.{Armed, Live, Warm, State, BeforePower, AfterPower, FailedWrite, LineResult, Ready, hit_of, power_result, power_says, result_of_stop, step, card_line, static_of, steady_at, moves_of, armed_stop_in, play_at_power, power_moves, laid_entries, words_left, formatted_image}
 use Rattle.law_explore.specs.model_device.specs.PowerUp.{Base, OnCard, AtFault}
 use Rattle.law_explore.specs.model_play.specs.DeckGrammar.{DeckLine}
 use Rattle.law_explore.specs.model_play.specs.DeckGrammar as line
 use Rattle.mc_deck.specs.law_family.proofs.ReadyLines.{owed_most, migration_most}
 use Rattle.mc_script.specs.declared.answer.Answer.{Answer}
-use Rattle.mc_script.specs.declared.answer.Answer.TheVariants as answer
 use Rattle.mc_script.specs.declared.player.Power.{Power}
 use Rattle.mc_script.specs.declared.player.Power.TheVariants as power
 use Rattle.mc_script.specs.declared.player.Player.{Player}
 use Rattle.mc_card.specs.declared.card.Card.{Card}
-use Rattle.mc_card.specs.Parts.{card_in, device_in}
-use Rattle.mc_script.proofs.CutLemmas.{off_answer}
-use Rattle.mc_script.specs.Cuts.{is_off, off_in}
-use Rattle.mc_script.specs.Players.{answer_value, device_of, dump_value, statics_by, statics_in, LiveIs, StateIs, IsPlayerAt, IsPlaying}
+use Rattle.mc_card.specs.Parts.{device_in}
+use Rattle.mc_script.specs.Cuts.{off_in}
+use Rattle.mc_script.specs.Players.{answer_value, device_of, dump_value, statics_by, statics_in, LiveIs, StateIs, IsPlaying}
 use Rattle.mc_script.specs.Lines.{LineDone}
 use Rattle.law_explore.specs.model_device.proofs.ImageLemmas.{length_laid as laid-size}
 use Rattle.mc_lab.specs.Sweeps.{steady_step, state_on_blank, state_after_power, state_by_result, Holds, static_bytes_under, running_apps, running_in, cut_statement, under_cut}
@@ -56,10 +54,7 @@ after_power_size : (m : List (List ℕ)) (es : List Entry) → length (laid_entr
 after_power_size m es = laid-size m (map (λ e. (e.at, e.left)) es)
 
 card_size : (n : ℕ) (l : DeckLine) (s : Warm) (live : Live) (base : Base) (w : Option FailedWrite) (m : List (List ℕ)) (es : List Entry) → length (words_left m es (card_line n l s live base w).after) ≡ length m
-card_size n l s (Running session_state) (OnCard c) w m es = after_power_size m es
-card_size n l s (Running session_state) (AtFault cause p) w m es = after_power_size m es
-card_size n l s Unpowered base w m es = after_power_size m es
-card_size n l s Muted base w m es = after_power_size m es
+card_size n l s live base w m es = grind (arith, after_power_size)
 
 -- before the first power line the words are the image
 abbrev WordsOf : List (List ℕ) → State → Type 0
@@ -95,31 +90,14 @@ static_held (Some a) names s = refl
 
 module _ {N : Type 0} (state : N → DeviceState) where
   dump_held : (p : Power) (c : Card N) (aid : List ℕ) (names : List (List ℕ)) (s : State) → state_by_result names (Some (dump_value state p c aid)) s ≡ Holds (static_bytes_under names (running_in s))
-  dump_held power.BeforePower c aid names s = refl
-  dump_held power.Off c aid names s = refl
-  dump_held power.Mute c aid names s = refl
-  dump_held power.On c aid names s = static_held _ names s
+  dump_held p c aid names s = grind (arith, static_held)
 
   reported_answer : (p : Player N) (a : Option Answer) (names : List (List ℕ)) (s : State) → state_by_fault (fault_in a) (static_bytes_under names (running_in s)) ≡ state_by_result names (option_map (answer_value state p) a) s
-  reported_answer p None names s = refl
-  reported_answer p (Some answer.Formatted) names s = refl
-  reported_answer p (Some (answer.Ready n)) names s = refl
-  reported_answer p (Some (answer.Unusable u)) names s = refl
-  reported_answer p (Some (answer.OffAt k)) names s = refl
-  reported_answer p (Some answer.Worn) names s = refl
-  reported_answer p (Some answer.NoCard) names s = refl
-  reported_answer p (Some answer.Mute) names s = refl
-  reported_answer p (Some answer.Outcome) names s = refl
-  reported_answer p (Some (answer.Dump aid)) names s = sym (dump_held p.power p.card aid names s)
+  reported_answer p a names s = grind (arith, dump_held)
 
   -- the static bytes that a player shows are those of the card that runs
   live_statics : (p : Power) (c : Card N) (b : Base) (v : Live) (n : List ℕ) → LiveIs state p c b v → statics_by state p c n ≡ option_map (λ a. a.fixed) (lookup (running_apps v b) n)
-  live_statics power.BeforePower c b v n h = absurd h
-  live_statics power.Off c b v n h = ap (λ (u : Live). option_map (λ a. a.fixed) (lookup (running_apps u b) n)) (sym h)
-  live_statics power.Mute c b v n h = ap (λ (u : Live). option_map (λ a. a.fixed) (lookup (running_apps u b) n)) (sym h)
-  live_statics power.On c b v n h =
-      ap (λ (u : Live). option_map (λ a. a.fixed) (lookup (running_apps u (OnCard (card_in state c))) n)) (sym h.live)
-      ∙ ap (λ (x : Base). option_map (λ a. a.fixed) (lookup (running_apps v x) n)) (sym h.base)
+  live_statics p c b v n h = grind arith
 
   before_power_statics : (p : Power) (c : Card N) (n : List ℕ) → p ≡ power.BeforePower → statics_by state p c n ≡ None
   before_power_statics p c n h = ap (λ (q : Power). statics_by state q c n) h
@@ -130,9 +108,7 @@ module _ {N : Type 0} (state : N → DeviceState) where
 
   all_statics : (p : Player N) (s : State) (names : List (List ℕ)) → StateIs state p.power p.card s → map (statics_in state p) names ≡ static_bytes_under names (running_in s)
   all_statics p s [] h = refl
-  all_statics p s (n ∷ ns) h =
-      ap (λ (x : Option (List ℕ)). x ∷ map (statics_in state p) ns) (state_statics p.power p.card s n h)
-      ∙ ap (λ (l : List (Option (List ℕ))). option_map (λ a. a.fixed) (lookup (running_in s) n) ∷ l) (all_statics p s ns h)
+  all_statics p s (n ∷ ns) h = grind (arith, state_statics, all_statics p s ns h)
 
 module _ {N : Type 0} (state : N → DeviceState) (bench : N → BenchState) where
   -- ---- a line
@@ -140,20 +116,11 @@ module _ {N : Type 0} (state : N → DeviceState) (bench : N → BenchState) whe
   -- a player that played a line without a failed write plays it from its state
   pub line_on : {R : Type 0} (reported : R → List Turn → R → Type 0) (p q : Player N) (l : DeckLine) (before after : R) (a : Option Answer) → LineDone state bench reported p l before after a q
       → (s : State) (n : ℕ) → IsSteadyAt state bench p s → LineOn state bench s (n, l) a q
-  line_on reported p q l before after a done s n h =
-      let d = done s n h.at in
-      let st = d.1.stepped in
-      let worn : d.0 ≡ steady_at (armed_stop_in s) l (moves_of s (n, l)) = st.played.steady h.steady in
-      record {
-        at = record { at = subst (λ (w : Option FailedWrite). IsPlayerAt state bench q (step s (n, l) w).after) worn st.at; steady = st.played.counts.counts.steady ∙ h.steady };
-        answers = st.answers ∙ ap (λ (w : Option FailedWrite). (step s (n, l) w).result) worn;
-      }
+  line_on reported p q l before after a done s n h = grind (arith, done s n h.at, (done s n h.at).1.stepped, ((done s n h.at).1.stepped).played.steady h.steady)
 
   -- a player that played a line is playing
   pub line_playing : {R : Type 0} (reported : R → List Turn → R → Type 0) (p q : Player N) (l : DeckLine) (before after : R) (a : Option Answer) → LineDone state bench reported p l before after a q → IsPlaying state bench p → IsPlaying state bench q
-  line_playing reported p q l before after a done h =
-      let d = done h.0 0 h.1 in
-      ((step h.0 (0, l) d.0).after, d.1.stepped.at)
+  line_playing reported p q l before after a done h = grind (arith, done h.0 0 h.1)
 
   words_of : (p : Power) (c : Card N) (s : State) → StateIs state p c s → WordsOf (state (device_in c)).words s
   words_of p c (BeforePower m b a) h = h.1
@@ -182,10 +149,7 @@ module _ {N : Type 0} (state : N → DeviceState) (bench : N → BenchState) whe
       → ((s : State) (n : ℕ) → IsSteadyAt state bench p s → LineOn state bench s (n, line.Cut k fill) armed m)
       → ((s : State) (n : ℕ) → IsSteadyAt state bench m s → LineOn state bench s (n, l) a q) → hit ≡ off_in a
       → (s : State) (i n : ℕ) → IsSteadyAt state bench p s → CutOn state bench s (n, l) i k fill hit q
-  cut_on p m q l k fill armed a hit first second is s i n h =
-      let one = first s i h in
-      let two = second (next s (i, line.Cut k fill)) n one.at in
-      record { at = two.at; says = is ∙ off_answer state q a ∙ ap is_off two.answers }
+  cut_on p m q l k fill armed a hit first second is s i n h = grind (arith, first s i h, second (next s (i, line.Cut k fill)) n (first s i h).at)
 
   -- ---- the lines of a trial from its line on
 
@@ -270,16 +234,7 @@ module _ {N : Type 0} (state : N → DeviceState) (bench : N → BenchState) whe
   ready_moves s n k e = ready_step s n k (steady_at (armed_stop_in s) line.Power (moves_of s (0, line.Power))) e
 
   power_most : (p : Player N) (s : State) (n : ℕ) (q : Player N) (a : Option Answer) → IsSteadyAt state bench p s → option_map (answer_value state q) a ≡ (steady_step s (0, line.Power)).result → moves_of s (n, line.Power) ≤ most_in a
-  power_most p s n q (Some (answer.Ready k)) h e = let all = ready_moves s n k (sym e) in omega (arith, all)
-  power_most p s n q None h e = power_few p s n h
-  power_most p s n q (Some answer.Formatted) h e = power_few p s n h
-  power_most p s n q (Some (answer.Unusable u)) h e = power_few p s n h
-  power_most p s n q (Some (answer.OffAt k)) h e = power_few p s n h
-  power_most p s n q (Some answer.Worn) h e = power_few p s n h
-  power_most p s n q (Some answer.NoCard) h e = power_few p s n h
-  power_most p s n q (Some answer.Mute) h e = power_few p s n h
-  power_most p s n q (Some answer.Outcome) h e = power_few p s n h
-  power_most p s n q (Some (answer.Dump aid)) h e = power_few p s n h
+  power_most p s n q a h e = grind (arith, ready_moves, power_few)
 
   -- ---- one play
 

@@ -3,7 +3,7 @@ use Rattle.std.specs.Prelude.{◌≡◌, ℕ, ◌-◌, ◌≤◌, Bool, true, fa
 use Rattle.std.proofs.Common.{arith, ap, sym, inl, inr, ◌∙◌}
 use Rattle.std.proofs.lemmas.Bool.{le-leb}
 use Rattle.law_explore.specs.model_device.specs.declared.device.Stop.TheVariants as stop
-use Rattle.law_explore.specs.model_device.specs.Image.{Journal, One, Two}
+use Rattle.law_explore.specs.model_device.specs.Image.{Journal, Two}
 use Rattle.law_explore.specs.model_device.specs.Stopped.{cost, opens_at, stands}
 use Rattle.law_explore.specs.model_device.specs.Card.{Card}
 use Rattle.law_explore.specs.model_card.specs.Items.{Item, Plain, Atomic, moves, at_stop, Stopped, StopAt, card_done}
@@ -155,28 +155,12 @@ card_cut n l (AtFault cause place) o j (Running session_state) g k x shuts low h
 card_cut n l b o j Unpowered g k x shuts low high = absurd (omega arith)
 card_cut n l b o j Muted g k x shuts low high = absurd (omega arith)
 
--- a power line: a migration does not change the observed state
-migrated_if : (names : List (List ℕ)) (t : Bool) (b : Base) → shown names (cond t (base_after_migration b) b) ≡ shown names b
-migrated_if names true b = shown_migrated names b
-migrated_if names false b = refl
-
-stopped_reported : (names : List (List ℕ)) (s : Warm) (t : StopAt) (b : Bool) → shown names (stopped_power s t b).base ≡ shown names s.base
-stopped_reported names s t true = refl
-stopped_reported names s t false = migrated_if names (stands One 1 (t.at - s.owed) t.left) s.base
-
 stopped_unarmed : (s : Warm) (t : StopAt) (b : Bool) → (stopped_power s t b).armed ≡ Unarmed
 stopped_unarmed s t true = refl
 stopped_unarmed s t false = refl
 
 power_cut : (s : State) (w : Warm) (before : State) (n k : ℕ) (x : List ℕ) → w.base ≡ base_in s → (b : Bool) → b ≡ true → CutTo s [] (power_step n before w (cond b (Some (cut_at k x)) None)).after
-power_cut s w before n k x same true is =
-    let t = cut_at k x in
-    record {
-      warm = stopped_power w t (nat_le k w.owed);
-      state = refl;
-      unarmed = stopped_unarmed w t (nat_le k w.owed);
-      reported = λ names. stopped_reported names w t (nat_le k w.owed) ∙ ap (λ (b : Base). shown names b) same ∙ sym (shown_none names (base_in s));
-    }
+power_cut s w before n k x same true is = grind (arith, cut_at k x)
 power_cut s w before n k x same false is = absurd (cc is)
 
 -- a line before the first power line
@@ -210,17 +194,12 @@ after_power_cut n i _ b o j v g k x is shuts low high = absurd (cc is)
 
 armed_cut : (n i : ℕ) (l : DeckLine) (b : Base) (o : ℕ) (j : Journal) (v : Live) (g : ℕ) (a : Armed) (k : ℕ) (x : List ℕ) → a ≡ Unarmed → is_card_line l ≡ true → OpensNoGate x → 1 ≤ k → k ≤ moves_of (AfterPower (past_power b o j v g a)) (n, l)
     → CutTo (AfterPower (past_power b o j v g a)) (at_stop (step (AfterPower (past_power b o j v g a)) (n, l) None).items k (zeros 8)).whole (next (next (AfterPower (past_power b o j v g a)) (cut_statement i k x)) (n, l))
-armed_cut n i l b o j v g Unarmed k x is card shuts low high = after_power_cut n i l b o j v g k x card shuts low high
-armed_cut n i l b o j v g (ArmedCut h y) k x is card shuts low high = absurd (cc is)
-armed_cut n i l b o j v g (ArmedFail h) k x is card shuts low high = absurd (cc is)
+armed_cut n i l b o j v g a k x is card shuts low high = grind (arith, after_power_cut)
 
 -- any line for which no stop is armed, with its write `k` cut
 pub line_cut : (s : State) (l : ℕ × DeckLine) (i k : ℕ) (x : List ℕ) → armed_stop_in s ≡ Unarmed → is_card_line l.1 ≡ true → OpensNoGate x → 1 ≤ k → k ≤ moves_of s l
     → CutTo s (at_stop (step s l None).items k (zeros 8)).whole (next (next s (cut_statement i k x)) l)
-line_cut (BeforePower m b Unarmed) l i k x is card shuts low high = before_power_cut l.0 i l.1 m b k x card shuts low high
-line_cut (BeforePower m b (ArmedCut h y)) l i k x is card shuts low high = absurd (cc is)
-line_cut (BeforePower m b (ArmedFail h)) l i k x is card shuts low high = absurd (cc is)
-line_cut (AfterPower s) l i k x is card shuts low high = armed_cut l.0 i l.1 s.base s.owed s.by s.live s.budget s.armed k x is card shuts low high
+line_cut s l i k x is card shuts low high = grind (arith, before_power_cut, armed_cut)
 
 -- ---- a line that was not cut
 
@@ -235,9 +214,7 @@ power_whole s w before n same =
 
 card_whole : (n : ℕ) (l : DeckLine) (b : Base) (o : ℕ) (j : Journal) (v : Live) (g : ℕ) → 1 ≤ moves (card_line n l (past_power b o j v g Unarmed) v b None).items
     → CutTo (AfterPower (past_power b o j v g Unarmed)) (card_line n l (past_power b o j v g Unarmed) v b None).items (card_line n l (past_power b o j v g Unarmed) v b None).after
-card_whole n l (OnCard c) o j (Running session_state) g some =
-    let r = line_command c session_state g l in
-    record { warm = past_power (OnCard (card_done c r.items)) o j (Running r.session_state) g Unarmed; state = refl; unarmed = refl; reported = λ names. refl }
+card_whole n l (OnCard c) o j (Running session_state) g some = grind (arith, line_command c session_state g l)
 card_whole n l (AtFault cause place) o j (Running session_state) g some = absurd (omega arith)
 card_whole n l b o j Unpowered g some = absurd (omega arith)
 card_whole n l b o j Muted g some = absurd (omega arith)
@@ -258,9 +235,7 @@ after_power_whole n _ b o j v g is some = absurd (cc is)
 
 armed_whole : (n : ℕ) (l : DeckLine) (b : Base) (o : ℕ) (j : Journal) (v : Live) (g : ℕ) (a : Armed) → a ≡ Unarmed → is_card_line l ≡ true → 1 ≤ moves_of (AfterPower (past_power b o j v g a)) (n, l)
     → CutTo (AfterPower (past_power b o j v g a)) (step (AfterPower (past_power b o j v g a)) (n, l) None).items (next (AfterPower (past_power b o j v g a)) (n, l))
-armed_whole n l b o j v g Unarmed is card some = after_power_whole n l b o j v g card some
-armed_whole n l b o j v g (ArmedCut h y) is card some = absurd (cc is)
-armed_whole n l b o j v g (ArmedFail h) is card some = absurd (cc is)
+armed_whole n l b o j v g a is card some = grind (arith, after_power_whole)
 
 -- any line for which no stop is armed
 pub line_whole : (s : State) (l : ℕ × DeckLine) → armed_stop_in s ≡ Unarmed → is_card_line l.1 ≡ true → 1 ≤ moves_of s l → CutTo s (step s l None).items (next s l)
@@ -278,10 +253,7 @@ ItemsOn s l = ((step s l None).items ≡ []) ⊎ ((c : Card) × (base_in s ≡ O
 
 card_items : (n : ℕ) (l : DeckLine) (b : Base) (o : ℕ) (j : Journal) (v : Live) (g : ℕ) (a : Armed)
     → ((card_line n l (past_power b o j v g a) v b None).items ≡ []) ⊎ ((c : Card) × (b ≡ OnCard c) × (apps_in (AfterPower (past_power b o j v g a)) ≡ c.apps))
-card_items n l (OnCard c) o j (Running session_state) g a = inr (c, refl, refl)
-card_items n l (AtFault cause place) o j (Running session_state) g a = inl refl
-card_items n l b o j Unpowered g a = inl refl
-card_items n l b o j Muted g a = inl refl
+card_items n l b o j v g a = grind arith
 
 -- the items of a line on a running card
 card_on : (n : ℕ) (l : DeckLine) (s : Warm) (items : List Item) (m : ℕ) → m ≡ moves items → (items ≡ []) ⊎ ((c : Card) × (s.base ≡ OnCard c) × (apps_in (AfterPower s) ≡ c.apps))
@@ -311,6 +283,4 @@ power_items s n = refl
 
 -- a stop that the test finds unarmed is not armed
 pub unarmed_is : (a : Armed) → is_unarmed a ≡ true → a ≡ Unarmed
-unarmed_is Unarmed h = refl
-unarmed_is (ArmedCut k fill) h = absurd (cc h)
-unarmed_is (ArmedFail k) h = absurd (cc h)
+unarmed_is a h = grind arith

@@ -1,5 +1,5 @@
 -- The observed states of a swept line, and the word of each of its writes.
-use Rattle.std.specs.Prelude.{◌≡◌, ℕ, ◌<◌, ◌≤◌, Bool, true, false, ◌&&◌, nat_le, ◌==◌, bytes_eq, List, [], ◌∷◌, ◌++◌, Option, refl}
+use Rattle.std.specs.Prelude.{◌≡◌, ℕ, ◌<◌, ◌≤◌, Bool, true, ◌&&◌, nat_le, ◌==◌, bytes_eq, List, [], ◌∷◌, ◌++◌, Option, refl}
 use Rattle.std.specs.List.{AllByRecursion}
 use Rattle.std.proofs.Common.{arith, ap, sym, subst, inl, inr, ◌∙◌}
 use Rattle.std.proofs.lemmas.Bool.{leb-true, eq-eqb, and_from as both-true, and_parts}
@@ -127,9 +127,7 @@ module _ (names : List (List ℕ)) (front : List (ℕ × DeckLine)) (l : ℕ × 
   -- a line without items
   no_items : (k : ℕ) → 1 ≤ k → k ≤ writes_behind front l → (is : List Item) → is ≡ []
       → word_by (is_same (shown_with (at_stop is k (zeros 8)).whole) (shown_with [])) (is_same (shown_with (at_stop is k (zeros 8)).whole) (shown_with is)) ≡ Same
-  no_items k low high is none =
-      subst (λ (js : List Item). word_by (is_same (shown_with (at_stop js k (zeros 8)).whole) (shown_with [])) (is_same (shown_with (at_stop js k (zeros 8)).whole) (shown_with js)) ≡ Same) (sym none)
-      (ap (λ (b : Bool). word_by b b) (reported_itself (shown_with [])))
+  no_items k low high is none = grind (arith, reported_itself)
 
   no_changes : (is : List Item) (apps : List (List ℕ × App)) → is ≡ [] → count_of_changes names apps is ≡ 0
   no_changes is apps none = ap (λ (js : List Item). count_of_changes names apps js) none
@@ -150,22 +148,11 @@ module _ (names : List (List ℕ)) (front : List (ℕ × DeckLine)) (l : ℕ × 
 
     word_held : (k : ℕ) → 1 ≤ k → k ≤ writes_behind front l
         → word_at k ≡ word_by (are_same_held (held_with (whole_at k)) (held_with [])) (are_same_held (held_with (whole_at k)) (held_with (items_behind front l)))
-    word_held k low high =
-        word_reported k low high
-        ∙ ap (λ (t : ReportedState). word_by (is_same t (shown_with [])) (is_same t (shown_with (items_behind front l)))) (on_card (whole_at k))
-        ∙ ap (λ (t : ReportedState). word_by (is_same (Holds (held_with (whole_at k))) t) (is_same (Holds (held_with (whole_at k))) (shown_with (items_behind front l)))) (on_card [])
-        ∙ ap (λ (t : ReportedState). word_by (are_same_held (held_with (whole_at k)) (held_with [])) (is_same (Holds (held_with (whole_at k))) t)) (on_card (items_behind front l))
+    word_held k low high = grind (arith, word_reported, on_card)
 
     -- no item changes the observed state
     card_same : (k : ℕ) → 1 ≤ k → k ≤ writes_behind front l → changing_behind names front l ≡ 0 → word_at k ≡ Same
-    card_same k low high none =
-        let e : count_of_changes names c.apps (items_behind front l) ≡ 0 = sym changing_is ∙ none in
-        let here = none_stopped names (items_behind front l) c.apps k (zeros 8) e in
-        let all = none_done names (items_behind front l) c.apps e in
-        word_held k low high
-        ∙ ap (λ (h : List (Option (List ℕ))). word_by (are_same_held h (held_with [])) (are_same_held h (held_with (items_behind front l)))) here
-        ∙ ap (λ (h : List (Option (List ℕ))). word_by (are_same_held (held_with []) (held_with [])) (are_same_held (held_with []) h)) all
-        ∙ ap (λ (b : Bool). word_by b b) (all_held_itself (held_with []))
+    card_same k low high none = grind (arith, changing_is, none_stopped, none_done, word_held, all_held_itself)
 
     -- one item changes the observed state
     module _ (one : changing_behind names front l ≡ 1) where
@@ -173,31 +160,13 @@ module _ (names : List (List ℕ)) (front : List (ℕ × DeckLine)) (l : ℕ × 
       splits = one_splits names (items_behind front l) c.apps (sym changing_is ∙ one)
 
       card_before : (k : ℕ) → 1 ≤ k → k ≤ opening_behind names front l → word_at k ≡ Before
-      card_before k low high =
-          let s = splits in
-          let gate : k ≤ opening_write names c.apps (items_behind front l) = subst (λ (n : ℕ). k ≤ n) opening_is high in
-          let within = s.high in
-          word_held k low (omega (arith, gate, within, moves_are))
-          ∙ ap (λ (h : List (Option (List ℕ))). word_by (are_same_held h (held_with [])) (are_same_held h (held_with (items_behind front l)))) (s.before k (zeros 8) zeros_shut low gate)
-          ∙ ap (λ (b : Bool). word_by b (are_same_held (held_with []) (held_with (items_behind front l)))) (all_held_itself (held_with []))
-          ∙ ap (λ (b : Bool). word_by true b) s.apart
+      card_before k low high = grind (arith, splits, opening_is, word_held, zeros_shut, all_held_itself)
 
       card_after : (k : ℕ) → opening_behind names front l < k → k ≤ writes_behind front l → word_at k ≡ After
-      card_after k low high =
-          let s = splits in
-          let gate : opening_write names c.apps (items_behind front l) < k = subst (λ (n : ℕ). n < k) opening_is low in
-          let first = s.low in
-          word_held k (omega (arith, gate, first)) high
-          ∙ ap (λ (h : List (Option (List ℕ))). word_by (are_same_held h (held_with [])) (are_same_held h (held_with (items_behind front l)))) (s.after k (zeros 8) gate (omega (arith, high, moves_are)))
-          ∙ ap (λ (b : Bool). word_by b (are_same_held (held_with (items_behind front l)) (held_with (items_behind front l)))) (apart_turned (held_with []) (held_with (items_behind front l)) s.apart)
-          ∙ ap (λ (b : Bool). word_by false b) (all_held_itself (held_with (items_behind front l)))
+      card_after k low high = grind (arith, splits, opening_is, word_held, apart_turned, all_held_itself)
 
       card_within : (1 ≤ opening_behind names front l) × (opening_behind names front l < writes_behind front l)
-      card_within =
-          let s = splits in
-          let low = s.low in
-          let high = s.high in
-          (omega (arith, opening_is, low), omega (arith, opening_is, high, moves_are))
+      card_within = grind (arith, splits, opening_is)
 
   -- ---- any swept line
 

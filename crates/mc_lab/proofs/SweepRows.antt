@@ -40,9 +40,7 @@ if_text marks false rs ss e = refl
 -- the text of the marks above a line is that of the marks alone
 pub above_text : (marks : List Remark) (number last : Option ℕ) (ms : List Remark) → rows_text marks (rows_above number last ms) ≡ rows_text [] (rows_above number last ms)
 above_text marks number last [] = refl
-above_text marks number last (m ∷ ms) =
-    if_text marks (is_above number m) (row_unless (is_guarded last m) m.number (rows_above number last ms)) (row_unless (is_guarded last m) m.number (rows_above number last ms))
-    (unless_text marks (is_guarded last m) m.number (rows_above number last ms) (rows_above number last ms) (above_text marks number last ms))
+above_text marks number last (m ∷ ms) = grind (arith, if_text, unless_text, above_text marks number last ms)
 
 unless_fine : (marks : List Remark) (b : Bool) (n : ℕ) (rs ss : List Row) → are_fine marks rs ≡ are_fine [] ss → are_fine marks (row_unless b n rs) ≡ are_fine [] (row_unless b n ss)
 unless_fine marks true n rs ss e = e
@@ -55,9 +53,7 @@ if_fine marks false rs ss e = refl
 -- so is whether they are fine
 pub above_fine : (marks : List Remark) (number last : Option ℕ) (ms : List Remark) → are_fine marks (rows_above number last ms) ≡ are_fine [] (rows_above number last ms)
 above_fine marks number last [] = refl
-above_fine marks number last (m ∷ ms) =
-    if_fine marks (is_above number m) (row_unless (is_guarded last m) m.number (rows_above number last ms)) (row_unless (is_guarded last m) m.number (rows_above number last ms))
-    (unless_fine marks (is_guarded last m) m.number (rows_above number last ms) (rows_above number last ms) (above_fine marks number last ms))
+above_fine marks number last (m ∷ ms) = grind (arith, if_fine, unless_fine, above_fine marks number last ms)
 
 -- ---- the marks above a line, one after the other
 
@@ -108,12 +104,7 @@ module _ (number last : Option ℕ) (all ms : List Remark) (m : Remark) (whole :
   above_goes c now e w =
       record {
         reported = λ r d p. left.reported r d (puts_as b d r (sym split) (puts_then d (rows_text [] (rows_above number last ms)) r w p));
-        fine =
-            ap (λ (x : Bool). x && are_fine [] (rows_above number last ms)) e
-            ∙ and_assoc whole (is_guarded last m) (are_fine [] (rows_above number last ms))
-            ∙ ap (λ (x : Bool). whole && x) (sym (unless_whole (is_guarded last m) m.number (rows_above number last ms)))
-            ∙ ap (λ (rs : List Row). whole && are_fine [] rs) (sym (above_step number last m ms above))
-            ∙ left.fine;
+        fine = grind (arith, and_assoc, unless_whole, above_step);
         behind = sym (behind_step number m ms above) ∙ left.behind;
       }
 
@@ -209,17 +200,11 @@ after_append q (x ∷ xs) ys = after_append (record { last = Some x.number; left
 
 -- one swept line, with the marks above it
 pub one_text : (marks : List Remark) (q : MarksLeft) (s : Swept) → rows_text [] (rows_above (Some s.number) q.last q.left) ++ swept_text marks s ≡ rows_text marks (rows_to q (s ∷ []))
-one_text marks q s =
-    ap (λ (t : List ℕ). t ++ swept_text marks s) (sym (above_text marks (Some s.number) q.last q.left))
-    ∙ ap (λ (t : List ℕ). rows_text marks (rows_above (Some s.number) q.last q.left) ++ t) (sym (append-nil (swept_text marks s)))
-    ∙ sym (rows_append marks (rows_above (Some s.number) q.last q.left) (SweptRow s ∷ []))
+one_text marks q s = grind (arith, above_text, append-nil, rows_append)
 
 -- a swept line is fine if the marks above it are and it is not broken
 pub one_fine : (marks : List Remark) (q : MarksLeft) (s : Swept) → (are_fine [] (rows_above (Some s.number) q.last q.left) && not (is_broken marks s)) ≡ are_fine marks (rows_to q (s ∷ []))
-one_fine marks q s =
-    ap (λ (b : Bool). b && not (is_broken marks s)) (sym (above_fine marks (Some s.number) q.last q.left))
-    ∙ ap (λ (b : Bool). are_fine marks (rows_above (Some s.number) q.last q.left) && b) (sym (and_true (not (is_broken marks s))))
-    ∙ sym (fine_append marks (rows_above (Some s.number) q.last q.left) (SweptRow s ∷ []))
+one_fine marks q s = grind (arith, above_fine, and_true, fine_append)
 
 -- the text of a line, by its number and its words, and by whether it is broken
 abbrev pub text_by : ℕ → List SweepWord → Bool → List ℕ
@@ -227,27 +212,19 @@ text_by number words broken = codes "line " ++ decimal number ++ codes " writes 
 
 module _ (marks : List Remark) (q : MarksLeft) (s : Swept) (number : ℕ) (words : List SweepWord) (broken : Bool) (of : IsLineOf marks s number words broken) where
   line_is : text_by number words broken ≡ swept_text marks s
-  line_is =
-      ap (λ (n : ℕ). text_by n words broken) (sym of.number_is) ∙ ap (λ (ws : List SweepWord). text_by s.number ws broken) (sym of.words_are)
-      ∙ ap (λ (b : Bool). text_by s.number s.words b) of.broken_is
+  line_is = grind arith
 
   -- the text of a swept line has the marks above it
   pub place_text : rows_text [] (rows_above (Some number) q.last q.left) ++ text_by number words broken ≡ rows_text marks (rows_to q (s ∷ []))
-  place_text =
-      ap (λ (n : ℕ). rows_text [] (rows_above (Some n) q.last q.left) ++ text_by number words broken) (sym of.number_is)
-      ∙ ap (λ (t : List ℕ). rows_text [] (rows_above (Some s.number) q.last q.left) ++ t) line_is ∙ one_text marks q s
+  place_text = grind (arith, line_is, one_text)
 
   -- a swept line is fine by the marks above it and by whether it is broken
   pub place_fine : (whole : Bool) → whole ≡ are_fine [] (rows_above (Some number) q.last q.left) → (whole && not broken) ≡ are_fine marks (rows_to q (s ∷ []))
-  place_fine whole e =
-      ap (λ (b : Bool). b && not broken) (e ∙ ap (λ (n : ℕ). are_fine [] (rows_above (Some n) q.last q.left)) (sym of.number_is))
-      ∙ ap (λ (b : Bool). are_fine [] (rows_above (Some s.number) q.last q.left) && not b) of.broken_is ∙ one_fine marks q s
+  place_fine whole e = grind (arith, one_fine)
 
 -- the marks after a swept line are those that the next one begins with
 pub place_left : (q p : MarksLeft) (s : Swept) (number : ℕ) → s.number ≡ number → p.last ≡ Some number → p.left ≡ left_behind (Some number) q.left → p ≡ marks_after q (s ∷ [])
-place_left q p s number e last left =
-    ap (λ (o : Option ℕ). record { last = o; left = p.left }) (last ∙ ap Some (sym e))
-    ∙ ap (λ (ms : List Remark). record { last = Some s.number; left = ms }) (left ∙ ap (λ (n : ℕ). left_behind (Some n) q.left) (sym e))
+place_left q p s number e last left = grind arith
 
 -- rows that are added to those before them
 pub fine_on : (marks : List Remark) (a b c : Bool) (xs ys : List Row) → AddsFine marks a xs b → AddsFine marks b ys c → AddsFine marks a (xs ++ ys) c
@@ -276,9 +253,7 @@ module _ (marks : List Remark) (q : MarksLeft) (all xs ys : List Swept) (is : al
 
   -- two lists of rows are fine together if each is
   pub rows_fine : (p : MarksLeft) (a b c : Bool) → p ≡ marks_after q xs → AddsFine marks a (rows_to q xs) b → AddsFine marks b (rows_to p ys) c → AddsFine marks a (rows_to q all) c
-  rows_fine p a b c e one rest =
-      subst (λ (rs : List Row). AddsFine marks a rs c) (sym to_split)
-      (fine_on marks a b c (rows_to q xs) (rows_to (marks_after q xs) ys) one (subst (λ (z : MarksLeft). AddsFine marks b (rows_to z ys) c) e rest))
+  rows_fine p a b c e one rest = grind (arith, to_split, fine_on)
 
   -- the marks left after all swept lines are those left after the last
   pub rows_left : (p z : MarksLeft) → p ≡ marks_after q xs → z ≡ marks_after p ys → z ≡ marks_after q all
@@ -289,20 +264,12 @@ module _ (marks : List Remark) (q : MarksLeft) (all xs ys : List Swept) (is : al
 -- the rows of all marks and swept lines are the whole text
 pub whole_rows : (marks : List Remark) (ss : List Swept) (p : MarksLeft) → p ≡ marks_after (all_marks marks) ss
     → rows_text marks (rows_to (all_marks marks) ss) ++ rows_text [] (rows_above None p.last p.left) ≡ rows_text marks (rows_of (all_marks marks) ss)
-whole_rows marks ss p e =
-    let q = all_marks marks in
-    ap (λ (z : MarksLeft). rows_text marks (rows_to q ss) ++ rows_text [] (rows_above None z.last z.left)) e
-    ∙ ap (λ (t : List ℕ). rows_text marks (rows_to q ss) ++ t) (sym (above_text marks None (marks_after q ss).last (marks_after q ss).left))
-    ∙ sym (rows_append marks (rows_to q ss) (rows_above None (marks_after q ss).last (marks_after q ss).left))
+whole_rows marks ss p e = grind (arith, above_text, rows_append)
 
 -- a sweep is fine if its rows and the marks left are
 pub whole_fine : (marks : List Remark) (ss : List Swept) (p : MarksLeft) (a b : Bool) → p ≡ marks_after (all_marks marks) ss → AddsFine marks true (rows_to (all_marks marks) ss) a
     → b ≡ are_fine [] (rows_above None p.last p.left) → (a && b) ≡ are_fine marks (rows_of (all_marks marks) ss)
-whole_fine marks ss p a b e first rest =
-    let q = all_marks marks in
-    ap (λ (x : Bool). x && b) first
-    ∙ ap (λ (x : Bool). are_fine marks (rows_to q ss) && x) (rest ∙ ap (λ (z : MarksLeft). are_fine [] (rows_above None z.last z.left)) e ∙ sym (above_fine marks None (marks_after q ss).last (marks_after q ss).left))
-    ∙ sym (fine_append marks (rows_to q ss) (rows_above None (marks_after q ss).last (marks_after q ss).left))
+whole_fine marks ss p a b e first rest = grind (arith, above_fine, fine_append)
 
 module _ (marks : List Remark) (ss : List Swept) (sums : List ℕ) where
   abbrev q : MarksLeft

@@ -1,19 +1,15 @@
 -- The runs of writes with known words.
-use Rattle.std.specs.Prelude.{◌≡◌, ℕ, zero, suc, ◌+◌, ◌<◌, ◌≤◌, Bool, true, false, cond, List, [], ◌∷◌, map, refl}
+use Rattle.std.specs.Prelude.{◌≡◌, ℕ, zero, suc, ◌+◌, ◌<◌, ◌≤◌, Bool, true, false, cond, List, [], ◌∷◌, map}
 use Rattle.std.specs.List.{AllByRecursion}
 use Rattle.std.proofs.Common.{arith, ap, inl, inr, ◌∙◌}
 use Rattle.std.proofs.lemmas.Bool.{cases_lt}
 use Rattle.mc_lab.specs.Sweeps.{Tried, count_from, Run, is_word, with_write, runs}
 use Rattle.mc_lab.specs.declared.sweep_word.SweepWord.{SweepWord}
-use Rattle.mc_lab.specs.declared.sweep_word.SweepWord.TheVariants.{Before, After, Same, Between, Torn}
+use Rattle.mc_lab.specs.declared.sweep_word.SweepWord.TheVariants.{Before, After}
 
 -- a word is the same as itself
 pub word_itself : (w : SweepWord) → is_word w w ≡ true
-word_itself Before = refl
-word_itself After = refl
-word_itself Same = refl
-word_itself Between = refl
-word_itself Torn = refl
+word_itself w = grind arith
 
 -- the words of some writes
 abbrev pub words : List Tried → List SweepWord
@@ -45,16 +41,12 @@ all_counted Q f k (suc n) h = (h k (omega arith) (omega arith), all_counted Q f 
 
 -- a write with the word of the run before it makes that run longer
 pub with_same : (k last : ℕ) (v w : SweepWord) (rs : List Run) → v ≡ w → with_write k v (record { first = k + 1; last = last; word = w } ∷ rs) ≡ record { first = k; last = last; word = w } ∷ rs
-with_same k last v w rs e =
-    ap (λ (x : SweepWord). with_write k x (record { first = k + 1; last = last; word = w } ∷ rs)) e
-    ∙ ap (λ (b : Bool). cond b (record { first = k; last = last; word = w } ∷ rs) (record { first = k; last = k; word = w } ∷ record { first = k + 1; last = last; word = w } ∷ rs)) (word_itself w)
+with_same k last v w rs e = grind (arith, word_itself)
 
 module _ (f : ℕ → Tried) where
   -- writes of one word are one run
   pub runs_all : (w : SweepWord) (n k : ℕ) → ((j : ℕ) → k ≤ j → j < k + suc n → (f j).word ≡ w) → runs k (words (map f (count_from k (suc n)))) ≡ record { first = k; last = k + n; word = w } ∷ []
-  runs_all w zero k h =
-      ap (λ (x : SweepWord). record { first = k; last = k; word = x } ∷ []) (h k (omega arith) (omega arith))
-      ∙ ap (λ (i : ℕ). record { first = k; last = i; word = w } ∷ []) (let e : k ≡ k + 0 = omega arith in e)
+  runs_all w zero k h = grind arith
   runs_all w (suc n) k h =
       ap (λ (rs : List Run). with_write k (f k).word rs) (runs_all w n (k + 1) (λ j low high. h j (omega arith) (omega arith)))
       ∙ with_same k (k + 1 + n) (f k).word w [] (h k (omega arith) (omega arith))

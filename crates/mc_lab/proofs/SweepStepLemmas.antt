@@ -5,10 +5,10 @@ use Rattle.std.proofs.Math.Nat.{add-mul, mul-le-mul_left, mul-le-mul_right, one-
 use Rattle.std.proofs.lemmas.Bool.{cases_lt}
 use Rattle.std.proofs.Math.Pow.{pow_mono}
 use Rattle.law_explore.specs.model_device.specs.Device.{blank_words, device_words, DeviceState, BenchState}
-use Rattle.law_explore.specs.model_device.specs.PowerUp.{Base, OnCard, AtFault}
+use Rattle.law_explore.specs.model_device.specs.PowerUp.{Base}
 use Rattle.law_explore.specs.model_play.specs.DeckGrammar.{DeckLine}
 use Rattle.law_explore.specs.model_play.specs.DeckGrammar as line
-use Rattle.law_explore.specs.model_play.specs.Play.{Live, Running, Unpowered, Muted, State, BeforePower, AfterPower, start, step}
+use Rattle.law_explore.specs.model_play.specs.Play.{Live, State, BeforePower, AfterPower, start, step}
 use Rattle.mc_script.specs.declared.answer.Answer.{Answer}
 use Rattle.mc_script.specs.declared.player.Player.{Player}
 use Rattle.mc_script.specs.StepCounts.{CountsLine, instructions_on, search_on}
@@ -25,10 +25,7 @@ use Rattle.mc_lab.proofs.SweepPlayers.{take_one}
 -- ---- lines without steps
 
 no_power : (live : Live) (base : Base) (b : ℕ) → instructions_on live base b line.Power + search_on live base line.Power ≡ 0
-no_power (Running session_state) (OnCard c) b = refl
-no_power (Running session_state) (AtFault cause p) b = refl
-no_power Unpowered base b = refl
-no_power Muted base b = refl
+no_power live base b = grind arith
 
 -- a power line makes no steps
 pub power_free : (s : State) → most_of_line s line.Power ≡ 0
@@ -36,20 +33,14 @@ power_free (BeforePower m b a) = refl
 power_free (AfterPower w) = no_power w.live w.base w.budget
 
 no_budget : (live : Live) (base : Base) (b n : ℕ) → instructions_on live base b (line.Budget n) + search_on live base (line.Budget n) ≡ 0
-no_budget (Running session_state) (OnCard c) b n = refl
-no_budget (Running session_state) (AtFault cause p) b n = refl
-no_budget Unpowered base b n = refl
-no_budget Muted base b n = refl
+no_budget live base b n = grind arith
 
 budget_free : (s : State) (n : ℕ) → most_of_line s (line.Budget n) ≡ 0
 budget_free (BeforePower m b a) n = refl
 budget_free (AfterPower w) n = no_budget w.live w.base w.budget n
 
 no_cut : (live : Live) (base : Base) (b k : ℕ) (fill : List ℕ) → instructions_on live base b (line.Cut k fill) + search_on live base (line.Cut k fill) ≡ 0
-no_cut (Running session_state) (OnCard c) b k fill = refl
-no_cut (Running session_state) (AtFault cause p) b k fill = refl
-no_cut Unpowered base b k fill = refl
-no_cut Muted base b k fill = refl
+no_cut live base b k fill = grind arith
 
 cut_free : (s : State) (k : ℕ) (fill : List ℕ) → most_of_line s (line.Cut k fill) ≡ 0
 cut_free (BeforePower m b a) k fill = refl
@@ -71,28 +62,18 @@ module _ {N : Type 0} (state : N → DeviceState) (bench : N → BenchState) whe
 
   -- a power line, and a line that sets the budget
   pub power_most : (p : Player N) (a : Option Answer) (old new : ℕ) → CountsLine state bench p line.Power a old new → IsPlaying state bench p → new ≤ old
-  power_most p a old new counts playing =
-      let most = (counts playing.0 playing.1).most in
-      let none = power_free playing.0 in
-      omega (arith, most, none)
+  power_most p a old new counts playing = grind (arith, power_free)
 
   -- a budget line makes no steps
   pub budget_most : (p : Player N) (n : ℕ) (a : Option Answer) (old new : ℕ) → CountsLine state bench p (line.Budget n) a old new → IsPlaying state bench p → new ≤ old
-  budget_most p n a old new counts playing =
-      let most = (counts playing.0 playing.1).most in
-      let none = budget_free playing.0 n in
-      omega (arith, most, none)
+  budget_most p n a old new counts playing = grind (arith, budget_free)
 
   -- a line with a write cut
   pub cut_most : (p m : Player N) (l : DeckLine) (k : ℕ) (fill : List ℕ) (armed a : Option Answer) (old mid new : ℕ)
       → ((s : State) (n : ℕ) → IsSteadyAt state bench p s → LineOn state bench s (n, line.Cut k fill) armed m)
       → CountsLine state bench p (line.Cut k fill) armed old mid → CountsLine state bench m l a mid new → (s : State) → IsSteadyAt state bench p s → new ≤ old + most_of_line s l
   cut_most p m l k fill armed a old mid new on first second s at =
-      let one = line_most p (line.Cut k fill) armed old mid s first at in
-      let two = line_most m l a mid new (next s (cut_statement 0 k fill)) second (on s 0 at).at in
-      let none = cut_free s k fill in
-      let same = same_cut s 0 k fill l in
-      omega (arith, one, two, none, same)
+      grind (arith, line_most p (line.Cut k fill) armed old mid s first at, line_most m l a mid new (next s (cut_statement 0 k fill)) second (on s 0 at).at, cut_free s k fill, same_cut s 0 k fill l)
 
 -- ---- lines that are played one by one
 
@@ -105,18 +86,9 @@ unfolding most_of_lines
 most_on s l ls = refl
 
 most_append : (s : State) (ls : List (ℕ × DeckLine)) (l : ℕ × DeckLine) → most_of_lines s (ls ++ l ∷ []) ≡ most_of_lines s ls + most_of_line (state_after_lines s ls) l.1
-most_append s [] l =
-    let first = most_on s l [] in
-    let none = most_none (next s l) in
-    let front = most_none s in
-    let same = ap (λ (t : State). most_of_line t l.1) (played_none s) in
-    omega (arith, first, none, front, same)
+most_append s [] l = grind (arith, most_on, most_none, played_none)
 most_append s (x ∷ ls) l =
-    let first = most_on s x (ls ++ l ∷ []) in
-    let rest = most_append (next s x) ls l in
-    let front = most_on s x ls in
-    let same = ap (λ (t : State). most_of_line t l.1) (played_line s x ls) in
-    omega (arith, first, rest, front, same)
+    grind (arith, most_on s x (ls ++ l ∷ []), most_append (next s x) ls l, most_on s x ls, ap (λ (t : State). most_of_line t l.1) (played_line s x ls))
 
 -- the steps up to a line are those before it and its own
 pub front_next : (ls : List (ℕ × DeckLine)) (i : ℕ) (l : ℕ × DeckLine) → slice_get ls i ≡ Some l → most_of_front ls (i + 1) ≡ most_of_front ls i + most_of_line (state_on_blank (take i ls)) l.1
@@ -127,11 +99,7 @@ most_taken : (s : State) (ls : List (ℕ × DeckLine)) (i k : ℕ) → i ≤ k �
 most_taken s ls zero k le = let none = most_none s in omega (arith, none)
 most_taken s [] (suc i) k le = let none = most_none s in omega (arith, none)
 most_taken s (l ∷ ls) (suc i) zero le = absurd (omega (arith, le))
-most_taken s (l ∷ ls) (suc i) (suc k) le =
-    let rest = most_taken (next s l) ls i k (omega (arith, le)) in
-    let a = most_on s l (take i ls) in
-    let b = most_on s l (take k ls) in
-    omega (arith, rest, a, b)
+most_taken s (l ∷ ls) (suc i) (suc k) le = grind (arith, most_taken (next s l) ls i k (omega (arith, le)), most_on s l (take i ls), most_on s l (take k ls))
 
 -- the steps up to an earlier line are no more
 pub front_up : (ls : List (ℕ × DeckLine)) (i k : ℕ) → i ≤ k → most_of_front ls i ≤ most_of_front ls k
@@ -242,10 +210,7 @@ open_most false n s old new e h = absurd (cc e)
 
 -- a line that is not open measures nothing
 pub shut_measured : (d most s old : ℕ) (b : Bool) → b ≡ false → IsDoubled d most → Measured d (if_open b 1) (Some most) s old old
-shut_measured d most s old true e h = absurd (cc e)
-shut_measured d most s old false e h =
-    let few = h.few in
-    record { doublings = 0; some = subst (λ (n : ℕ). IsDoubled n most) (let e : d ≡ d + 0 = omega arith in e) h; few = omega (arith, few); steps = omega arith }
+shut_measured d most s old b e h = grind arith
 
 -- a line that is open measures its own bound
 pub open_measured : (d : ℕ) (o : Option ℕ) (s old new : ℕ) (b : Bool) → b ≡ true → Measured d 1 o s old new → Measured d (if_open b 1) o s old new
@@ -267,17 +232,10 @@ measuring_none ls old = record { doublings = 0; doubled = doubled_none; steps = 
 -- the steps of a line that was measured, and of its doublings
 measured_line : (ls : List (ℕ × DeckLine)) (i c k now new : ℕ) → i < length ls → new ≤ now + (k + c) * most_of_front ls (i + 1) → new ≤ now + (c * most_of_front ls (i + 1) + k * most_of_front ls (length ls))
 measured_line ls i c k now new below h =
-    let s = most_of_front ls (i + 1) in
-    let split = add-mul k c s in
-    let wide = wider_plays k s (most_of_front ls (length ls)) 0 (k * s) (front_up ls (i + 1) (length ls) (omega (arith, below))) (omega arith) in
-    omega (arith, h, split, wide)
+    grind (arith, most_of_front ls (i + 1), add-mul k c (most_of_front ls (i + 1)), wider_plays k (most_of_front ls (i + 1)) (most_of_front ls (length ls)) 0 (k * (most_of_front ls (i + 1))) (front_up ls (i + 1) (length ls) (omega (arith, below))) (omega arith))
 
 measured_at_is : (ls : List (ℕ × DeckLine)) (i : ℕ) → measured_at ls i ≡ if_open (is_open_at ls i) 1 * most_of_front ls (i + 1) + most_of_front ls (i + 1)
-measured_at_is ls i =
-    let s = most_of_front ls (i + 1) in
-    let split = add-mul (if_open (is_open_at ls i) 1) 1 s in
-    let one = one-mul s in
-    omega (arith, split, one)
+measured_at_is ls i = grind (arith, add-mul, one-mul)
 
 -- a line that was measured adds its steps and its doublings
 pub measuring_more : (ls : List (ℕ × DeckLine)) (i most bound old now mid new : ℕ) → i < length ls → (h : Measuring ls i most old now)
@@ -297,10 +255,7 @@ measuring_more ls i most bound old now mid new below h line rest =
 -- if each line was measured, the steps are those of the deck
 pub measured_all : (ls : List (ℕ × DeckLine)) (i bound old now : ℕ) → i ≤ length ls → Measuring ls i bound old now → now ≤ old + most_of_measure ls
 measured_all ls i bound old now le h =
-    let steps = h.steps in
-    let sum = sum_up (measured_at ls) i (length ls) le in
-    let few = mul-le-mul_right (most_of_front ls (length ls)) h.doubled.few in
-    omega (arith, steps, sum, few)
+    grind (arith, h.steps, sum_up (measured_at ls) i (length ls) le, mul-le-mul_right (most_of_front ls (length ls)) h.doubled.few)
 
 -- a line makes too many writes
 pub measured_out : (ls : List (ℕ × DeckLine)) (i most : ℕ) (bound : Option ℕ) (old now new : ℕ) → i < length ls → (h : Measuring ls i most old now)
@@ -334,22 +289,13 @@ place_steps p writes plays old new w e h = subst (λ (n : ℕ). new ≤ old + n 
 -- the lines up to one were swept
 pub swept_on : (names : List (List ℕ)) (ls : List (ℕ × DeckLine)) (i n old now mid new : ℕ) → n ≡ plays_of_sweep (writes_behind (take i ls) (line_at ls i)) (line_sweep names (take i ls) (line_at ls i)).plays
     → now ≤ old + sum_below (swept_steps_at names ls) i → mid ≤ now + if_open (is_open_at ls i) n * most_of_front ls (i + 1) → new ≤ mid + most_of_front ls (i + 1) → new ≤ old + sum_below (swept_steps_at names ls) (i + 1)
-swept_on names ls i n old now mid new is before here rest =
-    let s = most_of_front ls (i + 1) in
-    let c = if_open (is_open_at ls i) n in
-    let same = ap (λ (k : ℕ). (if_open (is_open_at ls i) k + 1) * s) is in
-    let split = add-mul c 1 s in
-    let one = one-mul s in
-    let sum = sum_next (swept_steps_at names ls) i in
-    omega (arith, before, here, rest, same, split, one, sum)
+swept_on names ls i n old now mid new is before here rest = grind (arith, add-mul, one-mul, sum_next)
 
 -- the steps before a place and within it are at most those of all lines
 pub swept_out : (names : List (List ℕ)) (ls : List (ℕ × DeckLine)) (i n old now mid : ℕ) → i < length ls → n ≡ plays_of_sweep (writes_behind (take i ls) (line_at ls i)) (line_sweep names (take i ls) (line_at ls i)).plays
     → now ≤ old + sum_below (swept_steps_at names ls) i → mid ≤ now + if_open (is_open_at ls i) n * most_of_front ls (i + 1) → mid ≤ old + sum_below (swept_steps_at names ls) (length ls)
 swept_out names ls i n old now mid below is before here =
-    let next = swept_on names ls i n old now mid mid is before here (omega arith) in
-    let sum = sum_up (swept_steps_at names ls) (i + 1) (length ls) (omega (arith, below)) in
-    omega (arith, next, sum)
+    grind (arith, swept_on names ls i n old now mid mid is before here (omega arith), sum_up (swept_steps_at names ls) (i + 1) (length ls) (omega (arith, below)))
 
 -- if each line was swept, the steps are those of the deck
 pub swept_all : (names : List (List ℕ)) (ls : List (ℕ × DeckLine)) (i old now : ℕ) → i ≤ length ls → now ≤ old + sum_below (swept_steps_at names ls) i → now ≤ old + sum_below (swept_steps_at names ls) (length ls)

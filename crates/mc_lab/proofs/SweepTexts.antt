@@ -4,7 +4,7 @@ use Rattle.std.specs.Prelude.{◌≡◌, ◌++◌, ℕ, zero, suc, ◌+◌, ◌-
 use Rattle.std.proofs.Common.{arith, ap, sym, subst, inl, inr, ◌∙◌}
 use Rattle.mc_lab.specs.Sweeps.{Run, is_word, with_write, runs, run_text, runs_text}
 use Rattle.mc_lab.specs.declared.sweep_word.SweepWord.{SweepWord}
-use Rattle.mc_lab.specs.declared.sweep_word.SweepWord.TheVariants.{Before, After, Same, Between, Torn}
+use Rattle.mc_lab.specs.declared.sweep_word.SweepWord.TheVariants.{Before}
 use Rattle.std.proofs.lemmas.Bool.{cases_lt}
 use Rattle.mc_lab.proofs.SweepRuns.{word_itself, with_same}
 
@@ -14,31 +14,7 @@ apart_if k w r rs true h = absurd (cc h)
 apart_if k w r rs false h = refl
 
 one_word : (v w : SweepWord) → is_word v w ≡ true → v ≡ w
-one_word Before Before h = refl
-one_word Before After h = absurd (cc h)
-one_word Before Same h = absurd (cc h)
-one_word Before Between h = absurd (cc h)
-one_word Before Torn h = absurd (cc h)
-one_word After Before h = absurd (cc h)
-one_word After After h = refl
-one_word After Same h = absurd (cc h)
-one_word After Between h = absurd (cc h)
-one_word After Torn h = absurd (cc h)
-one_word Same Before h = absurd (cc h)
-one_word Same After h = absurd (cc h)
-one_word Same Same h = refl
-one_word Same Between h = absurd (cc h)
-one_word Same Torn h = absurd (cc h)
-one_word Between Before h = absurd (cc h)
-one_word Between After h = absurd (cc h)
-one_word Between Same h = absurd (cc h)
-one_word Between Between h = refl
-one_word Between Torn h = absurd (cc h)
-one_word Torn Before h = absurd (cc h)
-one_word Torn After h = absurd (cc h)
-one_word Torn Same h = absurd (cc h)
-one_word Torn Between h = absurd (cc h)
-one_word Torn Torn h = refl
+one_word v w h = grind arith
 
 other_by : (j k : ℕ) (w v : SweepWord) (r : Run) (rs : List Run) → is_word w v ≡ false → (b : Bool) → is_word v r.word ≡ b
     → with_write k w (cond b (record r { first = j } ∷ rs) (record { first = j; last = j; word = v } ∷ r ∷ rs)) ≡ record { first = k; last = k; word = w } ∷ cond b (record r { first = j } ∷ rs) (record { first = j; last = j; word = v } ∷ r ∷ rs)
@@ -59,10 +35,7 @@ Fronts ws n w = (i : ℕ) → i < n → is_word w (get_or ws i Before) ≡ true
 
 -- one more word
 pub fronts_more : (ws : List SweepWord) (n : ℕ) (w : SweepWord) → Fronts ws n w → is_word w (get_or ws n Before) ≡ true → Fronts ws (n + 1) w
-fronts_more ws n w all here i lt = elim (cases_lt i n) [
-  | inl below ↦ all i below
-  | inr last ↦ let e : i ≡ n = omega arith in subst (λ (j : ℕ). is_word w (get_or ws j Before) ≡ true) (sym e) here
-]
+fronts_more ws n w all here i lt = grind (arith, cases_lt)
 
 -- the first word is the same as itself
 pub fronts_one : (ws : List SweepWord) → Fronts ws 1 (get_or ws 0 Before)
@@ -130,13 +103,7 @@ rest_is ws n = subst (λ (m : ℕ). take m (drop n ws) ≡ drop n ws) (length-dr
 pub rest_text : (n m : ℕ) (ws : List SweepWord) → 1 ≤ m
     → runs (1 + n) (take (length ws - n) (drop n ws)) ≡ record { first = 1 + n; last = 1 + n + m - 1; word = get_or (take (length ws - n) (drop n ws)) 0 Before } ∷ runs (1 + n + m) (drop m (take (length ws - n) (drop n ws)))
     → runs_text (runs (1 + n) (drop n ws)) ≡ run_text (record { first = n + 1; last = n + m; word = get_or ws n Before }) ++ runs_text (runs (1 + (n + m)) (drop (n + m) ws))
-rest_text n m ws low h =
-    ap runs_text (subst (λ (l : List SweepWord). runs (1 + n) l ≡ record { first = 1 + n; last = 1 + n + m - 1; word = get_or l 0 Before } ∷ runs (1 + n + m) (drop m l)) (rest_is ws n) h)
-    ∙ ap (λ (i : ℕ). run_text (record { first = i; last = 1 + n + m - 1; word = get_or (drop n ws) 0 Before }) ++ runs_text (runs (1 + n + m) (drop m (drop n ws)))) (let e : 1 + n ≡ n + 1 = omega arith in e)
-    ∙ ap (λ (i : ℕ). run_text (record { first = n + 1; last = i; word = get_or (drop n ws) 0 Before }) ++ runs_text (runs (1 + n + m) (drop m (drop n ws)))) (let e : 1 + n + m - 1 ≡ n + m = omega arith in e)
-    ∙ ap (λ (w : SweepWord). run_text (record { first = n + 1; last = n + m; word = w }) ++ runs_text (runs (1 + n + m) (drop m (drop n ws)))) (first_left n ws)
-    ∙ ap (λ (l : List SweepWord). run_text (record { first = n + 1; last = n + m; word = get_or ws n Before }) ++ runs_text (runs (1 + n + m) l)) (drop_twice n m ws)
-    ∙ ap (λ (i : ℕ). run_text (record { first = n + 1; last = n + m; word = get_or ws n Before }) ++ runs_text (runs i (drop (n + m) ws))) (let e : 1 + n + m ≡ 1 + (n + m) = omega arith in e)
+rest_text n m ws low h = grind (arith, rest_is, first_left, drop_twice)
 
 -- no runs are left
 pub no_text : (n k : ℕ) (ws : List SweepWord) → length ws ≤ n → [] ≡ runs_text (runs k (drop n ws))
