@@ -46,6 +46,7 @@ all_get P (y ∷ xs) (suc i) x h g = all_get P xs i x h.1 g
 
 -- ---- lists
 
+-- a value of the second list has a related one at its place in the first
 pub alike_get : {A B : Type 0} (R : A → B → Type 0) (xs : List A) (ys : List B) (i : ℕ) (y : B) → AlikeLists R xs ys → slice_get ys i ≡ Some y
     → (x : A) × (slice_get xs i ≡ Some x) × R x y
 alike_get R [] [] i y h g = absurd (cc g)
@@ -54,6 +55,7 @@ alike_get R (x ∷ xs) [] i y h g = absurd h
 alike_get R (x ∷ xs) (z ∷ ys) zero y h g = (x, refl, subst (R x) (cc g) h.0)
 alike_get R (x ∷ xs) (z ∷ ys) (suc i) y h g = alike_get R xs ys i y h.1 g
 
+-- a value of the first list has a related one at its place in the second
 pub alike_get_second : {A B : Type 0} (R : A → B → Type 0) (xs : List A) (ys : List B) (i : ℕ) (x : A) → AlikeLists R xs ys → slice_get xs i ≡ Some x
     → (y : B) × (slice_get ys i ≡ Some y) × R x y
 alike_get_second R [] [] i x h g = absurd (cc g)
@@ -62,6 +64,7 @@ alike_get_second R (z ∷ xs) [] i x h g = absurd h
 alike_get_second R (z ∷ xs) (y ∷ ys) zero x h g = (y, refl, subst (λ a. R a y) (cc g) h.0)
 alike_get_second R (z ∷ xs) (y ∷ ys) (suc i) x h g = alike_get_second R xs ys i x h.1 g
 
+-- related lists are equally long
 pub alike_length : {A B : Type 0} (R : A → B → Type 0) (xs : List A) (ys : List B) → AlikeLists R xs ys → length xs ≡ length ys
 alike_length R [] [] h = refl
 alike_length R [] (y ∷ ys) h = absurd h
@@ -72,15 +75,18 @@ alike_length R (x ∷ xs) (y ∷ ys) h = ap suc (alike_length R xs ys h.1)
 pub as_long : {A B C : Type 0} (R : A → B → Type 0) (xs : List A) (ys : List B) (zs : List C) → AlikeLists R xs ys → length zs ≡ length xs → length zs ≡ length ys
 as_long R xs ys zs h e = e ∙ alike_length R xs ys h
 
+-- related lists one after the other are related
 pub alike_append : {A B : Type 0} (R : A → B → Type 0) (xs us : List A) (ys vs : List B) → AlikeLists R xs ys → AlikeLists R us vs → AlikeLists R (xs ++ us) (ys ++ vs)
 alike_append R [] us [] vs h g = g
 alike_append R [] us (y ∷ ys) vs h g = absurd h
 alike_append R (x ∷ xs) us [] vs h g = absurd h
 alike_append R (x ∷ xs) us (y ∷ ys) vs h g = (h.0, alike_append R xs us ys vs h.1 g)
 
+-- related lists with one more related value each are related
 pub alike_more : {A B : Type 0} (R : A → B → Type 0) (xs : List A) (ys : List B) (x : A) (y : B) → AlikeLists R xs ys → R x y → AlikeLists R (xs ++ x ∷ []) (ys ++ y ∷ [])
 alike_more R xs ys x y h r = alike_append R xs (x ∷ []) ys (y ∷ []) h (r, tt)
 
+-- lists stay related under a weaker relation
 pub alike_other : {A B : Type 0} (R S : A → B → Type 0) → ((x : A) (y : B) → R x y → S x y) → (xs : List A) (ys : List B) → AlikeLists R xs ys → AlikeLists S xs ys
 alike_other R S f [] [] h = tt
 alike_other R S f [] (y ∷ ys) h = absurd h

@@ -67,6 +67,7 @@ left_by : (held : List (List ℕ × ℕ)) (amounts : List ℕ) (r : Result (List
 left_by held amounts (Ok a) h = record { left = a; is = refl; amounts_are = h.0; named = h.1 }
 left_by held amounts (Err e) h = absurd h
 
+-- if no allowance is broken, allowances are left
 pub none_broken : (held : List (List ℕ × ℕ)) (o : Option ℕ) (amounts : List ℕ) (r : Result (List (List ℕ × ℕ)) (List ℕ)) → o ≡ None → AreSpent held o amounts r → Left held amounts r
 none_broken held None amounts r e h = left_by held amounts r h
 none_broken held (Some i) amounts r e h = absurd (cc e)
@@ -84,6 +85,7 @@ spent_by held i amounts (Err e) h = record { name = e; is = refl; found = h }
 place_is : (i j : ℕ) → Some i ≡ Some j → i ≡ j
 place_is i j e = cc e
 
+-- a broken allowance is spent below zero, with its name
 pub one_broken : (held : List (List ℕ × ℕ)) (o : Option ℕ) (i : ℕ) (amounts : List ℕ) (r : Result (List (List ℕ × ℕ)) (List ℕ)) → o ≡ Some i → AreSpent held o amounts r → Spent held i r
 one_broken held None i amounts r e h = absurd (cc e)
 one_broken held (Some j) i amounts r e h = subst (λ (k : ℕ). Spent held k r) (place_is j i e) (spent_by held j amounts r h)
@@ -107,6 +109,7 @@ outcome_is ons c m w r h = ap (λ (x : Result (List (List ℕ × ℕ)) (List ℕ
 
 -- ---- what runs
 
+-- whether a card runs is what the play has
 pub runs_shown : (m : List (List ℕ)) (v : Live) (l : play.Live) → LiveShows m v l → runs_now v ≡ is_running l
 runs_shown m (live.Running s) l h = sym (ap is_running h.runs)
 runs_shown m live.Unpowered l h = sym (ap is_running h)
@@ -124,9 +127,11 @@ stays_kept lab u r names s c root budget h =
       names_are = h.names_are;
     }
 
+-- the same rosters on the same root keep what was kept
 pub keeps_there : (lab u : Laboratory) (r : Rosters) → root_of u ≡ root_of lab → u.budget ≡ lab.budget → length u.counts.items ≡ length lab.counts.items → KeepsKept lab r u r
 keeps_there lab u r root budget counts = record { kept = λ names s c h. stays_kept lab u r names s c root budget h; counts = counts }
 
+-- what was kept stays so if the rosters still have it
 pub keeps_more : (lab u : Laboratory) (r q : Rosters) → root_of u ≡ root_of lab → u.budget ≡ lab.budget → length u.counts.items ≡ length lab.counts.items
     → ((n : ℕ) (c : Base) (l : play.Live) → IsKeptCard (root_of u) r n c l → IsKeptCard (root_of u) q n c l) → KeepsKept lab r u q
 keeps_more lab u r q root budget counts more =
@@ -143,9 +148,11 @@ keeps_more lab u r q root budget counts more =
       counts = counts;
     }
 
+-- a laboratory keeps what it has
 pub keeps_self : (lab : Laboratory) (r : Rosters) → KeepsKept lab r lab r
 keeps_self lab r = record { kept = λ names s c h. h; counts = refl }
 
+-- what stays kept over two changes stays kept
 pub keeps_then : (lab mid u : Laboratory) (r p q : Rosters) → KeepsKept lab r mid p → KeepsKept mid p u q → KeepsKept lab r u q
 keeps_then lab mid u r p q h k = record { kept = λ names s c i. k.kept names s c (h.kept names s c i); counts = k.counts ∙ h.counts }
 
@@ -214,6 +221,7 @@ pub missed_by : (c : model.CardState) (m : rule.Move) (w : Manner) (words : List
 missed_by c m w words None not h = h
 missed_by c m w words (Some v) not h = absurd (not v refl)
 
+-- a state that a try left live is that of the try
 pub made_by : (c : model.CardState) (m : rule.Move) (w : Manner) (words : List (List ℕ)) (o : Option Live) (v : Live) → o ≡ Some v → TriedState c m w words o → TriedState c m w words (Some v)
 made_by c m w words o v e h = subst (λ (x : Option Live). TriedState c m w words x) e h
 
@@ -231,6 +239,7 @@ spends_by lab r held ons s c m w x text before counts amounts n long kept candid
       left = left ∙ kept.amounts;
     }
 
+-- an option without a value is none
 pub none_is : (o : Option ℕ) → ((i : ℕ) → o ≢ Some i) → o ≡ None
 none_is None not = refl
 none_is (Some i) not = absurd (not i refl)

@@ -74,6 +74,7 @@ recovery_follows : (n : ℕ) (s : State) (w : Warm) → s ≡ AfterPower w → F
 recovery_follows n s w h =
     subst (λ (z : State). FollowsBase (base_then z) (base_then (next z (n, line.Power)))) (sym h) (step_follows n line.Power w refl)
 
+-- after a move the device has the same size, or the same fault
 pub move_follows : (c : CardState) (m : Move) (w : Manner) (a : List (List ℕ × ℕ)) → is_card_line m.line ≡ true
     → FollowsBase c.base (state_in (recovery m.number w (step_of (play_of c) m w).after) a).base
 unfolding step

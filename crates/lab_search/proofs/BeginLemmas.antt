@@ -102,6 +102,7 @@ idle_leaves (AfterPower w) h = idle_drops w.base w.owed w.by w.live w.budget w.a
 
 -- ---- the power line
 
+-- a power line leaves what power does, with the result of it
 pub record PowersUp (s : State) : Type 0 where
   pub after : (step s (0, line.Power) None).after ≡ AfterPower (power_after (warm_in s) None)
   pub result : (step s (0, line.Power) None).result ≡ Some (power_says (warm_in s) None)
@@ -137,16 +138,19 @@ still_not m (live.Running s) l e h = absurd (cc e)
 still_not m live.Unpowered l e h = ap is_running h
 still_not m live.Muted l e h = ap is_running h
 
+-- a play with no armed stop has no failed write armed
 pub fails_not : (s : State) → armed_stop_in s ≡ Unarmed → FailsNot (armed_stop_in s)
 fails_not s h = subst (λ (a : play.Armed). FailsNot a) (sym h) tt
 
 module _ {N : Type 0} (state : N → DeviceState) (bench : N → BenchState) where
   -- ---- the deck
 
+  -- the deck was played on a steady device
   pub record IsDeckDone (q : Player N) (s : State) (ls : List (ℕ × DeckLine)) : Type 0 where
     pub at : IsPlayerAt state bench q (state_after s ls)
     pub steady : (bench (device_of q)).steady ≡ true
 
+  -- a player that played the deck is after it, on a steady device
   pub deck_done : (p q : Player N) (s : State) (ls : List (ℕ × DeckLine)) → IsPlayerAt state bench p s → (bench (device_of p)).steady ≡ true → DeckPlayed state bench p s ls q → IsDeckDone q s ls
   deck_done p q s ls at steady d =
       let pl = player_played state bench s ls d.worn (bench_of state bench p) d.here q d.leads d.at in
@@ -155,16 +159,20 @@ module _ {N : Type 0} (state : N → DeviceState) (bench : N → BenchState) whe
 
   -- ---- the stop
 
+  -- whether a player has a stop is whether one is armed in its state
   pub stop_there : (p : Player N) (s : State) → IsPlayerAt state bench p s → has_stop p.armed ≡ is_armed (armed_stop_in s)
   stop_there p s at = stop_value p.armed ∙ ap is_armed at.armed
 
+  -- a player without a stop is in the state without one
   pub no_stop_there : (p : Player N) (s : State) → IsPlayerAt state bench p s → has_stop p.armed ≡ false → IsPlayerAt state bench p (without_stop s)
   no_stop_there p s at none = subst (λ (z : State). IsPlayerAt state bench p z) (sym (no_stop s (sym (stop_there p s at) ∙ none))) at
 
+  -- the stop was dropped by an idle command, on a steady device
   pub record IsIdled (q : Player N) (s : State) : Type 0 where
     pub at : IsPlayerAt state bench q (without_stop s)
     pub steady : (bench (device_of q)).steady ≡ true
 
+  -- an idle command of a player drops its stop
   pub idled : {R : Type 0} (reported : R → List Turn → R → Type 0) (p q : Player N) (before after : R) (a : Option Answer) (s : State) → LineDone state bench reported p (line.Sent (line.Apdu (0 ∷ []))) before after a q
       → IsPlayerAt state bench p s → (bench (device_of p)).steady ≡ true → IsIdled q s
   idled reported p q before after a s done at steady =
@@ -223,6 +231,7 @@ module _ {N : Type 0} (state : N → DeviceState) (bench : N → BenchState) whe
       (runs_by p v w.base w.owed w.by w.live w.budget (subst (λ (z : Warm). IsPlayerAt state bench p (AfterPower z)) same at) shows runs
       (subst (λ (z : Warm). IsSettled (first_warm z).live (first_warm z).base (first_warm z).owed) same settled))
 
+  -- a running card needs no power line
   pub powered_running : (p : Player N) (v : Live) (s : State) → IsPlayerAt state bench p s → LiveShows (state (device_of p)).words v (live_in s) → runs_now v ≡ true → armed_stop_in s ≡ Unarmed
       → IsSettled (first_warm (warm_in s)).live (first_warm (warm_in s)).base (first_warm (warm_in s)).owed → IsPowered (warm_in s) (state (device_of p)).words false v p.budget
   powered_running p v s at shows runs u settled = runs_at p v s (armed_stop_in s) refl u at shows runs settled
@@ -257,6 +266,7 @@ module _ {N : Type 0} (state : N → DeviceState) (bench : N → BenchState) whe
   warm_live (BeforePower m b a) = refl
   warm_live (AfterPower w) = refl
 
+  -- a power line that answers ready leaves a running card
   pub powered_ready : (p q : Player N) (x v : Live) (s : State) (a : Option Answer) → LiveShows (state (device_of p)).words x (live_in s) → runs_now x ≡ false → armed_stop_in s ≡ Unarmed
       → PlayedAs state bench p s (0, line.Power) a q → is_ready_answer a ≡ true → ((t : State) → IsPlayerAt state bench q t → LiveShows (state (device_of q)).words v (live_in t))
       → IsPowered (warm_in s) (state (device_of q)).words true v q.budget
@@ -266,6 +276,7 @@ module _ {N : Type 0} (state : N → DeviceState) (bench : N → BenchState) whe
       ready_from q v (warm_in s) (warm_in s).base (warm_in s).live a refl refl (ap is_running (warm_live s) ∙ still_not (state (device_of p)).words x (live_in s) none before) at (played.answers ∙ up.result) ready
       (shows (AfterPower (power_after (warm_in s) None)) at)
 
+  -- a power line that answers otherwise leaves a fault
   pub powered_fault : (p q : Player N) (x : Live) (s : State) (a : Option Answer) → LiveShows (state (device_of p)).words x (live_in s) → runs_now x ≡ false → armed_stop_in s ≡ Unarmed
       → PlayedAs state bench p s (0, line.Power) a q → is_ready_answer a ≡ false → IsPowered (warm_in s) (state (device_of q)).words false x q.budget
   powered_fault p q x s a before none u played ready =
@@ -286,6 +297,7 @@ unfolding play_at_power
 stopped_power (BeforePower m b a) = refl
 stopped_power (AfterPower w) = refl
 
+-- without its stop a state has none armed
 pub stopped_unarmed : (s : State) → armed_stop_in (without_stop s) ≡ Unarmed
 stopped_unarmed (BeforePower m b a) = refl
 stopped_unarmed (AfterPower w) = refl
@@ -299,10 +311,12 @@ pub deck_is : (ls : List (ℕ × DeckLine)) → play_of_deck ls ≡ state_after 
 unfolding play_of_deck
 deck_is ls = refl
 
+-- what the first power line finds after a deck without its stop is settled
 pub first_settled : (ls : List (ℕ × DeckLine))
     → IsSettled (first_warm (warm_in (without_stop (play_of_deck ls)))).live (first_warm (warm_in (without_stop (play_of_deck ls)))).base (first_warm (warm_in (without_stop (play_of_deck ls)))).owed
 first_settled ls = subst (λ (z : Warm). IsSettled z.live z.base z.owed) (first_play_is ls ∙ sym (stopped_warm (play_of_deck ls))) (first_law ls).settled
 
+-- what is left after the deck, its stop and its power line is the first state
 pub is_first : (ls : List (ℕ × DeckLine)) (words : List (List ℕ)) (a b : Bool) (v : Live) (budget : ℕ) → a ≡ is_armed (armed_stop_in (play_of_deck ls))
     → IsPowered (warm_in (without_stop (play_of_deck ls))) words b v budget → IsFirst ls words budget (record { armed = a; power = b }) v
 is_first ls words a b v budget armed h =
@@ -333,6 +347,7 @@ pub shown_of_device : (m : List (List ℕ)) (v : Live) (b : Base) (l : play.Live
 shown_of_device m v (OnCard c) l h = sized m (fault m) c h.holds.base
 shown_of_device m v (AtFault cause place) l h = sym h.holds.base
 
+-- the first state is kept as that of the exploration
 pub first_kept : (root words : List (List ℕ)) (r : Rosters) (ls : List (ℕ × DeckLine)) (x : rule.Exploration) (s : CardState) (budget : ℕ) (lead : Lead) (v : Live) → ls ≡ x.lines → IsFirst ls words budget lead v
     → IsKeptCard root r s.card (first_play ls).base (first_play ls).live → s.runs ≡ runs_now v → s.allowances.items ≡ map (λ a. a.1) x.rules.allowances → IsKeptState root budget (names_in x.rules) r s (first_state x)
 unfolding first_state
@@ -345,6 +360,7 @@ first_kept root words r ls x s budget lead v e h card runs amounts =
       names_are = refl;
     }
 
+-- its lead is that of the exploration
 pub first_lead : (ls : List (ℕ × DeckLine)) (x : rule.Exploration) (words : List (List ℕ)) (budget : ℕ) (lead : Lead) (v : Live) → ls ≡ x.lines → IsFirst ls words budget lead v → LeadIs lead x
 first_lead ls x words budget lead v e h =
     record {

@@ -86,19 +86,23 @@ module _ (missed made : Type 0) (d : Depth) (ns : List Node) (n : Node) (r : Rou
 
 -- ---- loops
 
+-- before the first try all that the search does lies ahead
 pub ahead_start : (d : Depth) (ns : List Node) (s : Search) (f : Round → Result Round HaltedRound) → Holds d s ns → Ahead d ns s f (f (round_in d (tally_of s) ns))
 ahead_start d ns s f h = record { all = ns; grew = extends_none ns; holds = h; same = refl }
 
+-- a try that goes on leaves what comes after it ahead
 pub ahead_goes : (d : Depth) (ns : List Node) (s u : Search) (f g : Round → Result Round HaltedRound) (x whole : Result Round HaltedRound) → (a : Ahead d ns s f whole) → Comes d a.all x None u
     → f (round_in d (tally_of s) a.all) ≡ (x >>= g) → Ahead d ns u g whole
 ahead_goes d ns s u f g (Err e) whole a h i = absurd h
 ahead_goes d ns s u f g (Ok r) whole a h i =
     record { all = h.all; grew = extends_more ns a.all h.all a.grew h.grew; holds = h.holds; same = ap g (sym h.round) ∙ sym i ∙ a.same }
 
+-- what the last try came to is what the whole came to
 pub ahead_ends : (d : Depth) (ns : List Node) (s u : Search) (f : Round → Result Round HaltedRound) (whole : Result Round HaltedRound) (o : Option Halt) → (a : Ahead d ns s f whole)
     → Comes d a.all (f (round_in d (tally_of s) a.all)) o u → Comes d ns whole o u
 ahead_ends d ns s u f whole o a h = later d ns a.all whole o u a.grew (subst (λ (x : Result Round HaltedRound). Comes d a.all x o u) a.same h)
 
+-- a try that halts is what the whole came to
 pub ahead_halts : (d : Depth) (ns : List Node) (s u : Search) (f g : Round → Result Round HaltedRound) (x whole : Result Round HaltedRound) (k : Halt) → (a : Ahead d ns s f whole) → Comes d a.all x (Some k) u
     → f (round_in d (tally_of s) a.all) ≡ (x >>= g) → Comes d ns whole (Some k) u
 ahead_halts d ns s u f g x whole k a h i =
@@ -276,6 +280,7 @@ runs_in d ns n i (Ok r) s b c f g h k = sym (g k.all (record { holds = k.holds; 
 abbrev pub moves_left : Depth → Node → ℕ → Round → Result Round HaltedRound
 moves_left d n i r = tries_from d n (tries_of (drop i d.rules.moves) n.state) r
 
+-- the moves from a place on are the one there and those after it
 pub moves_split : (d : Depth) (n : Node) (m : rule.Move) (i : ℕ) (r : Round) → slice_get d.rules.moves i ≡ Some m
     → moves_left d n i r ≡ (tries_from d n (tries_with n.state m) r >>= λ q. moves_left d n (i + 1) q)
 unfolding tries_of
@@ -283,6 +288,7 @@ moves_split d n m i r h =
     ap (λ (ms : List rule.Move). tries_from d n (tries_of ms n.state) r) (drop_at d.rules.moves i m h)
     ∙ tried_append d.most d.rules.ons n (tries_with n.state m) (tries_of (drop (i + 1) d.rules.moves) n.state) r
 
+-- no move is left from the end on
 pub moves_none : (d : Depth) (n : Node) (i : ℕ) (r : Round) → length d.rules.moves ≤ i → moves_left d n i r ≡ Ok r
 unfolding round_of_tries tries_of
 moves_none d n i r h = ap (λ (ms : List rule.Move). tries_from d n (tries_of ms n.state) r) (drop_past d.rules.moves i h)
@@ -293,11 +299,13 @@ moves_none d n i r h = ap (λ (ms : List rule.Move). tries_from d n (tries_of ms
 abbrev pub states_left : Depth → List Node → ℕ → Round → Result Round HaltedRound
 states_left d ns i r = round_of_states d.most d.rules (drop i ns) r
 
+-- the nodes from a place on are the one there and those after it
 pub states_split : (d : Depth) (ns : List Node) (n : Node) (i : ℕ) (r : Round) → slice_get ns i ≡ Some n
     → states_left d ns i r ≡ (tries_from d n (tries_of d.rules.moves n.state) r >>= λ q. states_left d ns (i + 1) q)
 unfolding round_of_states
 states_split d ns n i r h = ap (λ (ms : List Node). round_of_states d.most d.rules ms r) (drop_at ns i n h)
 
+-- no node is left from the end on
 pub states_none : (d : Depth) (ns : List Node) (i : ℕ) (r : Round) → length ns ≤ i → states_left d ns i r ≡ Ok r
 unfolding round_of_states
 states_none d ns i r h = ap (λ (ms : List Node). round_of_states d.most d.rules ms r) (drop_past ns i h)
@@ -353,6 +361,7 @@ pub record IsGoing (d : Depth) (ns : List Node) (s : Search) : Type 0 where
   pub grew : Extends ns all
   pub holds : Holds d s all
 
+-- a search that did not halt goes on with its nodes
 pub going : (d : Depth) (ns : List Node) (x : Result Round HaltedRound) (s : Search) → Comes d ns x None s → IsGoing d ns s
 going d ns (Ok r) s h = record { all = h.all; grew = h.grew; holds = h.holds }
 going d ns (Err e) s h = absurd h

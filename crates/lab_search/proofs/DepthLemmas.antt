@@ -102,6 +102,7 @@ left_of rules most depth done from a ns =
 abbrev pub next_depth : rule.Rules → ℕ → List Node → Depth
 next_depth rules most ns = record { rules = rules; most = most; from = length ns }
 
+-- a search that holds the nodes of a depth holds them as the next depth begins
 pub holds_next : (rules : rule.Rules) (most from : ℕ) (s : Search) (ns : List Node) → Holds (record { rules = rules; most = most; from = from }) s ns → Holds (next_depth rules most ns) s ns
 holds_next rules most from s ns h = record { room = h.room; within = omega arith; counts = h.counts; kept = h.kept; reached = h.reached }
 

@@ -37,6 +37,7 @@ use Rattle.lab_search.proofs.AlikeLemmas.{alike_get, alike_get_second, alike_len
 some_same : {X : Type 0} (x y : X) → Some x ≡ Some y → x ≡ y
 some_same x y e = cc e
 
+-- the text of two lists of statements is that of one after the other
 pub statements_append : (xs ys : List Statement) → statements_text (xs ++ ys) ≡ statements_text xs ++ statements_text ys
 statements_append [] ys = refl
 statements_append (x ∷ xs) ys =
@@ -199,6 +200,7 @@ name_at e x i name a h found at =
     let names = names_get e x i h in
     some_same a.name.now name (sym (ap (λ (o : Option Allowance). option_map (λ (y : Allowance). y.name.now) o) at) ∙ sym names ∙ found)
 
+-- an exploration has an allowance for each of its names
 pub has_name : (e : Exploration) (x : rule.Exploration) (i : ℕ) (name : List ℕ) → IsExplorationOf e x → slice_get (names_in x.rules) i ≡ Some name → length e.rules.allowances.items ≤ i → ⊥
 has_name e x i name h found past =
     absurd (cc (sym found ∙ names_get e x i h ∙ ap (λ (o : Option Allowance). option_map (λ (y : Allowance). y.name.now) o) (slice_get_past e.rules.allowances.items i past)))
@@ -244,6 +246,7 @@ count_is start x ss ts cut lead n s h e l c = c ∙ sym (all_lines lead x.rules.
 pub fails_as : (a b : Sunk) {s t : List ℕ} → s ≡ t → Fails a s b → Fails a t b
 fails_as a b e f = subst (λ (x : List ℕ). Fails a x b) e f
 
+-- a text that was written is an equal one
 pub writes_as : (a b : Sunk) {s t : List ℕ} → s ≡ t → Writes a s b → Writes a t b
 writes_as a b e f = subst (λ (x : List ℕ). Writes a x b) e f
 

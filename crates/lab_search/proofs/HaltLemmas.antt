@@ -32,6 +32,7 @@ pub put_err : {X : Type 0} (a b : Sunk) (t : List ℕ) (r : Result X JobFault) (
 put_err a b t (Ok x) g i e f = absurd (cc i)
 put_err a b t (Err y) g i e f = subst (λ (z : JobFault). StopsBy z a t b) (sym e) f
 
+-- an exploration that failed was put in part, by its fault
 pub explored_err : (a b : Sunk) (t : List ℕ) (end : Ending) (r : Result Explored JobFault) (g : JobFault) → IsErr r → IsErrAnd r (λ e. e ≡ g) → StopsBy g a t b → IsExplored a t end r b
 explored_err a b t end r g i e f = record { text = put_err a b t r g i e f; ending = err_ending r end i }
 
@@ -54,12 +55,14 @@ broken_place j i r s e = cc e
 broken_step : (j i : ℕ) (r s : Step) → halt.Broken j r ≡ halt.Broken i s → r ≡ s
 broken_step j i r s e = cc e
 
+-- a search that halted at a broken rule has that rule broken
 pub halt_broken : (rules : rule.Rules) (ns : List Node) (h : Halt) (e : SearchHalt) (i : ℕ) (s : Step) → IsHalt rules ns h e → h ≡ halt.Broken i s → IsRuleBroken rules ns i s e
 halt_broken rules ns halt.Full e i s h k = absurd (cc k)
 halt_broken rules ns (halt.Broken j r) Full i s h k = absurd h
 halt_broken rules ns (halt.Broken j r) (RuleBroken name path) i s h k =
     record { name = name; path = path; is = refl; breaks = subst (λ (x : Step). BreaksBy rules ns i x name path) (broken_step j i r s k) (subst (λ (x : ℕ). BreaksBy rules ns x r name path) (broken_place j i r s k) h) }
 
+-- a search that halted for too many states is full
 pub halt_full : (rules : rule.Rules) (ns : List Node) (h : Halt) (e : SearchHalt) → IsHalt rules ns h e → h ≡ halt.Full → e ≡ Full
 halt_full rules ns (halt.Broken j r) e h k = absurd (cc k)
 halt_full rules ns halt.Full Full h k = refl

@@ -49,6 +49,7 @@ line_leaves n l s (Running session_state) (AtFault cause place) = record { warm 
 line_leaves n l s Unpowered b = record { warm = record s { armed = Unarmed }; is = refl; unarmed = refl; budget = refl; owed = λ u o. o }
 line_leaves n l s Muted b = record { warm = record s { armed = Unarmed }; is = refl; unarmed = refl; budget = refl; owed = λ u o. o }
 
+-- a card line leaves a powered play with no armed stop and its budget
 pub card_line_leaves : (n : ℕ) (l : DeckLine) (s : Warm) → is_card_line l ≡ true → LeavesPlay s (step (AfterPower s) (n, l) None).after
 unfolding step
 card_line_leaves n line.Power s is = power_leaves s (hit_of s.armed (power_moves s) None) refl
@@ -69,6 +70,7 @@ pub record IsRecovered (g : ℕ) (t : State) : Type 0 where
   pub budget : warm.budget ≡ g
   pub owed : warm.owed ≡ 0
 
+-- a move of a state and its recovery leave a powered play with the budget of the state
 pub move_recovers : (c : CardState) (m : Move) (w : Manner) → is_card_line m.line ≡ true → IsRecovered c.budget (recovery m.number w (step_of (play_of c) m w).after)
 unfolding step
 move_recovers c m Whole is =

@@ -48,6 +48,7 @@ alike_reverse_onto R (x ∷ xs) us (y ∷ ys) vs h g =
     let q = sym (ap (λ zs. zs ++ vs) (reverse-append (y ∷ []) ys) ∙ append_assoc (reverse ys) (y ∷ []) vs) in
     subst (λ zs. AlikeLists R zs (reverse (y ∷ ys) ++ vs)) p (subst (λ zs. AlikeLists R (reverse xs ++ (x ∷ us)) zs) q (alike_reverse_onto R xs (x ∷ us) ys (y ∷ vs) h.1 (h.0, g)))
 
+-- related lists are related when they are turned round
 pub alike_reverse : {A B : Type 0} (R : A → B → Type 0) (xs : List A) (ys : List B) → AlikeLists R xs ys → AlikeLists R (reverse xs) (reverse ys)
 alike_reverse R xs ys h =
     subst (λ zs. AlikeLists R zs (reverse ys)) (append-nil (reverse xs)) (subst (λ zs. AlikeLists R (reverse xs ++ []) zs) (append-nil (reverse ys)) (alike_reverse_onto R xs [] ys [] h tt))
@@ -67,6 +68,7 @@ take_front : (xs ys : List Step) → take (length xs) (xs ++ ys) ≡ xs
 take_front [] ys = refl
 take_front (x ∷ xs) ys = ap (λ zs. x ∷ zs) (take_front xs ys)
 
+-- a list that was turned round in place is the reverse of its elements
 pub turned : (n : ℕ) (xs ys steps : List Step) → n ≡ length steps → xs ≡ reverse ys → ys ≡ steps → take n (xs ++ drop (length xs) steps) ≡ reverse steps
 turned n xs ys steps count rev same =
     let all : xs ≡ reverse steps = rev ∙ ap reverse same in

@@ -29,12 +29,14 @@ no_entries m [] s w is none = ap (λ (t : State). words_left m [] t) is
 no_entries m (e ∷ es) s w is none = absurd (cc none)
 
 module _ {N : Type 0} (state : N → DeviceState) (bench : N → BenchState) where
+  -- a player that played a line is playing
   pub line_playing : {R : Type 0} (reported : R → List Turn → R → Type 0) (p q : Player N) (l : DeckLine) (before after : R) (a : Option Answer)
       → LineDone state bench reported p l before after a q → IsPlaying state bench p → IsPlaying state bench q
   line_playing reported p q l before after a done h =
       let d = done h.0 0 h.1 in
       ((step h.0 (0, l) d.0).after, d.1.stepped.at)
 
+  -- a player that played a deck is playing
   pub deck_playing : (p q : Player N) (ls : List (ℕ × DeckLine)) → ((s : State) → IsPlayerAt state bench p s → DeckPlayed state bench p s ls q) → IsPlaying state bench p → IsPlaying state bench q
   deck_playing p q ls done h =
       let d = done h.0 h.1 in
@@ -60,6 +62,7 @@ module _ {N : Type 0} (state : N → DeviceState) (bench : N → BenchState) whe
       → Stepped state bench p s l w (step s l w) a q → w ≡ None
   none_failed p q s l w a steady fails h = h.played.steady steady ∙ no_failure (armed_stop_in s) l.1 (moves_of s l) fails
 
+  -- on a steady device a player plays a line as the definition does
   pub plays_as : {R : Type 0} (reported : R → List Turn → R → Type 0) (p q : Player N) (l : DeckLine) (before after : R) (a : Option Answer)
       → LineDone state bench reported p l before after a q → PlaysAs state bench p l a q
   plays_as reported p q l before after a done s n at steady fails =

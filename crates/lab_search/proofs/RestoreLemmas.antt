@@ -45,6 +45,7 @@ pub record IsRestored (m : List (List ℕ)) (g n : ℕ) (b : Base) : Type 0 wher
   pub budget : warm.budget ≡ g
   pub unarmed : warm.armed ≡ Unarmed
 
+-- words that hold a base which is kept are found by a power line without a write
 pub restored : (m : List (List ℕ)) (g n : ℕ) (b : Base) (l : Live) → HoldsBase b 0 Two m → IsKeptBase l b → IsRestored m g n b
 unfolding step play_at_power
 restored m g n b l holds kept =

@@ -56,6 +56,7 @@ module _ {N : Type 0} (state : N → DeviceState) (bench : N → BenchState) whe
     pub words : (state (device_of q)).words ≡ m
     pub steady : (bench (device_of q)).steady ≡ true
 
+  -- a budget line on words sets the budget before the first power line
   pub budget_set : (p q : Player N) (m : List (List ℕ)) (g : ℕ) (a : Option Answer) → IsPlayerAt state bench p (start m) → (bench (device_of p)).steady ≡ true → PlaysAs state bench p (line.Budget g) a q
       → IsPlayerAt state bench q (BeforePower m g Unarmed) × ((bench (device_of q)).steady ≡ true)
   unfolding step
@@ -63,6 +64,7 @@ module _ {N : Type 0} (state : N → DeviceState) (bench : N → BenchState) whe
       let d = plays (start m) 0 at steady tt in
       (d.at, d.steady)
 
+  -- a power line after it finds what was saved
   pub powered : (p q r : Player N) (m : List (List ℕ)) (g : ℕ) (a b : Option Answer) (base : Base) (l : play.Live) (v : Live) → IsPlayerAt state bench p (start m) → (bench (device_of p)).steady ≡ true
       → PlaysAs state bench p (line.Budget g) a q → PlaysAs state bench q line.Power b r → IsShown m v base l → Powered m r base g
   powered p q r m g a b base l v at steady first second shown =

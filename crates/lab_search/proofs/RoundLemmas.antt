@@ -29,12 +29,15 @@ use Rattle.lab_search.proofs.SameKept.{kept_same}
 
 -- ---- nodes
 
+-- nodes extend themselves
 pub extends_none : (ns : List Node) → Extends ns ns
 extends_none ns = ([], sym (append-nil ns))
 
+-- nodes that extend others that extend the first extend the first
 pub extends_more : (ns ms ls : List Node) → Extends ns ms → Extends ms ls → Extends ns ls
 extends_more ns ms ls f g = (f.0 ++ g.0, g.1 ∙ ap (λ (t : List Node). t ++ g.0) f.1 ∙ append_assoc ns f.0 g.0)
 
+-- a node at a place stays there when more are found
 pub found_later : (ns ms : List Node) (i : ℕ) (n : Node) → Extends ns ms → slice_get ns i ≡ Some n → slice_get ms i ≡ Some n
 found_later ns ms i n e h = subst (λ (t : List Node). slice_get t i ≡ Some n) (sym e.1) (get_front ns e.0 i n h)
 

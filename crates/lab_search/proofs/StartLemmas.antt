@@ -26,6 +26,7 @@ ran_is x =
     let s = warm_in (play_of_deck x.lines) in
     ran_by s.live s.base (record s { armed = Unarmed }) refl
 
+-- whether the card ran before the added power line is what the deck left
 pub ran_start : (x : rule.Exploration) (ran runs power : Bool) → ran ≡ (runs && not power) → runs ≡ is_running (first_state x).live
     → power ≡ needs_power (warm_in (play_of_deck x.lines)).live (warm_in (play_of_deck x.lines)).base → ran ≡ is_running (warm_in (play_of_deck x.lines)).live
 ran_start x ran runs power e f g = e ∙ ap (λ b. b && not power) f ∙ ap (λ b. is_running (first_state x).live && not b) g ∙ ran_is x

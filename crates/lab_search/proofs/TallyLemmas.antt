@@ -68,6 +68,7 @@ tally_more rs c m w a b counts is tries heard =
 pub broken_counts : (lab : Laboratory) (rs : List rule.OnRule) (c : model.CardState) (m : rule.Move) (w : Manner) (t : Tried) (i : ℕ) → t ≡ tried.Broken i → CountsTry lab rs c m w t → lab.counts.items ≡ counts_of rs c m w
 broken_counts lab rs c m w t i e h = subst (CountsTry lab rs c m w) e h
 
+-- after a try that reached a state the counts are those of its `on` lines
 pub reached_counts : (lab : Laboratory) (rs : List rule.OnRule) (c : model.CardState) (m : rule.Move) (w : Manner) (t : Tried) (s : CardState) → t ≡ tried.Reached s → CountsTry lab rs c m w t → lab.counts.items ≡ counts_of rs c m w
 reached_counts lab rs c m w t s e h = subst (CountsTry lab rs c m w) e h
 
@@ -76,6 +77,7 @@ none_heard : (rs : List rule.OnRule) → replicate (length rs) false ≡ map (λ
 none_heard [] = refl
 none_heard (r ∷ rs) = ap (λ (hs : List Bool). false ∷ hs) (none_heard rs)
 
+-- the tally at the start has no try and no line that applied
 pub start_tally : (x : rule.Rules) (r : Rules) (a : found.Tally) (n : ℕ) → AreRules r x → n ≡ length r.ons.items → a ≡ record { tries = 0; heard = replicate n false } → a ≡ no_tries x.ons
 start_tally x r a n h many is =
     let long = many ∙ alike_length (IsOn x.allowances) r.ons.items x.ons h.ons in
@@ -110,5 +112,6 @@ silent_next os hs i o b here e =
     ∙ ap (λ (c : Bool). silent_if c o.line ++ silent_from (suc i) (drop (i + 1) os) hs) (sym e)
     ∙ ap (λ (k : ℕ). silent_if b o.line ++ silent_from k (drop (i + 1) os) hs) (sym (add-one i))
 
+-- past the last `on` line no text of silent lines is left
 pub silent_end : (os : List OnRule) (hs : List Bool) (i : ℕ) → length os ≤ i → [] ≡ silent_from i (drop i os) hs
 silent_end os hs i h = sym (ap (λ (l : List OnRule). silent_from i l hs) (drop_past os i h))

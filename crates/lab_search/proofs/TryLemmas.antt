@@ -95,6 +95,7 @@ module _ {N : Type 0} (state : N → DeviceState) (bench : N → BenchState) whe
     pub answers : option_map (answer_value state q) a ≡ (made_step c m w).result
     pub steady : (bench (device_of q)).steady ≡ true
 
+  -- a player that plays the line of a move has made it
   pub move_played : (c : CardState) (m : Move) (w : Manner) (p q : Player N) (a : Option Answer) → IsPlayerAt state bench p (armed_for m.number w (play_of c)) → (bench (device_of p)).steady ≡ true
       → PlaysAs state bench p m.line a q → MovePlayed c m w q a
   move_played c m w p q a at steady plays =
@@ -209,6 +210,7 @@ module _ {N : Type 0} (state : N → DeviceState) (bench : N → BenchState) whe
   tried_state c m w q ons applies before after text false (Ok (Some v)) is kept can made lives = absurd lives
   tried_state c m w q ons applies before after text made (Err e) is kept can h lives = lives
 
+  -- a try on a device leaves what the step of the definition does
   pub tried_as : {E : Type 0} (c : CardState) (m : Move) (w : Manner) (q : Player N) (d : N) (ons : List OnRule) (applies : List Bool) (before after text : List ℕ) (made : Bool) (r : Result (Option Live) E)
       → d ≡ device_of q → is_card_line m.line ≡ true → IsKeptBase c.live c.base → CanCut c w → MadeAs state bench c m w ons applies before after text q made → IfOk r (IsLiveAfter state bench q made)
       → TriedAs c m w ons applies before after text (state d).words r
