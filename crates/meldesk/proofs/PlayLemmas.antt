@@ -1,12 +1,12 @@
 -- The meaning of the status with which a job that plays ended.
-use Rattle.std.proofs.Common.{◌≡◌, ℕ, Bool, true, false, List, Result, Ok, Err, IfErr, IfOk, refl, ap, sym, subst, ◌∙◌, inl, inr}
+use Rattle.std.proofs.Common.{◌≡◌, ℕ, Bool, true, false, List, Result, Ok, Err, IfErr, IfOk, refl, ap, sym, subst, ◌∙◌, inr}
 use Rattle.mc_base.specs.model_device.specs.Counts.{Rose}
 use Rattle.mc_deck.specs.model_play.specs.declared.deck.DeckCause.{DeckCause}
 use Rattle.mc_deck.specs.model_play.specs.DeckGrammar.{DeckLine}
 use Rattle.mc_streams.specs.declared.refusals.WriteFault.{WriteFault as Fault}
 use Rattle.mc_script.specs.Plays.{Bench, PlaysDeck}
 use Rattle.mc_text.specs.Texts.{Sunk}
-use Rattle.mc_filter.specs.Inputs.{ReadWhole, ReadsLimited, Rejects, RejectsRead, Stream}
+use Rattle.mc_filter.specs.Inputs.{ReadWhole, ReadsLimited, Rejects, Stream}
 use Rattle.mc_filter.specs.Outside.{IsWithoutFault, Outside}
 use Rattle.mc_filter.specs.Statuses.{status_after_writing, RejectionEnds}
 use Rattle.mc_filter.specs.declared.rejection.Rejection.{Rejection}
@@ -41,12 +41,6 @@ line_due t line false (Ok d) long is h = absurd h
 line_due t line false (Err e) long is h = ap Refuses h ∙ sym (of_known t false (Err e) long is)
 
 -- ---- rejections
-
--- a source that failed
-pub read_rejected : (a : Outside) (e : Rejection) → RejectsRead a.input_old a.input e → RejectsPlay a e
-read_rejected a (rejection.Refusal line) h = inl (record { over = h.0; no_further = h.1; is = ap Refuses h.2 })
-read_rejected a rejection.ReadFault h = h
-read_rejected a rejection.NoMemory h = h
 
 -- a draft that was read and is refused
 pub draft_rejected : (t : List ℕ) (a : Outside) (e : Rejection) → ReadWhole a.input_old a.input t → ReadsLimited a.input_old a.input → Rejects (refused_desk (has_long_deck t) (desk_read t)) e → RejectsPlay a e

@@ -1,5 +1,5 @@
 -- The text of a draft, and the line that refuses it.
-use Rattle.std.proofs.Common.{◌≡◌, ◌≤◌, ◌<◌, ℕ, Bool, true, false, nat_lt, List, length, Result, Ok, Err, IfErr, OnOk, refl, ap, sym, subst, ◌∙◌, arith}
+use Rattle.std.proofs.Common.{◌≡◌, ◌≤◌, ◌<◌, ℕ, Bool, true, false, nat_lt, List, length, Result, Ok, Err, IfErr, IfOk, OnOk, refl, ap, sym, subst, ◌∙◌, arith}
 use Rattle.mc_text.specs.model_text.specs.Text.{◌>>=◌, ok_as}
 use Rattle.mc_deck.specs.model_play.specs.DeckGrammar.{DeckLine, deck_read}
 use Rattle.mc_deck.specs.model_play.specs.declared.deck.DeckCause.{DeckCause}
@@ -7,12 +7,16 @@ use Rattle.mc_filter.specs.Inputs.{input_limit, refused_deck, Rejects}
 use Rattle.mc_filter.specs.Lines.{too_long}
 use Rattle.mc_filter.specs.declared.rejection.Rejection.{Rejection}
 use Rattle.mc_filter.specs.declared.rejection.Rejection.TheVariants as rejection
+use Rattle.desk_draft.specs.declared.desk.Desk.{Desk as KeptDesk}
+use Rattle.desk_draft.specs.declared.draft.Draft.{Draft as KeptDraft}
+use Rattle.desk_draft.specs.declared.draft.Section.{Section}
 use Rattle.desk_draft.specs.Drafts.{Draft, deck_of, draft_read}
 use Rattle.desk_draft.specs.Listings.{Desk, desk_read, draft_listing, listing_of, sources_of}
+use Rattle.desk_draft.specs.Written.{draft_value}
 use Rattle.desk_draft.proofs.DeskLemmas as desk
 use Rattle.desk_explain.specs.Explained.{Explains}
 use Rattle.meldesk.specs.Checks.{ShowsVerdicts}
-use Rattle.meldesk.specs.Running.{refused_desk, refused_draft, RejectsAs}
+use Rattle.meldesk.specs.Running.{draft_with, refused_desk, refused_draft, RejectsAs}
 use Rattle.meldesk.specs.Verdicts.{has_long_deck, is_long, of_listing, of_text, IsCheckOf, IsExplainedOf, IsNamesOf, JobVerdict, Refusal, Whole}
 
 -- ---- lines
@@ -87,6 +91,19 @@ desk_rejected t d e h few is =
 pub desk_made : (t : List ℕ) (d : Draft) (ls : List (ℕ × DeckLine)) → draft_read t ≡ Ok d → deck_read d.deck ≡ Ok ls → desk_read t ≡ Ok (record { deck = d.deck; sources = sources_of d; lines = ls })
 desk_made t d ls h k = desk.desk_made t d ls h k
 
+-- what holds of the desk of a draft that was read, and of its rejection
+pub ok_of_draft : (t : List ℕ) (d : Draft) (r : Result KeptDesk Rejection) (P : List ℕ → KeptDesk → Type 0) → draft_read t ≡ Ok d → IfOk r (λ x. (u : List ℕ) → draft_read u ≡ Ok d → P u x) → IfOk r (P t)
+ok_of_draft t d (Ok x) P h k = k t h
+ok_of_draft t d (Err e) P h k = tt
+
+pub err_of_draft : (t : List ℕ) (d : Draft) (r : Result KeptDesk Rejection) (P : List ℕ → Rejection → Type 0) → draft_read t ≡ Ok d → IfErr r (λ e. (u : List ℕ) → draft_read u ≡ Ok d → P u e) → IfErr r (P t)
+err_of_draft t d (Ok x) P h k = tt
+err_of_draft t d (Err e) P h k = k t h
+
+-- a draft that was read, by its sections
+pub is_draft_with : (t : List ℕ) (d : KeptDraft) (ss : List Section) → draft_read t ≡ Ok (draft_value d) → ss ≡ d.sections.items → draft_read t ≡ Ok (draft_with d.deck.items ss)
+is_draft_with t d ss h is = h ∙ sym (ap (λ (ss : List Section). Ok (draft_with d.deck.items ss)) is)
+
 -- ---- the listing
 
 listing_by : (t : List ℕ) (b : Bool) (r : Result Desk (ℕ × DeckCause)) → has_long_deck t ≡ b → desk_read t ≡ r → of_listing (has_long_deck t) (draft_listing t) ≡ of_listing b (ok_as (λ d. listing_of d.sources) r)
@@ -138,10 +155,6 @@ names_refused line false (Err e) h = ap Refusal h
 pub names_rejected : (t : List ℕ) (e : Rejection) → Rejects (refused_desk (has_long_deck t) (desk_read t)) e → RejectsAs (IsNamesOf (has_long_deck t) (desk_read t)) e
 names_rejected t e h =
     rejects_as (refused_desk (has_long_deck t) (desk_read t)) (λ (line : List ℕ). IsNamesOf (has_long_deck t) (desk_read t) (Refusal line)) e (λ line is. names_refused line (has_long_deck t) (desk_read t) is) h
-
--- out of memory, whatever the names are
-pub names_short : (t : List ℕ) (e : Rejection) → e ≡ rejection.NoMemory → RejectsAs (IsNamesOf (has_long_deck t) (desk_read t)) e
-names_short t e is = subst (λ (e : Rejection). RejectsAs (IsNamesOf (has_long_deck t) (desk_read t)) e) (sym is) tt
 
 -- ---- all that is wrong with a draft
 

@@ -1,5 +1,5 @@
 -- The parts of a job that makes a text, and why it is not done.
-use Rattle.std.specs.Prelude.{◌≡◌, ℕ, Bool, true, false, List, Result, Ok, Err}
+use Rattle.std.specs.Prelude.{◌≡◌, ℕ, Bool, true, false, List, map, Result, Ok, Err}
 use Rattle.mc_deck.specs.model_play.specs.declared.deck.DeckCause.{DeckCause}
 use Rattle.mc_filter.specs.declared.status.Status.{Status}
 use Rattle.mc_filter.specs.Inputs.{FailsReading, ReadsLimited, Rejects}
@@ -8,10 +8,17 @@ use Rattle.mc_filter.specs.Outside.{IsRead, Outside}
 use Rattle.mc_filter.specs.Statuses.{IsWritten}
 use Rattle.mc_filter.specs.declared.rejection.Rejection.{Rejection}
 use Rattle.mc_filter.specs.declared.rejection.Rejection.TheVariants as rejection
+use Rattle.desk_draft.specs.declared.draft.Section.{Section}
+use Rattle.desk_draft.specs.Drafts.{Draft}
 use Rattle.desk_draft.specs.Listings.{Desk}
+use Rattle.desk_draft.specs.Written.{section_value}
 use Rattle.meldesk.specs.Jobs.{MadeText}
 use Rattle.meldesk.specs.Statuses.{status_if}
 use Rattle.meldesk.specs.Verdicts.{IsTextOf, JobVerdict, Refusal, Whole}
+
+-- the draft with this deck and these sections
+abbrev pub draft_with : List ℕ → List Section → Draft
+draft_with deck sections = record { deck = deck; sections = map (section_value deck) sections }
 
 -- the line that refuses a draft
 abbrev pub refused_draft : {A : Type 0} → Result A (ℕ × DeckCause) → List ℕ → Type 0

@@ -1,7 +1,5 @@
 // The program: its words select a job, which is done on a blank device.
 ghost use Rattle.std.specs.Prelude.{◌≡◌, ◌<◌, ◌⊎◌};
-ghost use Rattle.mc_text.specs.Texts.{sunk};
-ghost use Rattle.mc_filter.specs.Outside.{outside};
 ghost use Rattle.mc_filter.specs.Statuses.{IsNumberOf};
 ghost use Rattle.meldesk.specs.Programs.{streams, DoesDeskJob, IsShortOf, ProgramSays};
 

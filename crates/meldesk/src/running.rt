@@ -12,8 +12,8 @@ ghost use Rattle.desk_draft.specs.Drafts.{deck_of, draft_read};
 ghost use Rattle.desk_draft.specs.Listings.{desk_read, draft_listing};
 ghost use Rattle.desk_draft.specs.Loads.{desk_value};
 ghost use Rattle.desk_draft.specs.Written.{draft_value};
-ghost use Rattle.meldesk.specs.Jobs.{job_of, job_value, text_value, Makes};
-ghost use Rattle.meldesk.specs.Running.{refused_desk, refused_draft, RejectsAs, RejectsText, WritesDraft};
+ghost use Rattle.meldesk.specs.Jobs.{job_of, job_value, text_value};
+ghost use Rattle.meldesk.specs.Running.{draft_with, refused_desk, refused_draft, RejectsAs, RejectsText, WritesDraft};
 ghost use Rattle.meldesk.specs.Statuses.{desk_outside, status_if, DeckSays, MeldeskCompletes, MeldeskSays, TextSays};
 ghost use Rattle.meldesk.specs.Verdicts.{has_long_deck, of_listing, of_text, IsCheckOf, IsExplainedOf, IsNamesOf, IsTextOf, Whole};
 
@@ -22,10 +22,10 @@ use crate::checking::verdicts_of;
 use crate::draft_text::DraftText;
 use crate::job::{Job, Text, job_of};
 use crate::playing::show;
-use desk_draft::{Desk, Draft, Loads, listing_of, read_draft, sources_of};
+use desk_draft::{Desk, Draft, Loads, Section, listing_of, read_draft, sources_of};
 use desk_explain::{Explained, explain};
 use desk_names::names_of;
-use mc_base::{NoMemory, Steps};
+use mc_base::Steps;
 use mc_deck::DeckRefusal;
 use mc_filter::{
     INPUT_LIMIT, Rejection, Status, deck_of, ended, number, read_input, refused, reject, too_long,
@@ -51,6 +51,31 @@ fn draft_of(alloc: Global, text: &[u8]) -> Result<Draft<'_>, Rejection>
     }
 }
 
+// Reads the deck of a draft, and makes the code of its sections. A deck is an input, too, and has its limit.
+fn desk_with<'a>(
+    alloc: Global,
+    text: Vec<u8>,
+    sections: &[Section<'a>],
+) -> Result<Desk<'a>, Rejection>
+    ensures desk { IfOk result (λ d. (draft : List ℕ) → draft_read draft ≡ Ok (draft_with text.items sections.now)
+        → desk_read draft ≡ Ok (desk_value d)) }
+    ensures short { IfOk result (λ d. (draft : List ℕ) → draft_read draft ≡ Ok (draft_with text.items sections.now)
+        → has_long_deck draft ≡ false) }
+    ensures rejected { IfErr result (λ e. (draft : List ℕ) → draft_read draft ≡ Ok (draft_with text.items sections.now)
+        → Rejects (refused_desk (has_long_deck draft) (desk_read draft)) e) }
+{
+    if text.len() > INPUT_LIMIT {
+        return Err(too_long(alloc));
+    }
+    let deck = deck_of(alloc, text.as_slice())?;
+    let sources = sources_of(alloc, text.as_slice(), sections)?;
+    Ok(Desk {
+        text,
+        sources,
+        deck,
+    })
+}
+
 /// Reads a draft and its deck. A deck is an input, too, and has its limit.
 ///
 /// # Errors
@@ -65,16 +90,7 @@ pub fn desk_of(alloc: Global, text: &[u8]) -> Result<Desk<'_>, Rejection>
         deck: text,
         sections,
     } = draft_of(alloc, text)?;
-    if text.len() > INPUT_LIMIT {
-        return Err(too_long(alloc));
-    }
-    let deck = deck_of(alloc, text.as_slice())?;
-    let sources = sources_of(alloc, text.as_slice(), sections.as_slice())?;
-    Ok(Desk {
-        text,
-        sources,
-        deck,
-    })
+    desk_with(alloc, text, sections.as_slice())
 }
 
 // The deck of a draft.
@@ -111,22 +127,15 @@ fn verdicts_text(alloc: Global, draft: &[u8]) -> Result<DraftText, Rejection>
     Ok(verdicts_of(alloc, &loads, &desk.deck)?)
 }
 
-// The names of a draft that was read.
-fn names_in(alloc: Global, draft: &[u8], desk: &Desk<'_>) -> Result<Vec<u8>, NoMemory> {
-    match read_draft(alloc, draft) {
-        Ok(draft) => Ok(names_of(alloc, draft.sections.as_slice(), desk.sources.as_slice())?),
-        Err(_) => Err(NoMemory),
-    }
-}
-
 // The names of a draft.
 fn names_text(alloc: Global, draft: &[u8]) -> Result<DraftText, Rejection>
     ensures { MatchResult result
         (λ m. IsNamesOf (has_long_deck draft.now) (desk_read draft.now) (Whole m.passes m.text.items))
         (RejectsAs (IsNamesOf (has_long_deck draft.now) (desk_read draft.now))) }
 {
-    let desk = desk_of(alloc, draft)?;
-    let text = names_in(alloc, draft, &desk)?;
+    let Draft { deck, sections } = draft_of(alloc, draft)?;
+    let desk = desk_with(alloc, deck, sections.as_slice())?;
+    let text = names_of(alloc, sections.as_slice(), desk.sources.as_slice())?;
     Ok(DraftText { text, passes: true })
 }
 
