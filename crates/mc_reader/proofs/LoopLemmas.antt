@@ -3,7 +3,6 @@ use Rattle.std.proofs.Common.{◌≡◌, ℕ, ◌+◌, ◌≤◌, Bool, false, L
 use Rattle.std.specs.List.{AllByRecursion}
 use Rattle.mc_base.specs.model_device.specs.Counts.{Rose, last_count}
 use Rattle.mc_base.specs.model_device.specs.Device.{DeviceState, BenchState}
-use Rattle.mc_deck.specs.model_play.specs.DeckGrammar.{DeckLine}
 use Rattle.mc_deck.specs.model_play.specs.Play.{State, FailedWrite, LineResult, Step, plays}
 use Rattle.mc_streams.specs.Streams.{Took}
 use Rattle.mc_streams.specs.declared.refusals.WriteFault.{WriteFault}
@@ -18,7 +17,7 @@ use Rattle.mc_script.proofs.PlayLemmas.{plays_none}
 use Rattle.mc_script.proofs.StepPlayLemmas.{steps_as, steps_none, steps_then}
 use Rattle.mc_reader.specs.Frames.{frame_bytes, frames_bytes, first_frame}
 use Rattle.mc_reader.specs.Meanings.{meaning, power_after}
-use Rattle.mc_reader.specs.Lines.{line_in, line_with_number, lines_of, number_after}
+use Rattle.mc_reader.specs.Lines.{line_in, lines_of, number_after}
 use Rattle.mc_reader.specs.Answers.{answer_to}
 use Rattle.mc_reader.specs.Readings.{TookPart, TookNone, TookShort}
 use Rattle.mc_reader.specs.Moments.{Moment, Records, AreMoments}

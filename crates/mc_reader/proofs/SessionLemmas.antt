@@ -171,11 +171,3 @@ served_unless deck (Err fault.NoMemory) a h other = absurd (other refl)
 
 pub untouched_if : (deck : List (ℕ × DeckLine)) (result : Result (Unit {0}) ServeError) (a : AroundSession) → Serves deck result a → result ≡ Err fault.NoMemory → IsUntouched a
 untouched_if deck result a h is = subst (λ (r : Result (Unit {0}) ServeError). Serves deck r a) is h
-
--- a session, from both
-pub serves_by : (deck : List (ℕ × DeckLine)) (result : Result (Unit {0}) ServeError) (a : AroundSession) → (result ≡ Err fault.NoMemory → IsUntouched a) → (result ≢ Err fault.NoMemory → Served deck result a) → Serves deck result a
-serves_by deck (Ok u) a short served = served (λ e. cc e)
-serves_by deck (Err (fault.Short n)) a short served = served (λ e. cc e)
-serves_by deck (Err fault.ReadFault) a short served = served (λ e. cc e)
-serves_by deck (Err fault.WriteFault) a short served = served (λ e. cc e)
-serves_by deck (Err fault.NoMemory) a short served = short refl

@@ -1,5 +1,5 @@
 // The answers to frames.
-ghost use Rattle.std.specs.Prelude.{◌≡◌, ◌≤◌, ◌++◌, length};
+ghost use Rattle.std.specs.Prelude.{◌≤◌, ◌++◌, length};
 ghost use Rattle.mc_base.specs.model_device.specs.Bytes.{bytes2};
 ghost use Rattle.mc_text.specs.Texts.{sunk, Puts};
 ghost use Rattle.mc_reader.specs.Frames.{frame_bytes};

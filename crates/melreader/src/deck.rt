@@ -1,5 +1,5 @@
 // The deck that a session begins with.
-ghost use Rattle.std.specs.Prelude.{◌≡◌, None, Some};
+ghost use Rattle.std.specs.Prelude.{None, Some};
 ghost use Rattle.mc_filter.specs.Inputs.{stream};
 ghost use Rattle.melreader.specs.Decks.{HasDeck};
 

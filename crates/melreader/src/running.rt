@@ -1,6 +1,5 @@
 // The top call: a deck is played, and the frames of a host are served.
-ghost use Rattle.std.specs.Prelude.{◌≡◌, Err, Option};
-ghost use Rattle.mc_reader.specs.Sessions.{AroundSession};
+ghost use Rattle.std.specs.Prelude.{Err, Option};
 ghost use Rattle.mc_script.specs.Players.{IsUnfused};
 ghost use Rattle.mc_text.specs.Texts.{sunk};
 ghost use Rattle.mc_filter.specs.Statuses.{IsNumberOf};
