@@ -1,5 +1,5 @@
 -- What a search keeps while it makes tries.
-use Rattle.std.proofs.Common.{◌≡◌, ℕ, zero, suc, List, [], ◌∷◌, ◌++◌, length, map, Option, Some, None, Result, Ok, Err, IfOk, OnOk, refl, sym, ap, subst, ◌∙◌, slice_get}
+use Rattle.std.proofs.Common.{◌≡◌, ◌≢◌, ℕ, zero, suc, List, [], ◌∷◌, ◌++◌, length, map, Option, Some, None, Result, Ok, Err, IfOk, OnOk, refl, sym, ap, subst, ◌∙◌, slice_get}
 use Rattle.std.specs.Prelude.{false, is_some}
 use Rattle.law_histories.specs.law_explore.specs.Rules as rule
 use Rattle.law_histories.specs.law_explore.specs.States as model
@@ -229,6 +229,20 @@ kept_place s names (x ∷ rs) (suc i) r e h = kept_place s names rs i r e h.1
 pub reached_kept : (d : Depth) (u : Search) (n : Node) (m : rule.Move) (w : Manner) (o : Option Reached) (r : Reached) → o ≡ Some r → IsReachedFrom d u n m w o → IsKeptWith u (names_in d.rules) r.state
 reached_kept d u n m w None r e h = absurd (cc e)
 reached_kept d u n m w (Some x) r e h = let same : x ≡ r = cc e in subst (λ (y : Reached). IsKeptWith u (names_in d.rules) y.state) same h.1
+
+-- and the move was made
+pub reached_made : (d : Depth) (u : Search) (n : Node) (m : rule.Move) (w : Manner) (o : Option Reached) (r : Reached) → o ≡ Some r → IsReachedFrom d u n m w o → IsMade n.state m w
+reached_made d u n m w None r e h = absurd (cc e)
+reached_made d u n m w (Some x) r e h = h.0
+
+-- a move that can be made reaches something
+pub none_missed : (d : Depth) (u : Search) (n : Node) (m : rule.Move) (w : Manner) (o : Option Reached) → ((r : Reached) → o ≢ Some r) → IsReachedFrom d u n m w o → IsMissed n.state m w
+none_missed d u n m w None not h = h
+none_missed d u n m w (Some r) not h = absurd (not r refl)
+
+pub missed_here : (d : Depth) (u : Search) (n : Node) (m : rule.Move) (w : Manner) (o : Option Reached) → o ≡ None → IsReachedFrom d u n m w o → IsMissed n.state m w
+missed_here d u n m w None e h = h
+missed_here d u n m w (Some r) e h = absurd (cc e)
 
 -- a search that is not ended goes on
 pub comes_goes : (d : Depth) (ns : List Node) (o : Option Halt) (s : Search) → is_some o ≡ false → ComesTo d ns o s → HoldsMore d ns s

@@ -1,9 +1,13 @@
 -- The moves of a deck with the rules of one application are an exploration of moves alone.
-use Rattle.std.proofs.Common.{◌≡◌, ℕ, zero, suc, ◌≤◌, ◌<◌, Bool, true, false, cond, List, [], ◌∷◌, length, replicate, Some, None, refl, arith, sym, ap, subst, ◌∙◌, slice_get, codes}
+use Rattle.std.proofs.Common.{◌≡◌, ℕ, zero, suc, ◌≤◌, ◌<◌, Bool, true, false, cond, List, [], ◌∷◌, length, replicate, Result, Ok, Err, Some, None, refl, arith, sym, ap, subst, ◌∙◌, slice_get, codes}
 use Rattle.std.specs.Prelude.{bytes_eq}
+use Rattle.std.specs.List.{AllByRecursion}
+use Rattle.law_histories.specs.model_text.specs.Text.{◌>>=◌, ok_as}
 use Rattle.law_histories.specs.model_device.specs.Bytes.{lookup}
-use Rattle.law_histories.specs.model_play.specs.Play.{is_card_line}
+use Rattle.law_histories.specs.model_play.specs.Play.{Step, is_card_line}
 use Rattle.law_histories.specs.law_explore.specs.Rules as rule
+use Rattle.law_histories.specs.law_explore.specs.States.{CardState, play_of, state_in}
+use Rattle.law_histories.specs.law_explore.specs.Tries.{allowances_after, effect_times, outcome, recovery, step_of, times, with_amount}
 use Rattle.law_histories.specs.law_explore.specs.Matching.{fits, matches, plain, some_rest}
 use Rattle.law_histories.specs.model_play.specs.DeckGrammar.{DeckLine}
 use Rattle.lab_rules.specs.declared.reading.Exploration.{Exploration}
@@ -11,10 +15,16 @@ use Rattle.lab_rules.specs.declared.rules.Move.{Move}
 use Rattle.lab_rules.specs.declared.rules.OnRule.{OnRule}
 use Rattle.lab_rules.specs.declared.rules.Rules.{Rules}
 use Rattle.lab_rules.specs.Meanings.{AlikeLists, AreDistinct, IsMove, IsOn}
+use Rattle.lab_key.specs.declared.kept.Rosters.{Rosters}
+use Rattle.lab_search.specs.declared.journey.Manner.{Manner}
 use Rattle.lab_search.specs.declared.making.Candidate.{Candidate}
-use Rattle.lab_search.specs.Kept.{IsCandidate}
+use Rattle.lab_search.specs.declared.trying.Laboratory.{Laboratory}
+use Rattle.lab_search.specs.declared.trying.Tried.{Tried}
+use Rattle.lab_search.specs.declared.trying.Tried.TheVariants as tried
+use Rattle.lab_search.specs.Kept.{IsCandidate, TryIs}
+use Rattle.lab_search.specs.Reports.{manner_value}
 use Rattle.lab_search.proofs.AlikeLemmas.{all_get, alike_get_second}
-use Rattle.lab_application.specs.Shadows.{AreMovesOf, AreShadows, counter, others, shadow}
+use Rattle.lab_application.specs.Shadows.{AreMovesOf, AreShadows, SpendNothing, counter, others, shadow}
 
 -- ---- a candidate
 
@@ -76,7 +86,48 @@ star_fits : (t : List ℕ) → fits (codes "*") t ≡ true
 unfolding fits matches
 star_fits t = rest_fits (plain t)
 
+-- ---- no allowance is broken
+
+allowed : (n : ℕ) (name : List ℕ) (k : ℕ) (a : List (List ℕ × ℕ)) → (b : List (List ℕ × ℕ)) × (effect_times n rule.Allows name k a ≡ Ok b)
+allowed zero name k a = (a, refl)
+allowed (suc n) name k a = allowed n name k (with_amount name k a)
+
+all_allowed : (rs : List rule.OnRule) → AllByRecursion (λ r. r.effect ≡ rule.Allows) rs → (m : rule.Move) (t : Step) (a : List (List ℕ × ℕ)) → (b : List (List ℕ × ℕ)) × (allowances_after rs m t a ≡ Ok b)
+unfolding allowances_after
+all_allowed [] h m t a = (a, refl)
+all_allowed (r ∷ rs) h m t a =
+    let first = allowed (times r m t) r.name r.amount a in
+    let rest = all_allowed rs h.1 m t first.0 in (
+      rest.0,
+      ap (λ (x : Result (List (List ℕ × ℕ)) (List ℕ)). x >>= λ b. allowances_after rs m t b) (ap (λ (e : rule.Effect). effect_times (times r m t) e r.name r.amount a) h.0 ∙ first.1) ∙ rest.1,
+    )
+
+ons_allow : (held : List (List ℕ × ℕ)) (os : List OnRule) (rs : List rule.OnRule) → AlikeLists (IsOn held) os rs → SpendNothing os → AllByRecursion (λ r. r.effect ≡ rule.Allows) rs
+ons_allow held [] [] h k = tt
+ons_allow held [] (r ∷ rs) h k = absurd h
+ons_allow held (o ∷ os) [] h k = absurd h
+ons_allow held (o ∷ os) (r ∷ rs) h k = (sym (h.0).effect ∙ k.0, ons_allow held os rs h.1 k.1)
+
+not_broken : (rs : List rule.OnRule) → AllByRecursion (λ r. r.effect ≡ rule.Allows) rs → (c : CardState) (m : rule.Move) (w : Manner) (name : List ℕ) → outcome rs c (record { move = m; manner = manner_value w }) ≡ Err name → ⊥
+unfolding outcome
+not_broken rs h c m w name e =
+    let t = step_of (play_of c) m (manner_value w) in
+    let all = all_allowed rs h m t c.allowances in
+    absurd (cc (sym (ap (λ (x : Result (List (List ℕ × ℕ)) (List ℕ)). ok_as (λ a. state_in (recovery m.number (manner_value w) t.after) a) x) all.1) ∙ e))
+
+-- a try of `on` lines that reduce no allowance breaks none
+pub never_broken : (lab : Laboratory) (r : Rosters) (names : List (List ℕ)) (held : List (List ℕ × ℕ)) (os : List OnRule) (rs : List rule.OnRule) (c : CardState) (m : rule.Move) (w : Manner) (t : Tried) (i : ℕ)
+    → AlikeLists (IsOn held) os rs → SpendNothing os → TryIs lab r names rs c m w t → t ≡ tried.Broken i → ⊥
+never_broken lab r names held os rs c m w tried.NotHit i ons k h e = absurd (cc e)
+never_broken lab r names held os rs c m w (tried.Reached y) i ons k h e = absurd (cc e)
+never_broken lab r names held os rs c m w (tried.Broken j) i ons k h e = not_broken rs (ons_allow held os rs ons k) c m w h.1.0 h.1.2
+
 -- ---- all
+
+counter_allows : (held : List (List ℕ × ℕ)) (os : List OnRule) → AlikeLists (IsOn held) os (counter ∷ []) → SpendNothing os
+counter_allows held [] h = tt
+counter_allows held (o ∷ []) h = ((h.0).effect, tt)
+counter_allows held (o ∷ p ∷ os) h = absurd h.1
 
 counter_on : (o : OnRule) (n : ℕ) → IsOn ((codes "turns", 0) ∷ []) o counter → IsOn ((codes "turns", 0) ∷ others n) o counter
 counter_on o n h =
@@ -94,5 +145,6 @@ shadows_are x ls ms n h =
       cards = h.cards;
       distinct = (no_counter n, distinct_others n);
       ons = counter_ons x.rules.ons.items n h.rules.ons;
+      allows = counter_allows ((codes "turns", 0) ∷ []) x.rules.ons.items h.rules.ons;
       applies = λ m. ap (λ (b : Bool). b ∷ []) (sym (star_fits m.text));
     }

@@ -1,11 +1,12 @@
 -- What the tries of a search come to: nodes that are found, and what ends the search.
-use Rattle.std.specs.Prelude.{◌≡◌, ℕ, ◌≤◌, true, List, length, slice_get, Option, Some, None}
+use Rattle.std.specs.Prelude.{◌≡◌, ℕ, ◌<◌, ◌≤◌, true, List, length, slice_get, Option, Some, None}
 use Rattle.std.specs.List.{AllByRecursion}
 use Rattle.law_histories.specs.model_play.specs.Family.{is_running}
 use Rattle.law_histories.specs.law_explore.specs.Rules as rule
 use Rattle.law_histories.specs.law_explore.specs.States as model
 use Rattle.law_histories.specs.law_explore.specs.Search.{Node}
-use Rattle.law_histories.specs.law_explore.specs.Tries.{Try}
+use Rattle.law_histories.specs.law_explore.specs.States.{play_of}
+use Rattle.law_histories.specs.law_explore.specs.Tries.{Try, writes_of}
 use Rattle.lab_key.specs.declared.kept.Rosters.{Rosters}
 use Rattle.lab_key.specs.declared.state.CardState.{CardState}
 use Rattle.lab_rules.specs.declared.rules.Rules.{Rules}
@@ -79,10 +80,15 @@ ComesTo d ns (Some (halt.Broken b r)) s = BreaksAt d ns r s
 
 -- ---- what can be tried
 
--- a cut of a move from a node reached this, which can be taken
-abbrev pub CanTakeCut : Search → Candidate → ℕ → ℕ → CardState → Type 0
-CanTakeCut s c before chosen x =
-    (d : Depth) × (ns : List Node) × (n : Node) × (m : rule.Move) × TriesMove d s ns n m c before chosen × (is_running n.state.live ≡ true) × IsKeptWith s (names_in d.rules) x
+-- a move can be cut at the device write after the first `made` ones, which it makes
+abbrev pub CanCutAt : Search → Candidate → ℕ → ℕ → ℕ → Type 0
+CanCutAt s c before chosen made =
+    (d : Depth) × (ns : List Node) × (n : Node) × (m : rule.Move) × TriesMove d s ns n m c before chosen × (is_running n.state.live ≡ true) × (made < writes_of (play_of n.state) m)
+
+-- a cut of a move from a node, at the device write after the first `made` ones, reached this, which can be taken
+abbrev pub CanTakeCut : Search → Candidate → ℕ → ℕ → ℕ → CardState → Type 0
+CanTakeCut s c before chosen made x =
+    (d : Depth) × (ns : List Node) × (n : Node) × (m : rule.Move) × TriesMove d s ns n m c before chosen × (is_running n.state.live ≡ true) × IsKeptWith s (names_in d.rules) x × (made < writes_of (play_of n.state) m)
 
 -- all moves of a deck can be tried from a node
 abbrev pub CanTryAll : Search → Rules → ℕ → Type 0

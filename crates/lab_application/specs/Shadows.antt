@@ -6,8 +6,9 @@ use Rattle.law_histories.specs.model_play.specs.Play.{is_card_line}
 use Rattle.law_histories.specs.law_explore.specs.Rules as rule
 use Rattle.law_histories.specs.law_explore.specs.Matching.{fits}
 use Rattle.lab_rules.specs.declared.reading.Exploration.{Exploration}
+use Rattle.lab_rules.specs.declared.rules.OnRule.{OnRule}
 use Rattle.lab_rules.specs.declared.rules.Rules.{Rules}
-use Rattle.lab_rules.specs.Meanings.{AlikeLists, AreDistinct, AreRules, IsMove, IsOn}
+use Rattle.lab_rules.specs.Meanings.{AlikeLists, AreDistinct, AreRules, IsMove, IsOn, effect_value}
 
 -- the `on` line of moves alone: it applies to each instruction of each move, and leaves its allowance 0
 abbrev pub counter : rule.OnRule
@@ -16,6 +17,10 @@ counter = record { number = 0; move = codes "*"; occasion = rule.AtTurn; pattern
 -- the rules of moves alone
 abbrev pub counting : List rule.Move → rule.Rules
 counting ms = record { moves = ms; allowances = (codes "turns", 0) ∷ []; ons = counter ∷ [] }
+
+-- `on` lines that reduce no allowance, so that no move breaks one
+abbrev pub SpendNothing : List OnRule → Type 0
+SpendNothing os = AllByRecursion (λ o. effect_value o.effect ≡ rule.Allows) os
 
 -- an exploration of moves alone: its deck, and its moves, which are lines to the card
 pub record AreMovesOf (x : Exploration) (ls : List (ℕ × DeckLine)) (ms : List rule.Move) : Type 0 where
@@ -30,6 +35,7 @@ pub record AreShadows (c : Rules) (r : rule.Rules) : Type 0 where
   pub cards : AllByRecursion (λ m. is_card_line m.line ≡ true) r.moves
   pub distinct : AreDistinct r.allowances
   pub ons : AlikeLists (IsOn r.allowances) c.ons.items r.ons
+  pub allows : SpendNothing c.ons.items
   pub applies : (m : rule.Move) → (true ∷ []) ≡ map (λ o. fits o.move m.text) r.ons
 
 -- n names, none of which is another one or that of the counter

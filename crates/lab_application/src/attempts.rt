@@ -1,14 +1,14 @@
 // A move that is tried from a state, and what is counted of each try.
-ghost use Rattle.std.specs.Prelude.{◌≡◌, ℕ, IfOk, List, OnOk, length, slice_get, Some};
+ghost use Rattle.std.specs.Prelude.{◌≡◌, ℕ, suc, IfOk, List, OnOk, drop, length, slice_get, Some};
 ghost use Rattle.law_histories.specs.law_explore.specs.Rules as rule;
 ghost use Rattle.law_histories.specs.law_explore.specs.Search.{Node};
 ghost use Rattle.lab_search.specs.Kept.{names_in, KeepsKept};
-ghost use Rattle.lab_search.specs.Rounds.{CanStep, Depth, IsFrom, TriesMove};
+ghost use Rattle.lab_search.specs.Rounds.{CanStep, CanTryMove, Depth, IsFrom, TriesMove};
 ghost use Rattle.lab_search.specs.Trying.{CanCut};
+ghost use Rattle.lab_application.specs.Shadows.{SpendNothing};
 ghost use Rattle.lab_application.specs.Finding.{ComesTo, IfReached, IsKept, IsKeptWith, IsReachedFrom, IsSameSearch};
 
 use crate::statics::statics_in;
-use lab_branch::push;
 use lab_history::{Break, Course, Extent, Standing, apply, broken_always, first_amounts};
 use lab_key::CardState;
 use lab_record::Subject;
@@ -56,16 +56,24 @@ fn amounts_in(state: &CardState) -> &[u32] {
     }
 }
 
-// The allowances of a state with these amounts, or `NoMemory` if their number is another one.
-fn allowances_with(alloc: Global, amounts: &[u32], count: usize) -> Result<Vec<u32>, NoMemory>
-    ensures { IfOk result (λ allowances. length allowances.items ≡ count) }
+// Makes amounts those after the first, if they are as many.
+fn assign(into: &mut [u32], amounts: &[u32])
+    ensures size { length into.new ≡ length into.old }
+    ensures amounts { length into.old ≡ suc (length amounts.now) → drop 1 into.new ≡ amounts.now }
 {
-    let mut allowances = Vec::new(alloc);
-    push(&mut allowances, 0)?;
-    allowances.extend_from_slice(amounts)?;
-    if allowances.len() != count {
-        return Err(NoMemory);
+    if into.len() == amounts.len() + 1 {
+        into[1..].copy_from_slice(amounts);
     }
+}
+
+// The allowances of a state, of which there are `count`, with these amounts after the first.
+fn allowances_with(alloc: Global, amounts: &[u32], count: usize) -> Result<Vec<u32>, NoMemory>
+    ensures count { IfOk result (λ allowances. length allowances.items ≡ count) }
+    ensures amounts { count ≡ suc (length amounts.now)
+        → IfOk result (λ allowances. drop 1 allowances.items ≡ amounts.now) }
+{
+    let mut allowances = vec![in alloc; 0; count]?;
+    assign(allowances.as_mut_slice(), amounts);
     Ok(allowances)
 }
 
@@ -100,15 +108,16 @@ impl<'a> Attempt<'a> {
         manner: Manner,
         steps: &mut Steps<L>,
     ) -> Result<Option<Reached>, NoMemory>
-        requires { CanStep search.old self.now.candidate.now
+        requires can { CanStep search.old self.now.candidate.now
             (record { before = self.now.before; chosen = self.now.chosen; manner = manner }) }
+        requires allows { SpendNothing self.now.candidate.now.ons.now }
         ensures same { OnOk result (IsSameSearch search.old search.new) }
         ensures made { IfOk result (λ o. (d : Depth) (ns : List Node) (n : Node) (m : rule.Move)
             → TriesMove d search.old ns n m self.now.candidate.now self.now.before self.now.chosen
             → CanCut n.state manner → IsReachedFrom d search.new n m manner o) }
     {
         let Some(state) = search.states.get_index(self.before) else {
-            return Err(NoMemory);
+            unreachable!()
         };
         let tried = search.laboratory.attempt(
             self.alloc,
@@ -120,7 +129,7 @@ impl<'a> Attempt<'a> {
         )?;
         match tried {
             Tried::NotHit => Ok(None),
-            Tried::Broken(_) => Err(NoMemory),
+            Tried::Broken(_) => unreachable!(),
             Tried::Reached(state) => self.look(search, state),
         }
     }
@@ -149,10 +158,12 @@ impl<'a> Attempt<'a> {
 
     // What is counted before the move, if the application is on both cards: between two lines each block is what it is to
     // be. Else it is what is counted of a new application.
-    fn standing(&self, search: &Search, stays: bool) -> Result<(Standing, bool), NoMemory> {
+    fn standing(&self, search: &Search, stays: bool) -> Result<(Standing, bool), NoMemory>
+        requires { CanTryMove search.now self.now.candidate.now self.now.before self.now.chosen }
+    {
         let rules = self.subject.rules;
         let Some(state) = search.states.get_index(self.before) else {
-            return Err(NoMemory);
+            unreachable!()
         };
         match self.fixed {
             Some(fixed) if stays => Ok((
@@ -171,6 +182,7 @@ impl<'a> Attempt<'a> {
         reached: &Option<Vec<u8>>,
         extent: Extent,
     ) -> Result<Result<Vec<u32>, Break>, NoMemory>
+        requires { CanTryMove search.old self.now.candidate.now self.now.before self.now.chosen }
         ensures { OnOk result (IsSameSearch search.old search.new) }
     {
         let rules = self.subject.rules;
@@ -222,6 +234,7 @@ impl<'a> Attempt<'a> {
         manner: Manner,
         extent: Extent,
     ) -> Result<Option<Halt>, NoMemory>
+        requires { CanTryMove search.old self.now.candidate.now self.now.before self.now.chosen }
         ensures keeps { OnOk result (KeepsKept search.old.laboratory search.old.rosters search.new.laboratory
             search.new.rosters) }
         ensures comes { IfOk result (λ h. (d : Depth) (ns : List Node) (n : Node) (m : rule.Move)

@@ -61,7 +61,7 @@ fn course_in<L: Ledger>(
 {
     let fixed = statics_in(alloc, laboratory, rosters, state, subject.aid)?;
     let Some(saved) = rosters.saved(state.card) else {
-        return Err(NoMemory);
+        unreachable!()
     };
     put_card(&mut *laboratory.player, saved);
     let course = course_on(
@@ -94,7 +94,7 @@ pub fn course_of<L: Ledger>(
     ensures { OnOk result (IsSameSearch search.old search.new) }
 {
     let Some(state) = search.states.get_index(before) else {
-        return Err(NoMemory);
+        unreachable!()
     };
     course_in(
         alloc,

@@ -1,11 +1,14 @@
 // A move that is tried from a state: whole, and cut at each of its device writes.
-ghost use Rattle.std.specs.Prelude.{◌≡◌, ◌+◌, ◌<◌, ◌^◌, IfOk, List, OnOk, length, true};
+ghost use Rattle.std.specs.Prelude.{◌≡◌, ◌+◌, ◌<◌, ◌≤◌, ◌^◌, IfOk, List, OnOk, length, true};
 ghost use Rattle.law_histories.specs.model_play.specs.Family.{is_running};
 ghost use Rattle.law_histories.specs.law_explore.specs.Rules as rule;
+ghost use Rattle.law_histories.specs.law_explore.specs.States.{play_of};
+ghost use Rattle.law_histories.specs.law_explore.specs.Tries.{writes_of};
 ghost use Rattle.law_histories.specs.law_explore.specs.Search.{Node};
 ghost use Rattle.lab_search.specs.Kept.{names_in, KeepsKept};
 ghost use Rattle.lab_search.specs.Rounds.{CanCutMove, CanTryMove, Depth, TriesMove};
-ghost use Rattle.lab_application.specs.Finding.{AreKeptWith, CanTakeCut, ComesTo, IsKeptWith, IsSameSearch};
+ghost use Rattle.lab_application.specs.Shadows.{SpendNothing};
+ghost use Rattle.lab_application.specs.Finding.{AreKeptWith, CanCutAt, CanTakeCut, ComesTo, IsKeptWith, IsSameSearch};
 
 use crate::attempts::{Attempt, Halt, Reached};
 use lab_branch::push;
@@ -41,12 +44,14 @@ impl<'a> Attempt<'a> {
         search: &mut Search,
         steps: &mut Steps<L>,
     ) -> Result<Vec<Reached>, NoMemory>
-        requires { CanCutMove search.old self.now.candidate.now self.now.before self.now.chosen }
+        requires can { CanCutMove search.old self.now.candidate.now self.now.before self.now.chosen }
+        requires allows { SpendNothing self.now.candidate.now.ons.now }
         ensures same { OnOk result (IsSameSearch search.old search.new) }
         ensures few { IfOk result (λ all. length all.items < 2 ^ 32) }
         ensures made { IfOk result (λ all. (d : Depth) (ns : List Node) (n : Node) (m : rule.Move)
             → TriesMove d search.old ns n m self.now.candidate.now self.now.before self.now.chosen
-            → is_running n.state.live ≡ true → AreKeptWith search.new (names_in d.rules) all.items) }
+            → is_running n.state.live ≡ true → AreKeptWith search.new (names_in d.rules) all.items
+            × (length all.items ≤ writes_of (play_of n.state) m)) }
     {
         let mut all = Vec::new(self.alloc);
         let mut made = 0;
@@ -72,8 +77,9 @@ impl<'a> Attempt<'a> {
         fill: Fill,
         steps: &mut Steps<L>,
     ) -> Result<Option<Halt>, NoMemory>
-        requires can { CanCutMove search.old self.now.candidate.now self.now.before self.now.chosen }
+        requires can { CanCutAt search.old self.now.candidate.now self.now.before self.now.chosen made }
         requires counted { made + 1 < 2 ^ 32 }
+        requires allows { SpendNothing self.now.candidate.now.ons.now }
         ensures keeps { OnOk result (KeepsKept search.old.laboratory search.old.rosters search.new.laboratory
             search.new.rosters) }
         ensures comes { IfOk result (λ h. (d : Depth) (ns : List Node) (n : Node) (m : rule.Move)
@@ -86,7 +92,7 @@ impl<'a> Attempt<'a> {
                 let extent = extent_of(turns, made, fill);
                 self.take(search, &reached, manner, extent)
             }
-            None => Err(NoMemory),
+            None => unreachable!(),
         }
     }
 
@@ -99,8 +105,10 @@ impl<'a> Attempt<'a> {
         zeros: &Reached,
         steps: &mut Steps<L>,
     ) -> Result<Option<Halt>, NoMemory>
-        requires can { CanTakeCut search.old self.now.candidate.now self.now.before self.now.chosen zeros.now.state }
+        requires can { CanTakeCut search.old self.now.candidate.now self.now.before self.now.chosen made
+            zeros.now.state }
         requires counted { made + 1 < 2 ^ 32 }
+        requires allows { SpendNothing self.now.candidate.now.ons.now }
         ensures keeps { OnOk result (KeepsKept search.old.laboratory search.old.rosters search.new.laboratory
             search.new.rosters) }
         ensures comes { IfOk result (λ h. (d : Depth) (ns : List Node) (n : Node) (m : rule.Move)
@@ -129,7 +137,8 @@ impl<'a> Attempt<'a> {
         search: &mut Search,
         steps: &mut Steps<L>,
     ) -> Result<Option<Halt>, NoMemory>
-        requires { CanCutMove search.old self.now.candidate.now self.now.before self.now.chosen }
+        requires can { CanCutMove search.old self.now.candidate.now self.now.before self.now.chosen }
+        requires allows { SpendNothing self.now.candidate.now.ons.now }
         ensures { IfOk result (λ h. (d : Depth) (ns : List Node) (n : Node) (m : rule.Move)
             → TriesMove d search.old ns n m self.now.candidate.now self.now.before self.now.chosen
             → is_running n.state.live ≡ true → ComesTo d ns h search.new) }
@@ -157,13 +166,14 @@ impl<'a> Attempt<'a> {
         search: &mut Search,
         steps: &mut Steps<L>,
     ) -> Result<Option<Halt>, NoMemory>
-        requires { CanTryMove search.old self.now.candidate.now self.now.before self.now.chosen }
+        requires can { CanTryMove search.old self.now.candidate.now self.now.before self.now.chosen }
+        requires allows { SpendNothing self.now.candidate.now.ons.now }
         ensures { IfOk result (λ h. (d : Depth) (ns : List Node) (n : Node) (m : rule.Move)
             → TriesMove d search.old ns n m self.now.candidate.now self.now.before self.now.chosen
             → ComesTo d ns h search.new) }
     {
         let Some(reached) = self.make(search, Manner::Whole, steps)? else {
-            return Err(NoMemory);
+            unreachable!()
         };
         let halt = self.take(search, &reached, Manner::Whole, Extent::Whole)?;
         if halt.is_some() {

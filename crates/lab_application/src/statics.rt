@@ -76,7 +76,7 @@ pub fn statics_in(
     ensures counts { OnOk result (length laboratory.new.counts.items ≡ length laboratory.old.counts.items) }
 {
     let Some(saved) = rosters.saved(state.card) else {
-        return Err(NoMemory);
+        unreachable!()
     };
     put_card(&mut *laboratory.player, saved);
     statics_at(alloc, &mut *laboratory.player, saved.live, aid)
