@@ -1,6 +1,6 @@
 -- What a line adds to a history does not depend on it, if the line does not create the application; and what stands after
 -- the longer history is what stands after those events, from what stood before them.
-use Rattle.std.proofs.Common.{◌≡◌, ℕ, zero, suc, Bool, true, false, List, [], ◌∷◌, ◌++◌, Option, Some, None, Result, Ok, Err, refl, sym, ap, ◌∙◌}
+use Rattle.std.proofs.Common.{arith, ◌≡◌, ℕ, zero, suc, Bool, true, false, List, [], ◌∷◌, ◌++◌, Option, Some, None, Result, Ok, Err, refl, sym, ap, ◌∙◌}
 use Rattle.std.specs.Prelude.{nat_le, bytes_eq}
 use Rattle.std.proofs.lemmas.List.{append_assoc}
 use Rattle.law_histories.specs.model_text.specs.Text.{◌>>=◌}
@@ -9,13 +9,12 @@ use Rattle.law_histories.specs.model_device.specs.Stopped.{cost, stands}
 use Rattle.law_histories.specs.model_device.specs.Card.{Card}
 use Rattle.law_histories.specs.model_device.specs.PowerUp.{Base, OnCard, AtFault}
 use Rattle.law_histories.specs.model_machine.specs.Apdu.{ApduParts}
-use Rattle.law_histories.specs.model_machine.specs.Chain.{Chain, Write, Follows, Continues, Ends, turn_of_chain, start}
+use Rattle.law_histories.specs.model_machine.specs.Chain.{Chain, Write, Follows, Continues, Ends, turn_of_chain}
 use Rattle.law_histories.specs.model_card.specs.Items.{StopAt}
-use Rattle.law_histories.specs.model_card.specs.Manager.{Selected, SessionState, Route, WrongLength, WrongClass, ToSelect, ToManager, ToApplication, route, Managed, Declines, Accepts, select, is_selected}
+use Rattle.law_histories.specs.model_card.specs.Manager.{Selected, SessionState, Route, Managed, Declines, Accepts, is_selected}
 use Rattle.law_histories.specs.model_play.specs.DeckGrammar.{DeckLine}
-use Rattle.law_histories.specs.model_play.specs.DeckGrammar as line
-use Rattle.law_histories.specs.model_play.specs.Play.{Live, Running, Unpowered, Muted, State, BeforePower, AfterPower, LineResult, Answered, Step}
-use Rattle.law_histories.specs.law_promise.specs.History.{Watch, CutAt, cut_of, cut_after, with_event, turn_event, last_turn, cut_turn, after_writes, after_follows, after_run, selection_event, after_select, command_event, after_passed, after_route, is_own_route, with_answer, after_items, after_stop, command_in, after_command, after_taken, is_selected_in, after_line, after_step}
+use Rattle.law_histories.specs.model_play.specs.Play.{Live, Running, Unpowered, Muted, State, LineResult, Answered, Step}
+use Rattle.law_histories.specs.law_promise.specs.History.{Watch, CutAt, cut_after, with_event, turn_event, last_turn, cut_turn, after_writes, after_follows, after_run, selection_event, after_select, after_passed, after_route, with_answer, after_items, after_stop, after_command, after_taken, after_line, after_step}
 use Rattle.law_histories.specs.model_rules.specs.Rules.{AppRules}
 use Rattle.law_histories.specs.model_rules.specs.Happenings.{History}
 use Rattle.law_histories.specs.model_rules.specs.Keeping.{Standing, Break, after_event, standing_after}
@@ -71,16 +70,10 @@ select_adds w old n (Accepts a) h = event_adds (selection_event w (bytes_eq n w.
 
 passed_adds : {E : Type 0} (w : Watch E) (c : Card) (found : Option Selected) (bytes : List ℕ) (a : ApduParts) (budget : ℕ) (cut : Option CutAt) → Adds (λ (h : List E). after_passed w c found bytes a budget cut h)
 passed_adds w c None bytes a budget cut h = refl
-passed_adds {E} w c (Some s) bytes a budget cut h =
-    let e = command_event w (bytes_eq s.name w.name) bytes a in
-    both_add (λ (h : List E). with_event e h) (λ (h : List E). after_run w budget (start c.apps s.name s.session a) cut h) (event_adds e) (run_adds w budget (start c.apps s.name s.session a) cut) h
+passed_adds {E} w c (Some s) bytes a budget cut h = grind (arith, both_add, event_adds, run_adds)
 
 route_adds : {E : Type 0} (w : Watch E) (c : Card) (session_state : SessionState) (bytes : List ℕ) (budget : ℕ) (r : Route) (cut : Option CutAt) → Adds (λ (h : List E). after_route w c session_state bytes budget r cut h)
-route_adds w c session_state bytes budget WrongLength cut h = refl
-route_adds w c session_state bytes budget WrongClass cut h = refl
-route_adds w c session_state bytes budget (ToManager a) cut h = refl
-route_adds w c session_state bytes budget (ToSelect a) cut h = select_adds w session_state.selected a.body (select c.apps session_state a) h
-route_adds w c session_state bytes budget (ToApplication a) cut h = passed_adds w c session_state.selected bytes a budget cut h
+route_adds w c session_state bytes budget r cut h = grind (arith, select_adds, passed_adds)
 
 answer_adds : {E : Type 0} (w : Watch E) (own : Bool) (bytes : List ℕ) (result : Option LineResult) → Adds (λ (h : List E). with_answer w own bytes result h)
 answer_adds w true bytes (Some (Answered o)) h = event_adds (w.of_answer bytes o) h
@@ -94,9 +87,7 @@ stop_adds w selected (Some s) h = event_adds (w.of_end selected) h
 
 command_adds : {E : Type 0} (w : Watch E) (c : Card) (session_state : SessionState) (budget : ℕ) (b : Option (List ℕ)) (result : Option LineResult) (cut : Option CutAt) → Adds (λ (h : List E). after_command w c session_state budget b result cut h)
 command_adds w c session_state budget None result cut h = refl
-command_adds {E} w c session_state budget (Some b) result cut h =
-    both_add (λ (h : List E). after_route w c session_state b budget (route b) cut h) (λ (h : List E). with_answer w (is_own_route w.name session_state.selected (route b)) b result h)
-    (route_adds w c session_state b budget (route b) cut) (answer_adds w (is_own_route w.name session_state.selected (route b)) b result) h
+command_adds {E} w c session_state budget (Some b) result cut h = grind (arith, both_add, route_adds, answer_adds)
 
 -- items that create no application of the name
 abbrev pub LeavesHistory : {E : Type 0} → Watch E → Step → Type 0
@@ -106,21 +97,13 @@ items_add : {E : Type 0} (w : Watch E) (t : Step) → LeavesHistory w t → Adds
 items_add {E} w t same h = same h ∙ ap (λ (z : List E). z ++ h) (sym (same []))
 
 taken_adds : {E : Type 0} (w : Watch E) (v : Live) (b : Base) (budget : ℕ) (t : Step) → LeavesHistory w t → Adds (λ (h : List E). after_taken w v b budget t h)
-taken_adds {E} w (Running session_state) (OnCard c) budget t same h =
-    let items : List E → List E = λ h. after_items w.name t.whole h in
-    let sent : List E → List E = λ h. after_command w c session_state budget (command_in t.line) t.result (cut_of t.stop) h in
-    both_add (λ (h : List E). sent (items h)) (λ (h : List E). after_stop w (is_selected session_state.selected w.name) t.stop h)
-    (both_add items sent (items_add w t same) (command_adds w c session_state budget (command_in t.line) t.result (cut_of t.stop)))
-    (stop_adds w (is_selected session_state.selected w.name) t.stop) h
+taken_adds {E} w (Running session_state) (OnCard c) budget t same h = grind (arith, both_add, items_add, command_adds, stop_adds)
 taken_adds w (Running session_state) (AtFault cause p) budget t same h = refl
 taken_adds w Unpowered b budget t same h = refl
 taken_adds w Muted b budget t same h = refl
 
 line_adds : {E : Type 0} (w : Watch E) (z : State) (t : Step) (l : DeckLine) → LeavesHistory w t → Adds (λ (h : List E). after_line w z t l h)
-line_adds w z t line.Power same h = event_adds (w.of_end (is_selected_in w.name z)) h
-line_adds w (AfterPower s) t (line.Sent k) same h = taken_adds w s.live s.base s.budget t same h
-line_adds w (BeforePower m b a) t _ same h = refl
-line_adds w (AfterPower s) t _ same h = refl
+line_adds w z t l same h = grind (arith, event_adds, taken_adds)
 
 -- a line that creates nothing under the name adds to the history
 pub step_adds : {E : Type 0} (w : Watch E) (t : Step) → LeavesHistory w t → Adds (λ (h : List E). after_step w t h)

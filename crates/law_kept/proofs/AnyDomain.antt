@@ -1,20 +1,18 @@
 -- The domain that says nothing: what is covered of it is that the selected application is on the card, and that the
 -- application of the rules is as it was created.
-use Rattle.std.proofs.Common.{◌≡◌, ℕ, Bool, true, false, List, Option, Some, None, Result, Ok, Err, refl}
+use Rattle.std.proofs.Common.{arith, ◌≡◌, ℕ, Bool, true, false, List, Option, Some, None, Result, Ok, Err, refl}
 use Rattle.std.specs.Prelude.{⊤, bytes_eq}
 use Rattle.law_histories.specs.model_machine.specs.declared.instruction.Ins.{Ins}
 use Rattle.law_histories.specs.model_machine.specs.declared.instruction.DecodeFault.{DecodeFault}
 use Rattle.law_histories.specs.model_machine.specs.declared.machine.Abend.{Abend}
-use Rattle.law_histories.specs.model_machine.specs.declared.machine.Abend.TheVariants.{A07}
 use Rattle.law_histories.specs.model_machine.specs.Apdu.{ApduParts}
-use Rattle.law_histories.specs.model_machine.specs.Code.{instruction_at}
 use Rattle.law_histories.specs.model_machine.specs.Frame.{Frame, session_of}
-use Rattle.law_histories.specs.model_machine.specs.Primitives.{Around, Then, Goes, Exits, Delegates, Done}
-use Rattle.law_histories.specs.model_machine.specs.Row.{RowEnd, Abends, Does, row}
+use Rattle.law_histories.specs.model_machine.specs.Primitives.{Around, Then, Done}
+use Rattle.law_histories.specs.model_machine.specs.Row.{RowEnd, row}
 use Rattle.law_histories.specs.model_machine.specs.Chain.{Outcome, Reply, Abended, frame_at}
 use Rattle.law_histories.specs.model_card.specs.Manager.{Selected, is_selected}
-use Rattle.law_histories.specs.law_promise.specs.History.{Deed, with_event, is_too_long, done_event, fetch_cause}
-use Rattle.law_histories.specs.law_promise.specs.Outline.{Entry, BySelection, ByDelegation, is_direct}
+use Rattle.law_histories.specs.law_promise.specs.History.{with_event, fetch_cause}
+use Rattle.law_histories.specs.law_promise.specs.Outline.{Entry, BySelection, ByDelegation}
 use Rattle.law_histories.specs.law_promise.specs.Domain.{Domain, IsSound, AnswerCovered, EndCovered, exit_outcome, ExitCovered, DelegationCovered, NextCovered, WriteCovered, AbendCovered, RowCovered, FetchCovered, SelectedCovered, CoveredIf}
 use Rattle.law_histories.specs.model_rules.specs.Rules.{Target}
 use Rattle.law_histories.specs.model_rules.specs.Happenings.{Event, History, rule_watch}
@@ -58,16 +56,10 @@ module _ (g : Target) where
   delegates e k f = record { back = λ p is. tt; abends = λ cause is. ends e k f.fixed (session_of f) (Abended cause); stops = tt }
 
   goes_next : (e : Entry Event) (k : History) (f : Frame) (d : Done) (n : Then) → NextCovered (any_domain g) e k f d n
-  goes_next e k f d Goes = tt
-  goes_next e k f d Exits = exits e k f d
-  goes_next e k f d (Delegates n) = delegates e k d.effect.frame
+  goes_next e k f d n = grind (arith, exits, delegates)
 
   rows : (e : Entry Event) (h : History) (f : Frame) (public : List ℕ) (depth : ℕ) (i : Ins) (r : RowEnd) → RowCovered (any_domain g) e h f public depth i r
-  rows e h f public depth i (Abends cause) = abends e (with_event ((rule_watch g.name).of_abend f.at cause) h) f cause
-  rows e h f public depth i (Does d) =
-      let deed : Deed = record { frame = f; public = public; direct = is_direct e; depth = depth; ins = i; effect = d.effect } in
-      let k : History = with_event (done_event (is_too_long (is_direct e) d.next d.effect.public) (rule_watch g.name) deed) h in
-      record { write = writes e h k f d d.effect.changes; next = goes_next e k f d d.next }
+  rows e h f public depth i r = grind (arith, abends, writes, goes_next)
 
   fetches : (e : Entry Event) (h : History) (f : Frame) (public : List ℕ) (depth : ℕ) (x : Around) (r : Result (Ins × ℕ) DecodeFault) → FetchCovered (any_domain g) e h f public depth x r
   fetches e h f public depth x (Err fault) = abends e (with_event ((rule_watch g.name).of_abend f.at (fetch_cause fault)) h) f (fetch_cause fault)
@@ -75,25 +67,7 @@ module _ (g : Target) where
 
   -- the domain that says nothing is sound
   pub any_sound : IsSound (any_domain g)
-  any_sound =
-      record {
-        none = tt;
-        created = tt;
-        deleted = λ h fixed i. tt;
-        gone_on = λ h i. tt;
-        idle_on = λ h fixed i. tt;
-        selected = λ h fixed i. tt;
-        selected_again = λ h fixed session i. tt;
-        ended = λ h fixed session i. tt;
-        begins = λ bytes apdu h fixed session r b i s. tt;
-        entered = λ h fixed public i s. tt;
-        turn = λ e h f public depth x i a d n s. fetches e h f public depth x (instruction_at g.app.code f.at);
-        spent = λ e h f public i. ends e h f.fixed (session_of f) (Abended A07);
-        place_stops = λ t. absurd t;
-        gone_stops = λ t. absurd t;
-        idle_stops = λ t. absurd t;
-        session_stops = λ t. absurd t;
-      }
+  any_sound = grind (arith, fetches, ends)
 
   -- what is not on the card is not selected
   not_there : (b : Bool) (h : History) (session : List ℕ) → CoveredIf b (any_domain g) h None session → b ≡ false

@@ -1,6 +1,6 @@
 -- What a line makes of the history of an application: if it was there and is there, the line adds to the history; if the
 -- line brings it, the history begins.
-use Rattle.std.proofs.Common.{◌≡◌, inl, ℕ, Bool, true, false, cond, List, [], ◌∷◌, ◌++◌, Option, Some, None, refl, sym, ap, subst, ◌∙◌}
+use Rattle.std.proofs.Common.{arith, ◌≡◌, ℕ, Bool, true, false, cond, List, [], ◌∷◌, ◌++◌, Option, Some, None, refl, sym, subst, ◌∙◌}
 use Rattle.std.specs.Prelude.{nat_le, bytes_eq}
 use Rattle.law_histories.specs.model_device.specs.Bytes.{lookup}
 use Rattle.law_histories.specs.model_device.specs.Card.{App, Card}
@@ -8,12 +8,12 @@ use Rattle.law_histories.specs.model_device.specs.PowerUp.{Base, OnCard, AtFault
 use Rattle.law_histories.specs.model_machine.specs.Apdu.{ApduParts}
 use Rattle.law_histories.specs.model_machine.specs.Chain.{map_changed, run}
 use Rattle.law_histories.specs.model_card.specs.Items.{Fixed, Created, Deleted, Item, Plain, Atomic, apps_after_items, moves, StopAt}
-use Rattle.law_histories.specs.model_card.specs.Manager.{Selected, SessionState, Route, WrongLength, WrongClass, ToSelect, ToManager, ToApplication, route, select, is_selected}
-use Rattle.law_histories.specs.model_card.specs.Commands.{Command, manager_command, application_command, by_route, command}
+use Rattle.law_histories.specs.model_card.specs.Manager.{Selected, SessionState, Route, route, is_selected}
+use Rattle.law_histories.specs.model_card.specs.Commands.{Command, application_command, by_route, command}
 use Rattle.law_histories.specs.model_play.specs.DeckGrammar.{DeckLine, DeckCommand}
 use Rattle.law_histories.specs.model_play.specs.DeckGrammar as line
 use Rattle.law_histories.specs.model_play.specs.Given.{apps_in, apps_on}
-use Rattle.law_histories.specs.model_play.specs.Play.{Running, Warm, State, BeforePower, AfterPower, LineResult, FailedWrite, Step, select_bytes, delete_bytes, line_command, whole_items, line_says, hit_of, quiet, power_moves, power_step, power_after, line_after, stopped_power, step}
+use Rattle.law_histories.specs.model_play.specs.Play.{Running, Warm, State, BeforePower, AfterPower, LineResult, FailedWrite, Step, line_command, whole_items, line_says, hit_of, quiet, power_moves, power_step, power_after, line_after, stopped_power, step}
 use Rattle.law_histories.specs.model_play.proofs.LineKinds.{past_power, budget_after, armed_after, quiet_result, found_by_power, sent_step, StepKind, Early, Quiet, Powers, Sends, by_kind}
 use Rattle.law_histories.specs.law_manager.specs.OnCard.{IsSelect}
 use Rattle.law_histories.specs.law_manager.specs.OnCard as made
@@ -80,12 +80,7 @@ module _ (g : Target) (c : Card) (session_state : SessionState) (budget : ℕ) (
 
   route_begins : (bytes : List ℕ) (r : Route) (result : Option LineResult) → Brings (by_route c session_state budget r)
       → let w = rule_watch g.name in with_answer w (is_own_route g.name session_state.selected r) bytes result (after_route w c session_state bytes budget r (cut_of t) []) ≡ []
-  route_begins bytes WrongLength result e = refl
-  route_begins bytes WrongClass result e = refl
-  route_begins bytes (ToManager a) result e = refl
-  route_begins bytes (ToSelect a) result e =
-      absurd (never (manager_command c session_state (select c.apps session_state a)) (select_fixed c session_state a (manager_command c session_state (select c.apps session_state a)) (selects_law c session_state a)) e)
-  route_begins bytes (ToApplication a) result e = absurd (never (application_command c session_state session_state.selected a budget) (passed_fixed c session_state session_state.selected a budget) e)
+  route_begins bytes r result e = grind (arith, never, select_fixed, selects_law, passed_fixed)
 
   command_begins : (bytes : List ℕ) (result : Option LineResult) → Brings (command c session_state bytes budget)
       → after_command (rule_watch g.name) c session_state budget (Some bytes) result (cut_of t) [] ≡ []
@@ -94,27 +89,16 @@ module _ (g : Target) (c : Card) (session_state : SessionState) (budget : ℕ) (
 
   line_begins : (k : DeckCommand) (result : Option LineResult) → Brings (line_command c session_state budget (line.Sent k))
       → after_command (rule_watch g.name) c session_state budget (command_in (line.Sent k)) result (cut_of t) [] ≡ []
-  line_begins (line.Select n) result e = command_begins (select_bytes n) result e
-  line_begins (line.Delete n) result e = command_begins (delete_bytes n) result e
-  line_begins (line.Apdu x) result e = command_begins x result e
-  line_begins (line.Load u fixed session) result e = refl
+  line_begins k result e = grind (arith, command_begins)
 
   stop_begins : (s : Option StopAt) (x : Bool) → x ≡ false → after_stop (rule_watch g.name) x s [] ≡ []
-  stop_begins None x e = refl
-  stop_begins (Some s) false e = refl
-  stop_begins (Some s) true e = absurd (cc e)
+  stop_begins s x e = grind arith
 
   -- a line to the card that brings the application begins with an empty history
   pub sent_begins : (k : DeckCommand) (result : Option LineResult) (h : History) → is_selected session_state.selected g.name ≡ false → Brings (line_command c session_state budget (line.Sent k))
       → let w = rule_watch g.name in
       after_stop w (is_selected session_state.selected g.name) t (after_command w c session_state budget (command_in (line.Sent k)) result (cut_of t) (after_items g.name (whole_items (line_command c session_state budget (line.Sent k)) t) h)) ≡ []
-  sent_begins k result h off e =
-      let w = rule_watch g.name in
-      let was = is_selected session_state.selected g.name in
-      let whole = whole_items (line_command c session_state budget (line.Sent k)) t in
-      let sent : History → History = λ p. after_command w c session_state budget (command_in (line.Sent k)) result (cut_of t) p in
-      ap (λ (p : History). after_stop w was t (sent p)) (history_begins g.name whole c.apps h b (inl none) e)
-      ∙ (ap (λ (p : History). after_stop w was t p) (line_begins k result e) ∙ stop_begins t was off)
+  sent_begins k result h off e = grind (arith, history_begins, line_begins, stop_begins)
 
 -- ---- each line
 
@@ -123,31 +107,14 @@ pub record Splits (g : Target) (t : Step) (h : History) : Type 0 where
   pub adds : (a b : App) → lookup (apps_in t.before) g.name ≡ Some a → lookup (apps_in t.after) g.name ≡ Some b → after_step (rule_watch g.name) t h ≡ after_step (rule_watch g.name) t [] ++ h
   pub begins : lookup (apps_in t.before) g.name ≡ None → (b : App) → lookup (apps_in t.after) g.name ≡ Some b → after_step (rule_watch g.name) t h ≡ []
 
-never_some : {X : Type 0} (o : Option App) (b : App) → o ≡ None → o ≡ Some b → X
-never_some o b none e = absurd (cc (sym none ∙ e))
-
 powers_split : (g : Target) (z : State) (n : ℕ) (t : Option StopAt) (h : History) → BringsOnly g.name g.app (power_step n z (found_by_power z) t) → Splits g (power_step n z (found_by_power z) t) h
-powers_split g (BeforePower m b a) n t h brings =
-    let w = found_by_power (BeforePower m b a) in
-    record {
-      adds = λ x y e f. absurd (cc e);
-      begins = λ none y f. never_some (lookup (apps_in (AfterPower (power_after w t))) g.name) y brings.finds f;
-    }
-powers_split g (AfterPower s) n t h brings =
-    let u = power_step n (AfterPower s) s t in
-    record {
-      adds = λ x y e f. step_adds (rule_watch g.name) u (λ k. refl) h;
-      begins = λ none y f. never_some (lookup (apps_on s.base) g.name) y none (ap (λ (m : List (List ℕ × App)). lookup m g.name) (sym (power_apps s t)) ∙ f);
-    }
+powers_split g (BeforePower m b a) n t h brings = grind (arith, found_by_power (BeforePower m b a))
+powers_split g (AfterPower s) n t h brings = grind (arith, power_step n (AfterPower s) s t)
 
 kind_splits : (g : Target) {w : Option FailedWrite} {z : State} {n : ℕ} {l : DeckLine} {u : Step} (h : History) → StepKind w z n l u → StateCovered (any_domain g) h z → BringsOnly g.name g.app u → Splits g u h
 kind_splits g h (Early p) covered brings = record { adds = λ x y e f. absurd (cc e); begins = λ none y f. absurd (cc f) }
 kind_splits g h (Quiet {n = n} {l = l} {s = s} p q) covered brings =
-    let u : Step = quiet n l (AfterPower s) (quiet_result l s.live s.base) (AfterPower (record s { budget = budget_after l s.budget; armed = armed_after l s.armed })) in
-    record {
-      adds = λ x y e f. step_adds (rule_watch g.name) u (λ k. refl) h;
-      begins = λ none y f. never_some (lookup (apps_on s.base) g.name) y none f;
-    }
+    grind (arith, quiet n l (AfterPower s) (quiet_result l s.live s.base) (AfterPower (record s { budget = budget_after l s.budget; armed = armed_after l s.armed })))
 kind_splits g {w} {n = n} h (Powers z) covered brings = powers_split g z n (hit_of (found_by_power z).armed (power_moves (found_by_power z)) w) h brings
 kind_splits g {w} h (Sends {n = n} {o = o} {g = budget} {j = j} {a = a} k c session_state) covered brings =
     let r = line_command c session_state budget (line.Sent k) in

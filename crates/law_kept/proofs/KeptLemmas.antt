@@ -1,5 +1,5 @@
 -- The laws of explorations that bring only the application of their rules.
-use Rattle.std.proofs.Common.{◌≡◌, ◌≢◌, ℕ, zero, suc, Bool, true, false, not, List, [], ◌∷◌, Option, Result, Ok, Err, refl, sym, subst}
+use Rattle.std.proofs.Common.{arith, ◌≡◌, ◌≢◌, ℕ, zero, suc, Bool, true, false, not, List, [], ◌∷◌, Result, Ok, Err, refl, sym, subst}
 use Rattle.std.specs.Prelude.{map}
 use Rattle.std.specs.List.{AllByRecursion}
 use Rattle.std.proofs.lemmas.Bool.{and_parts}
@@ -12,7 +12,7 @@ use Rattle.law_histories.specs.law_explore.specs.Tries.{Manner, Try, manners, wr
 use Rattle.law_histories.specs.law_explore.specs.Search.{Broken}
 use Rattle.law_histories.specs.model_rules.specs.Rules.{Target}
 use Rattle.law_histories.specs.model_rules.specs.Keeping.{Standing}
-use Rattle.law_histories.specs.model_rules.specs.Law.{KeptInAll, AreKeptBy, AreKept}
+use Rattle.law_histories.specs.model_rules.specs.Law.{AreKept}
 use Rattle.law_histories.specs.Histories.{AppExploration, deck_steps, first_standing_of}
 use Rattle.law_histories.specs.Searches.{Node, Round, Halt, round_of_states, first_round, search_by, app_search}
 use Rattle.law_kept.specs.Kept.{leaves_none, deck_brings, try_brings, tries_bring, nodes_bring, after_brings, depths_bring, search_brings, exploration_brings, may_create, none_creates, brings_only_target, ExplorationLaw, OnlyTargetLaw}
@@ -111,10 +111,7 @@ deck_from x h =
     record { steps = p.0; found = p.1 }
 
 begins : (text : List ℕ) (x : AppExploration) → IsReadFrom text x → AreKept x.rules → deck_brings x ≡ true → FirstReaches x
-begins text x is kept h =
-    let d : DeckBrings x = deck_from x h in
-    let all : KeptInAll x.rules x.target = subst (λ (t : Option Target). AreKeptBy x.rules t) is.target kept in
-    first_reaches x all (read_lines_law text x.lines is.lines) (deck_counts text x.lines is.lines) d.steps d.found
+begins text x is kept h = grind (arith, deck_from, first_reaches, read_lines_law, deck_counts)
 
 -- ---- the laws
 

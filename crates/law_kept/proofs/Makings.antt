@@ -1,5 +1,5 @@
 -- Which applications the items of a line create: none that is on the card already, and none at all without a CREATE.
-use Rattle.std.proofs.Common.{◌≡◌, ◌⊎◌, inl, inr, ℕ, ◌-◌, Bool, true, false, cond, List, [], ◌∷◌, ◌++◌, length, Option, Some, None, refl, sym, ap, subst, ◌∙◌}
+use Rattle.std.proofs.Common.{arith, ◌≡◌, ◌⊎◌, inl, inr, ℕ, ◌-◌, Bool, true, false, cond, List, [], ◌∷◌, ◌++◌, length, Option, Some, None, refl, sym, ap, subst, ◌∙◌}
 use Rattle.std.specs.Prelude.{⊤, ◌==◌, nat_le, bytes_eq}
 use Rattle.std.proofs.lemmas.Bool.{false_from_ne_true}
 use Rattle.law_histories.specs.model_device.specs.Bytes.{lookup, insert, remove}
@@ -7,10 +7,10 @@ use Rattle.law_histories.specs.model_device.specs.Image.{Two}
 use Rattle.law_histories.specs.model_device.specs.Stopped.{cost, stands}
 use Rattle.law_histories.specs.model_device.specs.Card.{App, Card}
 use Rattle.law_histories.specs.model_machine.specs.Apdu.{ApduParts}
-use Rattle.law_histories.specs.model_machine.specs.Chain.{Write, changed_app, map_changed, run}
+use Rattle.law_histories.specs.model_machine.specs.Chain.{Write, map_changed, run}
 use Rattle.law_histories.specs.model_card.specs.Items.{Change, Fixed, Created, Deleted, Item, Plain, Atomic, apps_after_items, Stopped, with_item, in_flight, StopAt, at_stop, write_items, card_done}
-use Rattle.law_histories.specs.model_card.specs.Manager.{Selected, SessionState, Route, WrongLength, WrongClass, ToSelect, ToManager, ToApplication, route, p1p2, word_parts, fresh, select, manage, room_on}
-use Rattle.law_histories.specs.model_card.specs.Commands.{Command, atomic_of, manager_command, application_command, by_route, command}
+use Rattle.law_histories.specs.model_card.specs.Manager.{Selected, SessionState, Route, WrongLength, WrongClass, ToSelect, ToManager, ToApplication, route, p1p2, word_parts, select, manage, room_on}
+use Rattle.law_histories.specs.model_card.specs.Commands.{Command, manager_command, application_command, by_route, command}
 use Rattle.law_histories.specs.model_play.specs.DeckGrammar.{DeckCommand}
 use Rattle.law_histories.specs.model_play.specs.DeckGrammar as line
 use Rattle.law_histories.specs.model_play.specs.Play.{is_done, command_with_rest, send, select_bytes, delete_bytes, line_command, whole_items}
@@ -112,9 +112,7 @@ module _ (n : List ℕ) where
   -- a change of static bytes brings no application
   pub none_beside : (x : Bool) (m : List (List ℕ × App)) (k : List ℕ) (ps : List (ℕ × List ℕ)) → bytes_eq k n ≡ x → lookup m n ≡ None → lookup (map_changed m k (Some ps)) n ≡ None
   none_beside false m k ps e none = beside_changed m k n (Some ps) e ∙ none
-  none_beside true m k ps e none =
-      let here : lookup m k ≡ None = subst (λ (z : List ℕ). lookup m z ≡ None) (sym (same_name k n e)) none in
-      ap (λ (o : Option App). lookup (changed_app m k ps o) n) here ∙ none
+  none_beside true m k ps e none = grind (arith, same_name)
 
   none_removed : (x : Bool) (m : List (List ℕ × App)) (k : List ℕ) → bytes_eq k n ≡ x → lookup m n ≡ None → lookup (remove m k) n ≡ None
   none_removed false m k e none = lookup_left m k n e ∙ none
@@ -126,9 +124,7 @@ module _ (n : List ℕ) where
 
   created_begins : {E : Type 0} (is : List Item) (m : List (List ℕ × App)) (h : List E) (k : List ℕ) (x : App) (b : Bool) → bytes_eq k n ≡ b → (lookup m n ≡ None) ⊎ (h ≡ [])
       → ((p : List E) → (lookup (insert m k x) n ≡ None) ⊎ (p ≡ []) → after_items n is p ≡ []) → after_items n is (unless_created b h) ≡ []
-  created_begins is m h k x true f why again = again [] (inr refl)
-  created_begins is m h k x false f (inl none) again = again h (inl (lookup_beside m k x n f ∙ none))
-  created_begins is m h k x false f (inr empty) again = again h (inr empty)
+  created_begins is m h k x b f why again = grind (arith, lookup_beside)
 
   -- items that bring it begin its history
   pub history_begins : {E : Type 0} (is : List Item) (m : List (List ℕ × App)) (h : List E) (a : App) → (lookup m n ≡ None) ⊎ (h ≡ []) → lookup (apps_after_items m is) n ≡ Some a → after_items n is h ≡ []
@@ -156,13 +152,7 @@ module _ (P : List ℕ → Type 0) (c : Card) (session_state : SessionState) whe
   plains_make = plains_are (AllMake P) (λ is h. (tt, h))
 
   made_makes : (a : ApduParts) (o : Order) (r : Command) → IsCommand c session_state a o r → HasIns o a.ins → ((k : List ℕ) → a.ins ≡ 0x16 → lookup c.apps k ≡ None → P k) → AllMake P r.items
-  made_makes a _ _ (made.refused o sw h) ins allows = tt
-  made_makes a _ _ (made.quiet o body load h) ins allows = tt
-  made_makes a _ _ (made.loaded p l h) ins allows = plains_make (length (word_parts (p1p2 a) a.body)) [] tt
-  made_makes a _ _ (made.created l k h) ins allows =
-      let whole = atomic_of c (Some (Created k (fresh l))) in
-      plains_make (blank_words l.site) (plains 4 (whole ∷ [])) (plains_make 4 (whole ∷ []) (allows k ins h.free, tt))
-  made_makes a _ _ (made.deleted h) ins allows = (tt, tt)
+  made_makes a o r h ins allows = grind (arith, plains_make)
 
   select_makes : (a : ApduParts) (r : Command) → IsSelect c session_state a r → AllMake P r.items
   select_makes a _ (made.unselected sw h) = tt
@@ -227,11 +217,7 @@ sent_makes P true r rest h k = makes_append P r.items rest.items h k
 sent_makes P false r rest h k = h
 
 allows_all : (P : List ℕ → Type 0) (m : List (List ℕ × App)) (r : Route) → ((k : List ℕ) → lookup m k ≡ None → P k) → Allows P m r
-allows_all P m WrongLength h = tt
-allows_all P m WrongClass h = tt
-allows_all P m (ToSelect a) h = tt
-allows_all P m (ToManager a) h = λ k ins none. h k none
-allows_all P m (ToApplication a) h = tt
+allows_all h m r h3 = grind arith
 
 send_makes : (P : List ℕ → Type 0) (c : Card) (session_state : SessionState) (budget : ℕ) (fs : List (List ℕ)) (b : List ℕ) → AreFillers fs → ((k : List ℕ) → lookup c.apps k ≡ None → P k) → AllMake P (send c session_state budget (fs ++ b ∷ [])).items
 unfolding send

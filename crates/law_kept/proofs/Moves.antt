@@ -1,6 +1,6 @@
 -- The moves of a deck with the rules of one application are lines to the card, of bytes; its lines are those of the deck,
 -- and its application is that of the rules.
-use Rattle.std.proofs.Common.{◌≡◌, ℕ, ◌+◌, ◌*◌, ◌-◌, ◌≤◌, ◌<◌, Bool, true, false, cond, List, [], ◌∷◌, ◌++◌, length, Option, Some, None, Result, Ok, Err, refl, subst, arith}
+use Rattle.std.proofs.Common.{◌≡◌, ℕ, ◌+◌, ◌*◌, ◌-◌, ◌≤◌, ◌<◌, Bool, true, false, cond, List, [], ◌∷◌, ◌++◌, Option, Some, None, Result, Ok, Err, refl, subst, arith}
 use Rattle.std.specs.Prelude.{⊤, bytes_eq, codes, ok_or, option_map, option_and_then, nat_le, IfOk, IfSome}
 use Rattle.std.specs.List.{AllByRecursion}
 use Rattle.std.proofs.lemmas.Bool.{and_parts, leb-true}
@@ -8,7 +8,7 @@ use Rattle.law_histories.specs.model_device.specs.Bytes.{AreBytes, lookup}
 use Rattle.law_histories.specs.model_device.proofs.ImageLemmas.{all_append}
 use Rattle.law_histories.specs.model_text.specs.Text.{◌>>=◌, ok_as, err_as, only_if, lines, with_numbers, fields, is_within, is_digit, hex_value, before_values, hex_values, bytes_of_digits, hex_bytes}
 use Rattle.law_histories.specs.model_play.specs.declared.deck.DeckCause.{DeckCause}
-use Rattle.law_histories.specs.model_play.specs.declared.deck.DeckCause.TheVariants.{BadLine, BadHex, OutOfRange}
+use Rattle.law_histories.specs.model_play.specs.declared.deck.DeckCause.TheVariants.{BadLine, BadHex}
 use Rattle.law_histories.specs.model_play.specs.DeckGrammar.{DeckLine, Context, Stated, Says, Opens, Word, PowerWord, SelectWord, DeleteWord, ApduWord, statement_of, aid_field, hex_field, deck_read}
 use Rattle.law_histories.specs.model_play.specs.DeckGrammar as line
 use Rattle.law_histories.specs.model_play.specs.Play.{is_card_line}
@@ -39,9 +39,7 @@ value_low c =
     (λ n. cond_some (is_within 97 102 c) (Some (c - 87)) None Digit (λ e. let most : c ≤ 102 = at_most 97 102 c e in omega arith) (λ n. tt)))
 
 before_low : (o : Option ℕ) (p : Option (List ℕ)) → IfSome o Digit → IfSome p (λ vs. AllByRecursion Digit vs) → IfSome (before_values o p) (λ vs. AllByRecursion Digit vs)
-before_low (Some v) (Some vs) h k = (h, k)
-before_low (Some v) None h k = tt
-before_low None p h k = tt
+before_low o p h k = grind arith
 
 values_low : (t : List ℕ) → IfSome (hex_values t) (λ vs. AllByRecursion Digit vs)
 values_low [] = tt
@@ -69,9 +67,7 @@ hex_ok : (t : List ℕ) → IfOk (hex_field t) AreBytes
 hex_ok t = some_ok (hex_bytes t) BadHex AreBytes (some_paired (hex_values t) (values_low t))
 
 aid_ok : (t : List ℕ) → IfOk (aid_field t) AreBytes
-aid_ok t =
-    bind_ok (hex_field t) (λ b. only_if (is_within 5 16 (length b)) OutOfRange b) AreBytes AreBytes (hex_ok t)
-    (λ b h. only_ok (is_within 5 16 (length b)) OutOfRange b AreBytes (λ e. h))
+aid_ok t = grind (arith, bind_ok, hex_ok, only_ok)
 
 -- ---- statements
 
@@ -79,14 +75,6 @@ aid_ok t =
 pub record IsSent (l : DeckLine) : Type 0 where
   pub card : is_card_line l ≡ true
   pub bytes : IsLine l
-
-abbrev SaysSent : Stated → Type 0
-SaysSent (Says l c) = IsSent l
-SaysSent (Opens s c) = ⊤
-
-stated_sent : (s : Stated) → SaysSent s → IfOk (line_stated s) IsSent
-stated_sent (Says l c) h = h
-stated_sent (Opens s c) h = tt
 
 abbrev powered : Context
 powered = record { units = []; powered = true }

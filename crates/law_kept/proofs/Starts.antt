@@ -1,6 +1,6 @@
 -- An exploration begins in a play in which the rules are kept: after the deck, and one power line if no card runs.
 use Rattle.std.proofs.Common.{◌≡◌, ◌⊎◌, inl, inr, ℕ, ◌+◌, ◌≤◌, ◌<◌, Bool, true, false, cond, not, List, [], ◌∷◌, ◌++◌, length, replicate, Option, Some, None, Result, Ok, Err, refl, sym, ap, subst, ◌∙◌, arith}
-use Rattle.std.specs.Prelude.{◌&&◌, ◌||◌, ◌==◌, nat_le, bytes_eq, is_none, is_some, slice_index_or}
+use Rattle.std.specs.Prelude.{◌&&◌, ◌||◌, nat_le, bytes_eq, is_none, is_some, slice_index_or}
 use Rattle.std.specs.List.{AllByRecursion}
 use Rattle.std.proofs.lemmas.Bool.{and_parts, eqb-true, leb-true, cases_lt}
 use Rattle.std.proofs.lemmas.List.{length-replicate, get_or-replicate, get_or_past}
@@ -18,7 +18,7 @@ use Rattle.law_histories.specs.model_card.specs.Commands.{Command, command}
 use Rattle.law_histories.specs.model_play.specs.DeckGrammar.{DeckLine, DeckCommand}
 use Rattle.law_histories.specs.model_play.specs.DeckGrammar as line
 use Rattle.law_histories.specs.model_play.specs.Given.{apps_in, apps_on}
-use Rattle.law_histories.specs.model_play.specs.Play.{Armed, Unarmed, ArmedCut, ArmedFail, Live, Running, Unpowered, Muted, Warm, State, BeforePower, AfterPower, FailedWrite, Step, step, plays, start, line_command, hit_of, power_moves, power_after, stopped_power, play_at_power, line_after, moves_of, armed_stop_in, steady_at, steady_failures}
+use Rattle.law_histories.specs.model_play.specs.Play.{Armed, Unarmed, ArmedFail, Live, Running, Unpowered, Muted, Warm, State, BeforePower, AfterPower, FailedWrite, Step, step, plays, start, line_command, hit_of, power_moves, power_after, stopped_power, play_at_power, line_after, moves_of, armed_stop_in, steady_at, steady_failures}
 use Rattle.law_histories.specs.model_play.specs.ReadyAgain.{IsLine}
 use Rattle.law_histories.specs.model_play.proofs.LineKinds.{past_power, armed_after, found_by_power, StepKind, Early, Quiet, Powers, Sends, by_kind}
 use Rattle.law_histories.specs.law_promise.specs.History.{after_step}
@@ -42,12 +42,7 @@ use Rattle.law_kept.proofs.Tries.{IsReached, SameFor, same_standing, power_bring
 -- ---- the premise
 
 app_is : (app a : App) → is_app app a ≡ true → IsApp app a
-app_is app a h =
-    let x : Bool = bytes_eq a.code app.code && bytes_eq a.fixed app.fixed in
-    let to_three = and_parts (x && a.session == app.session) (a.deny == app.deny) h in
-    let to_two = and_parts x (a.session == app.session) to_three.0 in
-    let to_one = and_parts (bytes_eq a.code app.code) (bytes_eq a.fixed app.fixed) to_two.0 in
-    record { code = same_name a.code app.code to_one.0; fixed = same_name a.fixed app.fixed to_one.1; session = eqb-true a.session app.session to_two.1; deny = eqb-true a.deny app.deny to_three.1 }
+app_is app a h = grind (arith, and_parts, same_name, eqb-true)
 
 app_if : (b : Bool) (app a : App) → (not b || is_app app a) ≡ true → IsAppIf b app a
 app_if true app a h = app_is app a h
@@ -68,9 +63,7 @@ none_is None h = refl
 none_is (Some a) h = absurd (cc h)
 
 finds_from : (n : List ℕ) (z : State) (l : DeckLine) (after : State) → finds_none n z l after ≡ true → FindsNone n z l after
-finds_from n (BeforePower m b a) line.Power after h = none_is (lookup (apps_in after) n) h
-finds_from n (BeforePower m b a) _ after h = tt
-finds_from n (AfterPower s) l after h = tt
+finds_from n z l after h = grind (arith, none_is)
 
 all_bring : (n : List ℕ) (app : App) (ts us : List Step) → all_bring_only n app (ts ++ us) ≡ true → AllByRecursion (BringsOnly n app) ts
 all_bring n app [] us h = tt
@@ -107,10 +100,7 @@ no_stop (line.Sent k) is = tt
 no_stop _ is = tt
 
 armed_counts : (l : DeckLine) (a : Armed) → Counts l → CountsFromOne a → CountsFromOne (armed_after l a)
-armed_counts (line.Cut k x) a is h = is
-armed_counts (line.Fail k) a is h = is
-armed_counts (line.Sent k) a is h = tt
-armed_counts _ a is h = h
+armed_counts l a is h = grind arith
 
 hit_cut : (b : Bool) (is : List Item) (k : ℕ) (x : List ℕ) → nat_le k (moves is) ≡ b → 1 ≤ k → StopsInWrite is (cond b (Some (record { kind = stop.Off; at = k; left = x })) None)
 hit_cut true is k x e low = (low, leb-true k (moves is) e)
@@ -121,9 +111,7 @@ hit_fail true is k e low = (low, (let high : k ≤ 0 + moves is = leb-true k (0 
 hit_fail false is k e low = tt
 
 hits_by : (a : Armed) (is : List Item) (k : DeckCommand) → CountsFromOne a → StopsInWrite is (hit_of a (moves is) (steady_at a (line.Sent k) (0 + moves is)))
-hits_by Unarmed is k low = tt
-hits_by (ArmedCut i x) is k low = hit_cut (nat_le i (moves is)) is i x refl low
-hits_by (ArmedFail i) is k low = hit_fail (nat_le i (0 + moves is)) is i refl low
+hits_by a is k low = grind (arith, hit_cut, hit_fail)
 
 -- a line on a device that refuses just the writes of `fail` lines
 abbrev steady_step : State → ℕ × DeckLine → Step
@@ -161,9 +149,7 @@ kind_counts : {w : Option FailedWrite} {z : State} {n : ℕ} {l : DeckLine} {u :
 kind_counts (Early {l = l} {a = a} p) is low = armed_counts l a is low
 kind_counts (Quiet {l = l} {s = s} p q) is low = armed_counts l s.armed is low
 kind_counts (Powers z) is low = power_unarmed (found_by_power z) _
-kind_counts {w} (Sends {n = n} {o = o} {g = budget} {j = j} {a = a} k c session_state) is low =
-    let r = line_command c session_state budget (line.Sent k) in
-    sent_unarmed (past_power (OnCard c) o j (Running session_state) budget a) c r (hit_of a (moves r.items) w)
+kind_counts {w} (Sends {n = n} {o = o} {g = budget} {j = j} {a = a} k c session_state) is low = grind (arith, sent_unarmed, past_power)
 
 deck_hits : (ls : List (ℕ × DeckLine)) (z : State) → AllByRecursion (λ l. Counts l.1) ls → CountsFromOne (armed_stop_in z) → AllByRecursion StopsAtWrite (plays z ls (steady_failures z ls))
 unfolding plays steady_failures

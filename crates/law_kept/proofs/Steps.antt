@@ -1,5 +1,5 @@
 -- A line of a play in which the rules are kept: what stands after it, as an exploration counts it.
-use Rattle.std.proofs.Common.{◌≡◌, inr, ℕ, Bool, true, false, cond, not, List, [], ◌∷◌, ◌++◌, drop, Option, Some, None, Result, Ok, Err, refl, sym, ap, subst, ◌∙◌}
+use Rattle.std.proofs.Common.{arith, ◌≡◌, inr, ℕ, Bool, true, false, cond, not, List, [], ◌∷◌, ◌++◌, drop, Option, Some, None, Result, Ok, Err, refl, sym, ap, subst, ◌∙◌}
 use Rattle.std.specs.Prelude.{◌&&◌, is_ok, is_some}
 use Rattle.std.specs.List.{AllByRecursion}
 use Rattle.std.proofs.lemmas.Bool.{and_parts}
@@ -19,7 +19,7 @@ use Rattle.law_histories.specs.model_rules.specs.Rules.{AppRules, Range, Total, 
 use Rattle.law_histories.specs.model_rules.specs.Happenings.{History, rule_watch}
 use Rattle.law_histories.specs.model_rules.specs.Keeping.{Standing, Break, first_standing, standing_after, is_broken, is_in_range, are_in_ranges, is_total, are_totals, are_kept, keeps_rules}
 use Rattle.law_histories.specs.model_rules.specs.Law.{StepKeeps, KeptAlong}
-use Rattle.law_histories.specs.Histories.{standing_from, break_name, range_name, total_name, broken_range, broken_total, first_of, unless_broken, if_always, standing_if, standing_after_step, standing_after_steps}
+use Rattle.law_histories.specs.Histories.{standing_from, break_name, range_name, total_name, broken_range, broken_total, if_always, standing_if, standing_after_step, standing_after_steps}
 use Rattle.law_kept.proofs.Adds.{standing_on}
 use Rattle.law_kept.proofs.AnyDomain.{any_domain, any_sound}
 use Rattle.law_kept.proofs.Begins.{Splits, step_splits}
@@ -62,10 +62,7 @@ totals_hold fixed s (t ∷ ts) h =
     ap (λ (b : Bool). cond b (broken_total fixed s ts) (Some (t.number, total_name t))) p.0 ∙ totals_hold fixed s ts p.1
 
 always_holds : (r : AppRules) (a : App) (u : Standing) → are_kept r (Ok u) a.fixed ≡ true → if_always r (Some a) u ≡ Ok u
-always_holds r a u h =
-    let p = and_parts (are_in_ranges a.fixed r.ranges) (are_totals a.fixed u.kept r.totals) h in
-    ap (λ (o : Option (ℕ × List ℕ)). unless_broken (first_of o (broken_total a.fixed u r.totals)) u) (ranges_hold a.fixed r.ranges p.0)
-    ∙ ap (λ (o : Option (ℕ × List ℕ)). unless_broken (first_of None o) u) (totals_hold a.fixed u r.totals p.1)
+always_holds r a u h = grind (arith, and_parts, ranges_hold, totals_hold)
 
 -- ---- what stands after a line
 

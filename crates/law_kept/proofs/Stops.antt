@@ -1,11 +1,11 @@
 -- The stops of a deck that was read are counted from 1.
-use Rattle.std.proofs.Common.{◌≡◌, ℕ, ◌≤◌, Bool, true, false, not, List, [], ◌∷◌, ◌++◌, Result, Ok, subst}
-use Rattle.std.specs.Prelude.{⊤, ◌==◌, ok_or, nat_le, IfOk}
+use Rattle.std.proofs.Common.{arith, ◌≡◌, ℕ, ◌≤◌, Bool, true, false, not, List, [], ◌∷◌, ◌++◌, Result, Ok, subst}
+use Rattle.std.specs.Prelude.{⊤, ◌==◌, ok_or, IfOk}
 use Rattle.std.specs.List.{AllByRecursion}
 use Rattle.std.proofs.lemmas.Bool.{and_parts, leb-true}
 use Rattle.law_histories.specs.model_device.specs.Bytes.{lookup}
 use Rattle.law_histories.specs.model_device.proofs.ImageLemmas.{all_append}
-use Rattle.law_histories.specs.model_text.specs.Text.{◌>>=◌, ok_as, err_as, only_if, begins, lines, with_numbers, fields, is_within, decimal_number}
+use Rattle.law_histories.specs.model_text.specs.Text.{◌>>=◌, ok_as, err_as, begins, lines, with_numbers}
 use Rattle.law_histories.specs.model_card.specs.Units.{unit_read}
 use Rattle.law_histories.specs.model_play.specs.declared.deck.DeckCause.{DeckCause}
 use Rattle.law_histories.specs.model_play.specs.declared.deck.DeckCause.TheVariants.{BadLine, BadNumber, OutOfRange, LateLine, UnknownName}
@@ -27,9 +27,7 @@ StatedCounts (Says l c) = Counts l
 StatedCounts (Opens s c) = ⊤
 
 number_from : (high : ℕ) (t : List ℕ) → IfOk (number_field 1 high t) (λ n. 1 ≤ n)
-number_from high t =
-    bind_ok (ok_or (decimal_number t) BadNumber) (λ n. only_if (is_within 1 high n) OutOfRange n) (λ n. ⊤) (λ n. 1 ≤ n) (any_ok (ok_or (decimal_number t) BadNumber))
-    (λ n i. only_ok (is_within 1 high n) OutOfRange n (λ n. 1 ≤ n) (λ e. leb-true 1 n (and_parts (nat_le 1 n) (nat_le n high) e).0))
+number_from high t = grind (arith, bind_ok, any_ok, only_ok, leb-true, and_parts)
 
 early_counts : (c : Context) (l : DeckLine) → Counts l → IfOk (early c l) StatedCounts
 early_counts c l is = only_ok (not c.powered) LateLine (Says l c) StatedCounts (λ e. is)
@@ -93,9 +91,7 @@ within_counts true s c l = as_ok (λ u. record { lines = (s.first, line.Named) �
 within_counts false s c l = tt
 
 at_counts : (b : Bool) (m : Mode) (l : ℕ × List ℕ) → IfOk (turn_at b m l) TurnCounts
-at_counts true m l = tt
-at_counts false (Between c) l = between_counts c l.0 (fields l.1)
-at_counts false (Within s c) l = within_counts (is_end (fields l.1)) s c l
+at_counts b m l = grind (arith, between_counts, within_counts)
 
 ended_counts : (m : Mode) → IfOk (lines_at_end m) LinesCount
 ended_counts (Between c) = tt

@@ -10,7 +10,7 @@ use Rattle.law_histories.specs.model_device.specs.Card.{App, Card}
 use Rattle.law_histories.specs.model_device.specs.PowerUp.{Base, OnCard, AtFault, migration}
 use Rattle.law_histories.specs.model_text.specs.Text.{◌>>=◌}
 use Rattle.law_histories.specs.model_card.specs.Items.{moves, StopAt}
-use Rattle.law_histories.specs.model_card.specs.Manager.{SessionState, Route, WrongLength, WrongClass, ToSelect, ToManager, ToApplication, route}
+use Rattle.law_histories.specs.model_card.specs.Manager.{SessionState, Route, route}
 use Rattle.law_histories.specs.model_card.specs.Commands.{Command}
 use Rattle.law_histories.specs.model_play.specs.DeckGrammar.{DeckLine, DeckCommand}
 use Rattle.law_histories.specs.model_play.specs.DeckGrammar as line
@@ -81,11 +81,7 @@ two_steps_are r g t v s u q e f = ap (λ (x : Result Standing (List ℕ)). x >>=
 -- ---- what a move brings
 
 allows_none : (m : List (List ℕ × App)) (r : Route) → is_creation r ≡ false → Allows IsNone m r
-allows_none m WrongLength h = tt
-allows_none m WrongClass h = tt
-allows_none m (ToSelect a) h = tt
-allows_none m (ToManager a) h = λ k ins none. cc (sym h ∙ ap (λ (i : ℕ). i == 0x16) ins)
-allows_none m (ToApplication a) h = tt
+allows_none m r h = grind arith
 
 line_none : (c : Card) (session_state : SessionState) (budget : ℕ) (k : DeckCommand) → may_create (line.Sent k) ≡ false → AllMake IsNone (line_command c session_state budget (line.Sent k)).items
 line_none c session_state budget (line.Select n) h = command_makes IsNone c session_state (select_bytes n) budget (allows_none c.apps (route (select_bytes n)) h)
@@ -164,9 +160,7 @@ whole_sent r g c s n t k st is only =
     let l : ℕ × DeckLine = (n, line.Sent k) in
     let z : State = AfterPower (past_power c.base st.owed st.by c.live c.budget Unarmed) in
     let p : State = AfterPower (past_power c.base 0 Two c.live c.budget Unarmed) in
-    let one : StepHolds r g (step z l None) st.history s =
-    holds_step r g z st.history s l None st.holds is (sent_brings g n k c.base st.owed st.by c.live c.budget only) (sent_hits n k c.base st.owed st.by c.live c.budget)
-    in
+    let one : StepHolds r g (step z l None) st.history s = grind (arith, holds_step, is, sent_brings, sent_hits) in
     record {
       standing = one.standing;
       is = one_step_is r g (step p l None) s one.standing (same_standing r g (step p l None) (step z l None) s (sent_same g n k c.base st.owed st.by c.live c.budget) ∙ one.is);
