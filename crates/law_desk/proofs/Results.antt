@@ -1,5 +1,5 @@
 -- Results that are no refusals, and what a list has under a name.
-use Rattle.std.proofs.Common.{◌≡◌, ℕ, suc, Bool, true, false, cond, List, [], ◌∷◌, Option, Some, None, Result, Ok, Err, refl, subst}
+use Rattle.std.proofs.Common.{arith, ◌≡◌, ℕ, suc, Bool, true, false, cond, List, [], ◌∷◌, Option, Some, None, Result, Ok, Err, refl, subst}
 use Rattle.std.specs.Prelude.{◌&&◌, bytes_eq, ok_or, ⊤}
 use Rattle.mc_text.specs.model_device.specs.Bytes.{lookup}
 use Rattle.mc_text.specs.model_device.proofs.BoolLemmas.{and_first, and_second}
@@ -47,10 +47,7 @@ fine_ok (Err e) a h = absurd (cc h)
 
 -- if two results together are no refusal, neither is one
 pub fine_both : {A B : Type 0} (r : Result A AsmCause) (s : Result B AsmCause) → Fine (both r s) → Fine r × Fine s
-fine_both (Ok a) (Ok b) h = (tt, tt)
-fine_both (Ok a) (Err e) h = absurd h
-fine_both (Err e) (Ok b) h = absurd h
-fine_both (Err e) (Err f) h = absurd h
+fine_both r s h = grind arith
 
 -- ---- names
 

@@ -1,6 +1,6 @@
 -- A deck is a draft that makes itself, line by line.
-use Rattle.std.proofs.Common.{◌≡◌, ℕ, suc, ◌+◌, Bool, true, false, cond, List, [], ◌∷◌, ◌++◌, map, Option, Some, None, Result, Ok, Err, refl, sym, ap, subst, ◌∙◌}
-use Rattle.std.specs.Prelude.{◌==◌, ◌&&◌, ◌||◌, bytes_eq, not, ok_or, unwrap_or, ⊤}
+use Rattle.std.proofs.Common.{arith, ◌≡◌, ℕ, suc, ◌+◌, Bool, true, false, cond, List, [], ◌∷◌, ◌++◌, map, Option, Some, None, Result, Ok, Err, refl, sym, ap, subst, ◌∙◌}
+use Rattle.std.specs.Prelude.{◌==◌, ◌&&◌, not, ok_or, unwrap_or, ⊤}
 use Rattle.mc_text.specs.model_device.specs.Bytes.{lookup}
 use Rattle.mc_text.specs.model_device.proofs.MapLemmas.{name_is_itself}
 use Rattle.mc_text.specs.model_text.specs.Text.{◌>>=◌, begins, err_as, fields, is_empty, ok_as, only_if, trim, with_numbers}
@@ -86,10 +86,7 @@ unit_good s n h =
 
 -- the line that comes next, and the lines after it
 turn_then_by : (b : Bool) (m : DeckGrammar.Mode) (l : ℕ × List ℕ) (ls : List (ℕ × List ℕ)) → Fine (turn_at b m l >>= λ t. ok_as (λ rest. t.lines ++ rest) (deck_lines t.mode ls)) → (t : LineTurn) × (turn_in m l ≡ Ok t) × Fine (deck_lines t.mode ls)
-turn_then_by true m l ls h = absurd h
-turn_then_by false m l ls h =
-    let a = fine_then (turn_in m l) (λ t. ok_as (λ rest. t.lines ++ rest) (deck_lines t.mode ls)) h in
-    (a.0, a.1, fine_as (λ rest. (a.0).lines ++ rest) (deck_lines (a.0).mode ls) a.2)
+turn_then_by b m l ls h = grind (arith, fine_then, fine_as)
 
 turn_then : (m : DeckGrammar.Mode) (l : ℕ × List ℕ) (ls : List (ℕ × List ℕ)) → Fine (deck_lines m (l ∷ ls)) → (t : LineTurn) × (turn_in m l ≡ Ok t) × Fine (deck_lines t.mode ls)
 unfolding deck_lines
@@ -224,9 +221,7 @@ opening_steps c b n t later ls fs v p h s r =
 
 statement_steps : (c : Context) (b : Before) (n : ℕ) (t : List ℕ) (later : Bool) (ls : List (ℕ × List ℕ)) (w : Word) (fs : List (List ℕ)) (v : Stated) (a : Bool) → is_app w ≡ a → Plain b → Drafts.Between ≡ b.mode → fields t ≡ word_name w ∷ fs → statement_of c n w fs ≡ Ok v
     → Fine (deck_lines (turn_of n v).mode ls) → Steps Drafts.Between b n t later ls
-statement_steps c b n t later ls AppWord fs v a i p e h s r = opening_steps c b n t later ls fs v p h s r
-statement_steps c b n t later ls w fs v false i p e h s r = line_steps c b n t later ls w fs v p e h i s r
-statement_steps c b n t later ls w fs v true i p e h s r = absurd (cc i)
+statement_steps c b n t later ls w fs v a i p e h s r = grind (arith, opening_steps, line_steps)
 
 -- a cause at a line
 abbrev line_cause : ℕ → DeckCause → ℕ × DeckCause
@@ -352,9 +347,7 @@ later_of ls = gives_later (map (λ m. (m.1).text) ls)
 
 -- a line that stays shows no draft
 marked_plain : (t : DraftTurn) (l : List ℕ) → t.text ≡ l → Plain t.before → Plain (marked l t).before
-marked_plain t l h p =
-    let same : bytes_eq t.text l ≡ true = ap (λ x. bytes_eq x l) h ∙ name_is_itself l in
-    ap (λ x. x || not (bytes_eq t.text l)) p ∙ ap not same
+marked_plain t l h p = grind (arith, name_is_itself)
 
 -- one more line before those that make themselves
 makes_more : (b : Before) (n : ℕ) (l : EndedLine) (ls : List (ℕ × EndedLine)) (rest : List ℕ) (u : DraftTurn) → draft_turn b.mode b n l.text (later_of ls) ≡ Ok u → u.text ≡ l.text → Makes (draft_of_lines (marked l.text u).before ls) rest
@@ -375,9 +368,7 @@ makes_none b = record { draft = record { deck = []; sections = b.sections }; is 
 
 -- the last line, which is empty where the text ends with a line feed
 ends_between : (m : DeckGrammar.Mode) (o : Drafts.Mode) → Agrees m o → Fine (lines_at_end m) → o ≡ Drafts.Between
-ends_between (DeckGrammar.Between c) Drafts.Between h f = refl
-ends_between (DeckGrammar.Between c) (Drafts.Within o) h f = absurd h
-ends_between (DeckGrammar.Within s c) o h f = absurd f
+ends_between m o h f = grind arith
 
 empty_stays : (b : Before) (n : ℕ) (later : Bool) → Plain b → b.mode ≡ Drafts.Between → draft_turn b.mode b n [] later ≡ Ok (spoken_turn b [] [])
 empty_stays b n later p e = ap (λ m. draft_turn m b n [] later) e ∙ ap (ok_as (spoken_turn b [])) (spoken_stays b [] p ∙ statement_stays (by_name b.sections) [] refl)

@@ -1,6 +1,6 @@
 -- The lines of a deck as a draft's: their texts are those that the deck's reader reads, and they join to the text.
-use Rattle.std.proofs.Common.{◌≡◌, ℕ, zero, suc, ◌-◌, ◌<◌, ◌≤◌, Bool, true, false, cond, List, [], ◌∷◌, ◌++◌, length, take, drop, Option, Some, None, refl, sym, ap, ◌∙◌, append_assoc, append-nil, arith}
-use Rattle.std.specs.Prelude.{◌==◌, slice_index}
+use Rattle.std.proofs.Common.{◌≡◌, ℕ, zero, suc, ◌<◌, ◌≤◌, Bool, true, false, cond, List, [], ◌∷◌, ◌++◌, length, take, drop, Option, Some, None, refl, sym, ap, ◌∙◌, append_assoc, append-nil, arith}
+use Rattle.std.specs.Prelude.{◌==◌}
 use Rattle.std.proofs.Math.Seq.{take-length}
 use Rattle.std.proofs.lemmas.List.{take-append-drop, length-take-le}
 use Rattle.mc_text.specs.model_text.specs.Text.{first_cut, halves_with_character, is_empty, lines, pieces, pieces_with_character}
@@ -28,9 +28,7 @@ joined_by false s c p ps e = refl
 -- the pieces of a text with what separates them are the text
 pub pieces_joined : (s : ℕ) (t : List ℕ) → rejoined s (pieces (λ c. c == s) t) ≡ t
 pieces_joined s [] = refl
-pieces_joined s (c ∷ t) =
-    let h = some_pieces (λ c. c == s) t in
-    ap (λ ps. rejoined s (pieces_with_character (c == s) c ps)) h.2 ∙ joined_by (c == s) s c h.0 h.1 refl ∙ ap (λ ps. c ∷ rejoined s ps) (sym h.2) ∙ ap (λ x. c ∷ x) (pieces_joined s t)
+pieces_joined s (c ∷ t) = grind (arith, some_pieces, joined_by, pieces_joined s t)
 
 -- ---- the whole text
 
@@ -45,9 +43,7 @@ front_by false n l h = ap (λ x. x ++ drop (length l) l) (sym (take-length l)) �
 
 -- a line without its carriage return, and the carriage return
 front : (p : List ℕ) → without_return p ++ drop (length (without_return p)) p ≡ p
-front p =
-    let short : length p - 1 ≤ length p = omega arith in
-    front_by (slice_index p (length p - 1) == 13) (length p - 1) p short
+front p = grind (arith, front_by)
 
 joined_pieces : (p : List ℕ) (ps : List (List ℕ)) → joined (ended_pieces (p ∷ ps)) ≡ rejoined 10 (p ∷ ps)
 joined_pieces p [] = append-nil (p ++ [])

@@ -4,10 +4,10 @@ use Rattle.std.specs.Prelude.{◌==◌, ◌&&◌, ◌||◌, is_none, not, ok_or,
 use Rattle.std.proofs.Math.Seq.{drop-append_seam, drop-length}
 use Rattle.mc_text.specs.model_device.specs.Bytes.{has_name, lookup}
 use Rattle.mc_text.specs.model_device.proofs.BoolLemmas.{and_false, and_first, and_second}
-use Rattle.mc_text.specs.model_text.specs.Text.{◌>>=◌, before_trimmed, every, fields, first_cut, halves_with_character, is_blank, is_digit, is_empty, is_name, is_name_character, is_within, ok_as, pieces, pieces_with_character, trim, trim_end, trim_front}
+use Rattle.mc_text.specs.model_text.specs.Text.{◌>>=◌, before_trimmed, every, fields, first_cut, halves_with_character, is_blank, is_empty, is_name_character, ok_as, pieces, pieces_with_character, trim, trim_end, trim_front}
 use Rattle.mc_text.specs.model_text.specs.Assembly.{CodeItem, Line, WordForm, is_label, item_of_word, label_and_rest, line_read, operands, word_and_operands, words}
 use Rattle.mc_text.specs.model_text.specs.declared.assembler.AsmCause.TheVariants.{UnknownWord}
-use Rattle.desk_draft.specs.Parts.{after_word, before_rest, first_word, part_of, with_core, without_comment}
+use Rattle.desk_draft.specs.Parts.{after_word, before_rest, first_word, without_comment}
 use Rattle.desk_draft.specs.Declarations.{declaration_in, declaration_of, declaration_words, header_names, is_labelled}
 use Rattle.desk_draft.specs.Operands.{body_text, instruction_text, jump_words, labelled_text, later_text, operands_text, pieces_text, sized_words}
 use Rattle.law_desk.proofs.Results.{Fine, fine_as, fine_or, fine_ok, fine_then, looked, unknown}
@@ -42,9 +42,7 @@ blank_gone c e = rw e refl
 ends_by : (b : Bool) (c : ℕ) (s t : List ℕ) → is_blank c ≡ b → trimmed_pieces s ≡ trimmed_pieces t → trimmed_pieces (before_trimmed c s) ≡ before_pieces (c == 44) c (trimmed_pieces t)
 ends_by b c (d ∷ s) t e h = trimmed_with (c == 44) c (pieces (λ c. c == 44) (d ∷ s)) ∙ ap (before_pieces (c == 44) c) h
 ends_by false c [] t e h = ap trimmed_pieces (kept_first c [] e) ∙ trimmed_with (c == 44) c ([] ∷ []) ∙ ap (before_pieces (c == 44) c) h
-ends_by true c [] t e h =
-    let none : [] ∷ [] ≡ before_pieces false c ([] ∷ []) = ap (λ (p : List ℕ). p ∷ []) (sym (blank_gone c e)) in
-    ap trimmed_pieces (blank_gone c e) ∙ none ∙ ap (λ b. before_pieces b c ([] ∷ [])) (sym (no_comma c e)) ∙ ap (before_pieces (c == 44) c) h
+ends_by true c [] t e h = grind (arith, blank_gone, no_comma)
 
 ends_trimmed : (t : List ℕ) → trimmed_pieces (trim_end t) ≡ trimmed_pieces t
 ends_trimmed [] = refl
@@ -74,17 +72,11 @@ operands_after c t e =
 
 later_stays : (sized : Bool) (ps : List (List ℕ)) → AllStay (map trim ps) → later_text header_names sized ps ≡ Ok (after_each 44 ps)
 later_stays sized [] h = refl
-later_stays sized (p ∷ ps) h =
-    ap (λ r. ok_as (with_core (part_of p)) r >>= λ t. ok_as (λ rest. 44 ∷ (t ++ rest)) (later_text header_names sized ps)) (h.0 sized)
-    ∙ ap (λ t. ok_as (λ rest. 44 ∷ (t ++ rest)) (later_text header_names sized ps)) (piece_joined p)
-    ∙ ap (ok_as (λ rest. 44 ∷ (p ++ rest))) (later_stays sized ps h.1)
+later_stays sized (p ∷ ps) h = grind (arith, piece_joined, later_stays sized ps h.1)
 
 pieces_stay : (sized : Bool) (ps : List (List ℕ)) → AllStay (map trim ps) → pieces_text header_names sized ps ≡ Ok (rejoined 44 ps)
 pieces_stay sized [] h = refl
-pieces_stay sized (p ∷ ps) h =
-    ap (λ r. ok_as (with_core (part_of p)) r >>= λ t. ok_as (λ rest. t ++ rest) (later_text header_names sized ps)) (h.0 sized)
-    ∙ ap (λ t. ok_as (λ rest. t ++ rest) (later_text header_names sized ps)) (piece_joined p)
-    ∙ ap (ok_as (λ rest. p ++ rest)) (later_stays sized ps h.1)
+pieces_stay sized (p ∷ ps) h = grind (arith, piece_joined, later_stays)
 
 -- operands that stay, with the commas between them
 operands_stay : (word t : List ℕ) → AllStay (operands (Some t)) → operands_text header_names word (pieces (λ c. c == 44) t) ≡ Ok t
@@ -188,9 +180,7 @@ undeclared_by (c ∷ w, o) g h =
 
     word_of_form : (w : List ℕ) (o : Option (List ℕ)) → is_empty w ≡ false → Fine (word_and_operands (w, o)) → (f : WordForm) × (lookup words w ≡ Some f)
     word_of_form [] o e h = absurd (cc e)
-    word_of_form (c ∷ w) o e h =
-        let a = fine_then (ok_or (lookup words (c ∷ w)) UnknownWord) (λ form. item_of_word form (operands o)) h in
-        fine_or (lookup words (c ∷ w)) UnknownWord (fine_ok (ok_or (lookup words (c ∷ w)) UnknownWord) a.0 a.1)
+    word_of_form (c ∷ w) o e h = grind (arith, fine_then, fine_or, fine_ok)
 
     word_known : (w : List ℕ) (o : Option (List ℕ)) → is_empty w ≡ false → Fine (word_and_operands (trimmed_cut (w, o))) → (f : WordForm) × (lookup words w ≡ Some f)
     word_known w None e h = word_of_form w None e h
@@ -248,9 +238,7 @@ uncut (c ∷ t) e =
 
 label_uncut : (t : List ℕ) → is_label t ≡ true → first_cut is_blank t ≡ (t, None)
 label_uncut [] e = absurd (cc e)
-label_uncut (c ∷ t) e =
-    let n = and_second (not (is_digit c)) (is_name (c ∷ t)) e in
-    uncut (c ∷ t) (and_second (is_within 1 32 (length (c ∷ t))) (every is_name_character (c ∷ t)) n)
+label_uncut (c ∷ t) e = grind (arith, and_second, uncut)
 
 no_text : (s : List ℕ) → some_text s ≡ None → s ≡ []
 no_text [] e = refl

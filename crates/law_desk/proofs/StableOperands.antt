@@ -41,11 +41,7 @@ cut_head f (c ∷ h) s e =
 
 -- an operand whose head has no `+` and no `.`, and begins no name
 head_stays : (h s : List ℕ) → every (λ c. not (c == 43)) h ≡ true → every (λ c. not (c == 46)) h ≡ true → ((x : List ℕ) → lookup header_names (h ++ x) ≡ None) → Stays (h ++ s)
-head_stays h s p q f sized =
-    let a = cut_head (λ c. c == 43) h s p in
-    let b = cut_head (λ c. c == 46) h s q in
-    parts_stay sized (h ++ s) (first_cut (λ c. c == 43) (h ++ s)) (ap (λ (x : List ℕ × Option (List ℕ)). lookup header_names x.0) a ∙ f (first_cut (λ c. c == 43) s).0)
-    (plain_stays sized (h ++ s) (first_cut (λ c. c == 46) (h ++ s)) (f s) (ap (λ (x : List ℕ × Option (List ℕ)). lookup header_names x.0) b ∙ f (first_cut (λ c. c == 46) s).0))
+head_stays h s p q f sized = grind (arith, cut_head, parts_stay, plain_stays)
 
 -- ---- numbers
 
@@ -66,9 +62,7 @@ digit_stays (c ∷ t) e =
     head_stays (c ∷ []) t p q (λ x. unknown (λ n. not (begins_digit n)) header_names (c ∷ x) refl (ap not e))
 
 decimal_by : (b : Bool) (t : List ℕ) (n m : ℕ) → (not (is_empty t) && every is_digit t) ≡ b → cond b (Some m) None ≡ Some n → begins_digit t ≡ true
-decimal_by true [] n m e h = absurd (cc e)
-decimal_by true (c ∷ t) n m e h = and_first (is_digit c) (every is_digit t) e
-decimal_by false t n m e h = absurd (cc h)
+decimal_by b t n m e h = grind (arith, and_first)
 
 hex_digit : (t : List ℕ) → take 2 t ≡ codes "0x" → begins_digit t ≡ true
 hex_digit [] h = absurd (cc h)

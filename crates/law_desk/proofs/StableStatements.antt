@@ -1,6 +1,6 @@
 -- Statements that a deck's reader accepts stay as they are.
-use Rattle.std.proofs.Common.{◌≡◌, ℕ, ◌-◌, Bool, true, false, cond, List, [], ◌∷◌, ◌++◌, append-nil, length, take, drop, Option, Some, None, Result, Ok, Err, refl, sym, ap, subst, ◌∙◌, arith}
-use Rattle.std.specs.Prelude.{◌==◌, bytes_eq, codes, ok_or, slice_index, unwrap_or, ⊤}
+use Rattle.std.proofs.Common.{◌≡◌, ℕ, Bool, true, false, cond, List, [], ◌∷◌, ◌++◌, append-nil, length, Option, Some, None, Result, Ok, Err, refl, sym, ap, ◌∙◌, arith}
+use Rattle.std.specs.Prelude.{◌==◌, bytes_eq, codes, ok_or, unwrap_or, ⊤}
 use Rattle.std.proofs.lemmas.List.{take-append-drop}
 use Rattle.mc_text.specs.model_device.specs.Bytes.{lookup}
 use Rattle.mc_text.specs.model_device.proofs.MapLemmas.{same_name}
@@ -57,10 +57,7 @@ aid_stays : (sections : List (List ℕ × Loadable)) (t : List ℕ) → Fine (ai
 aid_stays sections t h = ap (λ b. cond b t (aid_text t (lookup sections t))) (aid_is t h)
 
 open_by : (b : Bool) (c : ℕ) (s x t : List ℕ) → (c == 40) ≡ b → (c ∷ s) ++ x ≡ t → Fine (ok_or (hex_bytes t) BadHex) → cond b (Some s) None ≡ None
-open_by true c s x t e f h =
-    let k : c ≡ 40 = grind (arith, e) in
-    absurd (subst (λ y. Fine (ok_or (hex_bytes y) BadHex)) (sym f ∙ ap (λ c. (c ∷ s) ++ x) k) h)
-open_by false c s x t e f h = refl
+open_by b c s x t e f h = grind (arith, Fine)
 
 open_none : (s x t : List ℕ) → s ++ x ≡ t → Fine (ok_or (hex_bytes t) BadHex) → after_open s ≡ None
 open_none [] x t f h = refl
@@ -72,9 +69,7 @@ brackets_by false o e = refl
 
 -- hexadecimal digits are in no brackets
 no_brackets : (t : List ℕ) → Fine (hex_field t) → text_in_brackets t ≡ None
-no_brackets t h =
-    let n = length t - 1 in
-    brackets_by (slice_index t n == 41) (after_open (take n t)) (open_none (take n t) (drop n t) t (take-append-drop n t) h)
+no_brackets t h = grind (arith, brackets_by, open_none, take-append-drop)
 
 plain_by : (t : List ℕ) (o : Option (List ℕ)) → Fine (ok_or o BadHex) → plain_hex t o ≡ Ok t
 plain_by t None h = absurd h
@@ -169,9 +164,7 @@ hash_stays sections s (a ∷ b ∷ c ∷ fs) core o = (refl, refl)
 
 -- a line that is skipped opens no section and stays
 pub skipped_stays : (sections : List (List ℕ × Loadable)) (w : List ℕ) (fs : List (List ℕ)) (core : List ℕ) → begins 35 w ≡ true → ((t : List ℕ) → fs ≡ t ∷ [] → core ≡ t) → (new_section (w ∷ fs) ≡ None) × (stated_text sections (w ∷ fs) core ≡ Ok core)
-skipped_stays sections w fs core h o =
-    let k = hash_there w h in
-    subst (λ w. (new_section (w ∷ fs) ≡ None) × (stated_text sections (w ∷ fs) core ≡ Ok core)) (sym k.1) (hash_stays sections k.0 fs core o)
+skipped_stays sections w fs core h o = grind (arith, hash_there, hash_stays)
 
 -- ---- the line of a statement
 

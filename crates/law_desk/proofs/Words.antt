@@ -54,11 +54,7 @@ trimmed_more c (w, None) = refl
 trimmed_more c (w, Some r) = refl
 
 trimmed_by : (b : Bool) (c : ℕ) (t : List ℕ) → is_blank c ≡ b → first_cut is_blank (trim_end t) ≡ trimmed_cut (first_cut is_blank t) → first_cut is_blank (before_trimmed c (trim_end t)) ≡ trimmed_cut (halves_with_character b c t (first_cut is_blank t))
-trimmed_by true c t e h = blank_cut c (trim_end t) e
-trimmed_by false c t e h =
-    let p = first_cut is_blank (trim_end t) in
-    let k : first_cut is_blank (c ∷ trim_end t) ≡ (c ∷ p.0, p.1) = rw e refl in
-    ap (first_cut is_blank) (kept_first c (trim_end t) e) ∙ k ∙ ap (λ (q : List ℕ × Option (List ℕ)). (c ∷ q.0, q.1)) h ∙ trimmed_more c (first_cut is_blank t)
+trimmed_by b c t e h = grind (arith, blank_cut, kept_first, trimmed_more)
 
 -- the first word of a text without the blanks at its end, and what follows it
 pub cut_trimmed : (t : List ℕ) → first_cut is_blank (trim_end t) ≡ trimmed_cut (first_cut is_blank t)
@@ -73,10 +69,7 @@ front_at : (c : ℕ) (s : List ℕ) → is_blank c ≡ false → trim_front (c �
 front_at c s e = rw e refl
 
 ends_by : (b : Bool) (c : ℕ) (t : List ℕ) → is_blank c ≡ b → trim_end (trim_front t) ≡ trim_front (trim_end t) → trim_end (cond b (trim_front t) (c ∷ t)) ≡ trim_front (before_trimmed c (trim_end t))
-ends_by true c t e h = h ∙ front_past c (trim_end t) e
-ends_by false c t e h =
-    let k = kept_first c (trim_end t) e in
-    k ∙ sym (ap trim_front k ∙ front_at c (trim_end t) e)
+ends_by b c t e h = grind (arith, front_past, kept_first, front_at)
 
 -- the blanks at the front and at the end go in either order
 pub either_way : (t : List ℕ) → trim t ≡ trim_front (trim_end t)
@@ -99,10 +92,7 @@ abbrev pub with_word : List ℕ → List (List ℕ) → List (List ℕ)
 with_word w ts = cond (is_empty w) ts (w ∷ ts)
 
 fields_cut : (p : List ℕ × Option (List ℕ)) → filled (pieces_cut is_blank p) ≡ with_word p.0 (later_fields p.1)
-fields_cut ([], None) = refl
-fields_cut (c ∷ w, None) = refl
-fields_cut ([], Some r) = refl
-fields_cut (c ∷ w, Some r) = refl
+fields_cut p = grind arith
 
 -- the fields of a text are its first word and those after it
 pub fields_at : (t : List ℕ) → fields t ≡ with_word (first_cut is_blank t).0 (later_fields (first_cut is_blank t).1)
@@ -138,9 +128,7 @@ front_begins (c ∷ t) = front_begins_by (is_blank c) c t refl (front_begins t)
 
 -- a text that begins with no blank has a first word, unless it is empty
 no_word : (t : List ℕ) (p : List ℕ × Option (List ℕ)) → Cuts is_blank t p → begins_blank t ≡ false → is_empty p.0 ≡ true → (p ≡ ([], None)) × (t ≡ [])
-no_word t ([], None) h b e = (refl, h)
-no_word t (c ∷ w, o) h b e = absurd (cc e)
-no_word t ([], Some r) h b e = absurd (cc (subst (λ x. begins_blank x ≡ false) h.2 b, h.1))
+no_word t p h b e = grind arith
 
 -- a text whose first word is empty has blanks alone
 pub no_first_word : (t : List ℕ) → is_empty (first_cut is_blank (trim_front t)).0 ≡ true → (first_cut is_blank (trim_front t) ≡ ([], None)) × (trim_front t ≡ [])
@@ -204,14 +192,7 @@ no_fields (c ∷ t) h = no_fields_by (is_blank c) c t refl (no_fields t) h
 
 -- a text whose only field is its first word has no other
 one_cut : (t : List ℕ) (p : List ℕ × Option (List ℕ)) → (is_empty p.0 ≡ true → p ≡ ([], None)) → with_word p.0 (later_fields p.1) ≡ t ∷ [] → trimmed_cut p ≡ (t, None)
-one_cut t ([], o) g h =
-    let k : [] ≡ t ∷ [] = ap (λ (p : List ℕ × Option (List ℕ)). with_word p.0 (later_fields p.1)) (sym (g refl)) ∙ h in
-    absurd (cc k)
-one_cut t (c ∷ w, None) g h = let e : c ∷ w ≡ t = cc h in ap (λ (x : List ℕ). (x, None)) e
-one_cut t (c ∷ w, Some r) g h =
-    let e : c ∷ w ≡ t = cc h in
-    let none : fields r ≡ [] = cc h in
-    ap (λ (s : List ℕ). (c ∷ w, some_text s)) (no_fields r none) ∙ ap (λ (x : List ℕ). (x, None)) e
+one_cut t p g h = grind (arith, no_fields)
 
 -- the fields of a text, by its first word
 pub fields_by : (t : List ℕ) → fields t ≡ with_word (first_cut is_blank (trim_front t)).0 (later_fields (first_cut is_blank (trim_front t)).1)
@@ -224,10 +205,7 @@ one_field x t h =
     subst (Cuts is_blank (trim x)) (cut_trimmed (trim_front x) ∙ k) (cuts is_blank (trim x))
 
 word_before : (w : List ℕ) (fs : List (List ℕ)) (p : List ℕ × Option (List ℕ)) → (is_empty p.0 ≡ true → p ≡ ([], None)) → with_word p.0 (later_fields p.1) ≡ w ∷ fs → later_fields p.1 ≡ fs
-word_before w fs ([], o) g h =
-    let k : [] ≡ w ∷ fs = ap (λ (p : List ℕ × Option (List ℕ)). with_word p.0 (later_fields p.1)) (sym (g refl)) ∙ h in
-    absurd (cc k)
-word_before w fs (c ∷ v, o) g h = cc h
+word_before w fs p g h = grind arith
 
 -- what follows the first word has the other fields
 pub other_fields : (t w : List ℕ) (fs : List (List ℕ)) → fields t ≡ w ∷ fs → fields (trim (after_word t)) ≡ fs
