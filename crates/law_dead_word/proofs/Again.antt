@@ -1,17 +1,16 @@
 -- A power-up that stopped at a target of its recovery stops there again.
-use Rattle.std.proofs.Common.{◌≡◌, ◌⊎◌, ℕ, zero, suc, ◌+◌, ◌-◌, ◌<◌, ◌≤◌, Bool, true, false, cond, List, [], ◌∷◌, ◌++◌, length, Option, Some, None, refl, sym, ap, subst, ◌∙◌, inl, inr, append_assoc, arith}
+use Rattle.std.proofs.Common.{◌≡◌, ℕ, ◌+◌, ◌<◌, ◌≤◌, Bool, true, false, cond, List, [], ◌∷◌, ◌++◌, length, Some, refl, sym, ap, subst, ◌∙◌, append_assoc, arith}
 use Rattle.std.specs.Prelude.{◌==◌, bytes_eq}
 use Rattle.std.specs.List.{AllByRecursion}
-use Rattle.std.proofs.lemmas.List.{length-append}
-use Rattle.model_play.specs.model_device.specs.Image.{within, look, look_at, look_j, image_with, count_of_recovery_writes, is_open, debt, gate, opening, word_at, which, which_of, shut_word, Journal, One, Two, Look, Closed, Pending, Refused, Which, Both, Only, Neither}
-use Rattle.model_play.specs.model_device.specs.Stopped.{image_after_stop, owed_writes, replay, InJournal}
-use Rattle.model_play.specs.model_device.proofs.LookLemmas.{gate_inside, good_pending, look_same, GoodPending, SameInside}
+use Rattle.model_play.specs.model_device.specs.Image.{within, look, look_at, count_of_recovery_writes, is_open, debt, gate, opening, which, which_of, shut_word, Journal, One, Two, Look, Closed, Pending, Refused, Which, Both, Only, Neither}
+use Rattle.model_play.specs.model_device.specs.Stopped.{image_after_stop, owed_writes}
+use Rattle.model_play.specs.model_device.proofs.LookLemmas.{gate_inside, good_pending, look_same, SameInside}
 use Rattle.model_play.specs.model_device.proofs.StoppedLemmas.{length_torn, targets_outside, torn_other, torn_within}
 use Rattle.mc_store.specs.Power.{base_of_words, migration_writes, power_writes}
 use Rattle.mc_store.specs.Store.{settled_words}
-use Rattle.law_dead_word.specs.Powers.{after_power, after_powers, first_to, stops_at, words_by}
-use Rattle.law_dead_word.specs.Laws.{IsDevice, SettledLaw, StuckLaw}
-use Rattle.law_dead_word.proofs.Powers.{device_after, first_among, settled_after, settled_read, settled_shut, IsAmong}
+use Rattle.law_dead_word.specs.Powers.{after_power, after_powers, first_to, stops_at}
+use Rattle.law_dead_word.specs.Laws.{SettledLaw, StuckLaw}
+use Rattle.law_dead_word.proofs.Powers.{first_among, settled_after, settled_read, settled_shut}
 
 -- ---- the first write to a word, in a front
 
@@ -63,9 +62,7 @@ record OwesTargets (m : List (List ℕ)) : Type 0 where
   all : AllByRecursion (λ q. within (length m) q.0 ≡ true) ps
 
 within_by : (m : List (List ℕ)) (w : Which) (j : Journal) (ps : List (ℕ × List ℕ)) → look_at m w ≡ Pending j ps → AllByRecursion (λ q. within (length m) q.0 ≡ true) ps
-within_by m Both j ps h = absurd (cc h)
-within_by m (Only i) j ps h = (good_pending i j m ps h).all
-within_by m Neither j ps h = absurd (cc h)
+within_by m w j ps h = grind (arith, good_pending)
 
 owes_by : (m : List (List ℕ)) (l : Look) → look m ≡ l → 1 ≤ debt l → OwesTargets m
 owes_by m (Refused p) e h = absurd (omega (arith, h))
@@ -90,10 +87,7 @@ module _ (m : List (List ℕ)) (p k : ℕ) (x : List ℕ) (fails : stops_at p m 
   writes_are n h = ap (λ (l : Look). owed_writes l ++ rest n) h ∙ append_assoc owes.ps ((gate owes.j, shut_word) ∷ []) (rest n)
 
   left : after_power p x m ≡ image_after_stop m owes.ps k x
-  left =
-      ap (λ (o : Option ℕ). words_by o m (power_writes m) x) fails
-      ∙ ap (λ (ws : List (ℕ × List ℕ)). image_after_stop m ws k x) (writes_are m owes.is)
-      ∙ torn_within m owes.ps ((gate owes.j, shut_word) ∷ rest m) k x low few
+  left = grind (arith, writes_are, owes, torn_within, low, few)
 
   looks : look (after_power p x m) ≡ look m
   looks = ap look left ∙ same_look (image_after_stop m owes.ps k x) m (torn_looks m owes.ps k x owes.all)

@@ -1,20 +1,19 @@
 -- What a power-up on a device with a failing word leaves.
-use Rattle.std.proofs.Common.{◌≡◌, ◌⊎◌, ℕ, zero, suc, ◌+◌, ◌-◌, ◌<◌, ◌≤◌, Bool, true, false, cond, List, [], ◌∷◌, ◌++◌, length, Option, Some, None, refl, sym, ap, subst, ◌∙◌, inl, inr, arith}
-use Rattle.std.specs.Prelude.{◌==◌, ◌||◌, nat_le, bytes_eq}
+use Rattle.std.proofs.Common.{◌≡◌, ℕ, ◌+◌, ◌-◌, ◌≤◌, Bool, true, false, cond, List, [], ◌∷◌, ◌++◌, length, Option, Some, None, refl, sym, ap, subst, ◌∙◌, inl, inr, arith}
+use Rattle.std.specs.Prelude.{◌==◌, bytes_eq}
 use Rattle.std.proofs.lemmas.Bool.{cases_lt, lt-leb}
-use Rattle.std.proofs.lemmas.Bool.Decides.{eqb_tells}
 use Rattle.model_play.specs.model_device.specs.declared.cause.Cause.{Cause}
 use Rattle.model_play.specs.model_device.specs.Card.{Card, means}
 use Rattle.model_play.specs.model_device.specs.Image.{look, image_with, count_of_recovery_writes, opening, which, Journal, One}
 use Rattle.model_play.specs.model_device.specs.Layout.{fault, IsWellLaid}
-use Rattle.model_play.specs.model_device.specs.PowerUp.{Base, OnCard, AtFault, base_after_migration, base_of, migration, pending_journal}
+use Rattle.model_play.specs.model_device.specs.PowerUp.{Base, OnCard, AtFault, base_after_migration, base_of, pending_journal}
 use Rattle.model_play.specs.model_device.specs.Stopped.{image_after_stop, owed_writes, remains, stands, writes}
 use Rattle.model_play.specs.model_device.proofs.ImageLemmas.{length_laid}
 use Rattle.model_play.specs.model_device.proofs.StoppedLemmas.{length_torn}
-use Rattle.model_play.specs.Play.{Unarmed, Warm, FailedWrite, StandsForBase, hit_of, power_moves, power_result, power_says}
+use Rattle.model_play.specs.Play.{Unarmed, Warm, StandsForBase, hit_of, power_moves, power_result, power_says}
 use Rattle.mc_store.specs.Power.{base_of_words, migration_writes, new_root, power_count, power_writes, HoldsBase, IsHalted}
 use Rattle.mc_store.specs.Store.{settled_words}
-use Rattle.mc_store.proofs.PowerLemmas.{count_writes, done_base, fault_base, fault_writes, power_done, power_halted, settles, IsPoweredUp}
+use Rattle.mc_store.proofs.PowerLemmas.{count_writes, done_base, fault_base, fault_writes, power_done, power_halted, settles}
 use Rattle.law_dead_word.specs.Powers.{after_power, after_powers, answer_by, failure_by, first_to, stops_at, words_by}
 use Rattle.law_dead_word.specs.Laws.{AnswerLaw, IsDevice, IsRead, IsSettled, OneCardLaw}
 
@@ -85,11 +84,7 @@ module _ (m : List (List ℕ)) (device : IsDevice m) where
 
   -- it leaves a device
   pub device_after : (p : ℕ) (x : List ℕ) → IsDevice (after_power p x m)
-  device_after p x =
-      let size : length (words_by (stops_at p m) m (power_writes m) x) ≡ length m = size_by (stops_at p m) x in
-      let low = device.low in
-      let high = device.high in
-      record { low = omega (arith, size, low); high = omega (arith, size, high) }
+  device_after p x = grind (arith, size_by (stops_at p m) x, device.low, device.high)
 
 -- so do several in a row
 pub one_card_from : (p : ℕ) (xs m : List (List ℕ)) → IsDevice m → base_after_migration (base_of_words (after_powers p xs m)) ≡ base_after_migration (base_of_words m)
@@ -126,14 +121,7 @@ settled_writes m device h =
 
 -- a settled card is read
 pub settled_read : (m : List (List ℕ)) → IsDevice m → IsSettled m → IsRead m
-settled_read m device h =
-    let none = settled_writes m device h in
-    record {
-      writes = none;
-      count = sym (count_writes m device.low device.high) ∙ ap (λ (ws : List (ℕ × List ℕ)). length ws) none;
-      unstopped = λ p. ap (λ (ws : List (ℕ × List ℕ)). first_to p 0 ws) none;
-      stays = λ p x. ap (λ (ws : List (ℕ × List ℕ)). words_by (first_to p 0 ws) m ws x) none;
-    }
+settled_read m device h = grind (arith, settled_writes, count_writes)
 
 -- what words are whose base is a card
 fault_in : (m : List (List ℕ)) (c : Card) (o : Option (Cause × ℕ)) → base_of o m ≡ OnCard c → o ≡ None
@@ -161,9 +149,7 @@ settled_after m device p x f h = subst (λ (o : Option ℕ). IsSettled (words_by
 
 -- the gate was written last, and is left shut
 gate_left : (j : Journal) (n : ℕ) (x : List ℕ) → 1 ≤ n → bytes_eq x (opening j) ≡ false → remains j (n - 1) n x ≡ 0
-gate_left j n x low shut =
-    let late : nat_le n (n - 1) ≡ false = lt-leb n (n - 1) (omega (arith, low)) in
-    ap (λ (b : Bool). cond (b || bytes_eq x (opening j)) (n - 1 + 1) 0) late ∙ ap (λ (b : Bool). cond b (n - 1 + 1) 0) shut
+gate_left j n x low shut = grind (arith, lt-leb)
 
 settled_gate : (m : List (List ℕ)) → IsDevice m → (p k : ℕ) (x : List ℕ) → IsWellLaid m → (means m).layout ≡ 2 → k ≡ count_of_recovery_writes m → stops_at p m ≡ Some k → bytes_eq x (opening (pending_journal (which m))) ≡ false
     → IsSettled (image_after_stop m (power_writes m) k x)
@@ -188,12 +174,7 @@ settled_shut m device p x f layout h shut =
 -- ---- what a power line answers
 
 count_held : (m : List (List ℕ)) (b : Base) (s : Warm) → s.base ≡ b → StandsForBase m b s → power_moves s ≡ power_count m
-count_held m (OnCard c) s e h =
-    let base : base_of_words m ≡ OnCard c = sound_base m (fault m) h.sound ∙ ap OnCard h.meaning in
-    ap (λ (n : ℕ). n + migration s.base) (sym h.owed) ∙ ap (λ (q : Base). count_of_recovery_writes m + migration q) (e ∙ sym base)
-count_held m (AtFault cause p) s e h =
-    let base : base_of_words m ≡ AtFault cause p = ap (λ (o : Option (Cause × ℕ)). base_of o m) h.unsound in
-    ap (λ (n : ℕ). n + migration s.base) (sym h.owed) ∙ ap (λ (q : Base). count_of_recovery_writes m + migration q) (e ∙ sym base)
+count_held m b s e h = grind (arith, sound_base)
 
 base_held : (m : List (List ℕ)) (b : Base) (s : Warm) → StandsForBase m b s → base_of_words m ≡ b
 base_held m (OnCard c) s h = sound_base m (fault m) h.sound ∙ ap OnCard h.meaning

@@ -1,5 +1,5 @@
 -- Computed power-ups: a small card with one word in its open journal, and a word that fails.
-use Rattle.std.specs.Prelude.{ℕ, List, [], ◌∷◌, replicate, slice_set, Option}
+use Rattle.std.specs.Prelude.{ℕ, List, [], ◌∷◌, replicate, slice_set}
 use Rattle.model_play.specs.model_device.specs.Bytes.{zeros}
 use Rattle.model_play.specs.model_device.specs.Card.{blocks_from, apps_of}
 use Rattle.model_play.specs.model_device.specs.Image.{Two, gate, opening, targets_1, targets_2, pairs}

@@ -1,5 +1,5 @@
 -- What a word that fails for ever costs.
-use Rattle.std.specs.Prelude.{◌≡◌, ℕ, ◌<◌, ◌≤◌, false, List, [], length, bytes_eq, Option, Some, None}
+use Rattle.std.specs.Prelude.{◌≡◌, ℕ, ◌<◌, ◌≤◌, false, List, [], length, bytes_eq, Some, None}
 use Rattle.model_play.specs.model_device.specs.Image.{count_of_recovery_writes, opening, which}
 use Rattle.model_play.specs.model_device.specs.Card.{means}
 use Rattle.model_play.specs.model_device.specs.Layout.{IsWellLaid}

@@ -2,8 +2,6 @@
 use Rattle.std.specs.Prelude.{ℕ, ◌+◌, cond, ◌==◌, List, [], ◌∷◌, Option, Some, None}
 use Rattle.model_play.specs.model_device.specs.Image.{image_with}
 use Rattle.model_play.specs.model_device.specs.Stopped.{image_after_stop}
-use Rattle.model_play.specs.model_device.specs.declared.device.Stop.TheVariants as stop
-use Rattle.model_play.specs.model_card.specs.Items.{StopAt}
 use Rattle.model_play.specs.Play.{FailedWrite, LineResult, FailureStop, power_result}
 use Rattle.mc_store.specs.Power.{base_of_words, power_count, power_writes}
 
