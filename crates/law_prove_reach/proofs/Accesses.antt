@@ -1,10 +1,10 @@
 -- What is read in a segment: as many bytes as are asked for, of the memory, in the machine's frame and in a scene.
-use Rattle.std.proofs.Common.{◌≡◌, ℕ, zero, suc, ◌<◌, ◌≤◌, Bool, true, false, List, length, Option, refl, ap, ◌∙◌, arith}
+use Rattle.std.proofs.Common.{◌≡◌, ℕ, zero, suc, ◌<◌, ◌≤◌, Bool, true, false, List, length, refl, ap, ◌∙◌, arith}
 use Rattle.std.specs.Prelude.{◌==◌, ◌||◌, ◌&&◌, not, is_none, ⊤}
 use Rattle.std.proofs.lemmas.Bool.{eqb-true, false_from_ne_true}
 use Rattle.law_prove.specs.model_device.specs.Bytes.{AreBytes}
 use Rattle.law_prove.specs.model_machine.specs.declared.instruction.Ins.{Ins}
-use Rattle.law_prove.specs.model_machine.specs.Frame.{Frame, Place, where_is, is_outside, bytes_at, frame_after_pop}
+use Rattle.law_prove.specs.model_machine.specs.Frame.{Frame, where_is, is_outside, bytes_at, frame_after_pop}
 use Rattle.law_prove.specs.model_machine.specs.Primitives.{Around}
 use Rattle.law_prove.specs.model_rules.specs.Rules.{Target}
 use Rattle.law_prove.specs.model_prove.specs.Facts.{Memory}
@@ -12,7 +12,6 @@ use Rattle.law_prove.specs.model_prove.specs.Compares.{bytes_from}
 use Rattle.law_prove.specs.model_prove.specs.Keys.{Tables}
 use Rattle.law_prove.specs.model_prove.specs.Arrivals.{Setting}
 use Rattle.law_prove.specs.model_prove.specs.Tables.{IsLoadable}
-use Rattle.law_prove.specs.Coverings.{frame_memory}
 use Rattle.law_prove.specs.Laws.{LeadsInto}
 use Rattle.law_prove.proofs.Alike.{Sized, from_length, read_is}
 use Rattle.law_prove.proofs.Moves.{turn_sized}
@@ -70,19 +69,13 @@ fits_low f k fixed dyn public fits = let high = fits.high in record { small = fi
 
 -- as many bytes are read in a scene
 pub read_length : (h : Frame) (fixed dyn public : List ℕ) (a n : ℕ) → Fits h fixed dyn public → (n == 0) ≡ false → is_none (where_is h a n) ≡ false → length (bytes_at (with_bytes h fixed dyn) public a n) ≡ n
-read_length h fixed dyn public a n fits some inside =
-    let e : Frame = with_bytes h fixed dyn in
-    ap (λ (z : List ℕ). length z) (read_is e public a n (fits_sized h fixed dyn public fits) some (ap (λ (p : Option Place). is_none p) (same_where h fixed dyn a n fits.size) ∙ inside)) ∙ from_length (frame_memory e public) a n
+read_length h fixed dyn public a n fits some inside = grind (arith, with_bytes, read_is, fits_sized, same_where, from_length)
 
 -- bytes below those that are popped are read in the memory
 pub turn_read : (s : Setting) (u t : Tables) (g : Target) (loadable : IsLoadable s.app) (leads : LeadsInto s u t) (i : Ins) (turn : Turn s u i) (k a n : ℕ) → (n == 0) ≡ false
     → is_none (where_is (frame_after_pop (fetched_frame s u t g loadable leads i turn) k) a n) ≡ false
     → bytes_at (frame_after_pop (fetched_frame s u t g loadable leads i turn) k) turn.public a n ≡ bytes_from (memory s u t g loadable leads i turn) a n
-turn_read s u t g loadable leads i turn k a n some inside =
-    let f : Frame = fetched_frame s u t g loadable leads i turn in
-    let sized : Sized f turn.public = turn_sized s u loadable i turn in
-    let high = sized.high in
-    read_is (frame_after_pop f k) turn.public a n (record { small = sized.small; room = sized.room; high = omega (arith, high); inside = sized.inside; whole = sized.whole }) some inside
+turn_read s u t g loadable leads i turn k a n some inside = grind (arith, fetched_frame, Sized, turn_sized, read_is)
 
 -- as many as are asked for
 pub turn_length : (s : Setting) (u t : Tables) (g : Target) (loadable : IsLoadable s.app) (leads : LeadsInto s u t) (i : Ins) (turn : Turn s u i) (k a n : ℕ) → (n == 0) ≡ false

@@ -1,13 +1,12 @@
 -- An instruction that is followed for each combination of its deciding bytes is followed for those of the machine: in a
 -- scene that has them, at a place that knows them.
-use Rattle.std.proofs.Common.{◌≡◌, ◌⊎◌, inl, inr, ℕ, ◌+◌, ◌-◌, Bool, true, false, List, [], ◌∷◌, ◌++◌, length, Option, Some, None, Ok, refl, ap, subst, ◌∙◌, arith}
+use Rattle.std.proofs.Common.{◌≡◌, ◌⊎◌, inl, inr, ℕ, Bool, true, false, List, [], ◌∷◌, ◌++◌, length, Option, Some, None, Ok, refl, ap, subst, ◌∙◌, arith}
 use Rattle.std.specs.Prelude.{nat_le, flat_map}
 use Rattle.std.specs.List.{AllByRecursion}
 use Rattle.std.proofs.lemmas.List.{length-replicate}
 use Rattle.law_prove.specs.model_device.specs.Bytes.{zeros}
 use Rattle.law_prove.specs.model_machine.specs.declared.instruction.Ins.{Ins}
-use Rattle.law_prove.specs.model_machine.specs.Code.{Decodes}
-use Rattle.law_prove.specs.model_machine.specs.Frame.{Frame, dynamic_base, public_base, public_end, is_outside}
+use Rattle.law_prove.specs.model_machine.specs.Frame.{Frame, is_outside}
 use Rattle.law_prove.specs.model_machine.specs.Primitives.{Around}
 use Rattle.law_prove.specs.model_machine.specs.Row.{row}
 use Rattle.law_prove.specs.model_machine.specs.Chain.{frame_at}
@@ -16,7 +15,7 @@ use Rattle.law_prove.specs.model_rules.specs.Rules.{Target}
 use Rattle.law_prove.specs.model_prove.specs.Facts.{Facts, Memory, Holds, know}
 use Rattle.law_prove.specs.model_prove.specs.Keys.{Known, Tables}
 use Rattle.law_prove.specs.model_prove.specs.Laws.{Among, values_in, HoldsBytes}
-use Rattle.law_prove.specs.model_prove.specs.Splits.{Scene, Choice, stand_in, stand_in_stack, with_values, deciders, later_deciders, combinations, count_of_combinations, most_combinations, few_if, few_combinations}
+use Rattle.law_prove.specs.model_prove.specs.Splits.{Scene, Choice, stand_in_stack, with_values, deciders, later_deciders, combinations, count_of_combinations, most_combinations, few_if, few_combinations}
 use Rattle.law_prove.specs.model_prove.specs.Reach.{takes_target}
 use Rattle.law_prove.specs.model_prove.specs.Arrivals.{Setting, Arrival}
 use Rattle.law_prove.specs.model_prove.specs.Steps.{Spot, with_facts, instruction, arounds, primitive_of, chosen, with_choice, inside, with_first_choice, by_choices, coarse_arrivals, coarse_around, fetched}
@@ -31,7 +30,7 @@ use Rattle.law_prove.proofs.Moves.{turn_sized}
 use Rattle.law_prove.proofs.Spots.{place_key}
 use Rattle.law_prove.proofs.Seen.{Seen}
 use Rattle.law_prove.proofs.Acts.{spot_of}
-use Rattle.law_prove.proofs.Turns.{blank, framed_of, stand_in_like, included_at, decoded_at, leaves_bytes}
+use Rattle.law_prove.proofs.Turns.{blank, framed_of, stand_in_like}
 use Rattle.law_prove.proofs.Single.{Turn, here, there, IsRowCovered, law_from}
 use Rattle.law_prove_reach.proofs.Scenes.{scene_of, Fits, Standing, values_stand, same_outside, all_inside_of, among_inside}
 
@@ -96,16 +95,7 @@ module _ (s : Setting) (u t : Tables) (g : Target) (loadable : IsLoadable s.app)
 
   -- its segments have their lengths
   pub base_fits : Fits fetched_frame (zeros (length turn.frame.fixed)) (stand_in_stack turn.place.calls) blank
-  base_fits =
-      let sized : Sized fetched_frame turn.public = turn_sized s u loadable i turn in
-      let count : length (zeros (public_end - public_base)) ≡ public_end - public_base = length-replicate {A = ℕ} (public_end - public_base) 0 in
-      record {
-        small = sized.small;
-        size = length-replicate {A = ℕ} (length turn.frame.fixed) 0;
-        room = stack_length (dynamic_base + turn.frame.session) turn.frame.dt turn.frame.lb turn.frame.dyn turn.place.calls (omega arith) sized.high turn.place.open_calls;
-        high = sized.high;
-        whole = omega (arith, count);
-      }
+  base_fits = grind (arith, Sized, turn_sized, length-replicate, stack_length)
 
   -- what was fetched, in that scene
   abbrev pub IsBy : Bool → Type 0
@@ -113,12 +103,7 @@ module _ (s : Setting) (u t : Tables) (g : Target) (loadable : IsLoadable s.app)
 
   -- an instruction that was fetched is followed in that scene
   pub by_base : includes_all t (fetched s (here s u t g loadable leads i turn) (Ok (i, turn.next))) ≡ true → IsBy (takes_target i)
-  by_base includes =
-      let p : Spot = here s u t g loadable leads i turn in
-      let q : Spot = there s u t g loadable leads i turn in
-      let old : Frame = frame_at (stand_in s.app (place_key turn.place.start turn.place.standing.allowances turn.frame turn.place.calls)).frame turn.next in
-      let same : old ≡ base.frame = stand_in_like s.app turn.frame turn.place.start turn.place.standing.allowances turn.place.calls turn.next (framed_of s.app turn.frame turn.place.frame) in
-      subst (λ (z : Frame). includes_all t (by_choices (few_combinations turn.place.known.bytes (inside (record { frame = z; public = blank }) (deciders i z))) (takes_target i) s i (record { frame = z; public = blank }) p q) ≡ true) same includes
+  by_base includes = grind (arith, here, there, place_key, stand_in_like, framed_of, blank)
 
   -- ---- few choices
 
@@ -146,9 +131,7 @@ module _ (s : Setting) (u t : Tables) (g : Target) (loadable : IsLoadable s.app)
       let c : Choice = choice places in
       let z : Scene = with_values base c in
       let one = one_of t (with_first_choice s i base p q) c cs (choice_among turn.place.known.bytes (inside base places) memory cs e turn.place.holds turn.place.bytes) includes in
-      let none : includes_all t (flat_map (λ d. with_choice s i base p q (c ++ d)) (combinations p.known.bytes (inside z []))) ≡ true =
-      subst (λ (l : List ℕ). includes_all t (flat_map (λ d. with_choice s i base p q (c ++ d)) (combinations p.known.bytes (inside z l))) ≡ true) (decided z.frame) one
-      in
+      let none : includes_all t (flat_map (λ d. with_choice s i base p q (c ++ d)) (combinations p.known.bytes (inside z []))) ≡ true = grind arith in
       subst (λ (d : Choice). includes_all t (with_choice s i base p q d) ≡ true) (nothing_after c) (included_first t (with_choice s i base p q (c ++ [])) [] none)
 
   -- so is the outcome of each of those that may have delegated to the frame

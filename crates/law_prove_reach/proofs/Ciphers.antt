@@ -1,6 +1,6 @@
 -- A message through a cipher: it is read, and as many bytes are written.
-use Rattle.std.proofs.Common.{◌≡◌, inl, ℕ, ◌%◌, ◌<◌, ◌≤◌, Bool, false, List, [], ◌∷◌, length, Option, Some, None, refl, sym, ap, subst, ◌∙◌, arith}
-use Rattle.std.specs.Prelude.{◌==◌, ◌||◌, not, is_none, nat_le, slice_index}
+use Rattle.std.proofs.Common.{◌≡◌, inl, ℕ, ◌%◌, ◌<◌, ◌≤◌, Bool, false, List, [], ◌∷◌, length, Option, Some, None, refl, ap, ◌∙◌, arith}
+use Rattle.std.specs.Prelude.{◌==◌, ◌||◌, not, is_none, slice_index}
 use Rattle.std.proofs.lemmas.Bool.{or_parts, and_parts, leb-true, eqb-true}
 use Rattle.law_prove.specs.model_device.specs.Bytes.{AreBytes}
 use Rattle.law_prove.specs.model_machine.specs.declared.instruction.Ins.{Ins}
@@ -8,14 +8,13 @@ use Rattle.law_prove.specs.model_machine.specs.declared.instruction.Ins.TheVaria
 use Rattle.law_prove.specs.model_machine.specs.declared.machine.Abend.{Abend}
 use Rattle.law_prove.specs.model_machine.specs.Modes.{ecb}
 use Rattle.law_prove.specs.model_machine.specs.Frame.{Frame, where_is, is_outside, bytes_at, frame_after_pop}
-use Rattle.law_prove.specs.model_machine.specs.Primitives.{Cipher, Des, TripleDes, Aes, Primitive, Encipher, Decipher, primitive, block_len, key_len, is_message, encipherment, decipherment, has_bit, number_below_top, later_causes, prim_causes}
+use Rattle.law_prove.specs.model_machine.specs.Primitives.{Cipher, Primitive, Encipher, Decipher, primitive, block_len, key_len, is_message, encipherment, decipherment, has_bit, number_below_top, later_causes, prim_causes}
 use Rattle.law_prove.specs.model_machine.specs.Row.{causes, first_cause}
 use Rattle.law_prove.specs.law_rows.specs.Shapes.{shape, prim_shape, pair_shape}
 use Rattle.law_prove.specs.law_bytes.proofs.CipherBytes.{message_bytes, enciphered, deciphered}
 use Rattle.law_prove.specs.law_bytes.proofs.ByteLists.{read_bytes}
 use Rattle.law_prove.specs.model_prove.specs.Keys.{Start, Delegated, OfClass}
 use Rattle.law_prove.specs.model_prove.specs.Laws.{Among}
-use Rattle.law_prove.specs.model_prove.specs.Splits.{pair_deciders, count_deciders}
 use Rattle.law_prove.specs.model_prove.specs.Work.{NoFact, pair_work}
 use Rattle.law_prove.specs.model_prove.specs.Reach.{may_have_bad_length, known_causes, pair_coarse}
 use Rattle.law_prove.specs.model_prove.specs.Steps.{arounds}
@@ -52,14 +51,7 @@ ciphered cipher c n =
     }
 
 three_same : (h : Frame) (fixed dyn : List ℕ) (most : ℕ) (v w : Numbers) (n k : ℕ) → length fixed ≡ length h.fixed → Agree most v w → 6 ≤ most → three_missed (with_bytes h fixed dyn) (v 6) (v 4) (v 2) n k ≡ three_missed h (w 6) (w 4) (w 2) n k
-three_same h fixed dyn most v w n k size a high =
-    let e : Frame = with_bytes h fixed dyn in
-    ap (λ (y : ℕ). three_missed e y (v 4) (v 2) n k) (a 6 (omega arith) high)
-    ∙ (ap (λ (y : ℕ). three_missed e (w 6) y (v 2) n k) (a 4 (omega arith) (omega (arith, high)))
-    ∙ (ap (λ (y : ℕ). three_missed e (w 6) (w 4) y n k) (a 2 (omega arith) (omega (arith, high)))
-    ∙ (ap (λ (x : Bool). x || is_outside e (w 4) n || is_outside e (w 2) k) (same_outside h fixed dyn (w 6) n size)
-    ∙ (ap (λ (x : Bool). is_outside h (w 6) n || x || is_outside e (w 2) k) (same_outside h fixed dyn (w 4) n size)
-    ∙ ap (λ (x : Bool). is_outside h (w 6) n || is_outside h (w 4) n || x) (same_outside h fixed dyn (w 2) k size)))))
+three_same h fixed dyn most v w n k size a high = grind (arith, with_bytes, same_outside)
 
 -- a cipher that keeps the length of blocks, and makes bytes of bytes
 record IsCipher (c : Cipher) (cipher : List ℕ → List ℕ → List ℕ) : Type 0 where
@@ -74,15 +66,11 @@ deciphers c = record { keeps = deciphered_blocks c; bytes = deciphered c }
 
 -- a message has at least one block, and whole blocks
 pub message_blocks : (c : Cipher) (n : ℕ) → not (is_message c n) ≡ false → (block_len c ≤ n) × (n % block_len c ≡ 0)
-message_blocks c n e =
-    let p = and_parts (nat_le (block_len c) n) (n % block_len c == 0) (not_true (is_message c n) e) in
-    (leb-true (block_len c) n p.0, eqb-true (n % block_len c) 0 p.1)
+message_blocks c n e = grind (arith, and_parts, not_true, leb-true, eqb-true)
 
 -- a block has bytes
 pub block_positive : (c : Cipher) → 1 ≤ block_len c
-block_positive Des = omega arith
-block_positive TripleDes = omega arith
-block_positive Aes = omega arith
+block_positive c = grind arith
 
 -- the three numbers of an instruction: two of the primitive, and what it is
 module _ (set number : ℕ) (args : List ℕ) where
@@ -137,24 +125,10 @@ module _ (set number : ℕ) (args : List ℕ) where
   decipher_alone c (OfClass class) e = inl refl
 
   encipher_result : (c : Cipher) → primitive set number ≡ Some (Encipher c) → IsResult i (ciphered (encipherment c) c n)
-  encipher_result c e =
-      record {
-        top = encipher_top c e;
-        task = λ v. refl;
-        places = λ f. ap (λ (z : Option Primitive). pair_deciders z args f) e;
-        later = λ f. ap (λ (z : Option Primitive). count_deciders z f) e;
-        alone = λ st. encipher_alone c st e;
-      }
+  encipher_result c e = grind (arith, encipher_top, encipher_alone)
 
   decipher_result : (c : Cipher) → primitive set number ≡ Some (Decipher c) → IsResult i (ciphered (decipherment c) c n)
-  decipher_result c e =
-      record {
-        top = decipher_top c e;
-        task = λ v. refl;
-        places = λ f. ap (λ (z : Option Primitive). pair_deciders z args f) e;
-        later = λ f. ap (λ (z : Option Primitive). count_deciders z f) e;
-        alone = λ st. decipher_alone c st e;
-      }
+  decipher_result c e = grind (arith, decipher_top, decipher_alone)
 
   -- a message through a cipher is covered
   cipher_case : (c : Cipher) (cipher : List ℕ → List ℕ → List ℕ) → IsCipher c cipher → IsResult i (ciphered cipher c n) → ChoiceCase i

@@ -1,6 +1,6 @@
 -- MEMORYCOPY: its length is on the stack beside the addresses.
 use Rattle.std.proofs.Common.{◌≡◌, ◌⊎◌, inl, inr, ℕ, suc, ◌+◌, ◌-◌, ◌*◌, ◌<◌, ◌≤◌, Bool, true, false, cond, List, [], length, Some, None, refl, sym, ap, subst, ◌∙◌, arith}
-use Rattle.std.specs.Prelude.{◌==◌, ◌&&◌, not, is_none, nat_lt, nat_le, filter}
+use Rattle.std.specs.Prelude.{◌==◌, ◌&&◌, not, is_none, nat_lt, filter}
 use Rattle.std.proofs.lemmas.Bool.{or_parts, and_parts, leb-true, lt-ltb}
 use Rattle.law_prove.specs.model_device.specs.Bytes.{AreBytes, zeros}
 use Rattle.law_prove.specs.model_machine.specs.declared.instruction.Ins.{Ins}
@@ -79,9 +79,7 @@ copy_top args =
 
 -- a count that is in range is from 1 to 255
 pub range_of : (n : ℕ) → not (in_range 1 255 n) ≡ false → (1 ≤ n) × (n ≤ 255)
-range_of n e =
-    let p = and_parts (nat_le 1 n) (nat_le n 255) (not_true (in_range 1 255 n) e) in
-    (leb-true 1 n p.0, leb-true n 255 p.1)
+range_of n e = grind (arith, and_parts, not_true, leb-true)
 
 -- if a conjunction fails while its first part holds, its second part fails
 pub second_if : (x y : Bool) → x ≡ true → (x && y) ≡ false → y ≡ false
@@ -119,10 +117,7 @@ module _ (args : List ℕ) (s : Setting) (u t : Tables) (g : Target) (loadable :
   sized = turn_sized s u loadable i turn
 
   inside : NoCause causes_here → is_none (where_is low from n) ≡ false
-  inside none =
-      let range = range_of n none.1.1.1.1.0 in
-      let missed = second_if (in_range 1 255 n) (both_missed low (number_below_top f 4) from n) (not_true (in_range 1 255 n) none.1.1.1.1.0) none.1.1.1.0 in
-      inside_of (n == 0) (is_none (where_is low from n)) (not_zero n range.0) (or_parts (is_outside low (number_below_top f 4) n) (is_outside low from n) missed).1
+  inside none = grind (arith, range_of, second_if, both_missed, not_true, inside_of, not_zero, or_parts)
 
   read : NoCause causes_here → bytes_at low turn.public from n ≡ bytes_from m from n
   read none = turn_read s u t g loadable leads i turn 6 from n (not_zero n (range_of n none.1.1.1.1.0).0) (inside none)

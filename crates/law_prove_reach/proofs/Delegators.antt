@@ -1,28 +1,28 @@
 -- The name of the delegator: of a frame that a delegation began it is written after its length; of another there is none.
 use Rattle.std.proofs.Common.{◌≡◌, ◌⊎◌, inl, inr, ℕ, ◌+◌, ◌-◌, ◌≤◌, Bool, true, false, List, [], ◌∷◌, length, Option, Some, None, refl, sym, ap, subst, ◌∙◌, arith}
-use Rattle.std.specs.Prelude.{◌&&◌, ◌==◌, not, is_none, is_some, ⊤}
+use Rattle.std.specs.Prelude.{is_some, ⊤}
 use Rattle.std.proofs.lemmas.List.{length-replicate}
 use Rattle.law_prove.specs.model_device.specs.Bytes.{AreBytes, zeros}
 use Rattle.law_prove.specs.model_machine.specs.declared.instruction.Ins.{Ins}
 use Rattle.law_prove.specs.model_machine.specs.declared.instruction.Ins.TheVariants as ins
 use Rattle.law_prove.specs.model_machine.specs.declared.machine.Abend.{Abend}
 use Rattle.law_prove.specs.model_machine.specs.declared.machine.Abend.TheVariants.{A03, A04, A06, A08, A0A}
-use Rattle.law_prove.specs.model_machine.specs.Frame.{Frame, where_is, is_outside, is_under, too_many, dynamic_end, frame_after_pop}
+use Rattle.law_prove.specs.model_machine.specs.Frame.{Frame, is_outside, is_under, too_many, dynamic_end, frame_after_pop}
 use Rattle.law_prove.specs.model_machine.specs.Primitives.{Around, Goes, DelegatorAid, has_bit, number_below_top, reported_causes, later_causes}
 use Rattle.law_prove.specs.model_machine.specs.Row.{causes, first_cause, row}
 use Rattle.law_prove.specs.law_rows.specs.Shapes.{Stays, Writes, Shape, act_effect, delegator_shape, meaning, shape, prim_shape}
-use Rattle.law_prove.specs.law_promise.specs.Outline.{Entry, BySelection, ByDelegation, FitsEntry}
+use Rattle.law_prove.specs.law_promise.specs.Outline.{Entry, FitsEntry}
 use Rattle.law_prove.specs.law_promise.specs.Domain.{IsDelegator}
 use Rattle.law_prove.specs.model_rules.specs.Rules.{Target, AppRules}
 use Rattle.law_prove.specs.model_rules.specs.Happenings.{Event}
-use Rattle.law_prove.specs.model_prove.specs.Sets.{is_in, numbers_from}
+use Rattle.law_prove.specs.model_prove.specs.Sets.{numbers_from}
 use Rattle.law_prove.specs.model_prove.specs.Keys.{Start, Delegated, OfClass, Known, Tables, calls_below}
 use Rattle.law_prove.specs.model_prove.specs.Laws.{Among}
 use Rattle.law_prove.specs.model_prove.specs.Splits.{Scene, top_places}
 use Rattle.law_prove.specs.model_prove.specs.Work.{Counted}
 use Rattle.law_prove.specs.model_prove.specs.Reach.{Leads, known_causes}
 use Rattle.law_prove.specs.model_prove.specs.Arrivals.{Setting, Arrival}
-use Rattle.law_prove.specs.model_prove.specs.Steps.{Spot, lowered, any_bytes, counted_sets, acted, with_flags, settled_spot, follows, caused, arounds, coarse_done, coarse_arrivals, coarse_around}
+use Rattle.law_prove.specs.model_prove.specs.Steps.{Spot, lowered, counted_sets, acted, with_flags, settled_spot, follows, caused, arounds, coarse_done, coarse_arrivals, coarse_around}
 use Rattle.law_prove.specs.model_prove.specs.Tables.{IsLoadable, includes_all}
 use Rattle.law_prove.specs.model_prove.proofs.SetLemmas.{is_first, is_between}
 use Rattle.law_prove.specs.Coverings.{StartsAs}
@@ -70,12 +70,7 @@ report_bytes (Some name) h names = let most : length name ≤ 16 = names.most in
 
 -- It is of the sets that a name of as many zeros leaves: its length is the same, and its bytes have no fact.
 report_fits : (o : Option (List ℕ)) → IsNamed o → IsDelegator o → FitSets (report o) (counted_sets (report (Some (zeros (size_of o)))))
-report_fits None h names = absurd h
-report_fits (Some name) h names =
-    let n : length (zeros (length name)) ≡ length name = length-replicate {A = ℕ} (length name) 0 in (
-      rw n (is_first (length name) []),
-      rw n (fit_any name names.bytes),
-    )
+report_fits o h names = grind (arith, length-replicate, is_first, fit_any)
 
 size_least : (o : Option (List ℕ)) → IsNamed o → IsDelegator o → 5 ≤ size_of o
 size_least None h names = absurd h
@@ -156,10 +151,7 @@ some_named None e = absurd (cc e)
 some_named (Some name) e = tt
 
 delegates : (r : AppRules) (e : Entry Event) (start : Start) (x : Around) → StartsAs r e start → FitsEntry e x → Delegates start x.delegator
-delegates r (BySelection bytes apdu before) (OfClass class) x starts fits = fits.1
-delegates r ByDelegation Delegated x starts fits = some_named x.delegator fits
-delegates r (BySelection bytes apdu before) Delegated x starts fits = absurd starts
-delegates r ByDelegation (OfClass class) x starts fits = absurd starts
+delegates r e start x starts fits = grind (arith, some_named)
 
 module _ (args : List ℕ) (s : Setting) (u t : Tables) (g : Target) (loadable : IsLoadable s.app) (leads : LeadsInto s u t) (turn : Turn s u (ins.Prim 0 8 args)) (names : IsDelegator turn.around.delegator) where
   abbrev i : Ins
@@ -191,21 +183,7 @@ module _ (args : List ℕ) (s : Setting) (u t : Tables) (g : Target) (loadable :
     stands_few (OfClass class) = omega arith
 
     named_ready : NoCause named_causes → Ready s u t g loadable leads i turn reporting HasName (reporting_top args) has
-    named_ready none =
-        let least = size_least turn.around.delegator has names in
-        let most = size_most turn.around.delegator names in
-        record {
-          few = omega (arith, most);
-          some = omega arith;
-          inside = inside_by n (is_none (where_is (frame_after_pop f 2) (number_below_top f 2) (1 + n))) none.1.1.1.0;
-          long = report_length turn.around.delegator has;
-          bytes = report_bytes turn.around.delegator has names;
-          length_in = is_between (1 + n) 6 12 (omega (arith, least)) (omega (arith, most));
-          stands = stands_few turn.place.start;
-        }
-      where
-        inside_by : (n : ℕ) (x : Bool) → (not (1 + n == 0) && x) ≡ false → x ≡ false
-        inside_by n x e = inside_of (1 + n == 0) x (not_zero (1 + n) (omega arith)) e
+    named_ready none = grind (arith, size_least, size_most, report_length, report_bytes, is_between, stands_few, inside_of, not_zero)
 
     named_few : Followed s u t g loadable leads i turn places (named n) → Covered
     named_few w =
@@ -271,9 +249,7 @@ module _ (args : List ℕ) (s : Setting) (u t : Tables) (g : Target) (loadable :
 
     quiet_by : (den under : Bool) (e : Frame) (p q : Spot) → includes_all t (coarse_done (first_cause ((A06, false) ∷ (A0A, den) ∷ (A04, under) ∷ [])) s i e quiet Leads p q) ≡ true
         → includes_all t (caused (first_cause ((A06, false) ∷ (A0A, den) ∷ (A04, under) ∷ [])) s i quiet Counted p q) ≡ true
-    quiet_by true under e p q h = h
-    quiet_by false true e p q h = h
-    quiet_by false false e p q h = h
+    quiet_by den under e p q h = grind arith
 
     quiet_coarse : (class : List Bool) → turn.place.start ≡ OfClass class → IsCoarse s u t g loadable leads i turn → Covered
     unfolding causes later_causes shape prim_shape
@@ -285,11 +261,7 @@ module _ (args : List ℕ) (s : Setting) (u t : Tables) (g : Target) (loadable :
         quiet_row turn.place.known quiet_seen (quiet_by (has_bit f.deny 4) (is_under f 2) (record b.frame { dt = d }) p q two)
 
     quiet_covered : (class : List Bool) → turn.place.start ≡ OfClass class → Followed s u t g loadable leads i turn places nobody ⊎ IsCoarse s u t g loadable leads i turn → Covered
-    quiet_covered class start o =
-        elim o [
-          | inl w ↦ quiet_few w
-          | inr includes ↦ quiet_coarse class start includes
-        ]
+    quiet_covered class start o = grind (arith, quiet_few, quiet_coarse)
 
   -- ---- each
 

@@ -3,21 +3,20 @@
 use Rattle.std.proofs.Common.{◌≡◌, ◌⊎◌, inl, inr, ℕ, zero, suc, ◌+◌, ◌-◌, ◌/◌, ◌%◌, ◌<◌, ◌≤◌, Bool, true, false, cond, List, [], ◌∷◌, ◌++◌, length, Option, Some, None, refl, sym, ap, subst, ◌∙◌, arith}
 use Rattle.std.specs.Prelude.{◌&&◌, ◌||◌, ◌==◌, not, is_none, nat_lt, nat_le, map}
 use Rattle.std.proofs.lemmas.Bool.{and_from, and_parts, or_left, or_right, or_parts, or_cases, eqb-true, eqb-false, le-leb, ltb-true, ltb-false, false_from_ne_true}
-use Rattle.law_prove.specs.model_device.specs.Bytes.{AreBytes, num}
+use Rattle.law_prove.specs.model_device.specs.Bytes.{AreBytes}
 use Rattle.law_prove.specs.model_machine.specs.Frame.{Frame, Effect, where_is, is_outside, dynamic_base}
 use Rattle.law_prove.specs.law_rows.specs.Shapes.{Writes, act_effect}
 use Rattle.law_prove.specs.model_rules.specs.Keeping.{Amounts}
 use Rattle.law_prove.specs.model_prove.specs.Sets.{Set, is_in}
 use Rattle.law_prove.specs.model_prove.specs.Facts.{Facts, Memory, Holds, know_all}
-use Rattle.law_prove.specs.model_prove.specs.Compares.{Compare, NoCompare, Bounds, Ordered, meet, bytes_from, has_order, IsSo}
+use Rattle.law_prove.specs.model_prove.specs.Compares.{Compare, NoCompare, Bounds, Ordered, meet, bytes_from, IsSo}
 use Rattle.law_prove.specs.model_prove.specs.Keys.{Start, Call, Known, calls_after_write}
 use Rattle.law_prove.specs.model_prove.specs.Laws.{Among}
 use Rattle.law_prove.specs.model_prove.specs.Reach.{Reach, is_reached_within, is_reached_by, is_reached, some_reached, facts_not_reached, compare_not_reached, calls_hit}
 use Rattle.law_prove.specs.model_prove.specs.Arrivals.{Setting, static_size}
 use Rattle.law_prove.specs.model_prove.specs.Steps.{any_bytes, acted, makes_write, reached_spot}
 use Rattle.law_prove.specs.model_prove.proofs.SetLemmas.{is_first}
-use Rattle.law_prove.specs.Coverings.{frame_memory, AreOpen}
-use Rattle.law_prove.proofs.Spots.{place_key}
+use Rattle.law_prove.specs.Coverings.{frame_memory}
 use Rattle.law_prove.proofs.Seen.{Seen, fit_any, fit_length}
 use Rattle.law_prove.proofs.Acts.{spot_of, Framed, WritesIf, Led, writes_led}
 use Rattle.law_prove.proofs.Blocks.{among_mapped, among_right}
@@ -31,10 +30,7 @@ within_by f r n a i d true e high low inside less rest =
     let start : a + i - d ≡ a = omega (arith, is) in
     let x = a + i in
     let test : ℕ → Bool = λ (y : ℕ). nat_le d x && is_in (y / 256) r.high && is_in (y % 256) r.low && not (is_outside f y n) in
-    let holds : test a ≡ true =
-    and_from (nat_le d x && is_in (a / 256) r.high && is_in (a % 256) r.low) (not (is_outside f a n))
-    (and_from (nat_le d x && is_in (a / 256) r.high) (is_in (a % 256) r.low) (and_from (nat_le d x) (is_in (a / 256) r.high) (le-leb d x (omega (arith, is))) high) low) (ap not inside)
-    in
+    let holds : test a ≡ true = grind (arith, and_from, le-leb) in
     or_left (test (x - d)) (is_reached_within f r n x d) (rw start holds)
 within_by f r n a i d false e high low inside less rest =
     let other = eqb-false i d e in
@@ -204,12 +200,7 @@ module _ (s : Setting) (small : static_size s ≤ dynamic_base) (st : Start) (al
       let same : (x : ℕ) → is_reached e r x ≡ false → m x ≡ l x = λ x none. beside_stays calls k seen x (not_within e r a (length b) x all none) in
       record {
         key = rw (← count) led.key;
-        seen = record {
-          open_calls = rw (← count) led.seen.open_calls;
-          holds = unreached_holds e r k.bytes m l same seen.holds;
-          compares = unreached_so e r k.compare m l same seen.compares;
-          keeps = led.seen.keeps;
-        };
+        seen = grind (arith, unreached_holds, unreached_so);
         framed = led.framed;
         writes = writes_if after.changes (makes_write s f.protected (Writes a n b)) w makes led.writes;
       }

@@ -1,5 +1,5 @@
 -- Rows whose result has no fact, and the digest.
-use Rattle.std.proofs.Common.{◌≡◌, ◌⊎◌, inl, inr, ℕ, Bool, true, false, List, [], ◌∷◌, length, Some, None, refl, ap, subst, ◌∙◌, arith}
+use Rattle.std.proofs.Common.{◌≡◌, ◌⊎◌, inl, inr, ℕ, Bool, true, false, List, [], ◌∷◌, length, Some, None, refl, ap, ◌∙◌, arith}
 use Rattle.std.specs.Prelude.{◌||◌, ◌&&◌, not}
 use Rattle.std.proofs.lemmas.Bool.{or_parts}
 use Rattle.sha1.specs.Sha1.{sha1}
@@ -91,9 +91,7 @@ digest =
 
 digest_missed : (h : Frame) (fixed dyn : List ℕ) (a b n c : ℕ) → length fixed ≡ length h.fixed
     → ((in_range 1 255 n && is_outside (with_bytes h fixed dyn) a n) || is_outside (with_bytes h fixed dyn) b c) ≡ ((in_range 1 255 n && is_outside h a n) || is_outside h b c)
-digest_missed h fixed dyn a b n c size =
-    ap (λ (x : Bool). (in_range 1 255 n && x) || is_outside (with_bytes h fixed dyn) b c) (same_outside h fixed dyn a n size)
-    ∙ ap (λ (x : Bool). (in_range 1 255 n && is_outside h a n) || x) (same_outside h fixed dyn b c size)
+digest_missed h fixed dyn a b n c size = grind (arith, with_bytes, same_outside)
 
 digest_top : (args : List ℕ) → IsTop (ins.Prim 0 9 args) digest anybody
 unfolding causes shape later_causes prim_shape

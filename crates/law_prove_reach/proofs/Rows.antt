@@ -39,11 +39,7 @@ use Rattle.law_prove.proofs.Blocks.{among_mapped}
 pub one_led : (s : Setting) (t : Tables) (i : Ins) (d : ℕ) (a : Act) (fl : Option (Bool × Bool)) (w : Work) (ss : List Set) (p q : Spot) → spots s (going d a fl) w q ≡ with_flags fl (acted s a ss (lowered d q)) ∷ []
     → includes_all t (row_arrivals false s i (going d a fl) w p q) ≡ true
     → includes_all t (follows s i (makes_write s p.key.protected a) Goes p (settled_spot s (with_flags fl (acted s a ss (lowered d q))))) ≡ true
-one_led s t i d a fl w ss p q leads includes =
-    let next : Spot → List Arrival = λ r. follows s i (makes_write s p.key.protected a) Goes p (settled_spot s r) in
-    let one : List Arrival = next (with_flags fl (acted s a ss (lowered d q))) in
-    let stop : List Arrival = cond (may_wait_too_long s p.key.protected a) (fails s p.key p.known A08) [] in
-    included_first t one [] (included_second t stop (one ++ []) (subst (λ (rs : List Spot). includes_all t (stop ++ flat_map next rs) ≡ true) leads includes))
+one_led s t i d a fl w ss p q leads includes = grind (arith, included_first, included_second)
 
 -- the causes that a key decides
 abbrev pub known_of : Bool → Bool → Bool → Bool → List (Abend × Bool)
@@ -225,10 +221,7 @@ module _ (s : Setting) (u t : Tables) (g : Target) (loadable : IsLoadable s.app)
       abends_with A08 (subst (λ (x : Bool). includes_all t (cond x (fails s before.key before.known A08) []) ≡ true) all (included_first t (waits_after d r) rest includes))
 
   reached_makes : (r : Reach) (was : Bool) (d to n : ℕ) (b : List ℕ) → IsReached r was d to n b → makes_write s turn.frame.protected (Writes to n b) ≡ true → (static d r && not turn.frame.protected) ≡ true
-  reached_makes r was d to n b is makes =
-      let p = not turn.frame.protected in
-      let both = and_parts p (nat_lt to (static_size s)) makes in
-      and_from (static d r) p (reached_static d r was to n b is both.1) both.0
+  reached_makes r was d to n b is makes = grind (arith, and_parts, and_from, reached_static)
 
   done_row : (r : Reach) (was : Bool) (d to n : ℕ) (b : List ℕ) (fl : Option (Bool × Bool)) → shape i (fetched_frame s u t g loadable leads i turn) turn.public turn.around ≡ going d (Writes to n b) fl → IsReached r was d to n b
       → includes_all t (places_after d fl r) ≡ true → IsRowCovered s u t g loadable leads i turn (Does (meaning (going d (Writes to n b) fl) (fetched_frame s u t g loadable leads i turn) turn.public))
@@ -271,14 +264,7 @@ module _ (s : Setting) (u t : Tables) (g : Target) (loadable : IsLoadable s.app)
       → shape i (fetched_frame s u t g loadable leads i turn) turn.public turn.around ≡ going d (Writes to n b) fl → (range ≡ true → bad ≡ true)
       → (arg ≡ false → den ≡ false → under ≡ false → missed ≡ false → range ≡ false → IsReached r was d to n b)
       → IsRowCovered s u t g loadable leads i turn (row_end (first_cause (causes_of arg den under missed range (too_many (low d) to n))) (meaning (going d (Writes to n b) fl) (fetched_frame s u t g loadable leads i turn) turn.public))
-  coarse_by bad true den under missed range r was d to n a0 b fl miss length_bad includes shaped lengths reached = abends_with A06 includes
-  coarse_by bad false true under missed range r was d to n a0 b fl miss length_bad includes shaped lengths reached = abends_with A0A includes
-  coarse_by bad false false true missed range r was d to n a0 b fl miss length_bad includes shaped lengths reached = abends_with A04 includes
-  coarse_by bad false false false true range r was d to n a0 b fl miss length_bad includes shaped lengths reached = abends_with A03 miss
-  coarse_by bad false false false false true r was d to n a0 b fl miss length_bad includes shaped lengths reached =
-      abends_with A06 (subst (λ (x : Bool). includes_all t (cond x (fails s before.key before.known A06) []) ≡ true) (lengths refl) length_bad)
-  coarse_by bad false false false false false r was d to n a0 b fl miss length_bad includes shaped lengths reached =
-      limit_by (too_many (low d) to n) r was d to n a0 b fl refl shaped (reached refl refl refl refl refl) includes
+  coarse_by bad arg den under missed range r was d to n a0 b fl miss length_bad includes shaped lengths reached = grind (arith, abends_with, limit_by, low)
 
   -- A row of too many choices that writes within a reach: 03 and 06 may be, the other causes are those of the key, and a
   -- write within the reach leads on.

@@ -1,6 +1,6 @@
 -- Scenes with the values of a choice: its registers stay, and each byte of the choice that lies in a segment is the one
 -- that it has in the memory.
-use Rattle.std.proofs.Common.{◌≡◌, ◌⊎◌, inl, inr, ℕ, suc, ◌+◌, ◌-◌, ◌*◌, ◌<◌, ◌≤◌, Bool, true, false, cond, List, [], ◌∷◌, length, ℤ, Option, Some, None, refl, sym, ap, subst, ◌∙◌, arith}
+use Rattle.std.proofs.Common.{◌≡◌, ◌⊎◌, inl, inr, ℕ, suc, ◌+◌, ◌-◌, ◌*◌, ◌<◌, ◌≤◌, Bool, true, false, cond, List, [], ◌∷◌, length, ℤ, Option, Some, None, refl, sym, ap, ◌∙◌, arith}
 use Rattle.std.specs.Prelude.{◌&&◌, ◌==◌, not, is_none, nat_lt, nat_le, filter, slice_index}
 use Rattle.std.specs.List.{AllByRecursion}
 use Rattle.std.proofs.lemmas.Bool.{and_from, eqb-true, eqb-false, le-leb, lt-ltb, ltb-true, ltb-false, false_from_ne_true}
@@ -57,12 +57,7 @@ same_operand f fixed dyn tag off k size = ap (λ (r : ℕ). cond (tag == 0) (Som
 
 -- so is the place of an access
 pub same_where : (f : Frame) (fixed dyn : List ℕ) (a n : ℕ) → length fixed ≡ length f.fixed → where_is (with_bytes f fixed dyn) a n ≡ where_is f a n
-same_where f fixed dyn a n size =
-    ap (λ (m : ℕ). cond (nat_le (a + n) m) (Some (Static a)) (
-    cond (nat_le dynamic_base a && nat_le (a + n) f.dt) (Some (Dynamic (a - dynamic_base))) (
-    cond (nat_le public_base a && nat_le (a + n) public_end) (Some (Public (a - public_base))) None
-    )
-    )) size
+same_where f fixed dyn a n size = grind arith
 
 -- whether an access is outside of the segments
 pub same_outside : (f : Frame) (fixed dyn : List ℕ) (a n : ℕ) → length fixed ≡ length f.fixed → is_outside (with_bytes f fixed dyn) a n ≡ is_outside f a n
@@ -272,10 +267,7 @@ pair_in m a = num (bytes_from m a 2)
 
 -- it is its first byte times 256, and its second
 pub pair_is : (m : Memory) (a : ℕ) → pair_in m a ≡ m a * 256 + m (suc a)
-pair_is m a = of (m a) (m (suc a))
-  where
-    of : (x y : ℕ) → num (x ∷ y ∷ []) ≡ x * 256 + y
-    of x y = omega arith
+pair_is m a = grind arith
 
 -- two memories with the same two bytes
 pub same_pair : (m k : Memory) (a : ℕ) → m a ≡ k a → m (suc a) ≡ k (suc a) → pair_in m a ≡ pair_in k a
@@ -308,15 +300,10 @@ some_first true y z p q r e = refl
 some_first false y z p q r e = absurd (cc e)
 
 some_second : (x y z : Bool) (p q r : Place) → y ≡ true → is_none (cond x (Some p) (cond y (Some q) (cond z (Some r) None))) ≡ false
-some_second true y z p q r e = refl
-some_second false true z p q r e = refl
-some_second false false z p q r e = absurd (cc e)
+some_second x y z p q r e = grind arith
 
 some_third : (x y z : Bool) (p q r : Place) → z ≡ true → is_none (cond x (Some p) (cond y (Some q) (cond z (Some r) None))) ≡ false
-some_third true y z p q r e = refl
-some_third false true z p q r e = refl
-some_third false false true p q r e = refl
-some_third false false false p q r e = absurd (cc e)
+some_third x y z p q r e = grind arith
 
 part_at : (f : Frame) (a n x k : ℕ) (p : Place) → LiesIn f a n p → a ≤ x → x + k ≤ a + n → is_none (where_is f x k) ≡ false
 part_at f a n x k (Static i) lies low high =
@@ -344,6 +331,4 @@ part_inside f a n x k some low high = part_by f a n x k (where_is f a n) refl so
 
 -- bytes of the stack below DT are in a segment
 pub stack_inside : (f : Frame) (a : ℕ) → dynamic_base ≤ a → a < f.dt → is_outside f a 1 ≡ false
-stack_inside f a low high =
-    let at : a ≡ dynamic_base + (a - dynamic_base) = omega (arith, low) in
-    part_at f a 1 a 1 (Dynamic (a - dynamic_base)) (at, omega (arith, high)) (omega arith) (omega arith)
+stack_inside f a low high = grind (arith, part_at)

@@ -1,5 +1,5 @@
 -- A signature: the last block of a message in a chain from a start block; and the law of all results without a fact.
-use Rattle.std.proofs.Common.{◌≡◌, inl, ℕ, ◌≤◌, Bool, false, List, [], ◌∷◌, length, Option, Some, None, refl, sym, ap, subst, ◌∙◌, arith}
+use Rattle.std.proofs.Common.{◌≡◌, inl, ℕ, ◌≤◌, Bool, false, List, [], ◌∷◌, length, Option, Some, None, refl, ap, ◌∙◌, arith}
 use Rattle.std.specs.Prelude.{◌==◌, ◌||◌, not, is_none, slice_index}
 use Rattle.std.proofs.lemmas.Bool.{or_parts}
 use Rattle.law_prove.specs.model_device.specs.Bytes.{AreBytes}
@@ -14,7 +14,7 @@ use Rattle.law_prove.specs.law_bytes.proofs.CipherBytes.{signed}
 use Rattle.law_prove.specs.law_bytes.proofs.ByteLists.{read_bytes}
 use Rattle.law_prove.specs.model_prove.specs.Keys.{Start, Delegated, OfClass}
 use Rattle.law_prove.specs.model_prove.specs.Laws.{Among}
-use Rattle.law_prove.specs.model_prove.specs.Splits.{pair_deciders, count_deciders}
+use Rattle.law_prove.specs.model_prove.specs.Splits.{count_deciders}
 use Rattle.law_prove.specs.model_prove.specs.Work.{NoFact, pair_work}
 use Rattle.law_prove.specs.model_prove.specs.Reach.{may_have_bad_length, known_causes, pair_coarse}
 use Rattle.law_prove.specs.model_prove.specs.Steps.{arounds}
@@ -54,22 +54,11 @@ signing c n =
 
 four_same : (h : Frame) (fixed dyn : List ℕ) (v w : Numbers) (m n k : ℕ) → length fixed ≡ length h.fixed → Agree 8 v w
     → four_missed (with_bytes h fixed dyn) (v 8) (v 6) (v 4) (v 2) m n k ≡ four_missed h (w 8) (w 6) (w 4) (w 2) m n k
-four_same h fixed dyn v w m n k size a =
-    let e : Frame = with_bytes h fixed dyn in
-    ap (λ (y : ℕ). four_missed e y (v 6) (v 4) (v 2) m n k) (a 8 (omega arith) (omega arith))
-    ∙ (ap (λ (y : ℕ). four_missed e (w 8) y (v 4) (v 2) m n k) (a 6 (omega arith) (omega arith))
-    ∙ (ap (λ (y : ℕ). four_missed e (w 8) (w 6) y (v 2) m n k) (a 4 (omega arith) (omega arith))
-    ∙ (ap (λ (y : ℕ). four_missed e (w 8) (w 6) (w 4) y m n k) (a 2 (omega arith) (omega arith))
-    ∙ (ap (λ (x : Bool). x || is_outside e (w 6) n || is_outside e (w 4) m || is_outside e (w 2) k) (same_outside h fixed dyn (w 8) m size)
-    ∙ (ap (λ (x : Bool). is_outside h (w 8) m || x || is_outside e (w 4) m || is_outside e (w 2) k) (same_outside h fixed dyn (w 6) n size)
-    ∙ (ap (λ (x : Bool). is_outside h (w 8) m || is_outside h (w 6) n || x || is_outside e (w 2) k) (same_outside h fixed dyn (w 4) m size)
-    ∙ ap (λ (x : Bool). is_outside h (w 8) m || is_outside h (w 6) n || is_outside h (w 4) m || x) (same_outside h fixed dyn (w 2) k size)))))))
+four_same h fixed dyn v w m n k size a = grind (arith, with_bytes, same_outside)
 
 -- no block is too long
 block_few : (c : Cipher) → block_len c ≤ 256
-block_few Des = omega arith
-block_few TripleDes = omega arith
-block_few Aes = omega arith
+block_few c = grind arith
 
 module _ (set number : ℕ) (args : List ℕ) (c : Cipher) (e : primitive set number ≡ Some (Sign c)) where
   abbrev i : Ins
@@ -101,14 +90,7 @@ module _ (set number : ℕ) (args : List ℕ) (c : Cipher) (e : primitive set nu
   sign_alone (OfClass class) = inl refl
 
   sign_result : IsResult i (signing c n)
-  sign_result =
-      record {
-        top = sign_top;
-        task = λ v. refl;
-        places = λ f. ap (λ (z : Option Primitive). pair_deciders z args f) e;
-        later = λ f. ap (λ (z : Option Primitive). count_deciders z f) e;
-        alone = sign_alone;
-      }
+  sign_result = grind (arith, sign_top, sign_alone)
 
   -- a signature is covered
   sign_case : ChoiceCase i

@@ -2,7 +2,7 @@
 use Rattle.std.proofs.Common.{◌≡◌, ◌⊎◌, inl, inr, ℕ, suc, ◌+◌, ◌-◌, ◌*◌, ◌/◌, ◌%◌, ◌<◌, ◌≤◌, Bool, true, false, cond, List, [], ◌∷◌, length, ℤ, Option, Some, None, refl, sym, ap, subst, ◌∙◌, arith}
 use Rattle.std.specs.Prelude.{◌==◌, ◌||◌, is_none}
 use Rattle.std.proofs.lemmas.Bool.{or_parts}
-use Rattle.law_prove.specs.model_device.specs.Bytes.{AreBytes, zeros}
+use Rattle.law_prove.specs.model_device.specs.Bytes.{zeros}
 use Rattle.law_prove.specs.model_machine.specs.declared.instruction.Ins.{Ins}
 use Rattle.law_prove.specs.model_machine.specs.declared.instruction.Ins.TheVariants as ins
 use Rattle.law_prove.specs.model_machine.specs.declared.machine.Abend.{Abend}
@@ -11,8 +11,7 @@ use Rattle.law_prove.specs.model_machine.specs.Frame.{Frame, where_is, is_outsid
 use Rattle.law_prove.specs.model_machine.specs.Row.{causes, operand, address_or_zero, on_stack, first_cause, row}
 use Rattle.law_prove.specs.law_rows.specs.Shapes.{Writes, shape}
 use Rattle.law_prove.specs.model_rules.specs.Rules.{Target}
-use Rattle.law_prove.specs.model_prove.specs.Sets.{is_in}
-use Rattle.law_prove.specs.model_prove.specs.Facts.{Memory, values_at}
+use Rattle.law_prove.specs.model_prove.specs.Facts.{Memory}
 use Rattle.law_prove.specs.model_prove.specs.Compares.{bytes_from}
 use Rattle.law_prove.specs.model_prove.specs.Keys.{Start, Delegated, OfClass, Tables}
 use Rattle.law_prove.specs.model_prove.specs.Laws.{Among}
@@ -36,7 +35,7 @@ use Rattle.law_prove_reach.proofs.Scenes.{with_bytes, fits_sized, same_operand, 
 use Rattle.law_prove_reach.proofs.Reached.{is_within}
 use Rattle.law_prove_reach.proofs.Choices.{fetched_frame, memory, base, base_fits, Followed, IsCoarse, few_or_many, ChoiceCase, law_by}
 use Rattle.law_prove_reach.proofs.Accesses.{inside_of, bytes_of}
-use Rattle.law_prove_reach.proofs.Rows.{chosen_there, copied_row, IsCopied, IsReached, Outcomes, known_of, coarse_row}
+use Rattle.law_prove_reach.proofs.Rows.{chosen_there, copied_row, IsCopied, IsReached, coarse_row}
 
 -- one of two bools, if the first is false
 or_same : (b x y : Bool) → (b ≡ false → x ≡ y) → (b || x) ≡ (b || y)

@@ -13,7 +13,7 @@ use Rattle.law_prove.specs.model_machine.specs.Row.{causes, first_cause, row}
 use Rattle.law_prove.specs.law_rows.specs.Shapes.{Act, Writes, Shape, shape}
 use Rattle.law_prove.specs.model_rules.specs.Rules.{Target}
 use Rattle.law_prove.specs.model_prove.specs.Sets.{Set, is_in, numbers_from}
-use Rattle.law_prove.specs.model_prove.specs.Facts.{Facts, Memory, values_at, values_from}
+use Rattle.law_prove.specs.model_prove.specs.Facts.{Facts, Memory, values_from}
 use Rattle.law_prove.specs.model_prove.specs.Compares.{bytes_from}
 use Rattle.law_prove.specs.model_prove.specs.Keys.{Tables}
 use Rattle.law_prove.specs.model_prove.specs.Laws.{Among}
