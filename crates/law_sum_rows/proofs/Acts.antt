@@ -1,10 +1,10 @@
 -- What is known for sums holds after each act of a row: it goes with the bytes that are pushed, returned or written, and
 -- with what a change of protection leaves.
 use Rattle.std.proofs.Common.{◌≡◌, ℕ, ◌+◌, ◌-◌, ◌≤◌, Bool, true, false, cond, List, [], ◌∷◌, ◌++◌, length, Option, Some, None, refl, sym, ap, subst, ◌∙◌, arith}
-use Rattle.std.specs.Prelude.{not, ◌&&◌, ◌||◌, ◌==◌, nat_lt, nat_le, slice_index, is_none, ⊤}
+use Rattle.std.specs.Prelude.{not, ◌&&◌, ◌||◌, ◌==◌, nat_le, is_none, ⊤}
 use Rattle.law_sums.specs.model_device.specs.Bytes.{bytes2, splice}
 use Rattle.law_sums.specs.model_device.proofs.ListLemmas.{splice_longer}
-use Rattle.law_sums.specs.model_machine.specs.Frame.{Frame, Effect, where_is, dynamic_base, dynamic_end, public_base, static_bytes, top, pending_change}
+use Rattle.law_sums.specs.model_machine.specs.Frame.{Frame, Effect, where_is, dynamic_base, dynamic_end, static_bytes, top, pending_change}
 use Rattle.law_sums.specs.model_machine.specs.Chain.{frame_at}
 use Rattle.law_sums.specs.law_rows.specs.Shapes.{Act, Stays, Answers, Jumps, Calls, Returns, Pushes, Replaces, Writes, Protects, with_status, with_length, act_effect}
 use Rattle.law_sums.specs.law_rows.proofs.Keeping.{length_laid}
@@ -117,10 +117,7 @@ module _ (ts : List Total) (first : List ℕ) (sums kept : List Sum) (st : Start
 
     still_whole : (sw : Option ℕ) → 1041 ≤ length (with_status sw public)
     still_whole None = w.sized.whole
-    still_whole (Some sw) =
-        let whole : 1041 ≤ length public = w.sized.whole in
-        let longer : length public ≤ length (splice public 1039 (bytes2 sw)) = splice_longer public 1039 (bytes2 sw) in
-        omega (arith, whole, longer)
+    still_whole (Some sw) = grind (arith, w.sized.whole, splice_longer public 1039 (bytes2 sw))
 
     -- ---- the stack
 
@@ -164,12 +161,7 @@ module _ (ts : List Total) (first : List ℕ) (sums kept : List Sum) (st : Start
 
     -- static bytes do not matter above them
     above_static : (size : ℕ) (s t : List ℕ) (x : ℕ) → size ≤ dynamic_base → dynamic_base ≤ x → parts_memory size s f.dyn public x ≡ parts_memory size t f.dyn public x
-    above_static size s t x small low =
-        let v = slice_index f.dyn (x - dynamic_base) in
-        let y = slice_index public (x - public_base) in
-        let rest = cond (nat_lt x dynamic_base) 0 (cond (nat_lt x public_base) v y) in
-        let e : nat_lt x size ≡ false = not_lt x size (omega (arith, small, low)) in
-        ap (λ (b : Bool). cond b (slice_index s x) rest) e ∙ sym (ap (λ (b : Bool). cond b (slice_index t x) rest) e)
+    above_static size s t x small low = grind (arith, not_lt)
 
     protected_by : (b p : Bool) (on : Bool) (u : Sums) → f.protected ≡ p → TotalsHold bare kept ts → Holds ts u first before sums
         → let e : Effect = cond {A = Effect} b (record { frame = record lower { fixed = static_bytes lower; pieces = []; protected = on }; public = public; changes = pending_change lower f.pieces }) (record { frame = record lower { pieces = []; protected = on }; public = public; changes = None }) in
@@ -185,10 +177,7 @@ module _ (ts : List Total) (first : List ℕ) (sums kept : List Sum) (st : Start
         stays false h = h
     protected_by false true on u is totals h =
         dropped_holds ts u first before bare sums kept (λ x low. above_static (length f.fixed) (static_bytes lower) f.fixed x w.sized.small low) totals h
-    protected_by false false on u is totals h =
-        let none : f.pieces ≡ [] = w.settled is in
-        let same : (x : ℕ) → before x ≡ bare x = λ x. ap (λ (ps : List (ℕ × List ℕ)). frame_memory (record lower { pieces = ps }) public x) none in
-        same_holds ts u first before bare sums same h
+    protected_by false false on u is totals h = grind (arith, same_holds)
 
     -- ---- all acts
 

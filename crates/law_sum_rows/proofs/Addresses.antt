@@ -1,5 +1,5 @@
 -- Rows whose address bytes of the memory decide: LOADI, STOREI and INDEX; and numbers of the stack.
-use Rattle.std.proofs.Common.{◌≡◌, inl, inr, ℕ, suc, ◌+◌, ◌-◌, ◌*◌, ◌/◌, ◌%◌, ◌<◌, ◌≤◌, Bool, true, false, cond, List, [], ◌∷◌, length, ℤ, Option, Some, None, refl, sym, ap, subst, ◌∙◌, arith}
+use Rattle.std.proofs.Common.{◌≡◌, inl, inr, ℕ, suc, ◌+◌, ◌-◌, ◌*◌, ◌/◌, ◌%◌, ◌<◌, ◌≤◌, Bool, true, false, cond, List, [], ◌∷◌, length, ℤ, Option, None, refl, sym, ap, subst, ◌∙◌, arith}
 use Rattle.std.specs.Prelude.{◌==◌, is_none}
 use Rattle.std.proofs.lemmas.Bool.{or_parts}
 use Rattle.law_sums.specs.model_device.specs.Bytes.{bytes2, zeros}
@@ -19,7 +19,7 @@ use Rattle.law_sums.specs.model_prove.specs.Reach.{reach_at}
 use Rattle.law_sums.specs.model_prove.specs.Arrivals.{Setting}
 use Rattle.law_sums.specs.model_prove.proofs.FactLemmas.{value_holds}
 use Rattle.law_sums.specs.model_prove.proofs.SetLemmas.{is_first}
-use Rattle.law_prove_reach.specs.law_prove.specs.Coverings.{parts_memory, frame_memory}
+use Rattle.law_prove_reach.specs.law_prove.specs.Coverings.{frame_memory}
 use Rattle.law_prove_reach.specs.law_prove.proofs.Alike.{from_length, read_is, top_is}
 use Rattle.law_prove_reach.specs.law_prove.proofs.Plain.{above, over_is}
 use Rattle.law_prove_reach.specs.law_prove.proofs.Turns.{nobody}
@@ -45,9 +45,7 @@ module _ (i : Ins) (s : Setting) (t : Tables) (u : SumsTable) (step : Step s t u
 
   -- deciding bytes of a scene are those of the memory
   agreed : (places : List ℕ) (x : Around) (o : Found s t u i step places x) (b : ℕ) → Among b places → is_outside f b 1 ≡ false → frame_memory (with_bytes f o.fixed o.dyn) o.public b ≡ m b
-  agreed places x o b among low =
-      let size : length o.fixed ≡ length step.frame.fixed = o.fits.size in
-      ap (λ (j : ℕ). parts_memory j o.fixed o.dyn o.public b) size ∙ o.agrees b among low
+  agreed places x o b among low = grind arith
 
   -- the address that an operand has is the same in the scene
   pub address_same : (tag : ℕ) (off : ℤ) (k : ℕ) (x : Around) (o : Found s t u i step (places_from (operand (base s t u i step).frame tag off k) 2) x) → no_access f (operand f tag off k) 2 ≡ false
@@ -60,9 +58,7 @@ module _ (i : Ins) (s : Setting) (t : Tables) (u : SumsTable) (step : Step s t u
       let places : places_from (operand (base s t u i step).frame tag off k) 2 ≡ at ∷ suc at ∷ [] =
       ap (λ (z : Option ℕ). places_from z 2) (same_operand f (zeros (length step.frame.fixed)) (stand_in_stack step.place.calls) tag off k (base_fits s t u i step).size ∙ (access_of f w access).0)
       in
-      let one : (b : ℕ) → Among b (at ∷ suc at ∷ []) → is_outside f b 1 ≡ false → frame_memory e o.public b ≡ m b =
-      λ b among low. agreed (places_from (operand (base s t u i step).frame tag off k) 2) x o b (subst (λ (l : List ℕ). Among b l) (sym places) among) low
-      in
+      let one : (b : ℕ) → Among b (at ∷ suc at ∷ []) → is_outside f b 1 ≡ false → frame_memory e o.public b ≡ m b = grind (arith, agreed, base) in
       let first : frame_memory e o.public at ≡ m at = one at (inl refl) (part_inside f at 2 at 1 inside (omega arith) (omega arith)) in
       let second : frame_memory e o.public (suc at) ≡ m (suc at) = one (suc at) (inr (inl refl)) (part_inside f at 2 (suc at) 1 inside (omega arith) (omega arith)) in
       ap (λ (z : Option ℕ). address_at e o.public (address_or_zero z)) (same_operand f o.fixed o.dyn tag off k o.fits.size)

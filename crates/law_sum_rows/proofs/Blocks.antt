@@ -1,17 +1,17 @@
 -- Copies between addresses of the stack, the digest and the ciphers.
-use Rattle.std.proofs.Common.{◌≡◌, ℕ, suc, ◌+◌, ◌-◌, ◌*◌, ◌%◌, ◌<◌, ◌≤◌, Bool, true, false, cond, List, [], ◌∷◌, length, Some, refl, sym, ap, subst, ◌∙◌, arith}
-use Rattle.std.specs.Prelude.{◌==◌, ◌&&◌, ◌||◌, not, nat_lt, nat_le, slice_index, filter, is_none}
-use Rattle.std.proofs.lemmas.Bool.{or_parts, and_parts, leb-true, lt-ltb, eqb-true}
+use Rattle.std.proofs.Common.{◌≡◌, ℕ, suc, ◌+◌, ◌-◌, ◌*◌, ◌%◌, ◌<◌, ◌≤◌, Bool, true, false, List, [], ◌∷◌, length, Some, refl, sym, ap, subst, ◌∙◌, arith}
+use Rattle.std.specs.Prelude.{◌==◌, ◌&&◌, ◌||◌, not, nat_lt, slice_index, is_none}
+use Rattle.std.proofs.lemmas.Bool.{or_parts, lt-ltb}
 use Rattle.sha1.specs.Sha1.{sha1}
 use Rattle.law_sums.specs.model_machine.specs.declared.instruction.Ins.{Ins}
 use Rattle.law_sums.specs.model_machine.specs.declared.instruction.Ins.TheVariants as ins
 use Rattle.law_sums.specs.model_machine.specs.Modes.{ecb}
 use Rattle.law_sums.specs.model_machine.specs.Frame.{Frame, where_is, is_outside, bytes_at, is_under, dynamic_base, dynamic_end, frame_after_pop}
-use Rattle.law_sums.specs.model_machine.specs.Primitives.{Around, Cipher, Des, TripleDes, Aes, MemoryCopy, CopyFixed, Digest, later_causes, number_below_top, in_range, is_message, block_len, key_len, signature}
+use Rattle.law_sums.specs.model_machine.specs.Primitives.{Around, Cipher, MemoryCopy, CopyFixed, Digest, later_causes, number_below_top, in_range, is_message, block_len, key_len, signature}
 use Rattle.law_sums.specs.model_machine.specs.Row.{causes}
 use Rattle.law_sums.specs.law_rows.specs.Shapes.{shape, prim_shape}
 use Rattle.law_sums.specs.law_machine.proofs.BlockLengths.{length_sha1}
-use Rattle.law_sums.specs.model_prove.specs.Sets.{Set, is_in}
+use Rattle.law_sums.specs.model_prove.specs.Sets.{is_in}
 use Rattle.law_sums.specs.model_prove.specs.Facts.{Facts, Memory, values_at}
 use Rattle.law_sums.specs.model_prove.specs.Compares.{bytes_from}
 use Rattle.law_sums.specs.model_prove.specs.Keys.{Tables}
@@ -42,9 +42,7 @@ low_sized f public k z = let high : f.dt ≤ dynamic_end = z.high in record { sm
 -- bytes of a segment are read as many as are asked for
 low_read : (s : Setting) (t : Tables) (u : SumsTable) (i : Ins) (step : Step s t u i) (k a n : ℕ) → (n == 0) ≡ false → is_outside (frame_after_pop (fetched s t u i step) k) a n ≡ false
     → bytes_at (frame_after_pop (fetched s t u i step) k) step.public a n ≡ bytes_from (memory s t u i step) a n
-low_read s t u i step k a n some inside =
-    let g : Frame = frame_after_pop (fetched s t u i step) k in
-    read_is g step.public a n (low_sized (fetched s t u i step) step.public k (sized s t u i step)) some (inside_of (n == 0) (is_none (where_is g a n)) some inside)
+low_read s t u i step k a n some inside = grind (arith, fetched, read_is, low_sized, sized, inside_of)
 
 low_count : (s : Setting) (t : Tables) (u : SumsTable) (i : Ins) (step : Step s t u i) (k a n : ℕ) → (n == 0) ≡ false → is_outside (frame_after_pop (fetched s t u i step) k) a n ≡ false
     → length (bytes_at (frame_after_pop (fetched s t u i step) k) step.public a n) ≡ n
@@ -95,10 +93,7 @@ module _ (i : Ins) (pops : ℕ) (count : Frame → ℕ) (lengths : Facts → ℕ
             ap (λ (x : ℕ). length (bytes_at (frame_after_pop e pops) public x (count e))) (agree 2 (omega arith) (omega (arith, enough)))
             ∙ (ap (λ (x : ℕ). length (bytes_at (frame_after_pop e pops) public from x)) (steady f fixed dyn agree) ∙ scene_count f fixed dyn public pops from n fits r.some r.from);
         same = λ c e. e;
-        fits = (
-          subst (λ (k : ℕ). is_none (where_is g at k) ≡ false) (sym long) (inside_of (n == 0) (is_none (where_is g at n)) r.some r.to),
-          subst (λ (k : ℕ). b ≡ bytes_from m from k) (sym long) read,
-        );
+        fits = grind (arith, inside_of, from);
       })
 
 -- of a length that the stack has

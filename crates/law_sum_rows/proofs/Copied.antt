@@ -1,10 +1,10 @@
 -- Rows that copy bytes between the stack and an address, or set an operand.
-use Rattle.std.proofs.Common.{◌≡◌, ◌⊎◌, inl, inr, ℕ, ◌+◌, ◌-◌, ◌*◌, ◌≤◌, false, List, [], ◌∷◌, length, ℤ, Option, Some, None, refl, sym, ap, subst, ◌∙◌, arith}
+use Rattle.std.proofs.Common.{◌≡◌, ◌⊎◌, inl, ℕ, ◌+◌, ◌-◌, ◌*◌, ◌≤◌, false, List, [], ◌∷◌, length, ℤ, Option, Some, None, refl, sym, ap, subst, ◌∙◌, arith}
 use Rattle.std.specs.Prelude.{◌==◌, nat_lt, is_none}
 use Rattle.law_sums.specs.model_device.specs.Bytes.{bytes2}
 use Rattle.law_sums.specs.model_machine.specs.declared.instruction.Ins.{Ins}
 use Rattle.law_sums.specs.model_machine.specs.declared.instruction.Ins.TheVariants as ins
-use Rattle.law_sums.specs.model_machine.specs.Frame.{Frame, Place, Static, Dynamic, Public, where_is, bytes_at, top, dynamic_base, dynamic_end, public_base, no_access, frame_after_pop}
+use Rattle.law_sums.specs.model_machine.specs.Frame.{Frame, Place, Static, Dynamic, Public, where_is, bytes_at, top, dynamic_base, dynamic_end, no_access, frame_after_pop}
 use Rattle.law_sums.specs.model_machine.specs.Primitives.{Around, Goes, Primitive}
 use Rattle.law_sums.specs.model_machine.specs.Row.{causes, operand, address_or_zero, place_of, value_of}
 use Rattle.law_sums.specs.law_rows.specs.Shapes.{Pushes, Writes, Shape, shape}
@@ -39,15 +39,9 @@ use Rattle.law_sum_rows.proofs.Plain.{one_row, dt_low, dt_high}
 
 apart_by : (f : Frame) (a n : ℕ) (o : Option Place) → where_is f a n ≡ o → is_none o ≡ false → length f.fixed ≤ dynamic_base → dynamic_base ≤ f.dt → (a + n ≤ f.dt) ⊎ (dynamic_end ≤ a)
 apart_by f a n None is some small low = absurd (cc some)
-apart_by f a n (Some (Static i)) is some small low =
-    let lies : LiesIn f a n (Static i) = lies_in f a n (Static i) is in
-    let fits : a + n ≤ length f.fixed = lies.1 in
-    inl (omega (arith, fits, small, low))
+apart_by f a n (Some (Static i)) is some small low = grind (arith, LiesIn, lies_in)
 apart_by f a n (Some (Dynamic i)) is some small low = let lies : LiesIn f a n (Dynamic i) = lies_in f a n (Dynamic i) is in inl lies.1
-apart_by f a n (Some (Public i)) is some small low =
-    let lies : LiesIn f a n (Public i) = lies_in f a n (Public i) is in
-    let at : a ≡ public_base + i = lies.0 in
-    inr (omega (arith, at))
+apart_by f a n (Some (Public i)) is some small low = grind (arith, LiesIn, lies_in)
 
 -- bytes in a segment lie below DT, or above the stack
 pub apart_of : (f : Frame) (a n : ℕ) → is_none (where_is f a n) ≡ false → length f.fixed ≤ dynamic_base → dynamic_base ≤ f.dt → (a + n ≤ f.dt) ⊎ (dynamic_end ≤ a)
@@ -101,24 +95,7 @@ module _ (i : Ins) (s : Setting) (t : Tables) (u : SumsTable) (step : Step s t u
       → shape i (with_bytes f fixed dyn) public x ≡ shape_of d (Writes to0 n b0) None Goes → work i (with_bytes f fixed dyn) public ≡ Copies from0
       → Alike s t u i step static d (Writes to n b) None Goes (scene_of f fixed dyn public) x
   stores fixed dyn public x d to0 to n from0 from b0 b same source long0 read within least most stands works =
-      let long : length b ≡ n = ap (λ (l : List ℕ). length l) read ∙ from_length m from n in
-      let copy : CopyFits s.rules.totals step.sums.first (known s t u i step static) (kept s t u i step static) step.place.start step.place.standing.allowances step.place.calls step.frame step.public step.next d (Writes to n b) from = (
-        subst (λ (k : ℕ). is_none (where_is (low s t u i step static d) to k) ≡ false) (sym long) within,
-        subst (λ (k : ℕ). b ≡ bytes_from m from k) (sym long) read,
-      )
-      in
-      record {
-        bytes = b0;
-        to = 0;
-        flags = None;
-        later = Goes;
-        stands = stands ∙ ap (λ (a : ℕ). shape_of d (Writes a n b0) None Goes) same;
-        same = subst (λ (w : Work). SameIf w i (Writes to n b) b0) (sym works) (long0 ∙ sym long);
-        low = least;
-        high = most;
-        fits = subst (λ (w : Work). IsWork s t u i step static d w (Writes to n b)) (sym (works ∙ ap (λ (a : ℕ). Copies a) source)) copy;
-        next = ap (λ (h : Shape). h.next) stands;
-      }
+      grind (arith, from_length, CopyFits, known, kept, low, shape_of, SameIf, IsWork)
 
 -- ---- LOAD and STORE
 
@@ -162,9 +139,7 @@ set_row i tag off n b size some free shaped works takes none prim mode s t u ste
     one_row i s t u step static d (Writes (place_of f tag off n) n b) None Goes takes none (λ st. subst (λ (o : Option Primitive). Among nobody (arounds st o)) (sym prim) (nobody_among st)) (shaped f step.public step.around)
     (sym (ap (λ (m : Option ℕ). row_sums step.frame.protected m step.place.standing) mode ∙ unprotected step.frame.protected step.place.standing)) (λ clear fixed dyn public fits.
     let e : Frame = with_bytes f fixed dyn in
-    let stands : shape i e public nobody ≡ shape_of d (Writes (place_of f tag off n) n b) None Goes =
-    shaped e public nobody ∙ ap (λ (z : Option ℕ). shape_of d (Writes (address_or_zero z) n b) None Goes) (same_operand f fixed dyn tag off n fits.size)
-    in
+    let stands : shape i e public nobody ≡ shape_of d (Writes (place_of f tag off n) n b) None Goes = grind (arith, nobody, shape_of, same_operand) in
     let within : is_none (where_is f (address_or_zero o) n) ≡ false = inside_of f o n some (free f step.public step.around clear) in
     record {
       bytes = b;

@@ -67,9 +67,7 @@ pub static_changed : (f : Frame) (fixed : List ℕ) (pieces : List (ℕ × List 
 static_changed f fixed pieces public b a size is whole fits =
     let g : Frame = record f { fixed = fixed; pieces = pieces } in
     let there : a ≤ length (static_bytes f) = omega (arith, whole, fits) in
-    let memory : (x : ℕ) → parts_memory (length f.fixed) (splice (static_bytes f) a b) f.dyn public x ≡ frame_memory g public x =
-    λ x. ap (λ (l : List ℕ). parts_memory (length f.fixed) l f.dyn public x) (sym is) ∙ ap (λ (n : ℕ). parts_memory n (laid_pieces fixed pieces) f.dyn public x) (sym size)
-    in
+    let memory : (x : ℕ) → parts_memory (length f.fixed) (splice (static_bytes f) a b) f.dyn public x ≡ frame_memory g public x = grind arith in
     record {
       stays = λ x o. static_same (length f.fixed) (static_bytes f) f.dyn public b a there x o ∙ memory x;
       there = bytes_list (frame_memory g public) b a (λ i less. sym (memory (a + i)) ∙ static_new (length f.fixed) (static_bytes f) f.dyn public b a i there fits less);

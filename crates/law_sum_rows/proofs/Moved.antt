@@ -118,9 +118,7 @@ copied_same ts k i d (Protects mode) fl fm t r c to from u s = refl
 -- what is known after a row does not depend on the bytes of its act, flags and what comes next
 pub moved_same : (ts : List Total) (k : PlaceKey) (i : Ins) (d : ℕ) (a : Act) (fl fm : Option (Bool × Bool)) (t r : Then) (c : List ℕ) (to : ℕ) (w : Work) (u : Sums) → SameIf w i a c
     → moved ts k i (shape_of d (reshaped a c to) fl t) w u ≡ moved ts k i (shape_of d a fm r) w u
-moved_same ts k i d a fl fm t r c to AsShaped u s =
-    ap (λ (gs : List Origin). acted ts (record k { dt = d }) (reshaped a c to) gs None (popped d u)) (own_same i a c to u.origins k.dt s)
-    ∙ acted_same ts (record k { dt = d }) a c to (own_origins i a u.origins k.dt) (popped d u)
+moved_same ts k i d a fl fm t r c to AsShaped u s = grind (arith, own_same, acted_same)
 moved_same ts k i d a fl fm t r c to (Copies from) u s = copied_same ts k i d a fl fm t r c to from u s
 moved_same ts k i d a fl fm t r c to (Works g) u s = refl
 moved_same ts k i d a fl fm t r c to (Searches v table n) u s = refl

@@ -45,10 +45,7 @@ mod_mod n v = let pos = pow_positive n in mod-eq_of_lt (omega (arith, pos))
 
 -- the number of a sum
 pub plus_result : (n : ℕ) (xs ys : List ℕ) (r : ℕ) → length xs ≡ n → r ≡ num (add_blocks xs ys).value → r % 256 ^ n ≡ (num xs + num ys) % 256 ^ n
-plus_result n xs ys r long is =
-    let v = num xs + num ys in
-    let whole : r ≡ v % 256 ^ n = is ∙ (num_bytes (length xs) v ∙ ap (λ (k : ℕ). v % 256 ^ k) long) in
-    ap (λ (z : ℕ). z % 256 ^ n) whole ∙ mod_mod n v
+plus_result n xs ys r long is = grind (arith, num_bytes, mod_mod)
 
 -- the number of a difference
 pub minus_result : (n : ℕ) (xs ys : List ℕ) (r : ℕ) → length xs ≡ n → length ys ≡ n → AreBytes ys → r ≡ num (sub_blocks xs ys).value → (r + num ys) % 256 ^ n ≡ num xs % 256 ^ n
@@ -118,9 +115,7 @@ module _ (i : Ins) (tag : ℕ) (off : ℤ) (k n : ℕ) (op : Operation) (second 
       let w : Whole (low s t u i step static d) step.public = whole_at s t u i step static d (dt_low s t u step) (dt_high s t u step) in
       let c : Changed m (left s t u i step static d a) at b = write_changed (low s t u i step static d) step.public b at inside w in
       let number : length b ≡ n → number_at (left s t u i step static d a) at n ≡ num b = λ full. ap (λ (j : ℕ). num (bytes_from (left s t u i step static d a) at j)) (sym full) ∙ ap num c.there in
-      let stands : shape i e public nobody ≡ shape_of d (Writes at n b0) (flags e public) Goes =
-      is.form e public nobody ∙ ap (λ (z : Option ℕ). shape_of d (Writes (address_or_zero z) n (value (bytes_at e public (address_or_zero z) n) (ys e))) (flags e public) Goes) same
-      in
+      let stands : shape i e public nobody ≡ shape_of d (Writes at n b0) (flags e public) Goes = grind (arith, nobody, shape_of) in
       let task : work i e public ≡ Works g =
       is.task e public ∙ (ap (λ (z : Option ℕ). works op (address_or_zero z) n (second e) true carries) same ∙ ap (λ (y : Operand). works op at n y true carries) (is.steady f fixed dyn))
       in

@@ -1,12 +1,12 @@
 -- Rows that no byte decides and that leave the memory, or push and answer what instruction and registers say.
 use Rattle.std.proofs.Common.{◌≡◌, ℕ, ◌+◌, ◌-◌, ◌≤◌, Bool, true, false, cond, List, [], ◌∷◌, length, ℤ, Option, Some, None, refl, sym, ap, subst, ◌∙◌, arith}
-use Rattle.std.specs.Prelude.{◌&&◌, ◌==◌, nat_le}
+use Rattle.std.specs.Prelude.{◌&&◌, ◌==◌}
 use Rattle.std.proofs.lemmas.Bool.{ltb-false, leb-true, and_parts}
 use Rattle.std.proofs.lemmas.List.{length-replicate}
 use Rattle.law_sums.specs.model_device.specs.Bytes.{bytes2, zeros}
 use Rattle.law_sums.specs.model_machine.specs.declared.instruction.Ins.{Ins}
 use Rattle.law_sums.specs.model_machine.specs.declared.instruction.Ins.TheVariants as ins
-use Rattle.law_sums.specs.model_machine.specs.Frame.{Frame, dynamic_base, dynamic_end, floor, is_under, is_over, no_return, moved_address, frame_after_pop}
+use Rattle.law_sums.specs.model_machine.specs.Frame.{Frame, dynamic_base, dynamic_end, is_under, is_over, no_return, moved_address, frame_after_pop}
 use Rattle.law_sums.specs.model_machine.specs.Primitives.{Around, Then, Goes, Exits, Primitive}
 use Rattle.law_sums.specs.model_machine.specs.Row.{causes, row, holds, address_or_zero, on_stack, target, without_target, place_of}
 use Rattle.law_sums.specs.law_rows.specs.Keeping.{OnDone}
@@ -45,10 +45,7 @@ one_row i s t u step static d a fl n takes none among is sums alike =
 
 -- DT lies in the stack
 pub dt_low : {i : Ins} (s : Setting) (t : Tables) (u : SumsTable) (step : Step s t u i) → dynamic_base ≤ step.frame.dt
-dt_low s t u step =
-    let frame : IsFrameOf s.app step.frame = step.place.frame in
-    let low : dynamic_base + step.frame.session ≤ step.frame.dt = frame.low in
-    omega (arith, low)
+dt_low s t u step = grind arith
 
 -- DT lies at or below the end of the stack
 pub dt_high : {i : Ins} (s : Setting) (t : Tables) (u : SumsTable) (step : Step s t u i) → step.frame.dt ≤ dynamic_end
@@ -273,10 +270,7 @@ loada_case tag off s t u step static =
 
 -- what no cause of a return has
 pub return_fits : (f : Frame) (less more : ℕ) → no_return f less more ≡ false → (dynamic_base + 4 + less ≤ f.lb) × (f.lb + more ≤ f.dt)
-return_fits f less more e =
-    let both = and_parts (nat_le (floor f + 4 + less) f.lb) (nat_le (f.lb + more) f.dt) (not_true (nat_le (floor f + 4 + less) f.lb && nat_le (f.lb + more) f.dt) e) in
-    let low = leb-true (floor f + 4 + less) f.lb both.0 in
-    (omega (arith, low), leb-true (f.lb + more) f.dt both.1)
+return_fits f less more e = grind (arith, and_parts, not_true, leb-true)
 
 -- a return with its two lengths
 return_row : (i : Ins) (less more : ℕ) → ((f : Frame) (public : List ℕ) (x : Around) → shape i f public x ≡ shape_of f.dt (Returns less more) None Goes) → ((f : Frame) (public : List ℕ) (x : Around) → NoCause (causes i f public x) → no_return f less more ≡ false)

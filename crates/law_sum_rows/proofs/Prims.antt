@@ -270,8 +270,7 @@ shift_row i n shift form under task rough size who takes mode s t u step static 
             dt = ap (λ (h : Shape). h.dt) shaped;
             low = dt_low s t u step;
             high = dt_high s t u step;
-            fits = subst (λ (c : Coarse). IsCoarsely s t u i step static d e c (Replaces b)) (sym (ap (λ (h : Shape). coarse_for h.act (coarse i e step.place.known.bytes)) shaped ∙ rough e step.place.known.bytes))
-                (record { bytes = b; is = refl; long = long; low = low });
+            fits = grind (arith, IsCoarsely, rough);
             next = ap (λ (h : Shape). h.next) shaped;
           })
     ])

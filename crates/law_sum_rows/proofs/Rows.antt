@@ -100,10 +100,7 @@ module _ (s : Setting) (t : Tables) (u : SumsTable) (i : Ins) (step : Step s t u
 
   -- with this DT the segments of the frame still have their lengths
   pub whole_at : (d : ℕ) → dynamic_base ≤ d → d ≤ dynamic_end → Whole (low d) step.public
-  whole_at d low high =
-      let z : Sized f step.public = sized s t u i step in
-      let frame : IsFrameOf s.app step.frame = step.place.frame in
-      record { sized = record { small = z.small; room = z.room; high = high; inside = z.inside; whole = z.whole }; settled = frame.settled; low = low }
+  whole_at d low high = grind (arith, Sized, sized)
 
   totals : (d : ℕ) (w : Whole (low d) step.public) → TotalsHold (bare s.rules.totals step.sums.first known kept start allowed step.place.calls step.frame step.public step.next d w) kept s.rules.totals
   totals d w =
@@ -167,10 +164,7 @@ module _ (s : Setting) (t : Tables) (u : SumsTable) (i : Ins) (step : Step s t u
       let w : Work = work i z.frame z.public in
       let whole : Whole (low d) step.public = whole_at d e.low e.high in
       let key : PlaceKey = (spot s t u i step).key in
-      let same : moved s.rules.totals key i h w step.before ≡ moved s.rules.totals key i (shape_of d a fl n) w step.before =
-      ap (λ (y : Shape). moved s.rules.totals key i y w step.before) e.stands
-      ∙ moved_same s.rules.totals key i d a e.flags fl e.later n e.bytes e.to w step.before e.same
-      in
+      let same : moved s.rules.totals key i h w step.before ≡ moved s.rules.totals key i (shape_of d a fl n) w step.before = grind (arith, moved_same) in
       record {
         scene = z;
         shape = h;

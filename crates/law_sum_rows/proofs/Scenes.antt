@@ -22,7 +22,7 @@ use Rattle.law_sums.specs.model_prove.specs.Reach.{target_choices, takes_target}
 use Rattle.law_sums.specs.model_prove.specs.Arrivals.{Setting}
 use Rattle.law_sums.specs.model_prove.specs.Steps.{Spot, arounds, primitive_of, inside, coarse_around}
 use Rattle.law_sums.specs.model_prove.proofs.ChangeLemmas.{choice_is_there}
-use Rattle.law_prove_reach.specs.law_prove.specs.Coverings.{parts_memory, frame_memory, IsFrameOf, IsPlace}
+use Rattle.law_prove_reach.specs.law_prove.specs.Coverings.{parts_memory, frame_memory, IsPlace}
 use Rattle.law_prove_reach.specs.law_prove.proofs.Alike.{Sized, stack_length}
 use Rattle.law_prove_reach.specs.law_prove.proofs.Turns.{blank, framed_of, stand_in_like}
 use Rattle.law_prove_reach.proofs.Scenes.{scene_of, Fits, Standing, values_stand, same_outside, all_inside_of, among_inside}
@@ -92,11 +92,7 @@ module _ (s : Setting) (t : Tables) (u : SumsTable) (i : Ins) (step : Step s t u
 
   -- the segments of the frame have their lengths
   pub sized : Sized fetched step.public
-  sized =
-      let frame : IsFrameOf s.app step.frame = step.place.frame in
-      let size : length step.frame.fixed ≡ length s.app.fixed = frame.size in
-      let small : length s.app.fixed ≤ dynamic_base = step.small in
-      record { small = omega (arith, size, small); room = frame.room; high = frame.high; inside = frame.inside; whole = step.whole }
+  sized = grind (arith, step.place.frame, step.place.frame.size, step.small)
 
   -- so have those of the scene
   pub base_fits : Fits fetched (zeros (length step.frame.fixed)) (stand_in_stack step.place.calls) blank
@@ -114,9 +110,7 @@ module _ (s : Setting) (t : Tables) (u : SumsTable) (i : Ins) (step : Step s t u
   -- what was fetched, in that scene
   pub by_base : choices_closed (few_combinations step.place.known.bytes (inside base (deciders i base.frame))) (takes_target i) s u (turn_in base) ≡ true
   by_base =
-      let old : Frame = frame_at (stand_in s.app spot.key).frame step.next in
-      let same : old ≡ base.frame = stand_in_like s.app step.frame step.place.start step.place.standing.allowances step.place.calls step.next (framed_of s.app step.frame step.place.frame) in
-      subst (λ (z : Frame). choices_closed (few_combinations step.place.known.bytes (inside (record { frame = z; public = blank }) (deciders i z))) (takes_target i) s u (turn_in (record { frame = z; public = blank })) ≡ true) same step.closed
+      grind (arith, frame_at (stand_in s.app spot.key).frame step.next, stand_in_like s.app step.frame step.place.start step.place.standing.allowances step.place.calls step.next (framed_of s.app step.frame step.place.frame))
 
   -- ---- few choices
 
@@ -193,9 +187,7 @@ module _ (s : Setting) (t : Tables) (u : SumsTable) (i : Ins) (step : Step s t u
 
   -- one that no byte decides has one
   pub found_one : (x : Around) → Among x (arounds step.place.start (primitive_of i)) → takes_target i ≡ false → deciders i base.frame ≡ [] → Found [] x
-  found_one x among e none =
-      found_few [] ([] ∷ []) x among refl
-      (subst (λ (l : List ℕ). choices_closed (few_combinations step.place.known.bytes (inside base l)) false s u (turn_in base) ≡ true) none (by_target false e))
+  found_one x among e none = grind (arith, found_few, by_target)
 
   -- ---- a target that the stack has
 

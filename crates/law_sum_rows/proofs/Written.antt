@@ -86,9 +86,7 @@ module _ (i : Ins) (pops to : ℕ) (count : Frame → ℕ) (bytes : Frame → Li
         let high : step.frame.dt ≤ dynamic_end = dt_high s t u step in
         let agree : Agree pops (number_below_top e) (number_below_top f) = numbers_agree i s t u step pops nobody z over in
         let b0 = bytes e z.public in
-        let stands : shape i e z.public nobody ≡ shape_of d (Writes at n b0) None Goes =
-        is.form e z.public nobody ∙ (ap (λ (x : ℕ). shape_of d (Writes x (count e) b0) None Goes) (agree to is.least is.most) ∙ ap (λ (x : ℕ). shape_of d (Writes at x b0) None Goes) (r.counts z.fixed z.dyn agree))
-        in
+        let stands : shape i e z.public nobody ≡ shape_of d (Writes at n b0) None Goes = grind (arith, nobody, shape_of) in
         let works : work i e z.public ≡ task f = is.works e z.public ∙ r.tasks z.fixed z.dyn agree in
         let long0 : length b0 ≡ length b = r.stands z.fixed z.dyn z.public z.fits agree ∙ sym r.long in
         few_compared s t u i step static (top_places (base s t u i step).frame pops) nobody z d a None Goes
@@ -119,9 +117,7 @@ module _ (i : Ins) (pops to : ℕ) (count : Frame → ℕ) (bytes : Frame → Li
         let reached : IsWithin (record e { dt = d }) (reach_at k p (lengths k step.frame.dt)) at n = pair_within i s t u step at p n d (lengths k step.frame.dt) address r.length_in r.inside in
         let within : is_none (where_is (record f { dt = d }) at n) ≡ false = inside_of (n == 0) (is_none (where_is (record f { dt = d }) at n)) r.some r.inside in
         let shaped : stood_shape s t u i step static ≡ shape_of d (Writes (number_below_top e to) (count e) (bytes e (base s t u i step).public)) None Goes = is.form e (base s t u i step).public (coarse_around step.place.start) in
-        let c : coarse_for (stood_shape s t u i step static).act (coarse i e k) ≡ WritesWithin (reach_at k p (lengths k step.frame.dt)) =
-        ap (λ (h : Shape). coarse_for h.act (coarse i e k)) shaped ∙ is.rough e k
-        in
+        let c : coarse_for (stood_shape s t u i step static).act (coarse i e k) ≡ WritesWithin (reach_at k p (lengths k step.frame.dt)) = grind arith in
         coarse_compared s t u i step static coarse_so d a None Goes
         (record {
           dt = ap (λ (h : Shape). h.dt) shaped;
