@@ -1,9 +1,9 @@
 -- After an instruction that was done, with its event: what the table of sums says of the next place holds, and each
 -- total holds of the static bytes that power would leave.
-use Rattle.std.specs.Prelude.{◌≡◌, ℕ, ◌+◌, ◌-◌, ◌<◌, ◌≤◌, Bool, true, false, cond, ◌&&◌, nat_lt, List, ◌∷◌, length, slice_index, refl}
+use Rattle.std.specs.Prelude.{◌≡◌, ℕ, ◌+◌, ◌-◌, ◌≤◌, Bool, true, false, ◌&&◌, List, ◌∷◌, length, slice_index, refl}
 use Rattle.std.specs.List.{AllByRecursion}
 use Rattle.std.proofs.Common.{arith, ap, sym, subst, ◌∙◌}
-use Rattle.std.proofs.lemmas.Bool.{and_parts, lt-ltb}
+use Rattle.std.proofs.lemmas.Bool.{and_parts}
 use Rattle.law_prove_closed.specs.model_machine.specs.declared.instruction.Ins.{Ins}
 use Rattle.law_prove_closed.specs.model_machine.specs.Frame.{Frame, Effect, dynamic_base, public_base, static_bytes}
 use Rattle.law_prove_closed.specs.model_machine.specs.Primitives.{Then}
@@ -18,7 +18,7 @@ use Rattle.law_prove_closed.specs.model_prove.specs.Keys.{Tables}
 use Rattle.law_prove_closed.specs.model_prove.specs.Splits.{Scene}
 use Rattle.law_prove_closed.specs.model_prove.specs.Arrivals.{Setting, Arrival, static_size}
 use Rattle.law_prove_closed.specs.model_prove.specs.Tables.{IsLoadable}
-use Rattle.law_prove_closed.specs.law_prove.specs.Coverings.{parts_memory, frame_memory, IsPlace, key_of}
+use Rattle.law_prove_closed.specs.law_prove.specs.Coverings.{frame_memory, IsPlace, key_of}
 use Rattle.law_prove_closed.specs.law_prove.proofs.Parts.{memory_public}
 use Rattle.law_prove_closed.specs.Outcomes.{some_outcome, leads_to}
 use Rattle.law_sum_rows.specs.model_sums.specs.Origins.{Origins, origin_at}

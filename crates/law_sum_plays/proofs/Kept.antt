@@ -1,7 +1,7 @@
 -- The totals that power would leave, after a history: events that are no instructions keep them, and with them what
 -- tables of facts cover is what both tables cover.
-use Rattle.std.specs.Prelude.{◌≡◌, ℕ, Bool, true, false, nat_lt, List, [], ◌∷◌, Option, Some, None, Result, Ok, Err, refl}
-use Rattle.std.proofs.Common.{sym, subst}
+use Rattle.std.specs.Prelude.{◌≡◌, ℕ, Bool, true, false, nat_lt, List, [], ◌∷◌, Option, Some, None, Result, Ok, Err}
+use Rattle.std.proofs.Common.{arith, subst}
 use Rattle.law_prove_closed.specs.model_text.specs.Text.{◌>>=◌}
 use Rattle.law_prove_closed.specs.model_machine.specs.declared.machine.Abend.{Abend}
 use Rattle.law_prove_closed.specs.model_machine.specs.declared.machine.Abend.TheVariants.{A09}
@@ -12,8 +12,8 @@ use Rattle.law_prove_closed.specs.law_promise.specs.History.{Deed, with_event, i
 use Rattle.law_prove_closed.specs.law_promise.specs.Outline.{Entry, BySelection, ByDelegation, is_direct}
 use Rattle.law_prove_closed.specs.law_promise.specs.Domain.{EndCovered, StopCovered, WriteCovered, DeedCovered, AbendCovered, exit_outcome}
 use Rattle.law_prove_closed.specs.model_rules.specs.Rules.{AppRules, Target}
-use Rattle.law_prove_closed.specs.model_rules.specs.Happenings.{Event, Did, Failed, Answers, Session, History, rule_watch}
-use Rattle.law_prove_closed.specs.model_rules.specs.Keeping.{Break, Sum, Standing, are_totals, after_event, standing_after}
+use Rattle.law_prove_closed.specs.model_rules.specs.Happenings.{Event, Did, Failed, Session, History, rule_watch}
+use Rattle.law_prove_closed.specs.model_rules.specs.Keeping.{Break, Standing, are_totals, after_event, standing_after}
 use Rattle.law_prove_closed.specs.model_rules.specs.Law.{domain_of_rules}
 use Rattle.law_prove_closed.specs.model_prove.specs.Keys.{Tables}
 use Rattle.law_prove_closed.specs.model_prove.specs.Arrivals.{Setting}
@@ -42,9 +42,7 @@ stood_by r e h (Ok x) y same is = record { before = x; is = same }
 
 -- an event that is no instruction keeps the totals that power would leave
 pub keeps_quiet : (s : Setting) (e : Event) (h : History) (fixed : List ℕ) → IsQuiet e → Keeps s h fixed → Keeps s (e ∷ h) fixed
-keeps_quiet s e h fixed quiet keeps y is =
-    let x : Stood s.rules h = stood_by s.rules e h (standing_after s.rules h) y refl is in
-    subst (λ (sums : List Sum). are_totals fixed sums s.rules.totals ≡ true) (sym (quiet_kept s.rules e h x.before y quiet x.is is)) (keeps x.before x.is)
+keeps_quiet s e h fixed quiet keeps y is = grind (arith, stood_by, quiet_kept)
 
 -- ---- moments
 
@@ -63,9 +61,7 @@ module _ (r : AppRules) (g : Target) (t : Tables) (u : SumsTable) where
   -- the end of a frame
   pub ends_keep : (e : Entry Event) (k : History) (fixed session : List ℕ) (outcome : Outcome) → Keeps setting k fixed → EndCovered (domain_of_rules g (covering_of setting t)) e k fixed session outcome
       → EndCovered (domain_of_rules g (sums_covering_of setting t u)) e k fixed session outcome
-  ends_keep (BySelection bytes apdu before) k fixed session outcome keeps m =
-      sum_moment setting t true (Answers bytes outcome ∷ k) fixed session m (keeps_quiet setting (Answers bytes outcome) k fixed tt keeps)
-  ends_keep ByDelegation k fixed session outcome keeps m = sum_moment setting t false k fixed [] m keeps
+  ends_keep e k fixed session outcome keeps m = grind (arith, sum_moment, keeps_quiet)
 
   -- a stop while it runs or waits
   pub stops_keep : (e : Entry Event) (k : History) (fixed : List ℕ) → Keeps setting k fixed → StopCovered (domain_of_rules g (covering_of setting t)) e k fixed → StopCovered (domain_of_rules g (sums_covering_of setting t u)) e k fixed

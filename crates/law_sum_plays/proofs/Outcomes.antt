@@ -1,15 +1,15 @@
 -- Where one of the outcomes of a place leads to the next place, what the turn was compared with there.
-use Rattle.std.specs.Prelude.{◌≡◌, ℕ, zero, suc, ◌≤◌, Bool, true, false, not, ◌&&◌, ◌||◌, ◌==◌, bytes_eq, List, [], ◌∷◌, Option, Some, None, Result, Ok, refl}
-use Rattle.std.proofs.Common.{arith, ap, sym, subst, ◌∙◌}
+use Rattle.std.specs.Prelude.{◌≡◌, ℕ, ◌≤◌, Bool, true, false, not, ◌&&◌, ◌||◌, ◌==◌, bytes_eq, List, [], ◌∷◌, Option, Some, None, Result, Ok, refl}
+use Rattle.std.proofs.Common.{arith, ap, ◌∙◌}
 use Rattle.std.proofs.lemmas.Bool.{and_parts, and_from, eq-eqb}
 use Rattle.law_prove_closed.specs.model_device.proofs.MapLemmas.{name_is_itself}
 use Rattle.law_prove_closed.specs.model_machine.specs.Frame.{Frame}
-use Rattle.law_prove_closed.specs.law_promise.specs.Outline.{Entry, BySelection, ByDelegation}
+use Rattle.law_prove_closed.specs.law_promise.specs.Outline.{Entry}
 use Rattle.law_prove_closed.specs.law_promise.specs.Domain.{FitsDepth}
 use Rattle.law_prove_closed.specs.model_rules.specs.Rules.{Total, AppRules}
 use Rattle.law_prove_closed.specs.model_rules.specs.Happenings.{Event, History}
 use Rattle.law_prove_closed.specs.model_rules.specs.Keeping.{Amounts, Break}
-use Rattle.law_prove_closed.specs.model_prove.specs.Keys.{Start, Delegated, OfClass, Tables, same_amounts}
+use Rattle.law_prove_closed.specs.model_prove.specs.Keys.{Start, Tables, same_amounts}
 use Rattle.law_prove_closed.specs.model_prove.specs.Arrivals.{Setting, Arrival, depths}
 use Rattle.law_prove_closed.specs.model_prove.specs.Tables.{place_at}
 use Rattle.law_prove_closed.specs.law_prove.specs.Coverings.{StartsAs, IsPlace, key_of}
@@ -38,24 +38,11 @@ event_leads o a b is same =
 
 -- a test of all depths of a place is one of the depth of its frame
 delegated_depth : (depth : ℕ) (test : ℕ → Bool) → 2 ≤ depth → depth ≤ 4 → all_pass test (2 ∷ 3 ∷ 4 ∷ []) ≡ true → test depth ≡ true
-delegated_depth zero test low high all = absurd (omega (arith, low))
-delegated_depth (suc zero) test low high all = absurd (omega (arith, low))
-delegated_depth (suc (suc zero)) test low high all = (and_parts (test 2) (all_pass test (3 ∷ 4 ∷ [])) all).0
-delegated_depth (suc (suc (suc zero))) test low high all =
-    let p = and_parts (test 2) (all_pass test (3 ∷ 4 ∷ [])) all in
-    (and_parts (test 3) (all_pass test (4 ∷ [])) p.1).0
-delegated_depth (suc (suc (suc (suc zero)))) test low high all =
-    let p = and_parts (test 2) (all_pass test (3 ∷ 4 ∷ [])) all in
-    let q = and_parts (test 3) (all_pass test (4 ∷ [])) p.1 in
-    (and_parts (test 4) true q.1).0
-delegated_depth (suc (suc (suc (suc (suc n))))) test low high all = absurd (omega (arith, high))
+delegated_depth depth test low high all = grind (arith, and_parts)
 
 -- what passes for all depths of a beginning passes for the depth of its frame
 pub at_depth : (r : AppRules) (e : Entry Event) (start : Start) (depth : ℕ) (test : ℕ → Bool) → StartsAs r e start → FitsDepth e depth → all_pass test (depths start) ≡ true → test depth ≡ true
-at_depth r (BySelection bytes apdu before) (OfClass class) depth test starts deep all = subst (λ (n : ℕ). test n ≡ true) (sym deep) (and_parts (test 1) true all).0
-at_depth r ByDelegation Delegated depth test starts deep all = delegated_depth depth test deep.0 deep.1 all
-at_depth r (BySelection bytes apdu before) Delegated depth test starts deep all = absurd starts
-at_depth r ByDelegation (OfClass class) depth test starts deep all = absurd starts
+at_depth r e start depth test starts deep all = grind (arith, and_parts, delegated_depth)
 
 -- ---- what a table of sums has at a place
 

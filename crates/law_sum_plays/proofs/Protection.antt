@@ -1,9 +1,9 @@
 -- What a row does to the protection, to what waits and to static bytes, by whether it changes the protection.
 use Rattle.std.specs.Prelude.{◌≡◌, ℕ, Bool, true, false, cond, nat_le, List, [], length, slice_index, Option, Some, None, refl}
-use Rattle.std.proofs.Common.{sym, subst, ◌∙◌}
+use Rattle.std.proofs.Common.{arith, sym, subst, ◌∙◌}
 use Rattle.law_prove_closed.specs.model_machine.specs.declared.instruction.Ins.{Ins}
 use Rattle.law_prove_closed.specs.model_machine.specs.declared.instruction.Ins.TheVariants as ins
-use Rattle.law_prove_closed.specs.model_machine.specs.Frame.{Frame, Effect, Place, Static, Dynamic, Public, where_is, static_written, write_effect_at, write_effect, protect, static_bytes, pending_change}
+use Rattle.law_prove_closed.specs.model_machine.specs.Frame.{Frame, Effect, Place, where_is, static_written, write_effect_at, write_effect, protect, static_bytes, pending_change}
 use Rattle.law_prove_closed.specs.model_machine.specs.Primitives.{Around, Done, Primitive, DelegatorAid, primitive}
 use Rattle.law_prove_closed.specs.model_machine.specs.Row.{effect, causes, first_cause, row}
 use Rattle.law_prove_closed.specs.model_machine.specs.Chain.{frame_at}
@@ -26,10 +26,7 @@ static_guards true f public i bytes p = record { stays = p; settled = λ a none.
 static_guards false f public i bytes p = record { stays = p; settled = λ a none. none refl; fixed = λ a. absurd (cc a) }
 
 written_guards : (f : Frame) (public : List ℕ) (bytes : List ℕ) (o : Option Place) → Guards None f.protected f.fixed f.pieces (write_effect_at f public bytes o)
-written_guards f public bytes None = plain f.protected f.fixed f.pieces (write_effect_at f public bytes None) refl refl refl
-written_guards f public bytes (Some (Static i)) = static_guards f.protected f public i bytes refl
-written_guards f public bytes (Some (Dynamic i)) = plain f.protected f.fixed f.pieces (write_effect_at f public bytes (Some (Dynamic i))) refl refl refl
-written_guards f public bytes (Some (Public i)) = plain f.protected f.fixed f.pieces (write_effect_at f public bytes (Some (Public i))) refl refl refl
+written_guards f public bytes o = grind (arith, plain, static_guards)
 
 write_guards : (f : Frame) (public : List ℕ) (a : ℕ) (bytes : List ℕ) → Guards None f.protected f.fixed f.pieces (write_effect f public a bytes)
 unfolding write_effect
@@ -41,10 +38,7 @@ protect_by : (c : Bool) (mode : ℕ) (b : Bool) (f : Frame) (public : List ℕ) 
     → Guards (Some mode) b f.fixed f.pieces
     (cond {A = Effect} c (record { frame = record f { fixed = static_bytes f; pieces = []; protected = nat_le 2 mode }; public = public; changes = pending_change f f.pieces })
     (record { frame = record f { pieces = []; protected = nat_le 2 mode }; public = public; changes = None }))
-protect_by true mode true f public is p = record { stays = tt; settled = λ a none. refl; fixed = λ a. absurd (cc (sym is ∙ a)) }
-protect_by true mode false f public is p = record { stays = tt; settled = λ a none. refl; fixed = λ a. absurd (cc a) }
-protect_by false mode true f public is p = record { stays = tt; settled = λ a none. refl; fixed = λ a. refl }
-protect_by false mode false f public is p = record { stays = tt; settled = λ a none. refl; fixed = λ a. absurd (cc a) }
+protect_by c mode b f public is p = grind arith
 
 protect_guards : (mode : ℕ) (f : Frame) (public : List ℕ) → Guards (Some mode) f.protected f.fixed f.pieces (protect f public mode)
 protect_guards mode f public = protect_by (is_commit mode) mode f.protected f public refl refl
@@ -64,17 +58,7 @@ mode_of_act (Writes a n b) = None
 mode_of_act (Protects mode) = Some mode
 
 act_guards : (a : Act) (f : Frame) (public : List ℕ) → Guards (mode_of_act a) f.protected f.fixed f.pieces (act_effect a f public)
-act_guards Stays f public = plain f.protected f.fixed f.pieces (act_effect Stays f public) refl refl refl
-act_guards (Answers sw la) f public = plain f.protected f.fixed f.pieces (act_effect (Answers sw la) f public) refl refl refl
-act_guards (Jumps true to) f public = plain f.protected f.fixed f.pieces (act_effect (Jumps true to) f public) refl refl refl
-act_guards (Jumps false to) f public = plain f.protected f.fixed f.pieces (act_effect (Jumps false to) f public) refl refl refl
-act_guards (Calls true to) f public = plain f.protected f.fixed f.pieces (act_effect (Calls true to) f public) refl refl refl
-act_guards (Calls false to) f public = plain f.protected f.fixed f.pieces (act_effect (Calls false to) f public) refl refl refl
-act_guards (Returns less more) f public = plain f.protected f.fixed f.pieces (act_effect (Returns less more) f public) refl refl refl
-act_guards (Pushes b) f public = plain f.protected f.fixed f.pieces (act_effect (Pushes b) f public) refl refl refl
-act_guards (Replaces b) f public = plain f.protected f.fixed f.pieces (act_effect (Replaces b) f public) refl refl refl
-act_guards (Writes a n b) f public = write_guards f public a b
-act_guards (Protects mode) f public = protect_guards mode f public
+act_guards a f public = grind (arith, plain, write_guards, protect_guards)
 
 -- ---- rows
 

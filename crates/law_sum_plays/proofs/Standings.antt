@@ -1,7 +1,7 @@
 -- What stands after a history is one; events that are no instructions leave the sums; and no event takes a sum away.
 use Rattle.std.specs.Prelude.{◌≡◌, ℕ, Bool, true, false, cond, ◌||◌, ◌==◌, List, [], ◌∷◌, bytes_eq, Option, Some, None, Result, Ok, Err, refl}
 use Rattle.std.specs.List.{AllByRecursion}
-use Rattle.std.proofs.Common.{ap, sym, subst, ◌∙◌}
+use Rattle.std.proofs.Common.{arith, ap, sym, subst, ◌∙◌}
 use Rattle.std.proofs.lemmas.Bool.{and_parts}
 use Rattle.law_prove_closed.specs.model_text.specs.Text.{◌>>=◌}
 use Rattle.law_prove_closed.specs.model_text.specs.Listing.{hex_text}
@@ -10,7 +10,7 @@ use Rattle.law_prove_closed.specs.law_promise.specs.History.{Deed}
 use Rattle.law_prove_closed.specs.law_explore.specs.Matching.{fits}
 use Rattle.law_prove_closed.specs.model_rules.specs.Rules.{SumLine, AppRules}
 use Rattle.law_prove_closed.specs.model_rules.specs.Happenings.{Event, Did, Failed, Commanded, Answers, Session, History}
-use Rattle.law_prove_closed.specs.model_rules.specs.Keeping.{Amounts, Break, Sum, Standing, OnTurn, OnCommand, OnAnswer, OnSession, after_occasion, line_of_deed, amount_in, moved_sum, after_sum_line, after_moves, mode_of, first_sums, first_standing, protected_sums, after_deed, with_allowances, after_abend, after_event, standing_after}
+use Rattle.law_prove_closed.specs.model_rules.specs.Keeping.{Amounts, Break, Sum, Standing, OnTurn, OnCommand, OnAnswer, OnSession, after_occasion, line_of_deed, moved_sum, after_sum_line, after_moves, mode_of, first_sums, first_standing, protected_sums, after_deed, with_allowances, after_abend, after_event, standing_after}
 use Rattle.law_sum_rows.specs.model_sums.specs.Says.{read_sums}
 use Rattle.law_sum_rows.specs.model_sums.specs.Closed.{all_pass, is_sum}
 use Rattle.law_sum_rows.specs.law_sums.specs.EventLaws.{has_sum}
@@ -50,11 +50,7 @@ failed_kept None x y e = let same : x ≡ y = cc e in ap (λ (w : Standing). w.k
 failed_kept (Some n) x y e = absurd (cc e)
 
 event_kept : (r : AppRules) (e : Event) (x y : Standing) → IsQuiet e → after_event r e x ≡ Ok y → y.kept ≡ x.kept
-event_kept r (Did d) x y q e = absurd q
-event_kept r (Failed at cause) x y q e = failed_kept r.abends x y e
-event_kept r (Commanded bytes) x y q e = allowed_kept (after_occasion r.ons (OnCommand (hex_text bytes)) x.allowances) x y e
-event_kept r (Answers bytes o) x y q e = allowed_kept (after_occasion r.ons (OnAnswer (hex_text bytes) (outcome_text o)) x.allowances) x y e
-event_kept r Session x y q e = allowed_kept (after_occasion r.ons OnSession x.allowances) x y e
+event_kept r e x y q e5 = grind (arith, failed_kept, allowed_kept)
 
 -- they leave the sums as power would leave them
 pub quiet_kept : QuietLaw
@@ -82,9 +78,7 @@ first_named [] name = refl
 first_named (s ∷ sums) name = ap (λ (b : Bool). bytes_eq s.0 name || b) (first_named sums name)
 
 moved_name : (picked adds : Bool) (k : ℕ) (s : Sum) → (cond picked (moved_sum adds k s) s).name ≡ s.name
-moved_name false adds k s = refl
-moved_name true true k s = refl
-moved_name true false k s = refl
+moved_name picked adds k s = grind arith
 
 picked_named : (picked : Bool) (l : SumLine) (public : List ℕ) (sums : List Sum) (name : List ℕ) → has_sum (cond picked (after_sum_line l public sums) sums) name ≡ has_sum sums name
 picked_named true l public sums name = names_stay l public sums name

@@ -1,5 +1,5 @@
 -- Totals of the bytes in memory are totals of static bytes, where the memory has these.
-use Rattle.std.specs.Prelude.{◌≡◌, ℕ, zero, suc, ◌+◌, ◌%◌, ◌^◌, ◌<◌, ◌≤◌, true, nat_le, List, [], ◌∷◌, length, take, drop, slice_index, refl}
+use Rattle.std.specs.Prelude.{◌≡◌, ℕ, zero, suc, ◌+◌, ◌<◌, ◌≤◌, true, nat_le, List, [], ◌∷◌, length, take, drop, slice_index, refl}
 use Rattle.std.specs.List.{AllByRecursion}
 use Rattle.std.proofs.Common.{arith, ap, sym, ◌∙◌}
 use Rattle.std.proofs.Math.Seq.{drop-cons}
@@ -8,7 +8,7 @@ use Rattle.law_prove_closed.specs.model_device.specs.Bytes.{num}
 use Rattle.law_prove_closed.specs.model_device.specs.Pieces.{laid_pieces}
 use Rattle.law_prove_closed.specs.model_machine.specs.Frame.{Frame, static_bytes}
 use Rattle.law_prove_closed.specs.model_rules.specs.Rules.{Total}
-use Rattle.law_prove_closed.specs.model_rules.specs.Keeping.{Sum, added_by, taken_by, is_total, are_totals}
+use Rattle.law_prove_closed.specs.model_rules.specs.Keeping.{Sum, is_total, are_totals}
 use Rattle.law_prove_closed.specs.model_prove.specs.Facts.{Memory}
 use Rattle.law_prove_closed.specs.model_prove.specs.Compares.{bytes_from}
 use Rattle.law_prove_closed.specs.law_prove.specs.Coverings.{frame_memory}
@@ -32,14 +32,10 @@ number_is : (m : Memory) (fixed : List ℕ) (t : Total) → HasStatic m fixed �
 number_is m fixed t h fits = ap num (block_is m fixed t.at t.n h fits)
 
 total_holds : (m : Memory) (fixed : List ℕ) (sums : List Sum) (t : Total) → HasStatic m fixed → t.at + t.n ≤ length fixed → is_total fixed sums t ≡ true → TotalHolds m sums t
-total_holds m fixed sums t h fits e =
-    ap (λ (v : ℕ). (v + taken_by sums t.terms) % 256 ^ t.n) (number_is m fixed t h fits)
-    ∙ eqb-true ((num (take t.n (drop t.at fixed)) + taken_by sums t.terms) % 256 ^ t.n) ((t.constant + added_by sums t.terms) % 256 ^ t.n) e
+total_holds m fixed sums t h fits e = grind (arith, number_is, eqb-true)
 
 total_is : (m : Memory) (fixed : List ℕ) (sums : List Sum) (t : Total) → HasStatic m fixed → t.at + t.n ≤ length fixed → TotalHolds m sums t → is_total fixed sums t ≡ true
-total_is m fixed sums t h fits e =
-    eq-eqb ((num (take t.n (drop t.at fixed)) + taken_by sums t.terms) % 256 ^ t.n) ((t.constant + added_by sums t.terms) % 256 ^ t.n)
-    (sym (ap (λ (v : ℕ). (v + taken_by sums t.terms) % 256 ^ t.n) (number_is m fixed t h fits)) ∙ e)
+total_is m fixed sums t h fits e = grind (arith, eq-eqb, number_is)
 
 -- the blocks of totals lie in static bytes of this number
 abbrev pub AreWithin : ℕ → List Total → Type 0
