@@ -1,4 +1,4 @@
--- The moves of a deck that was read are lines to the card.
+-- What holds of the line of every move; the moves of a deck that was read are lines to the card.
 use Rattle.std.specs.Prelude.{◌≡◌, ℕ, Bool, true, false, cond, List, [], ◌∷◌, ◌++◌, is_none, is_some, bytes_eq, ok_or, Option, Some, None, Result, Ok, Err, ⊤, refl}
 use Rattle.std.specs.List.{AllByRecursion}
 use Rattle.std.proofs.Common.{subst, arith}
@@ -7,7 +7,7 @@ use Rattle.model_play.specs.model_device.proofs.ImageLemmas.{all_append}
 use Rattle.model_play.specs.model_text.specs.Text.{◌>>=◌, ok_as, err_as, only_if, lines, with_numbers, fields}
 use Rattle.model_play.specs.declared.deck.DeckCause.{DeckCause}
 use Rattle.model_play.specs.declared.deck.DeckCause.TheVariants.{BadLine}
-use Rattle.model_play.specs.DeckGrammar.{DeckLine, Context, Stated, Says, Opens, Word, PowerWord, SelectWord, DeleteWord, ApduWord, statement_of, aid_field, hex_field, deck_read}
+use Rattle.model_play.specs.DeckGrammar.{DeckLine, Context, Says, Word, PowerWord, SelectWord, DeleteWord, ApduWord, statement_of, aid_field, hex_field, deck_read}
 use Rattle.model_play.specs.DeckGrammar as line
 use Rattle.model_play.specs.Play.{is_card_line}
 use Rattle.law_explore.specs.Rules.{Move, Rules, no_rules, marked_lines, move_words, line_stated, move_line, parts_of, full_parts, occasion_words, effect_words, name_and_amount, RuleWord, MoveWord, AllowWord, OnWord, rule_word, with_rule, with_line, rules_from, rules_read, Exploration, exploration_read, line_fault, tested_rules}
@@ -16,53 +16,6 @@ use Rattle.law_explore.proofs.Searches.{IfGoesOn, goes_on}
 -- each move is a line to the card
 abbrev pub AreMoves : List Move → Type 0
 AreMoves ms = AllByRecursion (λ m. is_card_line m.line ≡ true) ms
-
--- ---- statements
-
-abbrev IsCardLine : DeckLine → Type 0
-IsCardLine l = is_card_line l ≡ true
-
-abbrev powered : Context
-powered = record { units = []; powered = true }
-
-select_line : (x : Result (List ℕ) DeckCause) → IfGoesOn IsCardLine (ok_as (λ a. Says (line.Sent (line.Select a)) powered) x >>= line_stated)
-select_line (Ok a) = refl
-select_line (Err e) = tt
-
-delete_line : (x : Result (List ℕ) DeckCause) → IfGoesOn IsCardLine (ok_as (λ a. Says (line.Sent (line.Delete a)) powered) x >>= line_stated)
-delete_line (Ok a) = refl
-delete_line (Err e) = tt
-
-apdu_line : (x : Result (List ℕ) DeckCause) → IfGoesOn IsCardLine (ok_as (λ a. Says (line.Sent (line.Apdu a)) powered) x >>= line_stated)
-apdu_line (Ok a) = refl
-apdu_line (Err e) = tt
-
--- what is stated with a word is a line to the card
-abbrev StatesCardLine : ℕ → List (List ℕ) → Word → Type 0
-StatesCardLine n fs w = IfGoesOn IsCardLine (statement_of powered n w fs >>= line_stated)
-
-power_states : (n : ℕ) (fs : List (List ℕ)) → StatesCardLine n fs PowerWord
-unfolding statement_of
-power_states n [] = refl
-power_states n (f ∷ fs) = tt
-
-select_states : (n : ℕ) (fs : List (List ℕ)) → StatesCardLine n fs SelectWord
-unfolding statement_of
-select_states n [] = tt
-select_states n (f ∷ []) = select_line (aid_field f)
-select_states n (f ∷ g ∷ fs) = tt
-
-delete_states : (n : ℕ) (fs : List (List ℕ)) → StatesCardLine n fs DeleteWord
-unfolding statement_of
-delete_states n [] = tt
-delete_states n (f ∷ []) = delete_line (aid_field f)
-delete_states n (f ∷ g ∷ fs) = tt
-
-apdu_states : (n : ℕ) (fs : List (List ℕ)) → StatesCardLine n fs ApduWord
-unfolding statement_of
-apdu_states n [] = tt
-apdu_states n (f ∷ []) = apdu_line (hex_field f)
-apdu_states n (f ∷ g ∷ fs) = tt
 
 -- ---- words
 
@@ -85,31 +38,80 @@ found_goes P (Some a) e h = h
 
 -- ---- answers
 
-any_goes : {A E : Type 0} (x : Result A E) → IfGoesOn (λ a. ⊤) x
+-- what holds of every value
+pub all_go : {A E : Type 0} (P : A → Type 0) (x : Result A E) → ((a : A) → P a) → IfGoesOn P x
+all_go P (Ok a) h = h a
+all_go P (Err e) h = tt
+
+pub any_goes : {A E : Type 0} (x : Result A E) → IfGoesOn (λ a. ⊤) x
 any_goes (Ok a) = tt
 any_goes (Err e) = tt
 
-as_goes : {A B E : Type 0} (P : A → Type 0) (Q : B → Type 0) (f : A → B) (x : Result A E) → ((a : A) → P a → Q (f a)) → IfGoesOn P x → IfGoesOn Q (ok_as f x)
+pub as_goes : {A B E : Type 0} (P : A → Type 0) (Q : B → Type 0) (f : A → B) (x : Result A E) → ((a : A) → P a → Q (f a)) → IfGoesOn P x → IfGoesOn Q (ok_as f x)
 as_goes P Q f (Ok a) g h = g a h
 as_goes P Q f (Err e) g h = tt
 
-err_goes : {A E F : Type 0} (P : A → Type 0) (f : E → F) (x : Result A E) → IfGoesOn P x → IfGoesOn P (err_as f x)
+pub err_goes : {A E F : Type 0} (P : A → Type 0) (f : E → F) (x : Result A E) → IfGoesOn P x → IfGoesOn P (err_as f x)
 err_goes P f (Ok a) h = h
 err_goes P f (Err e) h = tt
 
-only_goes : {A E : Type 0} (P : A → Type 0) (b : Bool) (e : E) (a : A) → P a → IfGoesOn P (only_if b e a)
+pub only_goes : {A E : Type 0} (P : A → Type 0) (b : Bool) (e : E) (a : A) → P a → IfGoesOn P (only_if b e a)
 only_goes P true e a h = h
 only_goes P false e a h = tt
 
--- ---- rules
+-- ---- moves
 
-line_of_move : (n : ℕ) (fs : List (List ℕ)) → IfGoesOn IsCardLine (move_line n fs)
-unfolding move_line
-line_of_move n [] = tt
-line_of_move n (word ∷ rest) =
-    goes_on (StatesCardLine n rest) IsCardLine (ok_or (lookup move_words word) BadLine) (λ w. statement_of powered n w rest >>= line_stated)
-    (found_goes (StatesCardLine n rest) (lookup move_words word) BadLine (lookup_all (StatesCardLine n rest) move_words word (power_states n rest, (select_states n rest, (delete_states n rest, (apdu_states n rest, tt))))))
-    (λ w h. h)
+abbrev powered : Context
+powered = record { units = []; powered = true }
+
+-- what holds of the line of every move, if it holds of the lines that its four words state
+module _ (P : DeckLine → Type 0) (power : P line.Power) (select : (f : List ℕ) → IfGoesOn (λ a. P (line.Sent (line.Select a))) (aid_field f)) (delete : (f : List ℕ) → IfGoesOn (λ a. P (line.Sent (line.Delete a))) (aid_field f)) (apdu : (f : List ℕ) → IfGoesOn (λ b. P (line.Sent (line.Apdu b))) (hex_field f)) where
+  -- a statement with one field
+  field_states : (f : List ℕ → DeckLine) (x : Result (List ℕ) DeckCause) → IfGoesOn (λ a. P (f a)) x → IfGoesOn P (ok_as (λ a. Says (f a) powered) x >>= line_stated)
+  field_states f (Ok a) h = h
+  field_states f (Err e) h = tt
+
+  power_states : (n : ℕ) (fs : List (List ℕ)) → IfGoesOn P (statement_of powered n PowerWord fs >>= line_stated)
+  unfolding statement_of
+  power_states n [] = power
+  power_states n (f ∷ fs) = tt
+
+  select_states : (n : ℕ) (fs : List (List ℕ)) → IfGoesOn P (statement_of powered n SelectWord fs >>= line_stated)
+  unfolding statement_of
+  select_states n [] = tt
+  select_states n (f ∷ []) = field_states (λ a. line.Sent (line.Select a)) (aid_field f) (select f)
+  select_states n (f ∷ g ∷ fs) = tt
+
+  delete_states : (n : ℕ) (fs : List (List ℕ)) → IfGoesOn P (statement_of powered n DeleteWord fs >>= line_stated)
+  unfolding statement_of
+  delete_states n [] = tt
+  delete_states n (f ∷ []) = field_states (λ a. line.Sent (line.Delete a)) (aid_field f) (delete f)
+  delete_states n (f ∷ g ∷ fs) = tt
+
+  apdu_states : (n : ℕ) (fs : List (List ℕ)) → IfGoesOn P (statement_of powered n ApduWord fs >>= line_stated)
+  unfolding statement_of
+  apdu_states n [] = tt
+  apdu_states n (f ∷ []) = field_states (λ b. line.Sent (line.Apdu b)) (hex_field f) (apdu f)
+  apdu_states n (f ∷ g ∷ fs) = tt
+
+  pub move_states : (n : ℕ) (fs : List (List ℕ)) → IfGoesOn P (move_line n fs)
+  unfolding move_line
+  move_states n [] = tt
+  move_states n (word ∷ rest) =
+      let States : Word → Type 0 = λ w. IfGoesOn P (statement_of powered n w rest >>= line_stated) in
+      goes_on States P (ok_or (lookup move_words word) BadLine) (λ w. statement_of powered n w rest >>= line_stated)
+      (found_goes States (lookup move_words word) BadLine (lookup_all States move_words word (power_states n rest, (select_states n rest, (delete_states n rest, (apdu_states n rest, tt))))))
+      (λ w h. h)
+
+abbrev pub IsCardLine : DeckLine → Type 0
+IsCardLine l = is_card_line l ≡ true
+
+pub line_of_move : (n : ℕ) (fs : List (List ℕ)) → IfGoesOn IsCardLine (move_line n fs)
+line_of_move n fs =
+    move_states IsCardLine refl (λ f. all_go (λ a. IsCardLine (line.Sent (line.Select a))) (aid_field f) (λ a. refl)) (λ f. all_go (λ a. IsCardLine (line.Sent (line.Delete a))) (aid_field f) (λ a. refl))
+    (λ f. all_go (λ b. IsCardLine (line.Sent (line.Apdu b))) (hex_field f) (λ b. refl)) n fs
+
+-- ---- rules
 
 -- rules whose moves are lines to the card
 abbrev HasMoves : Rules → Type 0

@@ -16,7 +16,8 @@ use Rattle.law_histories.specs.model_rules.specs.Law.{AreKept}
 use Rattle.law_histories.specs.Histories.{AppExploration, deck_steps, first_standing_of}
 use Rattle.law_histories.specs.Searches.{Node, Round, Halt, round_of_states, first_round, search_by, app_search}
 use Rattle.law_kept.specs.Kept.{leaves_none, deck_brings, try_brings, tries_bring, nodes_bring, after_brings, depths_bring, search_brings, exploration_brings, may_create, none_creates, brings_only_target, ExplorationLaw, OnlyTargetLaw}
-use Rattle.law_kept.proofs.Moves.{AreSent, IsReadFrom, read_from}
+use Rattle.law_histories.proofs.CardMoves.{HaveLines, IsReadFrom}
+use Rattle.law_kept.proofs.Moves.{IsSent, sent_from}
 use Rattle.law_kept.proofs.Stops.{deck_counts}
 use Rattle.law_kept.proofs.Tries.{none_brings}
 use Rattle.law_kept.proofs.Starts.{FirstReaches, first_reaches, creates_from}
@@ -82,7 +83,7 @@ module _ (limit : ℕ) (x : AppExploration) (tries : (c : CardState) → AllByRe
 
 -- ---- the search
 
-all_moves : (ms : List Move) → AreSent ms → AllByRecursion IsMove ms
+all_moves : (ms : List Move) → HaveLines IsSent ms → AllByRecursion IsMove ms
 all_moves [] are = tt
 all_moves (m ∷ ms) are = (record { card = are.0.card; bytes = are.0.bytes }, all_moves ms are.1)
 
@@ -110,7 +111,7 @@ deck_from x h =
     let p = and_parts (all_bring_only x.target.name x.target.app (deck_steps x.lines)) (leaves_none x.target.name (play_of_deck x.lines)) h in
     record { steps = p.0; found = p.1 }
 
-begins : (text : List ℕ) (x : AppExploration) → IsReadFrom text x → AreKept x.rules → deck_brings x ≡ true → FirstReaches x
+begins : (text : List ℕ) (x : AppExploration) → IsReadFrom IsSent text x → AreKept x.rules → deck_brings x ≡ true → FirstReaches x
 begins text x is kept h = grind (arith, deck_from, first_reaches, read_lines_law, deck_counts)
 
 -- ---- the laws
@@ -119,7 +120,7 @@ begins text x is kept h = grind (arith, deck_from, first_reaches, read_lines_law
 pub exploration_law : ExplorationLaw
 unfolding exploration_brings
 exploration_law limit n text x read kept brings =
-    let is : IsReadFrom text x = read_from text x read in
+    let is : IsReadFrom IsSent text x = sent_from text x read in
     let p = and_parts (deck_brings x) (search_brings limit n x (first_standing_of x)) brings in
     let first : FirstReaches x = begins text x is kept p.0 in
     let node : Node = first_node x first.standing in
@@ -130,7 +131,7 @@ exploration_law limit n text x read kept brings =
 pub only_target_law : OnlyTargetLaw
 unfolding brings_only_target
 only_target_law limit n text x read kept only =
-    let is : IsReadFrom text x = read_from text x read in
+    let is : IsReadFrom IsSent text x = sent_from text x read in
     let p = and_parts (deck_brings x) (none_creates x.moves) only in
     let moves : AllByRecursion IsMove x.moves = all_moves x.moves is.moves in
     let first : FirstReaches x = begins text x is kept p.0 in

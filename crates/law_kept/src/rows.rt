@@ -1,7 +1,7 @@
 #![tactic(auto, unfolding(crate::specs::Computed::only_target, crate::specs::Computed::only_brought))]
 
 // Worked rows: which decks bring only the application of their rules.
-ghost use Rattle.std.specs.Prelude.{◌≡◌, ◌++◌, codes, true, false, Ok};
+ghost use Rattle.std.specs.Prelude.{◌≡◌, codes, true, false, Ok};
 ghost use Rattle.law_kept.specs.Computed.{only_target, only_brought, two_apps, swapped_deck};
 
 /// A deck with a deletion and another load of the same application, and with commands to it as moves.

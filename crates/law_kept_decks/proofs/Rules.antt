@@ -9,7 +9,10 @@ use Rattle.law_kept.specs.law_explore.specs.Rules.{Move, is_some_of, marked_line
 use Rattle.law_kept.specs.model_rules.specs.Rules.{AppRules, Target, no_app_rules}
 use Rattle.law_kept.specs.model_rules.specs.Reading.{RuleCause, Deck, NoApplication, LoadLine, load_names, loads_of, app_line, app_rules_from, app_rules_read, with_some_app}
 use Rattle.law_kept.specs.law_histories.specs.Histories.{AppExploration, AppFault, LineFault, NoMove, NoRule, app_exploration_read, can_break, line_fault, parts_from, tested, with_move_line}
-use Rattle.law_kept.proofs.Moves.{itself}
+
+itself : {A E : Type 0} (d : Result A E) → IfOk d (λ a. d ≡ Ok a)
+itself (Ok a) = refl
+itself (Err e) = tt
 
 weaker_ok : {A E : Type 0} (P Q : A → Type 0) (x : Result A E) → ((a : A) → P a → Q a) → IfOk x P → IfOk x Q
 weaker_ok P Q (Ok a) f h = f a h
