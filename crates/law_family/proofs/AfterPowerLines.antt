@@ -1,6 +1,6 @@
 -- Every line of a play after its first power line keeps the relation: a case for each kind of line.
 use Rattle.std.specs.Prelude.{◌≡◌, ℕ, ◌-◌, ◌≤◌, Bool, true, false, cond, ◌&&◌, nat_le, List, [], ◌∷◌, Option, Some, None}
-use Rattle.std.proofs.Common.{refl, ap, sym, subst, ◌∙◌, arith}
+use Rattle.std.proofs.Common.{refl, ap, sym, subst, arith}
 use Rattle.model_play.specs.model_device.specs.Bytes.{has_name, lookup}
 use Rattle.model_play.specs.model_device.specs.Image.{Journal, One}
 use Rattle.model_play.specs.model_device.specs.Stopped.{stands}
@@ -13,7 +13,6 @@ use Rattle.model_play.specs.model_card.specs.Commands.{command}
 use Rattle.model_play.specs.Family.{ClosedPairs, routes_in, command_of, is_own, is_own_command, live_in, is_running}
 use Rattle.model_play.specs.Given.{Event, Dumps, Leaves, apps_on, leave_event_if, line_events, dump_events, is_done_reply, is_foreign_select}
 use Rattle.model_play.specs.Solo.{Solo, Heard, silent, hears, hears_all}
-use Rattle.model_play.specs.View.{results_if}
 use Rattle.model_play.specs.DeckGrammar.{DeckLine}
 use Rattle.model_play.specs.DeckGrammar as line
 use Rattle.law_family.proofs.Agreement.{MapsAgree}
@@ -41,14 +40,10 @@ quiet_keeps K t n l before o after own left sim =
     subst (λ (b : Bool). KeepsSimulation K t u (line_events b K u) b b) (sym own) (subst (λ (es : List Event). KeepsSimulation K t u es false false) (sym no_events) (still_keeps K t u sim))
 
 no_own : (K : List (List ℕ)) (v : Live) → is_own_command K v None ≡ false
-no_own K (Running session_state) = refl
-no_own K Unpowered = refl
-no_own K Muted = refl
+no_own h v = grind arith
 
 no_left : (v : Live) (d : Bool) → (is_running v && false && d) ≡ false
-no_left (Running session_state) d = refl
-no_left Unpowered d = refl
-no_left Muted d = refl
+no_left v d = grind arith
 
 -- ---- power lines
 
@@ -107,14 +102,7 @@ hears_dump t n = refl
 
 dump_at : (K : List (List ℕ)) (t : Solo) (u : Step) (n : List ℕ) (b : Bool) (r : LineResult) → Simulates K u.after t → u.result ≡ Some r → (b ≡ true → static_of (lookup t.map n) ≡ r)
     → KeepsSimulation K t u (dump_events b n) b false
-dump_at K t u n true r sim is same =
-    let e = hears_dump t n in
-    record {
-      sim = subst (λ (z : Heard). Simulates K u.after z.after) (sym e) sim;
-      answer = ap (λ (z : Heard). z.answer) e ∙ (ap (λ (z : LineResult). z ∷ []) (same refl) ∙ sym (ap (results_if true) is));
-      work = ap (λ (z : Heard). z.work) e;
-    }
-dump_at K t u n false r sim is same = still_keeps K t u sim
+dump_at h t u n b r sim is same = grind (arith, hears_dump, Simulates, still_keeps)
 
 and_false : (x : Bool) → (x && false) ≡ true → ⊥
 and_false true h = cc h

@@ -1,6 +1,6 @@
 -- Two maps that agree on one side of a family, and that changes keep the agreement.
 use Rattle.std.specs.Prelude.{◌≡◌, ℕ, Bool, true, false, not, List, [], ◌∷◌, bytes_eq, Option, Some, None}
-use Rattle.std.proofs.Common.{refl, ap, sym, subst, ◌∙◌}
+use Rattle.std.proofs.Common.{arith, refl, ap, sym, subst, ◌∙◌}
 use Rattle.model_play.specs.model_device.specs.Bytes.{has_name, lookup, insert, remove}
 use Rattle.model_play.specs.model_device.specs.Card.{App, app_at_place}
 use Rattle.model_play.specs.model_machine.specs.Chain.{with_pieces, changed_app, map_changed}
@@ -41,24 +41,10 @@ module _ (K : List (List ℕ)) (x : Bool) where
 
   -- a map is as before on this side
   pub agree_beside : (m : List (List ℕ × App)) (n : List ℕ) (a : App) → has_name n K ≡ not x → MapsAgree K x (insert m n a) m
-  agree_beside m n a off k on = ap bare (lookup_beside m n a k (apart_from k on))
-    where
-      apart_from : (k : List ℕ) → has_name k K ≡ x → bytes_eq n k ≡ false
-      apart_from k on = apart K n k (not x) off (both_sides x on)
-        where
-          both_sides : (y : Bool) → has_name k K ≡ y → has_name k K ≡ not (not y)
-          both_sides true h = h
-          both_sides false h = h
+  agree_beside m n a off k on = grind (arith, lookup_beside, apart)
 
   pub agree_left : (m : List (List ℕ × App)) (n : List ℕ) → has_name n K ≡ not x → MapsAgree K x (remove m n) m
-  agree_left m n off k on = ap bare (lookup_left m n k (apart_from k on))
-    where
-      apart_from : (k : List ℕ) → has_name k K ≡ x → bytes_eq n k ≡ false
-      apart_from k on = apart K n k (not x) off (both_sides x on)
-        where
-          both_sides : (y : Bool) → has_name k K ≡ y → has_name k K ≡ not (not y)
-          both_sides true h = h
-          both_sides false h = h
+  agree_left m n off k on = grind (arith, lookup_left, apart)
 
   pub agree_changed_app : (m : List (List ℕ × App)) (n : List ℕ) (ps : List (ℕ × List ℕ)) (o : Option App) → has_name n K ≡ not x → MapsAgree K x (changed_app m n ps o) m
   agree_changed_app m n ps None off k on = refl
@@ -73,24 +59,10 @@ module _ (K : List (List ℕ)) (x : Bool) where
   -- ---- static changes
 
   on_both : (m d : List (List ℕ × App)) (n : List ℕ) (ps : List (ℕ × List ℕ)) (o p : Option App) → bare o ≡ bare p → MapsAgree K x m d → MapsAgree K x (changed_app m n ps o) (changed_app d n ps p)
-  on_both m d n ps None None e h = h
-  on_both m d n ps None (Some b) e h = absurd (cc e)
-  on_both m d n ps (Some a) None e h = absurd (cc e)
-  on_both m d n ps (Some a) (Some b) e h =
-      let same : app_at_place 0 a ≡ app_at_place 0 b = cc in
-      agree_inserted m d n (with_pieces ps a) (with_pieces ps b) (ap (with_pieces ps) same) h
+  on_both m d n ps o p e h = grind (arith, agree_inserted)
 
   by_side : (y z : Bool) (m d : List (List ℕ × App)) (n : List ℕ) (ps : List (ℕ × List ℕ)) → x ≡ z → has_name n K ≡ y → MapsAgree K x m d → MapsAgree K x (map_changed m n (Some ps)) (map_changed d n (Some ps))
-  by_side true true m d n ps e is h = on_both m d n ps (lookup m n) (lookup d n) (h n (is ∙ sym e)) h
-  by_side false false m d n ps e is h = on_both m d n ps (lookup m n) (lookup d n) (h n (is ∙ sym e)) h
-  by_side true false m d n ps e is h =
-      let off : has_name n K ≡ not x = is ∙ sym (ap not e) in
-      agree_joined (map_changed m n (Some ps)) m (map_changed d n (Some ps)) (agree_changed_app m n ps (lookup m n) off)
-      (agree_joined m d (map_changed d n (Some ps)) h (agree_back (map_changed d n (Some ps)) d (agree_changed_app d n ps (lookup d n) off)))
-  by_side false true m d n ps e is h =
-      let off : has_name n K ≡ not x = is ∙ sym (ap not e) in
-      agree_joined (map_changed m n (Some ps)) m (map_changed d n (Some ps)) (agree_changed_app m n ps (lookup m n) off)
-      (agree_joined m d (map_changed d n (Some ps)) h (agree_back (map_changed d n (Some ps)) d (agree_changed_app d n ps (lookup d n) off)))
+  by_side y z m d n ps e is h = grind (arith, on_both, agree_joined, agree_changed_app, agree_back)
 
   pub agree_map_changed : (m d : List (List ℕ × App)) (n : List ℕ) (o : Option (List (ℕ × List ℕ))) → MapsAgree K x m d → MapsAgree K x (map_changed m n o) (map_changed d n o)
   agree_map_changed m d n None h = h

@@ -1,12 +1,12 @@
 -- Assembled code is bytes.
 use Rattle.std.proofs.Common.{◌≡◌, ℕ, suc, ◌+◌, ◌≤◌, ◌<◌, Bool, true, false, cond, List, [], ◌∷◌, ◌++◌, take, length, Option, Some, None, Result, Ok, Err, refl, ap, arith}
-use Rattle.std.specs.Prelude.{⊤, ◌==◌, nat_le, bytes_eq, ok_or, IfOk, ℤ, pos, negsuc, ◌-ℤ◌}
+use Rattle.std.specs.Prelude.{⊤, ◌==◌, nat_le, bytes_eq, ok_or, IfOk, ℤ, pos, negsuc}
 use Rattle.std.specs.List.{AllByRecursion}
 use Rattle.std.specs.Int.{w8, w16, cast_unsigned}
 use Rattle.std.proofs.lemmas.Int.{ints}
 use Rattle.std.proofs.lemmas.Bool.{leb-true}
 use Rattle.model_play.specs.model_text.specs.declared.assembler.AsmCause.{AsmCause}
-use Rattle.model_play.specs.model_text.specs.declared.assembler.AsmCause.TheVariants.{UnknownWord, BadOperands, BadNumber, OutOfRange, LabelTwice, TooLong, UnknownLabel, FarBranch}
+use Rattle.model_play.specs.model_text.specs.declared.assembler.AsmCause.TheVariants.{UnknownWord, BadOperands, BadNumber, OutOfRange, LabelTwice, TooLong}
 use Rattle.model_play.specs.model_machine.specs.declared.instruction.Ins.{Ins}
 use Rattle.model_play.specs.model_device.specs.Bytes.{AreBytes, bytes2, zeros, lookup}
 use Rattle.model_play.specs.model_text.specs.Text.{◌>>=◌, ok_as, err_as, only_if, first_cut, is_blank, is_empty, trim, pieces}
@@ -45,10 +45,7 @@ any_ok (Ok a) = tt
 any_ok (Err e) = tt
 
 both_ok : {A B : Type 0} (r : Result A AsmCause) (s : Result B AsmCause) (P : A → Type 0) (Q : B → Type 0) → IfOk r P → IfOk s Q → IfOk (both r s) (λ p. P p.0 × Q p.1)
-both_ok (Ok a) (Ok b) P Q h k = (h, k)
-both_ok (Ok a) (Err f) P Q h k = tt
-both_ok (Err e) (Ok b) P Q h k = tt
-both_ok (Err e) (Err f) P Q h k = tt
+both_ok r s h h3 h4 k = grind arith
 
 -- ---- operands
 
@@ -147,151 +144,7 @@ word_offset : (tag : ℕ) (off : ℤ) (w : ℕ) → AreBytes (bytes2 w ++ offset
 word_offset tag off w = all_append (λ b. b < 256) (bytes2 w) (offset tag off) (pair_bytes w) (offset_bytes tag off)
 
 good_words : AllByRecursion {X = List ℕ × WordForm} (λ w. GoodForm w.1) words
-good_words = (
-  (omega arith, tt),
-  (
-    (λ w. (omega arith, pair_bytes w)),
-    (
-      (λ w. (omega arith, pair_bytes w)),
-      (
-        (λ v w. (omega arith, two_words v w)),
-        (
-          (omega arith, tt),
-          (
-            (λ w. (omega arith, pair_bytes w)),
-            (
-              (λ w. (omega arith, pair_bytes w)),
-              (
-                (λ v w. (omega arith, two_words v w)),
-                (
-                  (λ c d h k. (omega (arith, h), (near_byte d k, tt))),
-                  (
-                    (λ c to h. (omega (arith, h), target_bytes c to)),
-                    (
-                      (λ c to h. (omega (arith, h), target_bytes c to)),
-                      (
-                        (λ n h. (omega arith, (omega (arith, h), tt))),
-                        (
-                          (λ n h. (omega arith, (omega (arith, h), tt))),
-                          (
-                            (λ w. (omega arith, pair_bytes w)),
-                            (
-                              (λ n h. (omega arith, (omega (arith, h), tt))),
-                              (
-                                (omega arith, tt),
-                                (
-                                  (omega arith, tt),
-                                  (
-                                    tt,
-                                    (
-                                      (omega arith, tt),
-                                      (
-                                        (λ n h. (omega arith, (omega (arith, h), tt))),
-                                        (
-                                          (λ n h. (omega arith, (omega (arith, h), tt))),
-                                          (
-                                            (λ n o h k. (omega arith, (omega (arith, h), (omega (arith, k), tt)))),
-                                            (
-                                              tt,
-                                              (
-                                                (λ tag off n h k. (omega (arith, h), (omega (arith, k), offset_bytes tag off))),
-                                                (
-                                                  (λ tag off n h k. (omega (arith, h), (omega (arith, k), offset_bytes tag off))),
-                                                  (
-                                                    (λ tag off n h k. (omega (arith, h), (omega (arith, k), offset_bytes tag off))),
-                                                    (
-                                                      (λ tag off n h k. (omega (arith, h), (omega (arith, k), offset_bytes tag off))),
-                                                      (
-                                                        (λ tag off h. (omega (arith, h), offset_bytes tag off)),
-                                                        (
-                                                          (λ tag off n h k. (omega (arith, h), (omega (arith, k), offset_bytes tag off))),
-                                                          (
-                                                            (λ tag off n h k. (omega (arith, h), (omega (arith, k), offset_bytes tag off))),
-                                                            (
-                                                              (λ tag off n h k. (omega (arith, h), (omega (arith, k), offset_bytes tag off))),
-                                                              (
-                                                                (λ tag off n h k. (omega (arith, h), (omega (arith, k), offset_bytes tag off))),
-                                                                (
-                                                                  (λ tag off n h k. (omega (arith, h), (omega (arith, k), offset_bytes tag off))),
-                                                                  (
-                                                                    (λ tag off w h. (omega (arith, h), word_offset tag off w)),
-                                                                    (
-                                                                      (λ tag off w h. (omega (arith, h), word_offset tag off w)),
-                                                                      (
-                                                                        (λ tag off w h. (omega (arith, h), word_offset tag off w)),
-                                                                        (
-                                                                          (λ tag off w h. (omega (arith, h), word_offset tag off w)),
-                                                                          (
-                                                                            (λ tag off n h k. (omega (arith, h), (omega (arith, k), offset_bytes tag off))),
-                                                                            (
-                                                                              (λ tag off n h k. (omega (arith, h), (omega (arith, k), offset_bytes tag off))),
-                                                                              (
-                                                                                (λ tag off n h k. (omega (arith, h), (omega (arith, k), offset_bytes tag off))),
-                                                                                (
-                                                                                  (λ tag off n h k. (omega (arith, h), (omega (arith, k), offset_bytes tag off))),
-                                                                                  (
-                                                                                    (λ tag off n h k. (omega (arith, h), (omega (arith, k), offset_bytes tag off))),
-                                                                                    (
-                                                                                      (λ tag off n h k. (omega (arith, h), (omega (arith, k), offset_bytes tag off))),
-                                                                                      (
-                                                                                        (λ tag off n h k. (omega (arith, h), (omega (arith, k), offset_bytes tag off))),
-                                                                                        (
-                                                                                          (λ tag off n h k. (omega (arith, h), (omega (arith, k), offset_bytes tag off))),
-                                                                                          (
-                                                                                            (λ tag off n h k. (omega (arith, h), (omega (arith, k), offset_bytes tag off))),
-                                                                                            (
-                                                                                              (λ tag off n h k. (omega (arith, h), (omega (arith, k), offset_bytes tag off))),
-                                                                                              (
-                                                                                                (λ tag off n h k. (omega (arith, h), (omega (arith, k), offset_bytes tag off))),
-                                                                                                tt,
-                                                                                              ),
-                                                                                            ),
-                                                                                          ),
-                                                                                        ),
-                                                                                      ),
-                                                                                    ),
-                                                                                  ),
-                                                                                ),
-                                                                              ),
-                                                                            ),
-                                                                          ),
-                                                                        ),
-                                                                      ),
-                                                                    ),
-                                                                  ),
-                                                                ),
-                                                              ),
-                                                            ),
-                                                          ),
-                                                        ),
-                                                      ),
-                                                    ),
-                                                  ),
-                                                ),
-                                              ),
-                                            ),
-                                          ),
-                                        ),
-                                      ),
-                                    ),
-                                  ),
-                                ),
-                              ),
-                            ),
-                          ),
-                        ),
-                      ),
-                    ),
-                  ),
-                ),
-              ),
-            ),
-          ),
-        ),
-      ),
-    ),
-  ),
-)
+good_words = grind (arith, pair_bytes, two_words, near_byte, target_bytes, offset_bytes, word_offset)
 
 -- the form of a word
 found_form : (ws : List (List ℕ × WordForm)) (t : List ℕ) → AllByRecursion {X = List ℕ × WordForm} (λ w. GoodForm w.1) ws → IfOk (ok_or (lookup ws t) UnknownWord) GoodForm
@@ -322,10 +175,7 @@ place_ok f c false t g h = as_ok Given (word t) (λ z. ⊤) (λ x. ItemBytes (by
 
 -- both of a condition and what is made with it
 after_ok : {B : Type 0} (r : Result ℕ AsmCause) (s : Result B AsmCause) (f : ℕ → B → CodeItem) → IfOk r (λ c. c < 8) → ((c : ℕ) → c < 8 → IfOk s (λ x. ItemBytes (f c x))) → IfOk (ok_as (λ p. f p.0 p.1) (both r s)) ItemBytes
-after_ok (Ok c) (Ok x) f h k = k c h
-after_ok (Ok c) (Err e) f h k = tt
-after_ok (Err e) (Ok x) f h k = tt
-after_ok (Err e) (Err g) f h k = tt
+after_ok r s f h k = grind arith
 
 primitive_bytes : (most : ℕ) (bs : List ℕ) → most ≤ 4 → AreBytes bs → length bs ≡ most → ItemBytes (primitive bs)
 primitive_bytes most [] few h e = tt
@@ -429,13 +279,7 @@ lines_ok labels place (t ∷ ts) =
     (lines_ok (with_label labels l.label place) (place + size l.item) ts) (λ rest k. (h, k)))
 
 emitted_ok : (labels : List (List ℕ × ℕ)) (place : ℕ) (i : CodeItem) → ItemBytes i → IfOk (bytes_of_item labels place i) AreBytes
-emitted_ok labels place Nothing h = tt
-emitted_ok labels place (Raw b) h = (h, tt)
-emitted_ok labels place (Plain i) h = h
-emitted_ok labels place (ToPlace f l) h = as_ok (λ p. spell (f p)) (ok_or (lookup labels l) UnknownLabel) (λ p. ⊤) AreBytes (any_ok (ok_or (lookup labels l) UnknownLabel)) (λ p k. h p)
-emitted_ok labels place (ToDistance f l) h =
-    bind_ok (ok_or (lookup labels l) UnknownLabel) (λ p. let d = pos p -ℤ pos (place + 2) in only_if (fits_signed 128 d) FarBranch (spell (f d))) (λ p. ⊤) AreBytes (any_ok (ok_or (lookup labels l) UnknownLabel))
-    (λ p k. let d = pos p -ℤ pos (place + 2) in only_ok (fits_signed 128 d) FarBranch (spell (f d)) AreBytes (λ e. h d e))
+emitted_ok labels place i h = grind (arith, as_ok, any_ok, bind_ok, only_ok)
 
 joined_ok : (labels : List (List ℕ × ℕ)) (ps : List Placed) → PlacedBytes ps → IfOk (joined_code labels ps) AreBytes
 unfolding joined_code

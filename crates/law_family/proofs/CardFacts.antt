@@ -1,16 +1,16 @@
 -- What every application of a play is: its name has at most 16 bytes, its code is bytes, and there are at most 32 of
 -- them.
 use Rattle.std.proofs.Common.{◌≡◌, ℕ, zero, suc, ◌+◌, ◌-◌, ◌<◌, ◌≤◌, Bool, true, false, cond, not, List, [], ◌∷◌, ◌++◌, take, drop, length, Option, Some, None, refl, sym, subst, arith}
-use Rattle.std.specs.Prelude.{⊤, ◌==◌, ◌&&◌, nat_lt, nat_le, bytes_eq, slice_index, slice_index_or}
+use Rattle.std.specs.Prelude.{⊤, ◌==◌, ◌&&◌, nat_lt, nat_le, slice_index_or}
 use Rattle.std.specs.List.{AllByRecursion, concat}
 use Rattle.std.proofs.lemmas.Bool.{and_parts, leb-true, ltb-true}
 use Rattle.std.proofs.lemmas.List.{length-take}
-use Rattle.model_play.specs.model_device.specs.Bytes.{AreBytes, lookup, insert, remove, up, be2, zeros, has_name, AscendByName}
+use Rattle.model_play.specs.model_device.specs.Bytes.{AreBytes, lookup, insert, remove, up, be2, has_name, AscendByName}
 use Rattle.model_play.specs.model_machine.specs.Code.{DecodesTo}
 use Rattle.model_play.specs.model_device.specs.Device.{IsImage}
 use Rattle.model_play.specs.model_device.specs.Image.{Two, look, after}
 use Rattle.model_play.specs.model_device.specs.Stopped.{cost, stands}
-use Rattle.model_play.specs.model_device.specs.Card.{App, Block, words_of_lengths, record_at, name_in, name_at, app_at, apps_of, blocks, cells, section, words_after, means}
+use Rattle.model_play.specs.model_device.specs.Card.{App, Block, record_at, name_in, name_at, app_at, apps_of, blocks, cells, section, words_after, means}
 use Rattle.model_play.specs.model_device.specs.Layout.{is_record, bad_record, fault}
 use Rattle.model_play.specs.model_machine.specs.Chain.{code_in, with_pieces, changed_app}
 use Rattle.model_play.specs.model_card.specs.Items.{Change, Fixed, Created, Deleted, Item, Plain, Atomic, apps_after_change, apps_after_items, Stopped, at_stop, in_flight, with_item}
@@ -151,32 +151,7 @@ stand_append (Atomic w c ∷ is) js m f g = (f.0, stand_append is js (apps_after
 -- ---- the card of an image
 
 name_few : (r : List ℕ) (words : ℕ) → is_record r words ≡ true → length (name_in r) ≤ 16
-name_few r words h =
-    let n : ℕ = slice_index r 16 in
-    let a : Bool = nat_le 5 n && nat_le n 16 in
-    let b : Bool = a && bytes_eq (take (16 - n) (drop n r)) (zeros (16 - n)) in
-    let c : Bool = b && nat_le (slice_index r 17) 128 in
-    let d : Bool = c && nat_le (slice_index r 18) 128 in
-    let e : Bool = d && slice_index r 19 == 0 in
-    let f : Bool = e && nat_le 1 (be2 r 20) in
-    let g : Bool = f && nat_le (be2 r 20) 8192 in
-    let i : Bool = g && nat_le (be2 r 22) 4096 in
-    let j : Bool = i && nat_le (be2 r 24) 256 in
-    let k : Bool = j && nat_le (be2 r 26) 15 in
-    let l : Bool = k && bytes_eq (drop 28 r) (zeros 4) in
-    let to-l = and_parts l (words == words_of_lengths (be2 r 20) (be2 r 22) (slice_index r 17) (slice_index r 18)) h in
-    let to-k = and_parts k (bytes_eq (drop 28 r) (zeros 4)) to-l.0 in
-    let to-j = and_parts j (nat_le (be2 r 26) 15) to-k.0 in
-    let to-i = and_parts i (nat_le (be2 r 24) 256) to-j.0 in
-    let to-g = and_parts g (nat_le (be2 r 22) 4096) to-i.0 in
-    let to-f = and_parts f (nat_le (be2 r 20) 8192) to-g.0 in
-    let to-e = and_parts e (nat_le 1 (be2 r 20)) to-f.0 in
-    let to-d = and_parts d (slice_index r 19 == 0) to-e.0 in
-    let to-c = and_parts c (nat_le (slice_index r 18) 128) to-d.0 in
-    let to-b = and_parts b (nat_le (slice_index r 17) 128) to-c.0 in
-    let to-a = and_parts a (bytes_eq (take (16 - n) (drop n r)) (zeros (16 - n))) to-b.0 in
-    let most : n ≤ 16 = leb-true n 16 (and_parts (nat_le 5 n) (nat_le n 16) to-a.0).1 in
-    omega (arith, length-take n r)
+name_few r words h = grind (arith, and_parts, leb-true, length-take)
 
 -- the applications of blocks whose records are good, after `used` others
 record RecordsRead (used : ℕ) (m : List (List ℕ × App)) : Type 0 where

@@ -1,6 +1,6 @@
 -- A creation is the last item of its line, so if it is durable the map has it.
-use Rattle.std.specs.Prelude.{◌≡◌, ℕ, ◌-◌, Bool, true, false, cond, nat_le, ◌==◌, List, [], ◌∷◌, ◌++◌, length, Option, Some, None, ⊤}
-use Rattle.std.proofs.Common.{refl, ap, sym, subst, ◌∙◌}
+use Rattle.std.specs.Prelude.{◌≡◌, ℕ, ◌-◌, Bool, true, false, cond, nat_le, ◌==◌, List, [], ◌∷◌, ◌++◌, Option, Some, None, ⊤}
+use Rattle.std.proofs.Common.{arith, refl, ap, sym, subst, ◌∙◌}
 use Rattle.model_play.specs.model_device.specs.Bytes.{insert, remove}
 use Rattle.model_play.specs.model_device.specs.Image.{Two}
 use Rattle.model_play.specs.model_device.specs.Stopped.{cost, stands}
@@ -9,15 +9,15 @@ use Rattle.model_play.specs.model_device.specs.Card.{App, Card}
 use Rattle.model_play.specs.model_machine.specs.Chain.{Write, map_changed, run}
 use Rattle.model_play.specs.model_card.specs.Items.{Change, Fixed, Created, Deleted, Item, Plain, Atomic, apps_after_items, Stopped, with_item, in_flight, at_stop, Site, BankItem, Piece, Blank, Note, Commit, Enter, Remove, write_items}
 use Rattle.model_play.specs.model_card.specs.Items as items
-use Rattle.model_play.specs.model_card.specs.Manager.{Selected, SessionState, Route, WrongLength, WrongClass, ToSelect, ToManager, ToApplication, route, select, p1p2, fresh, word_parts, manage, room_on}
-use Rattle.model_play.specs.model_card.specs.Commands.{Command, atomic_of, manager_command, application_command, by_route, command, refusal}
+use Rattle.model_play.specs.model_card.specs.Manager.{Selected, SessionState, Route, WrongLength, WrongClass, ToSelect, ToManager, ToApplication, route, select, manage, room_on}
+use Rattle.model_play.specs.model_card.specs.Commands.{Command, manager_command, application_command, by_route, command, refusal}
 use Rattle.law_manager.specs.Orders.{Order, order_of}
 use Rattle.law_manager.specs.OnCard.{IsCommand, IsSelect, plains, blank_words}
 use Rattle.law_manager.specs.OnCard as made
 use Rattle.law_manager.proofs.OnCard.{command_made, selects_law}
 use Rattle.law_manager.proofs.Plains.{plains_are}
 use Rattle.model_play.specs.Play.{is_done, send, command_with_rest}
-use Rattle.model_play.specs.Laws.{Sent, creation_of_command, made_of, creations_among, without_places, AllAreIn}
+use Rattle.model_play.specs.Laws.{Sent, creation_of_command, creations_among, without_places, AllAreIn}
 use Rattle.law_family.proofs.LoadCommands.{IsFiller, AreFillers}
 use Rattle.law_family.proofs.FreshCommands.{load_sent, made_at, command_fresh}
 use Rattle.model_play.specs.model_device.proofs.MapLemmas.{lookup_inserted_lem}
@@ -42,10 +42,7 @@ created_stands (Atomic w (Created n a) ∷ is) m h =
 
 -- what is whole after a stop
 flight_last : (w : ℕ) (c : Change) (b : Bool) → LastCreates (cond b (Atomic w c ∷ []) [])
-flight_last w (Fixed n ps) true = tt
-flight_last w (Created n a) true = refl
-flight_last w (Deleted n) true = tt
-flight_last w c false = tt
+flight_last w c b = grind arith
 
 cond_last : (b : Bool) (s t : Stopped) → LastCreates s.whole → LastCreates t.whole → LastCreates (cond b s t).whole
 cond_last true s t g h = g
@@ -90,11 +87,7 @@ writes_last (w ∷ ws) = writes_last ws
 
 module _ (c : Card) (session_state : SessionState) where
   made_last : (a : ApduParts) (o : Order) (r : Command) → IsCommand c session_state a o r → LastCreates r.items
-  made_last a _ _ (made.refused o sw h) = tt
-  made_last a _ _ (made.quiet o body load h) = tt
-  made_last a _ _ (made.loaded p l h) = plains_last (length (word_parts (p1p2 a) a.body)) [] tt
-  made_last a _ _ (made.created l n h) = plains_last (blank_words l.site) (plains 4 (atomic_of c (Some (Created n (fresh l))) ∷ [])) refl
-  made_last a _ _ (made.deleted h) = tt
+  made_last a o r h = grind (arith, plains_last)
 
   selected_last : (a : ApduParts) (r : Command) → IsSelect c session_state a r → LastCreates r.items
   selected_last a _ (made.unselected sw h) = tt
@@ -118,11 +111,7 @@ module _ (c : Card) (session_state : SessionState) where
 -- ---- and in a load
 
 filler_made : (s : Option Sent) (r : Route) → IsFiller r → creation_of_command s r ≡ []
-filler_made s WrongLength h = refl
-filler_made s (ToManager a) h = ap (λ (b : Bool). cond b (made_of s) []) h.0
-filler_made s WrongClass h = absurd h
-filler_made s (ToSelect a) h = absurd h
-filler_made s (ToApplication a) h = absurd h
+filler_made s r h = grind arith
 
 none_without : (es : List (List ℕ × App)) → without_places es ≡ [] → es ≡ []
 none_without [] h = refl

@@ -1,21 +1,20 @@
 -- What the lines of a deck that was read carry is bytes.
 use Rattle.std.proofs.Common.{◌≡◌, ℕ, zero, suc, ◌+◌, ◌*◌, ◌-◌, ◌≤◌, ◌<◌, Bool, true, false, cond, not, List, [], ◌∷◌, ◌++◌, take, drop, length, Option, Some, None, Result, Ok, Err, refl, sym, subst, arith}
-use Rattle.std.specs.Prelude.{⊤, ◌==◌, nat_lt, nat_le, ok_or, option_map, option_and_then, IfOk, IfSome}
+use Rattle.std.specs.Prelude.{⊤, ◌==◌, nat_le, ok_or, option_map, option_and_then, IfOk, IfSome}
 use Rattle.std.specs.List.{AllByRecursion}
 use Rattle.std.proofs.lemmas.Bool.{and_parts, leb-true}
 use Rattle.std.proofs.Math.Seq.{take-length}
 use Rattle.model_play.specs.declared.deck.DeckCause.{DeckCause}
 use Rattle.model_play.specs.declared.deck.DeckCause.TheVariants.{BadLine, BadHex, OutOfRange, UnknownName, LateLine}
 use Rattle.model_play.specs.declared.deck.DeckCause.TheVariants as causes
-use Rattle.model_play.specs.model_card.specs.declared.unit.UnitRefusal.TheVariants.{NoCode, TooLarge}
 use Rattle.model_play.specs.model_device.specs.Bytes.{AreBytes, lookup}
-use Rattle.model_play.specs.model_text.specs.Text.{◌>>=◌, ok_as, err_as, only_if, begins, lines, with_numbers, fields, is_within, is_digit, hex_value, before_values, hex_values, bytes_of_digits, hex_bytes}
+use Rattle.model_play.specs.model_text.specs.Text.{◌>>=◌, ok_as, err_as, begins, lines, with_numbers, fields, is_within, is_digit, hex_value, before_values, hex_values, bytes_of_digits, hex_bytes}
 use Rattle.model_play.specs.model_card.specs.Units.{UnitParts, unit_read}
 use Rattle.model_play.specs.model_text.specs.Assembly.{assembled_lines}
 use Rattle.model_play.specs.DeckGrammar.{DeckLine, hex_field, bytes_field, aid_field, fill_field, name_field, number_field, Context, Section, Stated, Says, Opens, Word, FormatWord, PowerWord, UnitWord, AppWord, LoadWord, SelectWord, DeleteWord, DumpWord, ApduWord, BudgetWord, CutWord, FailWord, PokeWord, deck_words, new_name, early, with_unit, statement_of, made_unit, unit_within, is_data, is_end, data_hex, data_of_line, section_data, section_program, section_unit, Mode, Between, Within, LineTurn, turn_of, between, within, turn_in, turn_at, lines_at_end, deck_lines, deck_read}
 use Rattle.model_play.specs.DeckGrammar as line
-use Rattle.model_play.specs.Play.{FailedWrite, State, step, plays, first_failure, start}
-use Rattle.model_play.specs.ReadyAgain.{AllFitJournal, IsLine, AreLines}
+use Rattle.model_play.specs.Play.{FailedWrite, State, step, plays, first_failure}
+use Rattle.model_play.specs.ReadyAgain.{IsLine, AreLines}
 use Rattle.model_play.specs.model_device.proofs.ImageLemmas.{all_append}
 use Rattle.law_family.specs.ReadDecks.{ReadLinesLaw, ReadDecksLaw}
 use Rattle.law_family.proofs.AssembledBytes.{bind_ok, as_ok, err_ok, only_ok, cond_ok, any_ok, assembled_ok}
@@ -45,9 +44,7 @@ value_low c =
     (λ n. cond_some (is_within 97 102 c) (Some (c - 87)) None Digit (λ e. let most : c ≤ 102 = at_most 97 102 c e in omega arith) (λ n. tt)))
 
 before_low : (o : Option ℕ) (p : Option (List ℕ)) → IfSome o Digit → IfSome p (λ vs. AllByRecursion Digit vs) → IfSome (before_values o p) (λ vs. AllByRecursion Digit vs)
-before_low (Some v) (Some vs) h k = (h, k)
-before_low (Some v) None h k = tt
-before_low None p h k = tt
+before_low o p h k = grind arith
 
 values_low : (t : List ℕ) → IfSome (hex_values t) (λ vs. AllByRecursion Digit vs)
 values_low [] = tt
@@ -75,9 +72,7 @@ hex_ok : (t : List ℕ) → IfOk (hex_field t) AreBytes
 hex_ok t = some_ok (hex_bytes t) BadHex AreBytes (some_paired (hex_values t) (values_low t))
 
 bytes_ok : (low high : ℕ) (t : List ℕ) → IfOk (bytes_field low high t) (λ b. AreBytes b × (is_within low high (length b) ≡ true))
-bytes_ok low high t =
-    bind_ok (hex_field t) (λ b. only_if (is_within low high (length b)) OutOfRange b) AreBytes (λ b. AreBytes b × (is_within low high (length b) ≡ true)) (hex_ok t)
-    (λ b h. only_ok (is_within low high (length b)) OutOfRange b (λ b. AreBytes b × (is_within low high (length b) ≡ true)) (λ e. (h, e)))
+bytes_ok low high t = grind (arith, bind_ok, hex_ok, only_ok)
 
 Fill : List ℕ → Type 0
 Fill b = AreBytes b × (length b ≡ 8)
@@ -87,11 +82,7 @@ map_ok (Ok a) P Q h k = k a h
 map_ok (Err e) P Q h k = tt
 
 exactly : (n : ℕ) → is_within 8 8 n ≡ true → n ≡ 8
-exactly n h =
-    let both = and_parts (nat_le 8 n) (nat_le n 8) h in
-    let low : 8 ≤ n = leb-true 8 n both.0 in
-    let high : n ≤ 8 = leb-true n 8 both.1 in
-    omega arith
+exactly n h = grind (arith, and_parts, leb-true)
 
 fill_ok : (t : List ℕ) → IfOk (fill_field t) Fill
 unfolding Fill
@@ -158,10 +149,7 @@ stated_ok c n _ _ h = tt
 -- ---- sections
 
 hex_of : (l : List (List ℕ)) → IfOk (data_hex l) AreBytes
-hex_of [] = tt
-hex_of (word ∷ []) = tt
-hex_of (word ∷ hex ∷ []) = hex_ok hex
-hex_of (word ∷ hex ∷ x ∷ xs) = tt
+hex_of l = grind (arith, hex_ok)
 
 data_ok : (ls : List (ℕ × List ℕ)) → IfOk (section_data ls) AreBytes
 data_ok [] = tt
@@ -175,9 +163,7 @@ made_bytes aid code init a few c i =
     (c, i, (omega arith, (omega (arith, few), (omega arith, (omega (arith, few), a)))), (omega arith, (omega (arith, few), (omega arith, (omega (arith, few), a)))))
 
 unit_within_bytes : (u : UnitParts) → UnitBytes u → IfOk (unit_within u) UnitBytes
-unit_within_bytes u h =
-    bind_ok (only_if (nat_lt 0 (length u.code)) NoCode u) (λ u. only_if (nat_le (length u.init) 4096) TooLarge u) UnitBytes UnitBytes (only_ok (nat_lt 0 (length u.code)) NoCode u UnitBytes (λ e. h))
-    (λ v k. only_ok (nat_le (length v.init) 4096) TooLarge v UnitBytes (λ e. k))
+unit_within_bytes u h = grind (arith, bind_ok, UnitBytes, only_ok)
 
 section_ok : (s : Section) (n : ℕ) → SectionBytes s → IfOk (section_unit s n) UnitBytes
 unfolding section_unit
@@ -259,7 +245,4 @@ pub played_bytes : (z : State) (ls : List (ℕ × DeckLine)) (ws : List (Option 
 played_bytes z ls ws h = let steps = plays z ls ws in subst AreLines (take-length steps) (played_lines (length steps) z ls ws h)
 
 pub read_decks_law : ReadDecksLaw
-read_decks_law text ls m ws e image n =
-    let are : AreLines (take n (plays (start m) ls ws)) = played_lines n (start m) ls ws (read_lines_law text ls e) in
-    let few : AllFitJournal (take n (plays (start m) ls ws)) = few_words n m ls ws image are in
-    (few, ready_again n m ls ws image few)
+read_decks_law text ls m ws e image n = grind (arith, played_lines, read_lines_law, few_words, ready_again)

@@ -1,10 +1,9 @@
 -- Lemmas of the definitions: stops in items, and counts of runs.
-use Rattle.std.specs.Prelude.{◌≡◌, ℕ, zero, suc, ◌+◌, ◌-◌, ◌<◌, ◌≤◌, Bool, true, false, cond, ◌==◌, nat_le, List, [], ◌∷◌, ◌++◌, refl, Result, Ok, Err}
+use Rattle.std.specs.Prelude.{◌≡◌, ℕ, zero, suc, ◌+◌, ◌-◌, ◌<◌, ◌≤◌, Bool, true, false, cond, ◌==◌, nat_le, List, [], ◌∷◌, ◌++◌, refl, Result}
 use Rattle.std.proofs.Common.{arith, ap, sym, ◌∙◌}
 use Rattle.std.proofs.lemmas.Bool.Decides.{nat_tests}
 use Rattle.model_play.specs.model_machine.specs.declared.instruction.Ins.{Ins}
 use Rattle.model_play.specs.model_machine.specs.declared.instruction.DecodeFault.{DecodeFault}
-use Rattle.model_play.specs.model_machine.specs.declared.instruction.DecodeFault.TheVariants.{Undefined, Past}
 use Rattle.model_play.specs.model_device.specs.Image.{Two}
 use Rattle.model_play.specs.model_device.specs.Stopped.{cost}
 use Rattle.model_play.specs.model_card.specs.Items.{Item, Plain, Atomic, moves, at_stop, with_item, Stopped}
@@ -32,9 +31,7 @@ row_count ch i (Abends cause) = omega arith
 row_count ch i (Does d) = omega arith
 
 pub fetch_count : (ch : Chain) (r : Result (Ins × ℕ) DecodeFault) → (turn_of_fetch ch r).count ≤ 1
-fetch_count ch (Err Undefined) = omega arith
-fetch_count ch (Err Past) = omega arith
-fetch_count ch (Ok i) = row_count ch i.0 _
+fetch_count ch r = grind (arith, row_count)
 
 pub turn_count : (ch : Chain) → (turn_of_chain ch).count ≤ 1
 unfolding turn_of_chain

@@ -1,13 +1,13 @@
 -- What holds of every run that begins well holds of every run of a play.
-use Rattle.std.proofs.Common.{ℕ, Bool, true, false, List, [], ◌∷◌, Option, Some, None}
+use Rattle.std.proofs.Common.{arith, ℕ, Bool, true, false, List, [], ◌∷◌, Option, Some, None}
 use Rattle.model_play.specs.model_machine.specs.Apdu.{ApduParts}
 use Rattle.model_play.specs.model_device.specs.Card.{App, Card}
 use Rattle.model_play.specs.model_machine.specs.Chain.{Chain}
 use Rattle.model_play.specs.model_card.specs.Items.{card_done}
-use Rattle.model_play.specs.model_card.specs.Manager.{Selected, SessionState, Route, WrongLength, WrongClass, ToSelect, ToManager, ToApplication, route}
+use Rattle.model_play.specs.model_card.specs.Manager.{Selected, SessionState, Route, route}
 use Rattle.model_play.specs.DeckGrammar.{DeckLine}
-use Rattle.model_play.specs.Play.{FailedWrite, Live, Running, Unpowered, Muted, State, BeforePower, AfterPower, Step, is_done, plays, start}
-use Rattle.model_play.specs.model_device.specs.PowerUp.{Base, OnCard, AtFault}
+use Rattle.model_play.specs.Play.{FailedWrite, Live, State, BeforePower, AfterPower, Step, is_done, plays, start}
+use Rattle.model_play.specs.model_device.specs.PowerUp.{Base}
 use Rattle.model_play.specs.model_card.specs.Commands.{command}
 use Rattle.model_play.specs.Laws.{bytes_of}
 use Rattle.law_family.specs.Begins.{PassedWell, RoutedWell, BehindDone, SentWell, TakenWell, LineWell, BeginWell, OnPassed, OnRouted, OnSent, OnTaken, OnLine, OnEachRun, HoldsWherever}
@@ -19,11 +19,7 @@ module _ (holds : ℕ → Chain → Type 0) (wherever : HoldsWherever holds) whe
   on_passed m budget (Some s) a h = wherever m s.name s.session a budget h.limited h.session
 
   on_routed : (m : List (List ℕ × App)) (session_state : SessionState) (budget : ℕ) (r : Route) → RoutedWell m session_state r → OnRouted holds m session_state budget r
-  on_routed m session_state budget (ToApplication a) h = on_passed m budget session_state.selected a h
-  on_routed m session_state budget WrongLength h = tt
-  on_routed m session_state budget WrongClass h = tt
-  on_routed m session_state budget (ToSelect a) h = tt
-  on_routed m session_state budget (ToManager a) h = tt
+  on_routed m session_state budget r h = grind (arith, on_passed)
 
   behind_done : (b : Bool) (before after : Type 0) → (before → after) → BehindDone b before → BehindDone b after
   behind_done true before after f h = f h
@@ -37,10 +33,7 @@ module _ (holds : ℕ → Chain → Type 0) (wherever : HoldsWherever holds) whe
       (on_routed c.apps session_state budget (route b) h.0, behind_done (is_done r.outcome) (SentWell d r.session_state budget bs) (OnSent holds d r.session_state budget bs) (λ k. on_sent d r.session_state budget bs k) h.1)
 
   on_taken : (v : Live) (b : Base) (budget : ℕ) (bs : List (List ℕ)) → TakenWell v b budget bs → OnTaken holds v b budget bs
-  on_taken (Running session_state) (OnCard c) budget bs h = on_sent c session_state budget bs h
-  on_taken (Running session_state) (AtFault cause p) budget bs h = tt
-  on_taken Unpowered b budget bs h = tt
-  on_taken Muted b budget bs h = tt
+  on_taken v b budget bs h = grind (arith, on_sent)
 
   on_line : (z : State) (bs : List (List ℕ)) → LineWell z bs → OnLine holds z bs
   on_line (BeforePower m b a) bs h = tt

@@ -1,14 +1,14 @@
 -- The law of isolation for a family, by induction on the lines of a play.
 use Rattle.std.specs.Prelude.{◌≡◌, ◌⊎◌, ℕ, zero, suc, Bool, true, false, cond, ◌&&◌, List, [], ◌∷◌, ◌++◌, take, bytes_eq, Option, Some, None, ⊤}
-use Rattle.std.proofs.Common.{refl, ap, sym, subst, ◌∙◌, inl, inr}
+use Rattle.std.proofs.Common.{arith, refl, ap, sym, subst, ◌∙◌, inl, inr}
 use Rattle.model_play.specs.model_device.specs.Bytes.{has_name, lookup}
 use Rattle.model_play.specs.model_device.specs.Card.{App, app_at_place}
 use Rattle.model_play.specs.model_card.specs.Items.{Item, StopAt}
 use Rattle.model_play.specs.Play.{Armed, State, BeforePower, AfterPower, LineResult, Step, FailedWrite, MayHit, Possible, step, before_power_step, hit_of, power_moves, power_after, play_at_power, plays, last_state, start}
 use Rattle.model_play.specs.Family.{ClosedPairs, Closed, is_own}
-use Rattle.model_play.specs.Given.{Event, own_apps, apps_in, is_power, first_apps, events_of, events, given_of_play, dump_events}
-use Rattle.model_play.specs.Solo.{Solo, Heard, silent, heard_before, hears_all, solo}
-use Rattle.model_play.specs.View.{is_seen, results_if, answers, rest_of, work_if, work, IsIsolated}
+use Rattle.model_play.specs.Given.{Event, own_apps, apps_in, is_power, first_apps, events_of, events, dump_events}
+use Rattle.model_play.specs.Solo.{Solo, Heard, silent, heard_before, hears_all}
+use Rattle.model_play.specs.View.{is_seen, results_if, answers, work_if, work, IsIsolated}
 use Rattle.model_play.specs.DeckGrammar.{DeckLine}
 use Rattle.model_play.specs.DeckGrammar as line
 use Rattle.law_family.proofs.Agreement.{bare, MapsAgree}
@@ -103,12 +103,7 @@ module _ (K : List (List ℕ)) where
 
   own_here : (x y : Bool) (e : List ℕ × App) (es : List (List ℕ × App)) (k : List ℕ) → has_name k K ≡ true → has_name e.0 K ≡ x → bytes_eq e.0 k ≡ y → bare (lookup es k) ≡ bare (lookup (own_apps K es) k)
       → bare (cond y (Some e.1) (lookup es k)) ≡ bare (lookup (cond x ((e.0, app_at_place 0 e.1) ∷ own_apps K es) (own_apps K es)) k)
-  own_here true true e es k on p q r = ap (λ (b : Bool). bare (cond b (Some (app_at_place 0 e.1)) (lookup (own_apps K es) k))) (sym q)
-  own_here true false e es k on p q r = r ∙ ap (λ (b : Bool). bare (cond b (Some (app_at_place 0 e.1)) (lookup (own_apps K es) k))) (sym q)
-  own_here false true e es k on p q r =
-      let here : has_name e.0 K ≡ true = ap (λ (n : List ℕ). has_name n K) (same_name e.0 k q) ∙ on in
-      absurd (cc (sym p ∙ here))
-  own_here false false e es k on p q r = r
+  own_here x y e es k on p q r = grind (arith, bare, same_name)
 
   own_apps_agree : (m : List (List ℕ × App)) → MapsAgree K true m (own_apps K m)
   own_apps_agree [] k on = refl
@@ -150,12 +145,4 @@ module _ (K : List (List ℕ)) where
 
   -- family isolation, with equal items and stops, for every front of a play
   pub isolated : (n : ℕ) (ls : List (ℕ × DeckLine)) (m : List (List ℕ)) (ws : List (Option FailedWrite)) → Possible (start m) ls ws → Closed K (take n (plays (start m) ls ws)) → IsIsolated K (start m) (take n (plays (start m) ls ws))
-  isolated n ls m ws may closed =
-      let us = take n (plays (start m) ls ws) in
-      let h : HearsAlike K (first_solo us) (start m) us = before_power_alike n ls ws (start m) tt may closed in
-      record {
-        view =
-            ap (λ (z : List LineResult). record { answers = z; rest = rest_of K (apps_in (last_state (start m) us)) }) (sym h.answer)
-            ∙ ap (λ (z : List LineResult). record { answers = (solo (given_of_play K us)).answer; rest = z }) (rest_alike K (apps_in (last_state (start m) us)) (solo (given_of_play K us)).after.map h.map);
-        same_stop = sym h.work;
-      }
+  isolated n ls m ws may closed = grind (arith, before_power_alike, rest_alike)

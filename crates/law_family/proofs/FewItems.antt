@@ -1,10 +1,8 @@
 -- Each item of a command on a card within the limits fits a journal, and leaves such a card.
-use Rattle.std.proofs.Common.{◌≡◌, ℕ, ◌+◌, ◌*◌, ◌≤◌, ◌<◌, Bool, true, false, cond, List, [], ◌∷◌, take, drop, length, Option, Some, None, Ok, Err, refl, sym, subst, ◌∙◌, arith}
+use Rattle.std.proofs.Common.{◌≡◌, ℕ, ◌+◌, ◌*◌, ◌≤◌, ◌<◌, Bool, true, false, cond, List, [], ◌∷◌, take, drop, length, Option, Some, None, Ok, refl, sym, subst, ◌∙◌, arith}
 use Rattle.std.specs.Prelude.{⊤, ◌==◌, ◌&&◌, nat_le, option_map, option_and_then}
 use Rattle.std.specs.List.{AllByRecursion}
 use Rattle.model_play.specs.model_card.specs.declared.card.Part.{Part}
-use Rattle.model_play.specs.model_card.specs.declared.card.Part.TheVariants as part
-use Rattle.model_play.specs.model_card.specs.declared.unit.AidFault.TheVariants.{AidLength}
 use Rattle.model_play.specs.model_device.specs.Bytes.{AreBytes, insert, remove}
 use Rattle.model_play.specs.model_machine.specs.Apdu.{ApduParts, Rest, rest_read, short_rest, extended_rest, extended_body, apdu_read}
 use Rattle.model_play.specs.model_card.specs.Units.{name_of, checked_name, template_of, name_among}
@@ -135,13 +133,7 @@ plains_stand m = plains_are (ItemsStand m) (λ is h. h)
 -- ---- names
 
 checked_short : (o : Option (List ℕ)) (n : List ℕ) → checked_name o ≡ Ok n → length n ≤ 16
-checked_short None n e = absurd (cc e)
-checked_short (Some v) n e = by (nat_le 5 (length v)) (nat_le (length v) 16) refl e
-  where
-    by : (x y : Bool) → nat_le (length v) 16 ≡ y → cond (x && y) (Ok v) (Err AidLength) ≡ Ok n → length n ≤ 16
-    by true true is e = let same : v ≡ n = cc e in subst (λ (k : List ℕ). length k ≤ 16) same (grind (arith, is))
-    by true false is e = absurd (cc e)
-    by false y is e = absurd (cc e)
+checked_short o n e = grind arith
 
 short_name : (d n : List ℕ) → name_of d ≡ Ok n → length n ≤ 16
 unfolding name_of
@@ -150,10 +142,7 @@ short_name d n e = checked_short (option_and_then (λ t. name_among (length t) t
 -- ---- the manager
 
 with_code : (p : Part) (b : List ℕ) (g : Got) → AreBytes b → AreBytes g.code → AreBytes (with_got p b g).code
-with_code part.Code b g h k = all_append (λ x. x < 256) g.code b k h
-with_code part.Data b g h k = k
-with_code part.Dir b g h k = k
-with_code part.Fci b g h k = k
+with_code p b g h k = grind (arith, all_append)
 
 module _ (c : Card) (session_state : SessionState) (on : AreOnCard c.apps) (stands : SessionStateStands c.apps session_state) where
   selected_stands : (a : ApduParts) (r : Command) → IsSelect c session_state a r → CommandStands c.apps r

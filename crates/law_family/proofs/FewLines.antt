@@ -12,11 +12,11 @@ use Rattle.model_play.specs.model_device.specs.Image.{One, shut_word}
 use Rattle.model_play.specs.model_device.specs.Stopped.{stands}
 use Rattle.model_play.specs.model_device.specs.Card.{App, Card, heap_start}
 use Rattle.model_play.specs.model_device.specs.Layout.{root, hole_header, fault}
-use Rattle.model_play.specs.model_card.specs.Items.{moves, apps_after_items, StopAt, at_stop}
+use Rattle.model_play.specs.model_card.specs.Items.{moves, StopAt}
 use Rattle.model_play.specs.model_card.specs.Manager.{SessionState}
 use Rattle.model_play.specs.DeckGrammar.{DeckLine}
 use Rattle.model_play.specs.DeckGrammar as line
-use Rattle.model_play.specs.Play.{Armed, Live, Running, Unpowered, Muted, Warm, State, BeforePower, AfterPower, Step, select_bytes, delete_bytes, piece_commands, section_commands, load_commands, line_command, hit_of, FailedWrite, live_after, power_live, power_after, stopped_power, line_after, step, play_at_power, plays, first_failure, start, formatted_image}
+use Rattle.model_play.specs.Play.{Armed, Live, Running, Unpowered, Muted, Warm, State, BeforePower, AfterPower, Step, piece_commands, load_commands, line_command, hit_of, FailedWrite, live_after, power_live, power_after, stopped_power, line_after, step, play_at_power, plays, first_failure, start, formatted_image}
 use Rattle.model_play.specs.model_device.specs.PowerUp.{Base, OnCard, AtFault, base_after_migration, base_of}
 use Rattle.model_play.specs.model_card.specs.Commands.{Command}
 use Rattle.model_play.specs.ReadyAgain.{FitsJournal, AllFitJournal, IsLine, AreLines}
@@ -46,34 +46,10 @@ pieces_sent (suc k) ins at b h = by (length b == 0) (all_take (λ x. x < 256) 24
     by false r = r
 
 pub load_sent : (u : UnitParts) (fixed session : ℕ) → AreBytes u.code → AreBytes u.init → AreBytes u.dir → AreBytes u.fci → AllByRecursion IsSent (load_commands u fixed session)
-load_sent u fixed session code init dir fci =
-    let P = λ (b : List ℕ). IsSent b in
-    let c = section_commands 0x24 u.code in
-    let i = section_commands 0x26 u.init in
-    let d = section_commands 0x20 u.dir in
-    let f = section_commands 0x22 u.fci in
-    let last : List (List ℕ) = (0xBE ∷ 0x16 ∷ 0x00 ∷ 0x00 ∷ []) ∷ [] in
-    let a1 : List ℕ = bytes2 (length u.code) in
-    let a2 : List ℕ = a1 ++ bytes2 fixed in
-    let a3 : List ℕ = a2 ++ bytes2 (length u.init) in
-    let a4 : List ℕ = a3 ++ bytes2 session in
-    let a5 : List ℕ = a4 ++ bytes2 (length u.dir) in
-    let sizes : AreBytes (a5 ++ bytes2 (length u.fci)) =
-    with_pair a5 (length u.fci) (with_pair a4 (length u.dir) (with_pair a3 session (with_pair a2 (length u.init) (with_pair a1 fixed (pair_bytes (length u.code)))))) in (
-      sizes,
-      all_append P (c ++ i ++ d ++ f) last
-          (all_append P (c ++ i ++ d) f
-          (all_append P (c ++ i) d (all_append P c i (pieces_sent (length u.code) 0x24 0 u.code code) (pieces_sent (length u.init) 0x26 0 u.init init)) (pieces_sent (length u.dir) 0x20 0 u.dir dir))
-          (pieces_sent (length u.fci) 0x22 0 u.fci fci)) (tt, tt),
-    )
+load_sent u fixed session code init dir fci = grind (arith, IsSent, with_pair, pair_bytes, all_append, pieces_sent)
 
 pub line_stands : (c : Card) (session_state : SessionState) (budget : ℕ) (l : DeckLine) → IsLine l → Limited c.apps → SessionStateFits c.apps session_state → AreOnCard c.apps → SessionStateStands c.apps session_state → CommandStands c.apps (line_command c session_state budget l)
-line_stands c session_state budget (line.Sent (line.Select n)) is limited fits on h = command_stands c session_state (select_bytes n) budget is limited on h
-line_stands c session_state budget (line.Sent (line.Delete n)) is limited fits on h = command_stands c session_state (delete_bytes n) budget is limited on h
-line_stands c session_state budget (line.Sent (line.Apdu b)) is limited fits on h = command_stands c session_state b budget (all_drop (λ x. x < 256) 5 b is) limited on h
-line_stands c session_state budget (line.Sent (line.Load u fixed session)) is limited fits on h =
-    send_stands c session_state budget (load_commands u fixed session) (load_sent u fixed session is.0 is.1 is.2 is.3) limited fits on h
-line_stands c session_state budget _ is limited fits on h = record { few = tt; items = tt; session_state = h }
+line_stands c session_state budget l is limited fits on h = grind (arith, command_stands, all_drop, send_stands, load_sent)
 
 -- ---- words that are set
 
@@ -151,10 +127,7 @@ power_stands s (Some t) h = stopped_stands s t (nat_le t.at s.owed) h
 -- ---- lines of a running card
 
 after_stands : (s : Warm) (c : Card) (r : Command) (t : Option StopAt) → AreOnCard c.apps → CommandStands c.apps r → StateStands (AfterPower (line_after s c r t))
-after_stands s c r None on k = (done_stands r.items c.apps on k.items, k.session_state)
-after_stands s c r (Some t) on k =
-    let whole = (at_stop r.items t.at t.left).whole in
-    (done_stands whole c.apps on (whole_stand r.items c.apps t.at t.left k.items), after_stop (apps_after_items c.apps whole) t.kind)
+after_stands s c r t on k = grind (arith, done_stands, whole_stand, after_stop)
 
 -- ---- lines up to the first power line
 

@@ -5,15 +5,14 @@ use Rattle.std.specs.Fmt.{signed_decimal, digits, digits_onto, digit_glyph}
 use Rattle.std.proofs.lemmas.Bool.{and_from, and_parts, lt-ltb, ne_eqb, cond_both}
 use Rattle.model_play.specs.model_device.specs.Bytes.{bytes2}
 use Rattle.model_play.specs.model_text.specs.Text.{every}
-use Rattle.model_play.specs.model_text.specs.Listing.{hex_digit, hex_word, condition_names, condition_name, register_names, register_name, address_text, arguments_text, byte_line, word_line, words_line, target_line, address_line, operand_line, text_of, hex_text}
+use Rattle.model_play.specs.model_text.specs.Listing.{hex_digit, hex_word, condition_names, condition_name, address_text, arguments_text, byte_line, word_line, words_line, target_line, address_line, operand_line, text_of, hex_text}
 use Rattle.model_play.specs.model_device.specs.Words.{cause_text}
 use Rattle.model_play.specs.model_machine.specs.Words.{abend_code}
 use Rattle.model_play.specs.Transcript.{outcome_text, static_text, text_of_result}
 use Rattle.model_play.specs.model_text.specs.TurnText.{ins_text, bit_text}
 use Rattle.model_play.specs.model_machine.specs.Chain.{Outcome, Reply, Abended}
-use Rattle.model_play.specs.Play.{LineResult, Formatted, Ready, Unusable, OffAt, FailureStop, NoCard, Silenced, Answered, Static, Absent}
+use Rattle.model_play.specs.Play.{LineResult}
 use Rattle.model_play.specs.model_device.specs.declared.cause.Cause.{Cause}
-use Rattle.model_play.specs.model_device.specs.declared.cause.Cause.TheVariants.{BadJournal, NoRoot, BadBlock, BadRecord, BadChain}
 use Rattle.model_play.specs.model_machine.specs.declared.instruction.Ins.{Ins}
 use Rattle.model_play.specs.model_machine.specs.declared.instruction.Ins.TheVariants.{Nop, Setsw, Setla, Setswla, Exit, Exitsw, Exitla, Exitswla, Branch, Jump, Call, Pushz, Pushb, Pushw, Popn, Popb, Popw, Prim, Ret, Reti, Reto, Retio, Load, Store, Loadi, Storei, Loada, Index, Setb, Cmpb, Addb, Subb, Setw, Cmpw, Addw, Subw, Clearn, Testn, Incn, Decn, Notn, Cmpn, Addn, Subn, Andn, Orn, Xorn}
 use Rattle.model_play.specs.model_text.proofs.TextLemmas.{every_append}
@@ -66,9 +65,7 @@ unfed_hex : (d : ℕ) → unfed (hex_digit d) ≡ true
 unfed_hex d = cond_both (nat_lt d 10) (48 + d) (55 + d) (λ (x : ℕ). unfed x ≡ true) (λ e. above 10 (48 + d) (omega arith)) (λ e. above 10 (55 + d) (omega arith))
 
 flat_word : (w : ℕ) → Flat (hex_word w)
-flat_word w =
-    let d : ℕ → ℕ = hex_digit in
-    and_from _ _ (unfed_hex (w / 4096 % 16)) (and_from _ _ (unfed_hex (w / 256 % 16)) (and_from _ _ (unfed_hex (w / 16 % 16)) (and_from _ _ (unfed_hex (w % 16)) refl)))
+flat_word w = grind (arith, and_from, unfed_hex)
 
 pub flat_hex : (bs : List ℕ) → Flat (hex_text bs)
 flat_hex [] = refl
@@ -90,9 +87,7 @@ flat_condition : (c : ℕ) → Flat (condition_name c)
 flat_condition c = flat_one condition_names (c - 1) refl
 
 flat_address : (tag : ℕ) (off : ℤ) → Flat (address_text tag off)
-flat_address tag off =
-    flat_append (register_name tag ++ codes "[" ++ signed_decimal off) (codes "]")
-    (flat_append (register_name tag ++ codes "[") (signed_decimal off) (flat_append (register_name tag) (codes "[") (flat_one register_names (tag - 1) refl) refl) (flat_signed off)) refl
+flat_address tag off = grind (arith, flat_append, flat_one, flat_signed)
 
 flat_arguments : (bs : List ℕ) → Flat (arguments_text bs)
 flat_arguments [] = refl
@@ -108,20 +103,14 @@ flat_two : (name : List ℕ) (v w : ℕ) → Flat name → Flat (words_line name
 flat_two name v w h = flat_append (word_line name v ++ codes ",") (hex_word w) (flat_append (word_line name v) (codes ",") (flat_words name v h) refl) (flat_word w)
 
 flat_target : (name : List ℕ) (c to : ℕ) → Flat name → Flat (target_line name c to)
-flat_target name c to h =
-    let front : List ℕ = name ++ codes " " ++ condition_name c in
-    let is : Flat front = flat_append (name ++ codes " ") (condition_name c) (flat_append name (codes " ") h refl) (flat_condition c) in
-    cond_both (c == 0) name (front ++ codes "," ++ hex_word to) (λ (t : List ℕ). Flat t) (λ e. h) (λ e. flat_append (front ++ codes ",") (hex_word to) (flat_append front (codes ",") is refl) (flat_word to))
+flat_target name c to h = grind (arith, flat_append, flat_condition, cond_both, flat_word)
 
 flat_addressed : (name : List ℕ) (tag : ℕ) (off : ℤ) → Flat name → Flat (address_line name tag off)
 flat_addressed name tag off h =
     cond_both (tag == 0) name (name ++ codes " " ++ address_text tag off) (λ (t : List ℕ). Flat t) (λ e. h) (λ e. flat_append (name ++ codes " ") (address_text tag off) (flat_append name (codes " ") h refl) (flat_address tag off))
 
 flat_operand : (name : List ℕ) (tag : ℕ) (off : ℤ) (operand : List ℕ) → Flat name → Flat operand → Flat (operand_line name tag off operand)
-flat_operand name tag off operand h k =
-    let place : List ℕ = cond (tag == 0) [] (address_text tag off ++ codes ",") in
-    let is : Flat place = cond_both (tag == 0) [] (address_text tag off ++ codes ",") (λ (t : List ℕ). Flat t) (λ e. refl) (λ e. flat_append (address_text tag off) (codes ",") (flat_address tag off) refl) in
-    flat_append (name ++ codes " " ++ place) operand (flat_append (name ++ codes " ") place (flat_append name (codes " ") h refl) is) k
+flat_operand name tag off operand h k = grind (arith, cond_both, flat_append, flat_address)
 
 flat_text : (i : Ins) → Flat (text_of i)
 flat_text Nop = refl
@@ -185,11 +174,7 @@ flat_bit false = refl
 -- ---- results
 
 flat_cause : (c : Cause) → Flat (cause_text c)
-flat_cause BadJournal = refl
-flat_cause NoRoot = refl
-flat_cause BadBlock = refl
-flat_cause BadRecord = refl
-flat_cause BadChain = refl
+flat_cause c = grind arith
 
 flat_outcome : (o : Outcome) → Flat (outcome_text o)
 flat_outcome (Reply body sw) = flat_hex (body ++ bytes2 sw)
@@ -200,15 +185,4 @@ flat_static [] = refl
 flat_static (b ∷ bs) = flat_append (codes "static ") (hex_text (b ∷ bs)) refl (flat_hex (b ∷ bs))
 
 pub flat_shown : (r : LineResult) → Flat (text_of_result r)
-flat_shown Formatted = refl
-flat_shown (Ready n) = flat_append (codes "ready ") (decimal n) refl (flat_decimal n)
-flat_shown (Unusable cause place) =
-    let front : List ℕ = codes "unusable " ++ cause_text cause in
-    flat_append (front ++ codes " ") (decimal place) (flat_append front (codes " ") (flat_append (codes "unusable ") (cause_text cause) refl (flat_cause cause)) refl) (flat_decimal place)
-flat_shown (OffAt k) = flat_append (codes "off at write ") (decimal k) refl (flat_decimal k)
-flat_shown FailureStop = refl
-flat_shown NoCard = refl
-flat_shown Silenced = refl
-flat_shown (Answered outcome) = flat_outcome outcome
-flat_shown (Static bytes) = flat_static bytes
-flat_shown Absent = refl
+flat_shown r = grind (arith, flat_append, flat_decimal, flat_cause, flat_outcome, flat_static)

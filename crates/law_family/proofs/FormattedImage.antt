@@ -1,11 +1,11 @@
 -- A formatted image is an empty card without a fault.
-use Rattle.std.proofs.Common.{◌≡◌, ◌≢◌, ℕ, zero, suc, ◌+◌, ◌-◌, ◌<◌, ◌≤◌, Bool, true, false, cond, ◌&&◌, ◌||◌, List, [], ◌∷◌, length, take, Option, Some, None, refl, sym, ◌∙◌, ap, subst, arith}
-use Rattle.std.specs.Prelude.{bytes_eq, nat_le, ◌==◌, slice_index, slice_set}
+use Rattle.std.proofs.Common.{◌≡◌, ◌≢◌, ℕ, zero, suc, ◌+◌, ◌-◌, ◌<◌, ◌≤◌, false, cond, List, [], ◌∷◌, length, Option, Some, None, refl, sym, ◌∙◌, ap, subst, arith}
+use Rattle.std.specs.Prelude.{◌==◌, slice_set}
 use Rattle.std.proofs.lemmas.Bool.{le-leb, le-ltb, eq-eqb, ne_eqb}
 use Rattle.std.proofs.lemmas.List.{length-set, get_or-set_same, get_or-set_other, get_or_past}
 use Rattle.std.proofs.lemmas.Slice.Eq.{bytes_eq-Decides}
 use Rattle.model_play.specs.model_device.specs.Bytes.{be2, zeros, or_else}
-use Rattle.model_play.specs.model_device.specs.Image.{One, Two, opening, shut_word, which_of, Closed, look, look_at, word_at, image_after_replay}
+use Rattle.model_play.specs.model_device.specs.Image.{shut_word, Closed, look, image_after_replay}
 use Rattle.model_play.specs.model_device.specs.Card.{Block, word, header, heap_start, blocks_from, blocks, block_and, words_after, apps_of, card_of, means}
 use Rattle.model_play.specs.model_device.specs.Layout.{root, hole_header, no_root, bad_block, bad_record, bad_chain, by_cause, words_fault, fault, fault_of}
 use Rattle.model_play.specs.model_device.specs.declared.cause.Cause.TheVariants.{NoRoot, BadBlock, BadRecord, BadChain}
@@ -25,25 +25,13 @@ abbrev hole_of : ℕ → Block
 hole_of n = record { place = 131; used = false; words = n - 131; link = 0 }
 
 closed : (n : ℕ) (w : List (List ℕ)) → IsEmptyCard n w → look w ≡ Closed
-closed n w h =
-    ap (λ (x : List ℕ). look_at w (which_of (bytes_eq x (opening Two)) (bytes_eq (word_at w 1) (opening One)))) h.two
-    ∙ ap (λ (x : List ℕ). look_at w (which_of (bytes_eq shut_word (opening Two)) (bytes_eq x (opening One)))) h.one
-
-abbrev rootless : List ℕ → ℕ → Option ℕ
-rootless x k = let v = slice_index x 3 in cond ((v == 1 || v == 2) && bytes_eq (take 6 x) (take 6 (root v k 0))) None (Some 0)
+closed n w h = grind arith
 
 rooted : (n : ℕ) (w : List (List ℕ)) → IsEmptyCard n w → no_root w ≡ None
-rooted n w h =
-    let front : List ℕ = take 6 (root 2 n heap_start) in
-    ap (λ (x : List ℕ). rootless x (length w)) h.first
-    ∙ ap (λ (k : ℕ). rootless (root 2 n heap_start) k) h.size
-    ∙ ap (λ (b : Bool). cond b None (Some 0)) ((bytes_eq-Decides front front).1 refl)
+rooted n w h = grind (arith, bytes_eq-Decides)
 
 headed : (n : ℕ) → 256 ≤ n → n ≤ 16384 → header 131 (hole_header (n - 131) 0) ≡ Some (hole_of n)
-headed n low high =
-    let k : ℕ = n - 131 in
-    ap (λ (t : ℕ). cond (true && true && nat_le 1 t && true && true) (Some (record { place = 131; used = false; words = t; link = 0 })) None) (two_bytes k (omega arith))
-    ∙ ap (λ (b : Bool). cond (true && true && b && true && true) (Some (hole_of n)) None) (le-leb 1 k (omega arith))
+headed n low high = grind (arith, two_bytes, le-leb)
 
 one_header : (k n : ℕ) (w : List (List ℕ)) → IsEmptyCard n w → 256 ≤ n → n ≤ 16384 → bad_block (suc (suc k)) w 131 false ≡ None
 unfolding bad_block

@@ -1,12 +1,10 @@
 -- What a command creates is what the commands of its load have sent.
-use Rattle.std.specs.Prelude.{◌≡◌, ℕ, zero, suc, ◌-◌, Bool, true, false, ◌&&◌, ◌==◌, List, [], ◌∷◌, ◌++◌, length, Option, Some, None, Result}
-use Rattle.std.proofs.Common.{refl, ap, sym, subst, ◌∙◌}
+use Rattle.std.specs.Prelude.{◌≡◌, ℕ, zero, suc, Bool, true, false, List, [], ◌∷◌, ◌++◌, length, Option, Some, None, Result}
+use Rattle.std.proofs.Common.{arith, refl, ap, sym, subst, ◌∙◌}
 use Rattle.std.proofs.lemmas.Bool.{eqb-true, and_parts}
 use Rattle.std.proofs.lemmas.List.{append_assoc, append-nil}
 use Rattle.model_play.specs.model_card.specs.declared.card.Part.{Part}
-use Rattle.model_play.specs.model_card.specs.declared.card.Part.TheVariants as part
 use Rattle.model_play.specs.model_card.specs.declared.unit.AidFault.{AidFault}
-use Rattle.model_play.specs.model_device.specs.Bytes.{zeros}
 use Rattle.model_play.specs.model_machine.specs.Apdu.{ApduParts}
 use Rattle.model_play.specs.model_device.specs.Card.{App, Card, app_at_place}
 use Rattle.model_play.specs.model_machine.specs.Chain.{Write, run}
@@ -74,19 +72,11 @@ sent_at_same false s = refl
 
 -- of a complete load: the data, followed by zeros
 complete_app : (o : Open) → is_complete o ≡ true → app_at_place 0 (fresh o) ≡ sent_app (record { sizes = o.site.sizes; got = o.got })
-complete_app o h =
-    let e : length o.got.init ≡ o.site.sizes.init = eqb-true (length o.got.init) o.site.sizes.init (and_parts (length o.got.code == o.site.sizes.code) (length o.got.init == o.site.sizes.init)
-    (and_parts (length o.got.code == o.site.sizes.code && length o.got.init == o.site.sizes.init) (length o.got.dir == o.site.sizes.dir)
-    (and_parts (length o.got.code == o.site.sizes.code && length o.got.init == o.site.sizes.init && length o.got.dir == o.site.sizes.dir) (length o.got.fci == o.site.sizes.fci) h).0).0).1
-    in
-    ap (λ (k : ℕ). record (app_at_place 0 (fresh o)) { fixed = o.got.init ++ zeros (o.site.sizes.fixed - k) }) (sym e)
+complete_app o h = grind (arith, eqb-true, and_parts)
 
 -- what the definitions of the law say of a LOAD for a section
 part_sent : (p : Part) (s : Option Sent) (a : ApduParts) → let x = record a { ins = ins_of_part p } in (creation_of_command s (ToManager x) ≡ []) × (sections_after_parts s x ≡ with_sent p a.body s)
-part_sent part.Code s a = (refl, refl)
-part_sent part.Data s a = (refl, refl)
-part_sent part.Dir s a = (refl, refl)
-part_sent part.Fci s a = (refl, refl)
+part_sent p s a = grind arith
 
 module _ (c : Card) (session_state : SessionState) (a : ApduParts) where
   -- with what the definitions of the law say of this INS
@@ -165,10 +155,7 @@ then_fresh session_state true b r rest bs e h g =
     let made : without_places (creations_among r.items) ≡ creation_of_command s (route b) = h.made ∙ ap (λ (x : Bool). made_at x (creation_of_command s (route b))) e in
     let sent : load_sent r.session_state.load ≡ sections_after_command s (route b) = h.sent ∙ ap (λ (x : Bool). sent_at x s (sections_after_command s (route b))) e in
     record {
-      made =
-          ap without_places (created_append r.items rest.items) ∙ (without_places_append (creations_among r.items) (creations_among rest.items)
-          ∙ (ap (λ (z : List (List ℕ × App)). z ++ without_places (creations_among rest.items)) made
-          ∙ (ap (λ (z : List (List ℕ × App)). creation_of_command s (route b) ++ z) g.made ∙ ap (λ (z : Option Sent). creation_of_command s (route b) ++ creations_of_commands z bs) sent)));
+      made = grind (arith, made, created_append, without_places_append, sent);
       sent = g.sent ∙ ap (λ (z : Option Sent). sections_after_commands z bs) sent;
     }
 then_fresh session_state false b r rest bs e h g =

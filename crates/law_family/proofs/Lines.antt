@@ -1,18 +1,18 @@
 -- One line of a play on a running card keeps the relation, and both sides have equal results and work.
 use Rattle.std.specs.Prelude.{◌≡◌, ℕ, Bool, true, false, ◌&&◌, List, [], ◌∷◌, ◌++◌, Option, Some, None}
-use Rattle.std.proofs.Common.{refl, ap, sym, subst, ◌∙◌}
+use Rattle.std.proofs.Common.{arith, refl, ap, sym, subst, ◌∙◌}
 use Rattle.model_play.specs.model_device.specs.declared.device.Stop.{Stop}
 use Rattle.model_play.specs.model_device.specs.declared.device.Stop.TheVariants as stop
 use Rattle.model_play.specs.model_device.specs.Image.{Journal}
 use Rattle.model_play.specs.model_device.specs.Card.{App, Card}
-use Rattle.model_play.specs.model_card.specs.Items.{moves, apps_after_items, card_done, StopAt, at_stop}
-use Rattle.model_play.specs.model_card.specs.Manager.{Selected, SessionState, route}
+use Rattle.model_play.specs.model_card.specs.Items.{moves, apps_after_items, StopAt, at_stop}
+use Rattle.model_play.specs.model_card.specs.Manager.{SessionState, route}
 use Rattle.model_play.specs.Play.{Armed, Running, Warm, AfterPower, Answered, command_step, hit_of, live_after, FailedWrite}
 use Rattle.model_play.specs.model_device.specs.PowerUp.{Base, OnCard}
 use Rattle.model_play.specs.model_card.specs.Commands.{Command, command}
 use Rattle.model_play.specs.Family.{ClosedPairs, routes_in, command_of}
 use Rattle.model_play.specs.Given.{Event, Commands, given_stop, events_of_items, is_left, leave_event_if, is_done_reply, is_foreign_select, line_events, command_event}
-use Rattle.model_play.specs.Solo.{Solo, SoloCommand, Heard, silent, hears, heard_before, hears_all, solo_hit, heard_command, solo_command}
+use Rattle.model_play.specs.Solo.{Solo, Heard, silent, hears, heard_before, hears_all, solo_hit, heard_command, solo_command}
 use Rattle.model_play.specs.DeckGrammar.{DeckLine}
 use Rattle.law_family.proofs.Agreement.{MapsAgree, agree_done}
 use Rattle.law_family.proofs.Sim.{own_selected, IsRunnable, Simulates, KeepsSimulation, hears_all_append, hears_none, hears_leave}
@@ -43,20 +43,7 @@ module _ (K : List (List ℕ)) (c : Card) (owed : ℕ) (by : Journal) (session_s
   hit_keeps : (n : ℕ) (l : DeckLine) (r : Command) (s : Option StopAt) (es : List Event) → MapsAgree K true c.apps t.map
       → hears_all t es ≡ heard_before (solo_hit t (alone K r) s) (silent (solo_hit t (alone K r) s).after)
       → KeepsSimulation K t (command_step n l (running c owed by session_state budget armed) c r s) es true true
-  hit_keeps n l r None es agree e =
-      record {
-        sim = subst (λ (h : Heard). Simulates K (command_step n l (running c owed by session_state budget armed) c r None).after h.after) (sym e) (record { warm = tt; map = agree_done K true r.items c.apps t.map agree; selected = refl });
-        answer = ap (λ (h : Heard). h.answer) e;
-        work = ap (λ (h : Heard). h.work) e;
-      }
-  hit_keeps n l r (Some s) es agree e =
-      let whole = (at_stop r.items s.at s.left).whole in
-      record {
-        sim = subst (λ (h : Heard). Simulates K (command_step n l (running c owed by session_state budget armed) c r (Some s)).after h.after) (sym e)
-            (record { warm = stopped_runs s.kind (OnCard (card_done c whole)); map = agree_done K true whole c.apps t.map agree; selected = sym (no_selection K s.kind) });
-        answer = ap (λ (h : Heard). h.answer) e;
-        work = ap (λ (h : Heard). h.work) e;
-      }
+  hit_keeps n l r s es agree e = grind (arith, Simulates, agree_done, stopped_runs, no_selection)
 
   -- the events of a line that is the family's
   own_keeps : (n : ℕ) (l : DeckLine) (bytes : List ℕ) (w : Option FailedWrite) → let r = command c session_state bytes budget in
@@ -66,10 +53,7 @@ module _ (K : List (List ℕ)) (c : Card) (owed : ℕ) (by : Journal) (session_s
       let r = command c session_state bytes budget in
       let s = hit_of armed (moves r.items) w in
       let same : solo_command t bytes budget ≡ alone K r = own_command K c session_state t sim.selected bytes budget own sim.map closed in
-      let hit : heard_command t (solo_command t bytes budget) (given_stop armed s) ≡ solo_hit t (alone K r) s =
-      ap (λ (z : SoloCommand). heard_command t z (given_stop armed s)) same
-      ∙ ap (λ (z : Option StopAt). solo_hit t (alone K r) z) (hits_given armed (moves r.items) w within)
-      in
+      let hit : heard_command t (solo_command t bytes budget) (given_stop armed s) ≡ solo_hit t (alone K r) s = grind (arith, alone, hits_given) in
       hit_keeps n l r s (Commands bytes budget (given_stop armed s) ∷ []) sim.map
       (hears_command t bytes budget (given_stop armed s) ∙ ap (λ (h : Heard). heard_before h (silent h.after)) hit)
 
@@ -80,10 +64,7 @@ module _ (K : List (List ℕ)) (c : Card) (owed : ℕ) (by : Journal) (session_s
   left_heard false s = hears_none s
 
   reported_left : (m : List (List ℕ × App)) (es : List Event) (b : Bool) (r : StillAgrees K t m es) → hears_all t (es ++ leave_event_if b) ≡ silent (record { map = r.map; selected = unless b t.selected })
-  reported_left m es b r =
-      hears_all_append t es (leave_event_if b)
-      ∙ (ap (λ (h : Heard). heard_before h (hears_all h.after (leave_event_if b))) r.heard
-      ∙ ap (λ (h : Heard). heard_before (silent (record t { map = r.map })) h) (left_heard b (record t { map = r.map })))
+  reported_left m es b r = grind (arith, hears_all_append, left_heard)
 
   -- a line that changes others' applications alone
   pub other_keeps : (n : ℕ) (l : DeckLine) (r : Command) (s : Option StopAt) → Simulates K (AfterPower (running c owed by session_state budget armed)) t
@@ -95,8 +76,7 @@ module _ (K : List (List ℕ)) (c : Card) (owed : ℕ) (by : Journal) (session_s
       let left = is_foreign_select K (command_of l) && is_done_reply (Some (Answered r.outcome)) in
       let e : hears_all t (events_of_items K r.items ++ leave_event_if left) ≡ silent (record { map = reported_all.map; selected = unless left t.selected }) = reported_left (apps_after_items c.apps r.items) (events_of_items K r.items) left reported_all in
       record {
-        sim = subst (λ (h : Heard). Simulates K u.after h.after) (sym e)
-            (record { warm = tt; map = reported_all.agree; selected = ap (λ (o : Option Selected). unless left o) sim.selected ∙ sym h.selected });
+        sim = grind (arith, Simulates, unless);
         answer = ap (λ (h : Heard). h.answer) e;
         work = ap (λ (h : Heard). h.work) e;
       }
@@ -106,8 +86,7 @@ module _ (K : List (List ℕ)) (c : Card) (owed : ℕ) (by : Journal) (session_s
       let reported_all : StillAgrees K t (apps_after_items c.apps whole) (events_of_items K whole) = reported_alike K whole t c.apps (whole_others K r.items s.at s.left h.others) sim.map in
       let e : hears_all t (events_of_items K whole ++ leave_event_if true) ≡ silent (record { map = reported_all.map; selected = None }) = reported_left (apps_after_items c.apps whole) (events_of_items K whole) true reported_all in
       record {
-        sim = subst (λ (h : Heard). Simulates K u.after h.after) (sym e)
-            (record { warm = stopped_runs s.kind (OnCard (card_done c whole)); map = reported_all.agree; selected = sym (no_selection K s.kind) });
+        sim = grind (arith, Simulates, stopped_runs, no_selection);
         answer = ap (λ (h : Heard). h.answer) e;
         work = ap (λ (h : Heard). h.work) e;
       }

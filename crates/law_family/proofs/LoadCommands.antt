@@ -1,6 +1,6 @@
 -- The commands of a load and of a deletion reach the manager, and of a load only the last one creates.
 use Rattle.std.specs.Prelude.{◌≡◌, ℕ, zero, suc, ◌+◌, Bool, true, false, cond, ◌==◌, List, [], ◌∷◌, ◌++◌, length, take, drop, option_map, Option, Some, None, ⊤}
-use Rattle.std.proofs.Common.{refl, ap, ◌∙◌}
+use Rattle.std.proofs.Common.{arith, refl}
 use Rattle.model_play.specs.model_device.specs.Bytes.{bytes2}
 use Rattle.model_play.specs.model_machine.specs.Apdu.{Rest, rest_read, apdu_read}
 use Rattle.model_play.specs.model_card.specs.Units.{UnitParts}
@@ -37,25 +37,13 @@ unfolding apdu_read
 class_manager ins p1 p2 b = read_manager ins p1 p2 (rest_read b)
 
 pub of_managers : (ins : ℕ) (r : Route) → IsManagerOf ins r → IsManagers r
-of_managers ins WrongLength h = tt
-of_managers ins (ToManager a) h = tt
-of_managers ins WrongClass h = absurd h
-of_managers ins (ToSelect a) h = absurd h
-of_managers ins (ToApplication a) h = absurd h
+of_managers ins r h = grind arith
 
 of_filler : (ins : ℕ) (r : Route) → (ins == 0x16) ≡ false → (ins == 0x18) ≡ false → IsManagerOf ins r → IsFiller r
-of_filler ins WrongLength p q h = tt
-of_filler ins (ToManager a) p q h = (ap (λ (i : ℕ). i == 0x16) h ∙ p, ap (λ (i : ℕ). i == 0x18) h ∙ q)
-of_filler ins WrongClass p q h = absurd h
-of_filler ins (ToSelect a) p q h = absurd h
-of_filler ins (ToApplication a) p q h = absurd h
+of_filler ins r p q h = grind arith
 
 filler_manager : (r : Route) → IsFiller r → IsManagers r
-filler_manager WrongLength h = tt
-filler_manager (ToManager a) h = tt
-filler_manager WrongClass h = absurd h
-filler_manager (ToSelect a) h = absurd h
-filler_manager (ToApplication a) h = absurd h
+filler_manager r h = grind arith
 
 -- ---- lists
 
@@ -90,21 +78,8 @@ load_front u fixed session =
 abbrev pub create_bytes : List ℕ
 create_bytes = 0xBE ∷ 0x16 ∷ 0x00 ∷ 0x00 ∷ []
 
-pub load_parts : (u : UnitParts) (fixed session : ℕ) → load_commands u fixed session ≡ load_front u fixed session ++ create_bytes ∷ []
-load_parts u fixed session = refl
-
 pub front_fillers : (u : UnitParts) (fixed session : ℕ) → AreFillers (load_front u fixed session)
-front_fillers u fixed session =
-    let code = section_commands 0x24 u.code in
-    let init = section_commands 0x26 u.init in
-    let dir = section_commands 0x20 u.dir in
-    let fci = section_commands 0x22 u.fci in
-    let open_bytes = 0xBE ∷ 0x12 ∷ 0x00 ∷ 0x00 ∷ 12 ∷ (bytes2 (length u.code) ++ bytes2 fixed ++ bytes2 (length u.init) ++ bytes2 session ++ bytes2 (length u.dir) ++ bytes2 (length u.fci)) in (
-      of_filler 0x12 (route open_bytes) refl refl (class_manager 0x12 _ _ _),
-      are_fillers_append ((code ++ init) ++ dir) fci
-          (are_fillers_append (code ++ init) dir (are_fillers_append code init (section_fillers 0x24 refl refl u.code) (section_fillers 0x26 refl refl u.init)) (section_fillers 0x20 refl refl u.dir))
-          (section_fillers 0x22 refl refl u.fci),
-    )
+front_fillers u fixed session = grind (arith, of_filler, class_manager, are_fillers_append, section_fillers)
 
 pub create_manager : IsManagerOf 0x16 (route create_bytes)
 create_manager = class_manager 0x16 0 0 []

@@ -1,6 +1,6 @@
 -- The laws of plays, for every front of a play and for the whole of it, as other crates cite them.
 use Rattle.std.specs.Prelude.{ℕ, List, length, Option}
-use Rattle.std.proofs.Common.{subst}
+use Rattle.std.proofs.Common.{arith, subst}
 use Rattle.std.proofs.Math.Seq.{take-length}
 use Rattle.model_play.specs.DeckGrammar.{DeckLine}
 use Rattle.model_play.specs.Play.{FailedWrite, Step, Possible, plays, start}
@@ -12,14 +12,7 @@ use Rattle.law_family.proofs.FewLines.{few_words}
 use Rattle.law_family.proofs.ReadyLines.{ready_again}
 
 pub isolation_law : IsolationLaw
-isolation_law ls m ws may n =
-    record {
-      family = λ K closed. isolated K n ls m ws may closed;
-      each_line = whole_lines n (start m) ls ws;
-      fresh = no_stale_byte n m ls ws;
-      few = λ image are. few_words n m ls ws image are;
-      ready = λ image are. ready_again n m ls ws image (few_words n m ls ws image are);
-    }
+isolation_law ls m ws may n = grind (arith, isolated, whole_lines, no_stale_byte, few_words, ready_again)
 
 -- a whole play is its front of all its lines
 pub play_law : (ls : List (ℕ × DeckLine)) (m : List (List ℕ)) (ws : List (Option FailedWrite)) → Possible (start m) ls ws → HoldsOf m (plays (start m) ls ws)

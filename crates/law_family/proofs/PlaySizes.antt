@@ -1,22 +1,20 @@
 -- Every application of a play is limited, and each run begins with as many session bytes as its application has.
-use Rattle.std.proofs.Common.{◌≡◌, ℕ, ◌+◌, ◌-◌, ◌≤◌, Bool, true, false, cond, not, List, [], ◌∷◌, take, drop, length, Option, Some, None, refl, sym, ap, subst, ◌∙◌, arith, inl}
-use Rattle.std.specs.Prelude.{⊤, ◌==◌, ◌&&◌, nat_lt, nat_le, bytes_eq, slice_index}
+use Rattle.std.proofs.Common.{◌≡◌, ℕ, ◌+◌, ◌≤◌, Bool, true, false, cond, not, List, [], ◌∷◌, drop, length, Option, Some, None, refl, sym, ap, subst, ◌∙◌, arith, inl}
+use Rattle.std.specs.Prelude.{⊤, ◌&&◌, nat_lt, nat_le, bytes_eq}
 use Rattle.std.specs.List.{AllByRecursion}
 use Rattle.std.proofs.lemmas.Bool.{and_parts, leb-true, eqb-true}
 use Rattle.std.proofs.lemmas.List.{length-append, length-take, length-replicate}
 use Rattle.model_play.specs.model_device.specs.declared.cause.Cause.{Cause}
-use Rattle.model_play.specs.model_device.specs.declared.cause.Cause.TheVariants.{NoRoot, BadBlock, BadRecord, BadChain}
 use Rattle.model_play.specs.model_card.specs.declared.card.Sizes.{Sizes}
 use Rattle.model_play.specs.model_device.specs.declared.device.Stop.{Stop}
 use Rattle.model_play.specs.model_device.specs.declared.device.Stop.TheVariants as stop
-use Rattle.model_play.specs.model_device.specs.Bytes.{lookup, insert, remove, zeros, up, be2, has_name}
+use Rattle.model_play.specs.model_device.specs.Bytes.{lookup, insert, remove, zeros, be2, has_name}
 use Rattle.model_play.specs.model_machine.specs.Apdu.{ApduParts}
-use Rattle.model_play.specs.model_device.specs.Image.{look, after}
-use Rattle.model_play.specs.model_device.specs.Card.{App, Card, Block, words_of_lengths, record_at, name_in, name_at, app_at, apps_of, blocks, cells, words_after, means}
-use Rattle.model_play.specs.model_device.specs.Layout.{is_record, no_root, bad_block, bad_record, bad_chain, by_cause, words_fault, fault}
+use Rattle.model_play.specs.model_device.specs.Card.{App, Card, Block, record_at, name_in, name_at, app_at, apps_of, blocks, means}
+use Rattle.model_play.specs.model_device.specs.Layout.{is_record, bad_record, words_fault, fault}
 use Rattle.model_play.specs.model_machine.specs.Chain.{Write, run}
 use Rattle.model_play.specs.model_card.specs.Items.{Fixed, Created, Item, moves, apps_after_change, apps_after_items, card_done, StopAt, at_stop, write_items}
-use Rattle.model_play.specs.model_device.specs.Limits.{most_static, most_code, most_session, most_record}
+use Rattle.model_play.specs.model_device.specs.Limits.{most_static}
 use Rattle.model_play.specs.model_card.specs.Manager.{Selected, Open, SessionState, Route, WrongLength, WrongClass, ToSelect, ToManager, ToApplication, route, p1p2, select, sizes_in, fits_limits, word_parts, with_got, is_complete, fresh, is_selected, manage, room_on}
 use Rattle.model_play.specs.Play.{Armed, Live, Running, Unpowered, Muted, Warm, State, BeforePower, AfterPower, Step, is_done, command_with_rest, send, line_command, hit_of, FailedWrite, live_after, power_live, power_after, stopped_power, line_after, step, play_at_power, plays, first_failure, start, select_bytes, delete_bytes, load_commands}
 use Rattle.model_play.specs.model_device.specs.PowerUp.{Base, OnCard, AtFault, base_after_migration, base_of}
@@ -87,18 +85,7 @@ module _ (c : Card) (session_state : SessionState) (fits : SessionStateFits c.ap
   -- ---- OPEN
 
   limits_are : (s : Sizes) → fits_limits s ≡ true → (s.fixed ≤ most_static) × (s.init ≤ s.fixed)
-  limits_are s h =
-      let a : Bool = nat_le 1 s.code && nat_le s.code most_code in
-      let b : Bool = a && nat_le s.fixed most_static in
-      let d : Bool = b && nat_le s.init s.fixed in
-      let e : Bool = d && nat_le s.session most_session in
-      let f : Bool = e && nat_le s.dir most_record in
-      let to-f = and_parts f (nat_le s.fci most_record) h in
-      let to-e = and_parts e (nat_le s.dir most_record) to-f.0 in
-      let to-d = and_parts d (nat_le s.session most_session) to-e.0 in
-      let to-b = and_parts b (nat_le s.init s.fixed) to-d.0 in
-      let to-a = and_parts a (nat_le s.fixed most_static) to-b.0 in
-      (leb-true s.fixed most_static to-a.1, leb-true s.init s.fixed to-b.1)
+  limits_are s h = grind (arith, and_parts, leb-true)
 
   quiet_fits : (a : ApduParts) (o : Order) (body : List ℕ) (load : Option Open) → IsQuiet (room_on c) c.apps session_state a o body load → LoadFits load
   quiet_fits a _ _ _ (quiet.answers o first rest) = fits.load
@@ -107,28 +94,11 @@ module _ (c : Card) (session_state : SessionState) (fits : SessionStateFits c.ap
   -- ---- CREATE
 
   fresh_small : (o : Open) → is_complete o ≡ true → LoadFits (Some o) → length (fresh o).fixed ≤ most_static
-  fresh_small o h few =
-      let g = o.got in
-      let s = o.site.sizes in
-      let a : Bool = length g.code == s.code && length g.init == s.init in
-      let b : Bool = a && length g.dir == s.dir in
-      let to-b = and_parts b (length g.fci == s.fci) h in
-      let to-a = and_parts a (length g.dir == s.dir) to-b.0 in
-      let init : length g.init ≡ s.init = eqb-true (length g.init) s.init (and_parts (length g.code == s.code) (length g.init == s.init) to-a.0).1 in
-      let most : s.fixed ≤ 4096 = few.0 in
-      let less : s.init ≤ s.fixed = few.1 in
-      omega (arith, length-append g.init (zeros (s.fixed - s.init)), length-replicate {A = ℕ} (s.fixed - s.init) 0)
+  fresh_small o h few = grind (arith, and_parts, eqb-true, length-append, length-replicate)
 
   -- a selection beside a new name
   beside_selected : (o : Option Selected) (n : List ℕ) (a : App) → lookup c.apps n ≡ None → SelectedFits c.apps o → SelectedFits (insert c.apps n a) o
-  beside_selected None n a e h = tt
-  beside_selected (Some s) n a e h = by (bytes_eq n s.name) refl
-    where
-      by : (b : Bool) → bytes_eq n s.name ≡ b → SelectedFits (insert c.apps n a) (Some s)
-      by true is =
-          let gone : size_in c.apps s.name ≡ None = subst (λ (k : List ℕ). size_in c.apps k ≡ None) (same_name n s.name is) (ap size_of e) in
-          absurd (subst (λ (z : Option (ℕ × ℕ)). AsManySession z (length s.session)) gone h)
-      by false is = same_selected c.apps (insert c.apps n a) s (ap size_of (lookup_beside c.apps n a s.name is)) h
+  beside_selected o n a e h = grind (arith, size_in, same_name, size_of, same_selected, lookup_beside)
 
   -- ---- DELETE
 
@@ -214,11 +184,7 @@ selected_well m None l h = tt
 selected_well m (Some s) l h = record { limited = are_limited m l; session = session_by (lookup m s.name) (length s.session) h }
 
 route_well : (m : List (List ℕ × App)) (session_state : SessionState) (r : Route) → Limited m → SessionStateFits m session_state → RoutedWell m session_state r
-route_well m session_state WrongLength l h = tt
-route_well m session_state WrongClass l h = tt
-route_well m session_state (ToSelect a) l h = tt
-route_well m session_state (ToManager a) l h = tt
-route_well m session_state (ToApplication a) l h = selected_well m session_state.selected l h.selected
+route_well m session_state r l h = grind (arith, selected_well)
 
 behind : (b : Bool) (later : Type 0) → later → BehindDone b later
 behind true later h = h
@@ -259,31 +225,13 @@ line_fits c session_state budget l h = record { items = tt; session_state = h }
 -- ---- the card that the first power line finds
 
 pub good_records : (w : List (List ℕ)) → words_fault w ≡ None → bad_record w (blocks w) [] 0 ≡ None
-good_records w h =
-    let root = or_else_none (by_cause NoRoot (no_root w)) _ h in
-    let block = or_else_none (by_cause BadBlock (bad_block (length w) w 131 false)) _ root.1 in
-    let records = or_else_none (by_cause BadRecord (bad_record w (blocks w) [] 0)) (by_cause BadChain (bad_chain w (blocks w))) block.1 in
-    cause_none BadRecord (bad_record w (blocks w) [] 0) records.0
+good_records w h = grind (arith, or_else_none, cause_none)
 
 record_small : (r : List ℕ) (words : ℕ) → is_record r words ≡ true → be2 r 22 ≤ 4096
-record_small r words h =
-    let n : ℕ = slice_index r 16 in
-    let a : Bool = nat_le 5 n && nat_le n 16 && bytes_eq (take (16 - n) (drop n r)) (zeros (16 - n))
-    && nat_le (slice_index r 17) 128 && nat_le (slice_index r 18) 128 && slice_index r 19 == 0 && nat_le 1 (be2 r 20) && nat_le (be2 r 20) 8192 in
-    let b : Bool = a && nat_le (be2 r 22) 4096 in
-    let d : Bool = b && nat_le (be2 r 24) 256 in
-    let e : Bool = d && nat_le (be2 r 26) 15 in
-    let f : Bool = e && bytes_eq (drop 28 r) (zeros 4) in
-    let to-f = and_parts f (words == words_of_lengths (be2 r 20) (be2 r 22) (slice_index r 17) (slice_index r 18)) h in
-    let to-e = and_parts e (bytes_eq (drop 28 r) (zeros 4)) to-f.0 in
-    let to-d = and_parts d (nat_le (be2 r 26) 15) to-e.0 in
-    let to-b = and_parts b (nat_le (be2 r 24) 256) to-d.0 in
-    leb-true (be2 r 22) 4096 (and_parts a (nat_le (be2 r 22) 4096) to-b.0).1
+record_small r words h = grind (arith, and_parts, leb-true)
 
 app_small : (m : List (List ℕ)) (p : ℕ) → be2 (record_at m p) 22 ≤ 4096 → length (app_at m p).fixed ≤ most_static
-app_small m p h =
-    let r = record_at m p in
-    omega (arith, length-take (be2 r 22) (cells m (p + 5 + up (be2 r 20) 8) (up (be2 r 22) 8)))
+app_small m p h = grind (arith, length-take)
 
 limited_none : Limited []
 limited_none n = tt
@@ -308,9 +256,7 @@ limited_blocks m (b ∷ bs) names used h =
     by false g is e next other = other e
 
 means_limited : (m : List (List ℕ)) → fault m ≡ None → Limited (means m).apps
-means_limited m h =
-    let w = words_after (after m) m in
-    limited_blocks w (blocks w) [] 0 (good_records w (sound_after m (look m) refl h))
+means_limited m h = grind (arith, limited_blocks, good_records, sound_after)
 
 -- ---- lines
 

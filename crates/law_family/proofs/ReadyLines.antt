@@ -6,13 +6,12 @@ use Rattle.std.proofs.lemmas.List.{length-set}
 use Rattle.model_play.specs.model_device.specs.declared.cause.Cause.{Cause}
 use Rattle.model_play.specs.model_device.specs.declared.device.Stop.{Stop}
 use Rattle.model_play.specs.model_device.specs.declared.device.Stop.TheVariants as stop
-use Rattle.model_play.specs.model_device.specs.Bytes.{lookup}
-use Rattle.model_play.specs.model_device.specs.Image.{Journal, One, Two, Which, Both, Only, Neither, look_at, look_j, debt, count_of_recovery_writes, which}
+use Rattle.model_play.specs.model_device.specs.Image.{Journal, One, Two, Which, look_at, debt, count_of_recovery_writes, which}
 use Rattle.model_play.specs.model_device.specs.Stopped.{cost, stands}
 use Rattle.model_play.specs.model_device.specs.Card.{App, Card}
 use Rattle.model_play.specs.model_device.specs.Layout.{fault}
 use Rattle.model_play.specs.model_card.specs.Items.{Item, Plain, Atomic, weight, moves, StopAt, Stopped, at_stop, in_flight, with_item}
-use Rattle.model_play.specs.Play.{Armed, Live, Running, Unpowered, Muted, Warm, State, BeforePower, AfterPower, LineResult, Step, command_step, line_command, line_after, hit_of, result_of_stop, FailedWrite, step, power_step, stopped_power, play_at_power, plays, first_failure, start, static_of, dump_result, without_card, formatted_image}
+use Rattle.model_play.specs.Play.{Armed, Live, Running, Warm, State, BeforePower, AfterPower, LineResult, Step, command_step, line_command, line_after, hit_of, result_of_stop, FailedWrite, step, power_step, stopped_power, play_at_power, plays, first_failure, start, static_of, dump_result, without_card, formatted_image}
 use Rattle.model_play.specs.model_device.specs.PowerUp.{Base, OnCard, AtFault, base_after_migration, migration, base_of}
 use Rattle.model_play.specs.model_card.specs.Commands.{Command}
 use Rattle.model_play.specs.ReadyAgain.{is_found, is_before_power, is_poke, sure_after, PowerIsReady, ReadyLine, ReadyAgain, FitsJournal, AllFitJournal}
@@ -28,9 +27,7 @@ use Rattle.model_play.specs.Given.{is_power}
 -- ---- the writes that recovery may have to make
 
 owed_which : (m : List (List ℕ)) (w : Which) → debt (look_at m w) ≤ 65
-owed_which m Both = omega arith
-owed_which m (Only j) = owed_few j m (look_j j m) refl
-owed_which m Neither = omega arith
+owed_which m w = grind (arith, owed_few)
 
 -- recovery has to make at most 65 writes on an image
 pub owed_most : (m : List (List ℕ)) → count_of_recovery_writes m ≤ 65
@@ -97,9 +94,7 @@ stop_not_found t stop.Off = refl
 stop_not_found t stop.Worn = refl
 
 migrated_sure : (sure : Bool) (b : Base) → SureBase sure b → SureBase sure (base_after_migration b)
-migrated_sure true (OnCard c) h = tt
-migrated_sure true (AtFault cause p) h = h
-migrated_sure false b h = tt
+migrated_sure sure b h = grind arith
 
 cond_sure : (sure t : Bool) (b : Base) → SureBase sure b → SureBase sure (cond t (base_after_migration b) b)
 cond_sure sure true b h = migrated_sure sure b h
@@ -151,24 +146,17 @@ command_sure sure n k s c r (Some t) fits h =
     }
 
 without_not_found : (v : Live) → is_found (Some (without_card v)) ≡ false
-without_not_found (Running session_state) = refl
-without_not_found Unpowered = refl
-without_not_found Muted = refl
+without_not_found v = grind arith
 
 static_not_found : (o : Option App) → is_found (Some (static_of o)) ≡ false
 static_not_found None = refl
 static_not_found (Some a) = refl
 
 dumped_not_found : (v : Live) (b : Base) (x : List ℕ) → is_found (Some (dump_result v b x)) ≡ false
-dumped_not_found (Running session_state) (OnCard c) x = static_not_found (lookup c.apps x)
-dumped_not_found (Running session_state) (AtFault cause p) x = refl
-dumped_not_found Unpowered b x = refl
-dumped_not_found Muted b x = refl
+dumped_not_found v b x = grind (arith, static_not_found)
 
 quiet_not_found : (l : DeckLine) (v : Live) (b : Base) → is_found (quiet_result l v b) ≡ false
-quiet_not_found (line.Dump x) v b = dumped_not_found v b x
-quiet_not_found (line.Sent k) v b = without_not_found v
-quiet_not_found _ v b = refl
+quiet_not_found l v b = grind (arith, dumped_not_found, without_not_found)
 
 -- only a line before the first power line can spoil the card
 unspoiled : (l : DeckLine) (s : Warm) (sure : Bool) → (not (is_poke l && is_before_power (AfterPower s)) && sure) ≡ sure
@@ -197,9 +185,7 @@ formatted_sure m sure h =
     record { low = subst (λ (k : ℕ). 256 ≤ k) (sym same) h.low; high = subst (λ (k : ℕ). k ≤ 16384) (sym same) h.high; sound = formatted_sound m h.low h.high }
 
 early_sure : (l : DeckLine) (m : List (List ℕ)) (b : ℕ) (a : Armed) (sure : Bool) → SureBeforePower sure m → SureBeforePower (is_found (early_result l) || (not (is_poke l && is_before_power (BeforePower m b a)) && sure)) (image_after l m)
-early_sure line.Format m b a sure h = formatted_sure m sure h
-early_sure (line.Poke at x) m b a sure h = poked_size m at x sure h
-early_sure _ m b a sure h = h
+early_sure l m b a sure h = grind (arith, formatted_sure, poked_size)
 
 kind_sure : {w : Option FailedWrite} {z : State} {n : ℕ} {l : DeckLine} {u : Step} (sure : Bool) → StepKind w z n l u → AllByRecursion FitsJournal u.items → Sure sure z → KeepsReady sure u
 kind_sure sure (Early {l = l} {m = m} {b = b} {a = a} p) fits h = record { says = says_ready sure _ (no_power_ready l None _ p); next = early_sure l m b a sure h }

@@ -1,7 +1,7 @@
 -- The run of a chain reads and writes on one side of a closed family alone: over two maps that agree there, the runs
 -- are equal.
 use Rattle.std.specs.Prelude.{◌≡◌, ℕ, zero, suc, Bool, true, false, cond, ◌||◌, nat_lt, nat_le, List, [], ◌∷◌, ◌++◌, unwrap_or, Option, Some, None, Result, Ok, Err, ⊤}
-use Rattle.std.proofs.Common.{refl, ap, sym, subst, ◌∙◌}
+use Rattle.std.proofs.Common.{arith, refl, ap, sym, subst, ◌∙◌}
 use Rattle.model_play.specs.model_machine.specs.declared.instruction.Ins.{Ins}
 use Rattle.model_play.specs.model_machine.specs.declared.instruction.DecodeFault.{DecodeFault}
 use Rattle.model_play.specs.model_machine.specs.declared.instruction.DecodeFault.TheVariants.{Undefined, Past}
@@ -115,10 +115,7 @@ module _ (K : List (List ℕ)) (x : Bool) where
   -- ---- turns
 
   turn_alike : (ch : Chain) (i : Ins) (e : Effect) (f g : Follows) (ps : List (List ℕ × List ℕ)) → FollowAlike K x f g → done_turn ch i e g ps ≡ record (done_turn ch i e f ps) { follows = g }
-  turn_alike ch i e (Ends o) (Ends p) ps h = ap (λ (z : Outcome). record (done_turn ch i e (Ends z) ps) { follows = Ends p }) (sym h)
-  turn_alike ch i e (Continues c) (Continues d) ps h = refl
-  turn_alike ch i e (Ends o) (Continues d) ps h = absurd h
-  turn_alike ch i e (Continues c) (Ends p) ps h = absurd h
+  turn_alike ch i e f g ps h = grind (arith, follows)
 
   done_alike : (ch : Chain) (m : List (List ℕ × App)) (i : Ins) (d : Done) → d.effect.frame.name ≡ ch.frame.name → ClosedPairs K (pair_of ch.frame.name d.next) → MapsAgree K x ch.map m → On K x ch → ActAlike K x (row_turn ch i (Does d)) (row_turn (over ch m) i (Does d))
   done_alike ch m i d name closed h on =
@@ -184,10 +181,7 @@ module _ (K : List (List ℕ)) (x : Bool) where
       (λ c d. ran_alike n c d) closed
 
   found_alike : (o p : Option App) → bare o ≡ bare p → app_at_place 0 (unwrap_or o no_app) ≡ app_at_place 0 (unwrap_or p no_app)
-  found_alike None None e = refl
-  found_alike None (Some c) e = absurd (cc e)
-  found_alike (Some a) None e = absurd (cc e)
-  found_alike (Some a) (Some c) e = cc e
+  found_alike o p e = grind arith
 
   -- The run lemma: on two maps that agree on one side of a closed family, from a first name of that side, there is one
   -- run, all of whose writes belong to that side.

@@ -1,7 +1,7 @@
 -- Stops and items: the stop that is given hits the lone card as it hit the play, and items of others touch no
 -- application of the family.
 use Rattle.std.specs.Prelude.{◌≡◌, ℕ, ◌-◌, ◌≤◌, Bool, true, false, cond, nat_le, ◌==◌, List, [], ◌∷◌, ◌++◌, Option, Some, None, ⊤}
-use Rattle.std.proofs.Common.{refl, ap, ◌∙◌}
+use Rattle.std.proofs.Common.{arith, refl, ap, ◌∙◌}
 use Rattle.std.proofs.lemmas.Bool.{le-leb}
 use Rattle.model_play.specs.model_device.specs.declared.device.Stop.TheVariants as stop
 use Rattle.model_play.specs.model_device.specs.Bytes.{has_name, lookup, insert, remove}
@@ -11,7 +11,7 @@ use Rattle.model_play.specs.model_device.specs.Card.{App, app_at_place}
 use Rattle.model_play.specs.model_machine.specs.Chain.{Write, map_changed}
 use Rattle.model_play.specs.model_card.specs.Items.{Change, Fixed, Created, Deleted, Item, Plain, Atomic, apps_after_items, StopAt, Stopped, with_item, in_flight, at_stop, write_items}
 use Rattle.model_play.specs.model_card.specs.Manager.{Selected}
-use Rattle.model_play.specs.Play.{Armed, Unarmed, ArmedCut, ArmedFail, FailedWrite, hit_of}
+use Rattle.model_play.specs.Play.{Armed, ArmedCut, FailedWrite, hit_of}
 use Rattle.model_play.specs.Given.{Event, Arrives, Departs, given_stop, events_of_items}
 use Rattle.model_play.specs.Solo.{Solo, Heard, silent, hears, heard_before, hears_all, hits}
 use Rattle.law_family.proofs.Agreement.{MapsAgree, agree_inserted, agree_removed, agree_beside, agree_left, agree_changed_app, agree_joined}
@@ -38,10 +38,7 @@ cut_given false m k x h = no_hit_where (nat_le k m) (record { kind = stop.Off; a
 
 -- the lone card is hit by the very stop that hit the play
 pub hits_given : (armed : Armed) (m : ℕ) (w : Option FailedWrite) → FailsWithin m w → hits m (given_stop armed (hit_of armed m w)) ≡ hit_of armed m w
-hits_given armed m (Some w) h = hit_where (nat_le w.at m) (record { kind = stop.Worn; at = w.at; left = w.left }) None (le-leb w.at m h)
-hits_given (ArmedCut k x) m None h = cut_given (nat_le k m) m k x refl
-hits_given Unarmed m None h = refl
-hits_given (ArmedFail k) m None h = refl
+hits_given armed m w h = grind (arith, hit_where, le-leb, cut_given)
 
 -- ---- items of others
 

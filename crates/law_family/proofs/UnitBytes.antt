@@ -1,5 +1,5 @@
 -- The fields of a unit that was read of bytes are bytes.
-use Rattle.std.proofs.Common.{ℕ, ◌<◌, Bool, true, false, List, length, take, drop, Result, Ok, Err}
+use Rattle.std.proofs.Common.{arith, ℕ, ◌<◌, Bool, true, false, List, length, take, drop, Result, Ok, Err}
 use Rattle.std.specs.Prelude.{⊤, nat_lt, ◌==◌, if◌then◌else◌, IfOk}
 use Rattle.model_play.specs.model_card.specs.declared.unit.UnitRefusal.{UnitRefusal}
 use Rattle.model_play.specs.model_card.specs.declared.unit.UnitRefusal.TheVariants.{Short, NoCode, TooLarge, Signed, Enciphered}
@@ -76,11 +76,7 @@ abbrev from_number : List ℕ × List ℕ → Result UnitParts UnitRefusal
 from_number number = code_at number.1 >>= λ code. from_code number code
 
 fci_ok : (number code init dir fci : List ℕ × List ℕ) → AreBytes code.0 → AreBytes init.0 → AreBytes dir.0 → AreBytes fci.0 → IfOk (from_fci number code init dir fci) UnitBytes
-fci_ok number code init dir fci c i d f =
-    then_ok (empty_at Signed fci.1) (λ signature. from_signature number code init dir fci signature) (λ x. ⊤) UnitBytes (any (empty_at Signed fci.1))
-    (λ signature h. then_ok (empty_at Enciphered signature) (λ key. from_key number code init dir fci key) (λ x. ⊤) UnitBytes (any (empty_at Enciphered signature))
-    (λ key k. then_ok (end_at key) (λ last. refused_name (name_of dir.0) >>= λ aid. whole number code init dir fci aid) (λ x. ⊤) UnitBytes (any (end_at key))
-    (λ last l. then_ok (refused_name (name_of dir.0)) (λ aid. whole number code init dir fci aid) (λ x. ⊤) UnitBytes (any (refused_name (name_of dir.0))) (λ aid m. (c, i, d, f)))))
+fci_ok number code init dir fci c i d f = grind (arith, then_ok, any)
 
 -- a unit that was read of bytes
 pub unit_ok : (b : List ℕ) → AreBytes b → IfOk (unit_read b) UnitBytes

@@ -9,7 +9,6 @@ use Rattle.model_play.specs.model_device.specs.PowerUp.{OnCard}
 use Rattle.model_play.specs.model_card.specs.Commands.{Command}
 use Rattle.model_play.specs.Laws.{KeepsLine, KeepsLines, whole_of}
 use Rattle.model_play.specs.DeckGrammar.{DeckLine}
-use Rattle.model_play.specs.DeckGrammar as line
 use Rattle.law_family.proofs.AfterPowerLines.{powered}
 use Rattle.model_play.proofs.LineKinds.{past_power, StepKind, Early, Quiet, Powers, Sends, by_kind}
 

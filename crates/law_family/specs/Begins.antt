@@ -1,12 +1,11 @@
 -- Every application of a play is limited, and each run begins with as many session bytes as its application has.
-use Rattle.std.specs.Prelude.{◌≡◌, ℕ, ◌≤◌, Bool, true, false, List, [], ◌∷◌, length, Option, Some, None, ⊤}
+use Rattle.std.specs.Prelude.{◌≡◌, ℕ, Bool, true, false, List, [], ◌∷◌, length, Option, Some, None, ⊤}
 use Rattle.law_machine.specs.Limited.{AreLimited, session_in}
 use Rattle.model_play.specs.model_device.specs.Bytes.{lookup}
 use Rattle.model_play.specs.model_machine.specs.Apdu.{ApduParts}
 use Rattle.model_play.specs.model_device.specs.Card.{App, Card}
 use Rattle.model_play.specs.model_machine.specs.Chain.{Chain, start as begun}
 use Rattle.model_play.specs.model_card.specs.Items.{card_done}
-use Rattle.model_play.specs.model_device.specs.Limits.{most_static}
 use Rattle.model_play.specs.model_card.specs.Manager.{Selected, SessionState, Route, WrongLength, WrongClass, ToSelect, ToManager, ToApplication, route}
 use Rattle.model_play.specs.DeckGrammar.{DeckLine}
 use Rattle.model_play.specs.Play.{FailedWrite, Live, Running, Unpowered, Muted, State, BeforePower, AfterPower, Step, is_done, plays, start}

@@ -16,10 +16,6 @@ use Rattle.law_machine.specs.Limited.{AreLimited}
 use Rattle.law_rows.proofs.Keeping.{length_laid}
 use Rattle.model_card.specs.model_device.proofs.MapLemmas.{same_name, lookup_inserted_lem, lookup_beside, lookup_removed_lem, lookup_left}
 
--- the lengths of static and session bytes
-abbrev pub SegmentSizes : Type 0
-SegmentSizes = Option (ℕ × ℕ)
-
 abbrev pub size_of : Option App → Option (ℕ × ℕ)
 size_of None = None
 size_of (Some a) = Some (length a.fixed, a.session)

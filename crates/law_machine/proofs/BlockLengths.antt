@@ -1,5 +1,5 @@
 -- Results are no longer than what they are made of.
-use Rattle.std.proofs.Common.{◌≡◌, ℕ, zero, suc, ◌+◌, ◌-◌, ◌*◌, ◌/◌, ◌≤◌, Bool, true, false, cond, List, [], ◌∷◌, ◌++◌, take, drop, map, length, Option, Some, None, refl, arith}
+use Rattle.std.proofs.Common.{◌≡◌, ℕ, zero, suc, ◌+◌, ◌-◌, ◌*◌, ◌/◌, ◌≤◌, Bool, true, false, cond, List, [], ◌∷◌, ◌++◌, take, drop, map, length, Option, refl, arith}
 use Rattle.std.specs.Prelude.{◌==◌, reverse, slice_index}
 use Rattle.std.specs.Int.{w32, to_be_bytes}
 use Rattle.sha1.specs.Sha1.{sha1, hash_after, padded_message, digest_bytes}
@@ -10,7 +10,7 @@ use Rattle.model_card.specs.model_machine.specs.Modes.{bit_sum, blocks_of, each,
 use Rattle.model_card.specs.model_machine.specs.Des.{des_encipher, tdes_encipher, des_signature, tdes_signature}
 use Rattle.model_card.specs.model_machine.specs.Aes.{shift_rows, sub, mix_columns, columns_times_matrix, round, last_round, round_back, last_round_back, rounds, rounds_back, round_keys, aes_encipher, aes_decipher, aes_signature}
 use Rattle.model_card.specs.model_machine.specs.Aes as aes
-use Rattle.model_card.specs.model_machine.specs.Frame.{Frame, Place, Static, Dynamic, Public, dynamic_base, where_is, static_bytes, bytes_in, bytes_at, stack_bytes}
+use Rattle.model_card.specs.model_machine.specs.Frame.{Frame, Place, dynamic_base, where_is, bytes_in, bytes_at, stack_bytes}
 use Rattle.model_card.specs.model_machine.specs.Primitives.{Cipher, Des, TripleDes, Aes, block_len, encipherment, decipherment, signature}
 use Rattle.model_card.specs.model_device.proofs.ListLemmas.{length_bytes}
 use Rattle.model_card.specs.model_machine.proofs.ModesLemmas.{length_added}
@@ -35,10 +35,7 @@ pub stacked_short : (f : Frame) (k n : ℕ) → length (stack_bytes f k n) ≤ n
 stacked_short f k n = omega (arith, length-take n (drop (f.dt - k - dynamic_base) f.dyn))
 
 pub in_short : (f : Frame) (public : List ℕ) (n : ℕ) (place : Option Place) → length (bytes_in f public n place) ≤ n
-in_short f public n None = omega arith
-in_short f public n (Some (Static i)) = omega (arith, length-take n (drop i (static_bytes f)))
-in_short f public n (Some (Dynamic i)) = omega (arith, length-take n (drop i f.dyn))
-in_short f public n (Some (Public i)) = omega (arith, length-take n (drop i public))
+in_short f public n place = grind (arith, length-take)
 
 pub none_or : (b : Bool) (l : List ℕ) (n : ℕ) → length l ≤ n → length (cond b [] l) ≤ n
 none_or true l n few = omega arith
@@ -85,14 +82,10 @@ unfolding aes_decipher
 aes_back_short key b h = aes_back_16 (reverse (round_keys key)) b h
 
 enciphered_short : (c : Cipher) (key : List ℕ) → Short (block_len c) (encipherment c key)
-enciphered_short Des key b h = omega (arith, length_des key b)
-enciphered_short TripleDes key b h = omega (arith, length_tdes key b)
-enciphered_short Aes key b h = aes_short key b h
+enciphered_short c key b h = grind (arith, length_des, length_tdes, aes_short)
 
 deciphered_short : (c : Cipher) (key : List ℕ) → Short (block_len c) (decipherment c key)
-deciphered_short Des key b h = omega (arith, length_des_back key b)
-deciphered_short TripleDes key b h = omega (arith, length_tdes_back key b)
-deciphered_short Aes key b h = aes_back_short key b h
+deciphered_short c key b h = grind (arith, length_des_back, length_tdes_back, aes_back_short)
 
 each_blocks : (cipher : List ℕ → List ℕ) (n size : ℕ) (message : List ℕ) → Short size cipher → length (each cipher (blocks_of n size message)) ≤ n * size
 each_blocks cipher zero size message h = omega arith
@@ -105,9 +98,7 @@ each_blocks cipher (suc n) size message h =
 
 -- a message through a cipher is no longer
 pub ecb_short : (c : Cipher) (cipher : List ℕ → List ℕ) (message : List ℕ) → Short (block_len c) cipher → length (ecb cipher (block_len c) message) ≤ length message
-ecb_short Des cipher message h = let most : length (ecb cipher 8 message) ≤ length message / 8 * 8 = each_blocks cipher (length message / 8) 8 message h in omega arith
-ecb_short TripleDes cipher message h = let most : length (ecb cipher 8 message) ≤ length message / 8 * 8 = each_blocks cipher (length message / 8) 8 message h in omega arith
-ecb_short Aes cipher message h = let most : length (ecb cipher 16 message) ≤ length message / 16 * 16 = each_blocks cipher (length message / 16) 16 message h in omega arith
+ecb_short c cipher message h = grind (arith, each_blocks)
 
 pub enciphered_message : (c : Cipher) (key message : List ℕ) → length (ecb (encipherment c key) (block_len c) message) ≤ length message
 enciphered_message c key message = ecb_short c (encipherment c key) message (enciphered_short c key)

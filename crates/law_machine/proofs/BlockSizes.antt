@@ -28,15 +28,11 @@ aes_back_blocks key b h = aes_back_16 (reverse (round_keys key)) b h
 
 -- a block enciphered is one
 pub enciphered_blocks : (c : Cipher) (key : List ℕ) → IsOfBlocks (block_len c) (encipherment c key)
-enciphered_blocks Des key b h = length_des key b
-enciphered_blocks TripleDes key b h = length_tdes key b
-enciphered_blocks Aes key b h = aes_blocks key b h
+enciphered_blocks c key b h = grind (arith, length_des, length_tdes, aes_blocks)
 
 -- so is a block deciphered
 pub deciphered_blocks : (c : Cipher) (key : List ℕ) → IsOfBlocks (block_len c) (decipherment c key)
-deciphered_blocks Des key b h = length_des_back key b
-deciphered_blocks TripleDes key b h = length_tdes_back key b
-deciphered_blocks Aes key b h = aes_back_blocks key b h
+deciphered_blocks c key b h = grind (arith, length_des_back, length_tdes_back, aes_back_blocks)
 
 each_blocks : (cipher : List ℕ → List ℕ) (n size : ℕ) (message : List ℕ) → IsOfBlocks size cipher → n * size ≤ length message → length (each cipher (blocks_of n size message)) ≡ n * size
 each_blocks cipher zero size message h enough = omega arith
@@ -52,9 +48,7 @@ each_blocks cipher (suc n) size message h enough =
 
 -- a message of whole blocks through a cipher is as long
 pub ecb_length : (c : Cipher) (cipher : List ℕ → List ℕ) (message : List ℕ) → IsOfBlocks (block_len c) cipher → length message % block_len c ≡ 0 → length (ecb cipher (block_len c) message) ≡ length message
-ecb_length Des cipher message h whole = each_blocks cipher (length message / 8) 8 message h (omega arith) ∙ omega (arith, whole)
-ecb_length TripleDes cipher message h whole = each_blocks cipher (length message / 8) 8 message h (omega arith) ∙ omega (arith, whole)
-ecb_length Aes cipher message h whole = each_blocks cipher (length message / 16) 16 message h (omega arith) ∙ omega (arith, whole)
+ecb_length c cipher message h whole = grind (arith, each_blocks)
 
 -- a message of whole blocks is as long enciphered
 pub enciphered_length : (c : Cipher) (key message : List ℕ) (n : ℕ) → length message ≡ n → n % block_len c ≡ 0 → length (ecb (encipherment c key) (block_len c) message) ≡ n

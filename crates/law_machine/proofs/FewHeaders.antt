@@ -1,5 +1,5 @@
 -- A creation or a deletion changes few header words: those of the other applications stay.
-use Rattle.std.proofs.Common.{◌≡◌, ℕ, suc, ◌+◌, ◌-◌, ◌≤◌, Bool, true, false, cond, ◌||◌, not, List, [], ◌∷◌, ◌++◌, length, refl, ap, ◌∙◌, arith}
+use Rattle.std.proofs.Common.{◌≡◌, ℕ, suc, ◌+◌, ◌≤◌, Bool, true, false, cond, ◌||◌, not, List, [], ◌∷◌, ◌++◌, length, refl, ap, ◌∙◌, arith}
 use Rattle.std.specs.Prelude.{◌==◌, nat_lt, bytes_eq, filter}
 use Rattle.std.specs.List.{list_any}
 use Rattle.std.proofs.lemmas.Bool.{and_from, eq-eqb, or_left, or_right}
@@ -26,11 +26,7 @@ abbrev pub count : (Pair → Bool) → List Pair → ℕ
 count t es = length (filter t es)
 
 pub count_first : (t : Pair → Bool) (e : Pair) (es : List Pair) → count t (e ∷ es) ≡ one_if (t e) + count t es
-count_first t e es = by (t e)
-  where
-    by : (b : Bool) → length (cond b (e ∷ filter t es) (filter t es)) ≡ one_if b + length (filter t es)
-    by true = omega arith
-    by false = omega arith
+count_first t e es = grind arith
 
 pub count_put : (t : Pair → Bool) (p : ℕ) (x : List ℕ) (es : List Pair) → count t (put_at p x es) ≡ one_if (t (p, x)) + count t es
 count_put t p x [] = count_first t (p, x) []
@@ -127,11 +123,7 @@ used_any q (s ∷ ss) hs h = any_put q s.0 (used_header s.1) (with_used ss hs) �
 -- ---- gaps
 
 gap_most : (p q : ℕ) → length (gap p q) ≤ 1
-gap_most p q = by (nat_lt p q)
-  where
-    by : (b : Bool) → length {A = ℕ × ℕ} (cond b ((p, q - p) ∷ []) []) ≤ 1
-    by true = omega arith
-    by false = omega arith
+gap_most p q = grind arith
 
 gaps_most : (p : ℕ) (ss : List (ℕ × ℕ)) (last : ℕ) → length (gaps_from p ss last) ≤ length ss + 1
 gaps_most p [] last = let one : length (gap p last) ≤ 1 = gap_most p last in omega arith

@@ -11,7 +11,7 @@ use Rattle.model_card.specs.model_machine.specs.Apdu.{ApduParts}
 use Rattle.model_card.specs.model_machine.specs.Code.{Shaped, instruction_at}
 use Rattle.model_card.specs.model_device.specs.Card.{App}
 use Rattle.model_card.specs.model_machine.specs.Frame.{Frame, new_frame, la_of}
-use Rattle.model_card.specs.model_machine.specs.Primitives.{Then, Goes, Exits, Delegates}
+use Rattle.model_card.specs.model_machine.specs.Primitives.{Then, Delegates}
 use Rattle.model_card.specs.model_machine.specs.Row.{Does, causes, effect, first_cause, row_end, row}
 use Rattle.model_card.specs.model_machine.specs.Chain.{Outcome, Write, Chain, Ran, Acted, Follows, Continues, Ends, code_in, with_pieces, changed_app, map_changed, write_of, chain_after_effect, is_active, depth_of, called_app, chain_after_call, after_exit, follows, delegator_in, row_turn, turn_of_fetch, frame_at, around, turn_of_chain, run_after_turn, run_of_chain, start_app, start, no_app}
 use Rattle.model_card.specs.model_device.proofs.ImageLemmas.{all_append}
@@ -104,9 +104,7 @@ called_few s n None e short h = reported_few s _ h
 called_few s n (Some a) e short h = called_by s n (is_active n s.frame s.below || nat_le 4 (depth_of s)) a e short h
 
 follows_few : (s : Chain) (t : Then) → ((n : List ℕ) → t ≡ Delegates n → length n ≤ 16) → FewChain s → FewNext (follows s t)
-follows_few s Goes short h = h
-follows_few s Exits short h = exited_few s s.below h h.below
-follows_few s (Delegates n) short h = called_few s n (lookup s.map n) refl (short n refl) h
+follows_few s t short h = grind (arith, exited_few, called_few)
 
 -- ---- turns
 

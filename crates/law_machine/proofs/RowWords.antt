@@ -12,7 +12,7 @@ use Rattle.model_card.specs.model_machine.specs.Code.{Shaped}
 use Rattle.model_card.specs.model_machine.specs.Modes.{ecb}
 use Rattle.model_card.specs.model_device.specs.Pieces.{touched_words}
 use Rattle.model_card.specs.model_machine.specs.Frame.{Frame, Effect, bytes_at, address_at, is_outside, no_access, frame_after_pop, top}
-use Rattle.model_card.specs.model_machine.specs.Primitives.{Around, Then, Done, Goes, Exits, Delegates, Cipher, Des, TripleDes, Aes, block_len, key_len, Primitive, MemoryCopy, DelegateTo, DelegatorAid, Digest, CopyFixed, SetProtection, Encipher, Decipher, Sign, primitive, in_range, number_below_top, count_at, reported_causes, cipher_causes, later_causes, prim_causes, prim_effect, prim_done, encipherment, decipherment}
+use Rattle.model_card.specs.model_machine.specs.Primitives.{Around, Then, Done, Exits, Delegates, Cipher, block_len, key_len, Primitive, MemoryCopy, DelegateTo, DelegatorAid, Digest, CopyFixed, SetProtection, Encipher, Decipher, Sign, primitive, in_range, number_below_top, count_at, reported_causes, cipher_causes, later_causes, prim_causes, prim_effect, prim_done, encipherment, decipherment}
 use Rattle.model_card.specs.model_machine.specs.Row.{operand, address_or_zero, writes, immediate_writes, pair_writes, place_of, causes, effect, first_cause, row_end, row}
 use Rattle.model_card.specs.model_device.proofs.ListLemmas.{zeros_short}
 use Rattle.law_rows.specs.Shapes.{Shape, meaning, delegator_shape, prim_shape, pair_shape, shape}
@@ -77,9 +77,7 @@ record PrimFacts (p : Primitive) (args : List ℕ) (f : Frame) (public : List �
   none : NoneHolds (later_causes p args f public x)
 
 block_most : (c : Cipher) → block_len c ≤ 256
-block_most Des = omega arith
-block_most TripleDes = omega arith
-block_most Aes = omega arith
+block_most c = grind arith
 
 copy_facts : (args : List ℕ) (f : Frame) (public : List ℕ) (x : Around) → PrimFacts MemoryCopy args f public x → WriteFacts (frame_after_pop f 6) (number_below_top f 4) (number_below_top f 6) (bytes_at (frame_after_pop f 6) public (number_below_top f 2) (number_below_top f 6))
 unfolding later_causes
@@ -118,10 +116,7 @@ digest_facts args f public x p =
     }
 
 cipher_facts : (c : Cipher) (n : ℕ) (f : Frame) (b : List ℕ) → NoneHolds (cipher_causes c n f) → n < 256 → length b ≤ n → WriteFacts (frame_after_pop f 6) (number_below_top f 4) n b
-cipher_facts c n f b none small short =
-    let g = frame_after_pop f 6 in
-    let front = or_parts (is_outside g (number_below_top f 6) n || is_outside g (number_below_top f 4) n) (is_outside g (number_below_top f 2) (key_len c)) none.1.0 in
-    record { short = short; small = byte_most n small; there = (or_parts (is_outside g (number_below_top f 6) n) (is_outside g (number_below_top f 4) n) front.0).1; room = none.1.1.0 }
+cipher_facts c n f b none small short = grind (arith, or_parts, byte_most)
 
 encipher_facts : (c : Cipher) (args : List ℕ) (f : Frame) (public key : List ℕ) (x : Around) → PrimFacts (Encipher c) args f public x
     → let g = frame_after_pop f 6 in let n = slice_index args 0 in WriteFacts g (number_below_top f 4) n (ecb (encipherment c key) (block_len c) (bytes_at g public (number_below_top f 6) n))
@@ -245,9 +240,7 @@ row_few i f public x p =
 -- ---- exits
 
 exit_by : (t : Then) (f : Frame) (e : Effect) → OnLeave t (Leaves f e) → t ≡ Exits → e.changes ≡ None
-exit_by Goes f e h is = absurd (cc is)
-exit_by Exits f e h is = h.changes
-exit_by (Delegates n) f e h is = absurd (cc is)
+exit_by t f e h is = grind arith
 
 exit_none : (d : Done) (f : Frame) → OnLeave d.next (Leaves f d.effect) → d.next ≡ Exits → d.effect.changes ≡ None
 exit_none d f h is = exit_by d.next f d.effect h is

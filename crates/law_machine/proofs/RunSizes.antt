@@ -12,7 +12,7 @@ use Rattle.model_card.specs.model_machine.specs.Apdu.{ApduParts}
 use Rattle.model_card.specs.model_machine.specs.Code.{instruction_at}
 use Rattle.model_card.specs.model_device.specs.Card.{App}
 use Rattle.model_card.specs.model_machine.specs.Frame.{Frame, new_frame, la_of}
-use Rattle.model_card.specs.model_machine.specs.Primitives.{Then, Goes, Exits, Delegates, Done}
+use Rattle.model_card.specs.model_machine.specs.Primitives.{Then, Done}
 use Rattle.model_card.specs.model_machine.specs.Row.{Does, causes, effect, first_cause, row_end, row}
 use Rattle.model_card.specs.model_machine.specs.Chain.{Outcome, Chain, Ran, Acted, Follows, Continues, Ends, code_in, first_frame, chain_session, map_changed, write_of, chain_after_effect, is_active, depth_of, called_app, chain_after_call, reply_of, after_exit, follows, row_turn, turn_of_fetch, frame_at, around, turn_of_chain, run_after_turn, run_of_chain, start_app, start, no_app, run}
 use Rattle.model_card.specs.model_device.proofs.ImageLemmas.{all_append}
@@ -105,9 +105,7 @@ called_fits ch s n None e g = public_fits ch s _ g
 called_fits ch s n (Some a) e g = called_by ch s n (is_active n s.frame s.below || nat_le 4 (depth_of s)) a e g
 
 follows_fits : (ch s : Chain) (t : Then) → ChainGoesOn ch s → NextFits ch (follows s t)
-follows_fits ch s Goes g = going_on ch s g
-follows_fits ch s Exits g = exited_fits ch s s.below g refl
-follows_fits ch s (Delegates n) g = called_fits ch s n (lookup s.map n) refl g
+follows_fits ch s t g = grind (arith, going_on, exited_fits, called_fits)
 
 -- a change of the running frame's application
 pub changed_by : (m : List (List ℕ × App)) (n : List ℕ) (size : ℕ) (o : Option (List (ℕ × List ℕ))) → AsMany (size_in m n) size → ChangeWithin size o → SameSizes m (map_changed m n o)

@@ -1,5 +1,5 @@
 -- The number of words that pieces touch.
-use Rattle.std.proofs.Common.{◌≡◌, ℕ, zero, suc, ◌+◌, ◌*◌, ◌/◌, ◌≤◌, Bool, true, false, cond, List, [], ◌∷◌, ◌++◌, length, refl, sym, ◌∙◌, ap, subst, arith}
+use Rattle.std.proofs.Common.{◌≡◌, ℕ, zero, suc, ◌+◌, ◌*◌, ◌/◌, ◌≤◌, Bool, cond, List, [], ◌∷◌, ◌++◌, length, refl, ◌∙◌, ap, arith}
 use Rattle.std.specs.Prelude.{◌==◌, nat_lt}
 use Rattle.std.proofs.lemmas.Bool.{eqb-true, eqb-false, eq-eqb}
 use Rattle.model_card.specs.model_device.specs.Bytes.{down, zeros}
@@ -8,18 +8,14 @@ use Rattle.model_card.specs.model_device.specs.Pieces.{with_number, with_words, 
 -- ---- one number more
 
 more_cond : (b c : Bool) (n k : ℕ) (ks ms : List ℕ) → length ms ≤ length ks + 1 → length (cond b (k ∷ ks) (cond c (n ∷ k ∷ ks) (k ∷ ms))) ≤ suc (length ks) + 1
-more_cond true c n k ks ms h = omega arith
-more_cond false true n k ks ms h = omega arith
-more_cond false false n k ks ms h = omega arith
+more_cond b c n k ks ms h = grind arith
 
 more_number : (n : ℕ) (ks : List ℕ) → length (with_number n ks) ≤ length ks + 1
 more_number n [] = omega arith
 more_number n (k ∷ ks) = more_cond (n == k) (nat_lt n k) n k ks (with_number n ks) (more_number n ks)
 
 no_fewer_cond : (b c : Bool) (n k : ℕ) (ks ms : List ℕ) → length ks ≤ length ms → suc (length ks) ≤ length (cond b (k ∷ ks) (cond c (n ∷ k ∷ ks) (k ∷ ms)))
-no_fewer_cond true c n k ks ms h = omega arith
-no_fewer_cond false true n k ks ms h = omega arith
-no_fewer_cond false false n k ks ms h = omega arith
+no_fewer_cond b c n k ks ms h = grind arith
 
 no_fewer : (n : ℕ) (ks : List ℕ) → length ks ≤ length (with_number n ks)
 no_fewer n [] = omega arith
@@ -33,13 +29,7 @@ has_first : (n : ℕ) (ks : List ℕ) → HasNumber n (n ∷ ks)
 has_first n ks = ap (λ (b : Bool). cond b (n ∷ ks) (cond (nat_lt n n) (n ∷ n ∷ ks) (n ∷ with_number n ks))) (eq-eqb n n refl)
 
 has_by : (n k : ℕ) (ks : List ℕ) (b c : Bool) → (n == k) ≡ b → nat_lt n k ≡ c → HasNumber n (with_number n ks) → HasNumber n (cond b (k ∷ ks) (cond c (n ∷ k ∷ ks) (k ∷ with_number n ks)))
-has_by n k ks true c e l h = ap (λ (b : Bool). cond b (k ∷ ks) (cond (nat_lt n k) (n ∷ k ∷ ks) (k ∷ with_number n ks))) e
-has_by n k ks false true e l h = has_first n (k ∷ ks)
-has_by n k ks false false e l h =
-    let ms = with_number n ks in
-    ap (λ (b : Bool). cond b (k ∷ ms) (cond (nat_lt n k) (n ∷ k ∷ ms) (k ∷ with_number n ms))) e
-    ∙ ap (λ (b : Bool). cond b (n ∷ k ∷ ms) (k ∷ with_number n ms)) l
-    ∙ ap (λ (l : List ℕ). k ∷ l) h
+has_by n k ks b c e l h = grind (arith, has_first)
 
 has_added : (n : ℕ) (ks : List ℕ) → HasNumber n (with_number n ks)
 has_added n [] = has_first n []
@@ -70,19 +60,7 @@ abbrev FewTouched : ℕ → ℕ → List ℕ → List ℕ → Type 0
 FewTouched q at b ns = HasNumber q ns → 8 * q + 1 ≤ at → at ≤ 8 * q + 8 → length (with_words at b ns) + q + 1 ≤ length ns + (at + length b + 7) / 8
 
 words_by : (q at : ℕ) (c : ℕ) (b ns : List ℕ) (t : Bool) → (down at 8 == q) ≡ t → ((p : ℕ) (ms : List ℕ) → FewTouched p (at + 1) b ms) → FewTouched q at (c ∷ b) ns
-words_by q at c b ns true e next h low high =
-    let is : at / 8 ≡ q = eqb-true (down at 8) q e in
-    let same : with_number (down at 8) ns ≡ ns = ap (λ (k : ℕ). with_number k ns) is ∙ h in
-    let rest : length (with_words (at + 1) b ns) + q + 1 ≤ length ns + (at + 1 + length b + 7) / 8 = next q ns h (omega arith) (omega (arith, is)) in
-    subst (λ (l : List ℕ). length (with_words (at + 1) b l) + q + 1 ≤ length ns + (at + suc (length b) + 7) / 8) (sym same) (omega arith)
-words_by q at c b ns false e next h low high =
-    let apart : at / 8 ≡ q → ⊥ = eqb-false (down at 8) q e in
-    let is : at / 8 ≡ q + 1 = omega (arith, apart) in
-    let ms = with_number (down at 8) ns in
-    let has : HasNumber (q + 1) ms = subst (λ (k : ℕ). HasNumber k ms) is (has_added (down at 8) ns) in
-    let more : length ms ≤ length ns + 1 = more_number (down at 8) ns in
-    let rest : length (with_words (at + 1) b ms) + (q + 1) + 1 ≤ length ms + (at + 1 + length b + 7) / 8 = next (q + 1) ms has (omega (arith, is)) (omega (arith, is)) in
-    omega arith
+words_by q at c b ns t e next h low high = grind (arith, eqb-true, eqb-false, has_added, more_number)
 
 words_from : (q at : ℕ) (b : List ℕ) (ns : List ℕ) → FewTouched q at b ns
 words_from q at [] ns h low high = omega arith

@@ -35,11 +35,7 @@ pub few_blocks : (m : List (List ℕ)) → Faultless m → length (used_spans (b
 few_blocks m f = let few : 0 + length (used_spans (blocks m)) ≤ 32 = few_all m (blocks m) [] 0 (omega arith) f.records in omega (arith, few)
 
 pub few_applications : (m : List (List ℕ)) → IsSized m → look m ≡ Closed → IsWellLaid m → length (means m).apps ≤ 32
-few_applications m image closed h =
-    let f : Faultless m = faultless m (sym (closed_fault m closed) ∙ h) in
-    let l : WellLaid m = well_laid m image closed h in
-    let same : length (means m).apps ≡ length (used_spans (blocks m)) = ap (λ (k : Card). length k.apps) (closed_means m closed) ∙ l.apps in
-    omega (arith, same, few_blocks m f)
+few_applications m image closed h = grind (arith, Faultless, faultless, closed_fault, WellLaid, well_laid, closed_means, few_blocks)
 
 -- ---- found by its name
 
@@ -48,10 +44,7 @@ found_same k n a e es true h = refl
 found_same k n a e es false h = sym (ap (λ (t : Bool). cond t (Some e.1) (lookup es n)) h)
 
 found_other : (k n : List ℕ) (a : App) (e : List ℕ × App) (o : Option App) (t s : Bool) → bytes_eq e.0 n ≡ t → bytes_eq k n ≡ s → bytes_eq e.0 k ≡ false → cond t (Some e.1) (cond s (Some a) o) ≡ cond s (Some a) (cond t (Some e.1) o)
-found_other k n a e o true true h g ne = absurd (cc (sym ((bytes_eq-Decides e.0 k).1 (same_name e.0 n h ∙ sym (same_name k n g))) ∙ ne))
-found_other k n a e o true false h g ne = refl
-found_other k n a e o false true h g ne = refl
-found_other k n a e o false false h g ne = refl
+found_other k n a e o t s h g ne = grind (arith, bytes_eq-Decides, same_name)
 
 found_test : (k n : List ℕ) (a : App) (e : List ℕ × App) (es : List (List ℕ × App)) (t s : Bool) → bytes_eq e.0 k ≡ t → lookup (insert es k a) n ≡ cond (bytes_eq k n) (Some a) (lookup es n)
     → lookup (cond t ((k, a) ∷ es) (cond s ((k, a) ∷ e ∷ es) (e ∷ insert es k a))) n ≡ cond (bytes_eq k n) (Some a) (cond (bytes_eq e.0 n) (Some e.1) (lookup es n))

@@ -1,11 +1,11 @@
 -- On a well laid image the holes of the walk are the gaps of the card, and its used blocks are the card's spans.
-use Rattle.std.proofs.Common.{◌≡◌, ℕ, ◌+◌, ◌<◌, ◌≤◌, Bool, true, false, ◌&&◌, List, [], ◌∷◌, length, Option, Some, None, refl, sym, ◌∙◌, ap, subst, arith, cond, not}
-use Rattle.std.specs.Prelude.{nat_lt, ◌==◌, slice_index, MatchBool}
+use Rattle.std.proofs.Common.{◌≡◌, ℕ, ◌+◌, ◌<◌, ◌≤◌, Bool, true, false, List, [], ◌∷◌, length, Option, Some, None, refl, sym, ◌∙◌, ap, subst, arith, cond, not}
+use Rattle.std.specs.Prelude.{MatchBool}
 use Rattle.std.proofs.lemmas.Bool.{and_parts, eqb-true, not-true, ltb-true}
-use Rattle.mc_base.specs.model_device.specs.Bytes.{up, be2, has_name, insert}
+use Rattle.mc_base.specs.model_device.specs.Bytes.{has_name, insert}
 use Rattle.mc_base.specs.model_device.specs.Image.{Closed, look}
 use Rattle.mc_base.specs.model_device.specs.Device.{IsSized}
-use Rattle.mc_base.specs.model_device.specs.Card.{App, Block, blocks, section, record_at, name_at, app_at, apps_of, card_of, words_of_app, words_of_lengths, heap_start}
+use Rattle.mc_base.specs.model_device.specs.Card.{App, Block, blocks, record_at, name_at, app_at, apps_of, card_of, words_of_app, heap_start}
 use Rattle.mc_base.specs.model_device.specs.Layout.{spans, spans_of, gaps, gaps_from, put_at, no_root, is_record, bad_block, bad_record, bad_chain, words_fault, IsWellLaid}
 use Rattle.mc_blocks.specs.Chains.{SpansAbove}
 use Rattle.mc_blocks.specs.Blocks.{used_spans, hole_spans, is_admissible}
@@ -35,22 +35,7 @@ faultless m h =
 
 -- a block whose record is good takes the words that its application needs
 needed_is : (m : List (List ℕ)) (p words : ℕ) → IsSized m → is_record (record_at m p) words ≡ true → p + words ≤ length m → words_of_app (app_at m p) ≡ words
-needed_is m p words image good h =
-    let r = record_at m p in
-    let code = be2 r 20 in
-    let fixed = be2 r 22 in
-    let dir = slice_index r 17 in
-    let fci = slice_index r 18 in
-    let is : words ≡ words_of_lengths code fixed dir fci = eqb-true words (words_of_lengths code fixed dir fci) (and_parts _ (words == words_of_lengths code fixed dir fci) good).1 in
-    let a : length (section m (p + 5) code) ≡ code = length_section m (p + 5) code image (omega arith) in
-    let b : length (section m (p + 5 + up code 8) fixed) ≡ fixed = length_section m (p + 5 + up code 8) fixed image (omega arith) in
-    let c : length (section m (p + 5 + up code 8 + up fixed 8) dir) ≡ dir = length_section m (p + 5 + up code 8 + up fixed 8) dir image (omega arith) in
-    let d : length (section m (p + 5 + up code 8 + up fixed 8 + up dir 8) fci) ≡ fci = length_section m (p + 5 + up code 8 + up fixed 8 + up dir 8) fci image (omega arith) in
-    ap (λ (n : ℕ). words_of_lengths n (length (app_at m p).fixed) (length (app_at m p).dir) (length (app_at m p).fci)) a
-    ∙ ap (λ (n : ℕ). words_of_lengths code n (length (app_at m p).dir) (length (app_at m p).fci)) b
-    ∙ ap (λ (n : ℕ). words_of_lengths code fixed n (length (app_at m p).fci)) c
-    ∙ ap (λ (n : ℕ). words_of_lengths code fixed dir n) d
-    ∙ sym is
+needed_is m p words image good h = grind (arith, eqb-true, and_parts, length_section)
 
 -- ---- the records of a walk
 
@@ -68,10 +53,7 @@ passed false x p h = absurd (cc h)
 
 -- a block that is admitted among the records has a good record and a new name
 pub admitted : (m : List (List ℕ)) (b : Block) (names : List (List ℕ)) (used : ℕ) → is_admissible m b names used ≡ true → (is_record (record_at m b.place) b.words ≡ true) × (has_name (name_at m b.place) names ≡ false) × (used < 32)
-admitted m b names used h =
-    let outer = and_parts (is_record (record_at m b.place) b.words && not (has_name (name_at m b.place) names)) (nat_lt used 32) h in
-    let inner = and_parts (is_record (record_at m b.place) b.words) (not (has_name (name_at m b.place) names)) outer.0 in
-    (inner.0, not-true (has_name (name_at m b.place) names) inner.1, ltb-true used 32 outer.1)
+admitted m b names used h = grind (arith, and_parts, not-true, ltb-true)
 
 pub named : (m : List (List ℕ)) (bs : List Block) (names : List (List ℕ)) (used : ℕ) → bad_record m bs names used ≡ None → AreNamed m names bs
 unfolding bad_record

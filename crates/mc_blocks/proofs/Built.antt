@@ -1,7 +1,7 @@
 -- Words that hold the headers and records of adjacent blocks are well laid, and words that agree in all that is read
 -- hold the same card.
 use Rattle.std.proofs.Common.{◌≡◌, ℕ, ◌+◌, ◌<◌, ◌≤◌, Bool, true, false, ◌&&◌, ◌||◌, List, [], ◌∷◌, length, Option, Some, None, refl, sym, ◌∙◌, ap, subst, arith, cond, not}
-use Rattle.std.specs.Prelude.{nat_lt, ◌==◌, slice_index}
+use Rattle.std.specs.Prelude.{◌==◌, slice_index}
 use Rattle.std.proofs.lemmas.Bool.{le-ltb, lt-ltb, le-leb, eq-eqb, and_from}
 use Rattle.std.proofs.lemmas.List.{get_or_past}
 use Rattle.mc_base.specs.model_device.specs.Bytes.{be2, or_else, has_name}
@@ -51,9 +51,7 @@ walks m p a (b ∷ bs) t r =
 -- ---- the records are good
 
 admitted_from : (m : List (List ℕ)) (b : Block) (names : List (List ℕ)) (used : ℕ) → is_record (record_at m b.place) b.words ≡ true → has_name (name_at m b.place) names ≡ false → used < 32 → is_admissible m b names used ≡ true
-admitted_from m b names used good new few =
-    and_from (is_record (record_at m b.place) b.words && not (has_name (name_at m b.place) names)) (nat_lt used 32)
-    (and_from (is_record (record_at m b.place) b.words) (not (has_name (name_at m b.place) names)) good (ap not new)) (lt-ltb used 32 few)
+admitted_from m b names used good new few = grind (arith, and_from, lt-ltb)
 
 records_good : (m : List (List ℕ)) (bs : List Block) (names : List (List ℕ)) (used : ℕ) → AreNamed m names bs → used + length (used_spans bs) ≤ 32 → bad_record m bs names used ≡ None
 unfolding bad_record
@@ -111,10 +109,7 @@ kept_but m n p (b ∷ bs) a = (a.0, (λ u _. a.1 u), kept_but m n p bs a.2)
 
 -- the card of words with the size, the version and these applications
 pub card_parts : (n m : List (List ℕ)) (es : List (List ℕ × App)) → length n ≡ length m → slice_index (word n 0) 3 ≡ slice_index (word m 0) 3 → apps_of n (blocks n) ≡ es → card_of n ≡ record (card_of m) { apps = es }
-card_parts n m es size version apps =
-    ap (λ (s : ℕ). record (card_of n) { size = s }) size
-    ∙ ap (λ (v : ℕ). record (card_of n) { size = length m; layout = v }) version
-    ∙ ap (λ (a : List (List ℕ × App)). record (card_of m) { apps = a }) apps
+card_parts n m es size version apps = grind arith
 
 -- words n are well laid and have the blocks and the card of m
 pub record SameCard (m n : List (List ℕ)) : Type 0 where

@@ -194,9 +194,7 @@ name_behind m p x ns (b ∷ bs) there nm span =
     ]) nm span
 
 with_named : (n : List (List ℕ)) (names : List (List ℕ)) (q k : ℕ) (bs : List Block) → AreNamed n names bs → AreNamed n names (with_hole q k bs)
-with_named n names q k [] nm = tt
-with_named n names q k (c ∷ cs) nm =
-    (elim c.used as (λ u. AreNamed n names (record c { used = u } ∷ cs) → AreNamed n names (with_hole q k (record c { used = u } ∷ cs))) [ true ↦ λ nm. nm | false ↦ λ nm. nm ]) nm
+with_named n names q k bs nm = grind (arith, AreNamed, with_hole)
 
 with_apps : (n : List (List ℕ)) (q k : ℕ) (bs : List Block) → apps_of n (with_hole q k bs) ≡ apps_of n bs
 unfolding apps_of

@@ -1,5 +1,5 @@
 -- Holes and links along a walk by lengths.
-use Rattle.std.proofs.Common.{◌≡◌, ◌≢◌, ℕ, ◌+◌, Bool, true, false, List, ◌∷◌, length, Some, None, sym, ◌∙◌, ap, arith, cond}
+use Rattle.std.proofs.Common.{◌≡◌, ◌≢◌, ℕ, ◌+◌, Bool, true, false, List, length, Some, None, ◌∙◌, ap, arith, cond}
 use Rattle.std.specs.Prelude.{◌==◌}
 use Rattle.std.proofs.lemmas.Bool.{eq-eqb, ne_eqb}
 use Rattle.mc_base.specs.model_device.specs.Bytes.{or_else, be2}
@@ -18,24 +18,16 @@ hole_behind m p b h e = ap first_hole (blocks_step m p b h) ∙ ap (λ (t : Bool
 -- the first wrong link from a place on is that of the block there if it is wrong, and else the first after it
 pub link_wrong : (m : List (List ℕ)) (p due : ℕ) (b : Block) → Some b ≡ block_within (length m) (header p (word m p)) → due ≡ cond b.used 0 (first_hole (blocks_at m (b.place + b.words)))
     → b.link ≢ due → bad_link (blocks_at m p) ≡ Some b.place
-link_wrong m p due b h e ne =
-    ap bad_link (blocks_step m p b h)
-    ∙ ap (λ (d : ℕ). cond (b.link == d) (bad_link (blocks_at m (b.place + b.words))) (Some b.place)) (sym e)
-    ∙ ap (λ (t : Bool). cond t (bad_link (blocks_at m (b.place + b.words))) (Some b.place)) (ne_eqb b.link due ne)
+link_wrong m p due b h e ne = grind (arith, blocks_step, ne_eqb)
 
 pub link_right : (m : List (List ℕ)) (p due : ℕ) (b : Block) → Some b ≡ block_within (length m) (header p (word m p)) → due ≡ cond b.used 0 (first_hole (blocks_at m (b.place + b.words)))
     → b.link ≡ due → bad_link (blocks_at m p) ≡ bad_link (blocks_at m (b.place + b.words))
-link_right m p due b h e is =
-    ap bad_link (blocks_step m p b h)
-    ∙ ap (λ (d : ℕ). cond (b.link == d) (bad_link (blocks_at m (b.place + b.words))) (Some b.place)) (sym e)
-    ∙ ap (λ (t : Bool). cond t (bad_link (blocks_at m (b.place + b.words))) (Some b.place)) (eq-eqb b.link due is)
+link_right m p due b h e is = grind (arith, blocks_step, eq-eqb)
 
 -- the first wrong link is that of the root if it is wrong, and else the first of the blocks
 root_read : (m : List (List ℕ)) (link first : ℕ) → link ≡ be2 (word m 0) 6 → first ≡ first_hole (blocks_at m 131)
     → bad_chain m (blocks m) ≡ or_else (cond (link == first) None (Some 0)) (bad_link (blocks m))
-root_read m link first e f =
-    ap (λ (x : ℕ). or_else (cond (x == first_hole (blocks m)) None (Some 0)) (bad_link (blocks m))) (sym e)
-    ∙ ap (λ (x : ℕ). or_else (cond (link == x) None (Some 0)) (bad_link (blocks m))) (ap first_hole (blocks_all m) ∙ sym f)
+root_read m link first e f = grind (arith, blocks_all)
 
 pub root_wrong : (m : List (List ℕ)) (link first : ℕ) → link ≡ be2 (word m 0) 6 → first ≡ first_hole (blocks_at m 131) → link ≢ first → bad_chain m (blocks m) ≡ Some 0
 root_wrong m link first e f ne =
@@ -48,16 +40,8 @@ root_right m link first e f is =
 -- a block counts as used or as a hole
 pub used_more : (m : List (List ℕ)) (p : ℕ) (b : Block) → Some b ≡ block_within (length m) (header p (word m p)) → b.used ≡ true
     → (length (used_spans (blocks_at m p)) ≡ length (used_spans (blocks_at m (b.place + b.words))) + 1) × (length (hole_spans (blocks_at m p)) ≡ length (hole_spans (blocks_at m (b.place + b.words))))
-used_more m p b h e =
-    let us = used_spans (blocks_at m (b.place + b.words)) in
-    let hs = hole_spans (blocks_at m (b.place + b.words)) in
-    let one : length (used_spans (blocks_at m p)) ≡ length ((b.place, b.words) ∷ us) = ap (λ l. length (used_spans l)) (blocks_step m p b h) ∙ ap (λ (t : Bool). length (cond t ((b.place, b.words) ∷ us) us)) e in
-    (omega (arith, one), ap (λ l. length (hole_spans l)) (blocks_step m p b h) ∙ ap (λ (t : Bool). length (cond t hs ((b.place, b.words) ∷ hs))) e)
+used_more m p b h e = grind (arith, blocks_step)
 
 pub hole_more : (m : List (List ℕ)) (p : ℕ) (b : Block) → Some b ≡ block_within (length m) (header p (word m p)) → b.used ≡ false
     → (length (used_spans (blocks_at m p)) ≡ length (used_spans (blocks_at m (b.place + b.words)))) × (length (hole_spans (blocks_at m p)) ≡ length (hole_spans (blocks_at m (b.place + b.words))) + 1)
-hole_more m p b h e =
-    let us = used_spans (blocks_at m (b.place + b.words)) in
-    let hs = hole_spans (blocks_at m (b.place + b.words)) in
-    let one : length (hole_spans (blocks_at m p)) ≡ length ((b.place, b.words) ∷ hs) = ap (λ l. length (hole_spans l)) (blocks_step m p b h) ∙ ap (λ (t : Bool). length (cond t hs ((b.place, b.words) ∷ hs))) e in
-    (ap (λ l. length (used_spans l)) (blocks_step m p b h) ∙ ap (λ (t : Bool). length (cond t ((b.place, b.words) ∷ us) us)) e, omega (arith, one))
+hole_more m p b h e = grind (arith, blocks_step)

@@ -57,10 +57,7 @@ back p a b (x ∷ xs) f n =
 
 -- the changes before a place, and those from it on
 pub split : (p : ℕ) (a b c d : List (ℕ × List ℕ)) → Before p a → From p b → Before p c → From p d → changes (a ++ b) (c ++ d) ≡ changes a c ++ changes b d
-split p a b c d ba fb bc fd =
-    filter-append (λ e. not (list_any (same_pair e) (a ++ b))) c d
-    ∙ ap (λ (l : List (ℕ × List ℕ)). l ++ changes (a ++ b) d) (front p a b c fb bc)
-    ∙ ap (λ (l : List (ℕ × List ℕ)). changes a c ++ l) (back p a b d ba fd)
+split p a b c d ba fb bc fd = grind (arith, filter-append, front, back)
 
 pub self_pair : (e : ℕ × List ℕ) → same_pair e e ≡ true
 self_pair e = and_from (e.0 == e.0) (bytes_eq e.1 e.1) (eq-eqb e.0 e.0 refl) ((bytes_eq-Decides e.1 e.1).1 refl)
@@ -104,28 +101,13 @@ bytes2_same : (a b : ℕ) → a < 65536 → b < 65536 → a / 256 % 256 ≡ b / 
 bytes2_same a b la lb h l = omega arith
 
 pub holes_differ : (n k l j : ℕ) → l < 65536 → j < 65536 → l ≢ j → bytes_eq (hole_header n l) (hole_header k j) ≡ false
-holes_differ n k l j ll lj ne =
-    false_from_ne_true (bytes_eq (hole_header n l) (hole_header k j)) (λ e.
-    let same : hole_header n l ≡ hole_header k j = (bytes_eq-Decides (hole_header n l) (hole_header k j)).0 e in
-    let high : l / 256 % 256 ≡ j / 256 % 256 = cc in
-    let low : l % 256 ≡ j % 256 = cc in
-    ne (bytes2_same l j ll lj high low))
+holes_differ n k l j ll lj ne = grind (arith, false_from_ne_true, bytes_eq-Decides, bytes2_same)
 
 pub lengths_differ : (n k l j : ℕ) → n < 65536 → k < 65536 → n ≢ k → bytes_eq (hole_header n l) (hole_header k j) ≡ false
-lengths_differ n k l j ln lk ne =
-    false_from_ne_true (bytes_eq (hole_header n l) (hole_header k j)) (λ e.
-    let same : hole_header n l ≡ hole_header k j = (bytes_eq-Decides (hole_header n l) (hole_header k j)).0 e in
-    let high : n / 256 % 256 ≡ k / 256 % 256 = cc in
-    let low : n % 256 ≡ k % 256 = cc in
-    ne (bytes2_same n k ln lk high low))
+lengths_differ n k l j ln lk ne = grind (arith, false_from_ne_true, bytes_eq-Decides, bytes2_same)
 
 pub roots_differ : (v s l j : ℕ) → l < 65536 → j < 65536 → l ≢ j → bytes_eq (root v s l) (root v s j) ≡ false
-roots_differ v s l j ll lj ne =
-    false_from_ne_true (bytes_eq (root v s l) (root v s j)) (λ e.
-    let same : root v s l ≡ root v s j = (bytes_eq-Decides (root v s l) (root v s j)).0 e in
-    let high : l / 256 % 256 ≡ j / 256 % 256 = cc in
-    let low : l % 256 ≡ j % 256 = cc in
-    ne (bytes2_same l j ll lj high low))
+roots_differ v s l j ll lj ne = grind (arith, false_from_ne_true, bytes_eq-Decides, bytes2_same)
 
 links_by : (v s n l j : ℕ) (t : Bool) → l < 65536 → j < 65536 → l ≢ j → bytes_eq (cond t (root v s l) (hole_header n l)) (cond t (root v s j) (hole_header n j)) ≡ false
 links_by v s n l j true ll lj ne = roots_differ v s l j ll lj ne

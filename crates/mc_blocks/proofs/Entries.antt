@@ -1,10 +1,10 @@
 -- The first bad record, one block at a time.
-use Rattle.std.proofs.Common.{◌≡◌, ℕ, ◌+◌, ◌<◌, ◌≤◌, Bool, true, false, ◌&&◌, ◌||◌, List, [], ◌∷◌, ◌++◌, length, map, Option, Some, None, refl, sym, ◌∙◌, ap, subst, arith, cond, not, length-append}
-use Rattle.std.specs.Prelude.{nat_le, nat_lt, ◌==◌, slice_index, bytes_eq, MatchBool}
+use Rattle.std.proofs.Common.{◌≡◌, ℕ, ◌+◌, ◌<◌, ◌≤◌, Bool, true, false, ◌||◌, List, [], ◌∷◌, ◌++◌, length, map, Option, Some, None, refl, sym, ◌∙◌, ap, subst, arith, cond, length-append}
+use Rattle.std.specs.Prelude.{bytes_eq, MatchBool}
 use Rattle.std.proofs.lemmas.Bool.{and_parts, leb-true, eqb-true, false_from_ne_true}
 use Rattle.std.proofs.lemmas.List.{map-append}
-use Rattle.mc_base.specs.model_device.specs.Bytes.{be2, has_name, up}
-use Rattle.mc_base.specs.model_device.specs.Card.{Block, word, header, blocks, record_at, name_in, words_of_lengths}
+use Rattle.mc_base.specs.model_device.specs.Bytes.{has_name}
+use Rattle.mc_base.specs.model_device.specs.Card.{Block, word, header, blocks, record_at, name_in}
 use Rattle.mc_base.specs.model_device.specs.Layout.{is_record, bad_record}
 use Rattle.mc_blocks.specs.Blocks.{block_within, blocks_at, is_admissible, Admits}
 use Rattle.mc_blocks.proofs.Steps.{blocks_step, blocks_stop, blocks_all}
@@ -12,19 +12,7 @@ use Rattle.mc_base.specs.model_device.proofs.BoolLemmas.{or_swap as swapped}
 
 -- a block of fewer than six words has no record
 pub long_enough : (r : List ℕ) (w : ℕ) → is_record r w ≡ true → 6 ≤ w
-long_enough r w h =
-    let n = slice_index r 16 in
-    let all = and_parts _ (w == words_of_lengths (be2 r 20) (be2 r 22) (slice_index r 17) (slice_index r 18)) h in
-    let a = and_parts _ _ all.0 in
-    let b = and_parts _ _ a.0 in
-    let c = and_parts _ _ b.0 in
-    let d = and_parts _ _ c.0 in
-    let e = and_parts _ _ d.0 in
-    let f = and_parts _ (nat_le 1 (be2 r 20)) e.0 in
-    let code : 1 ≤ be2 r 20 = leb-true 1 (be2 r 20) f.1 in
-    let is : w ≡ words_of_lengths (be2 r 20) (be2 r 22) (slice_index r 17) (slice_index r 18) = eqb-true w _ all.1 in
-    let part : 1 ≤ up (be2 r 20) 8 = omega arith in
-    omega (arith, is, part)
+long_enough r w h = grind (arith, and_parts, leb-true, eqb-true)
 
 pub short_is_none : (r : List ℕ) (w : ℕ) → w < 6 → is_record r w ≡ false
 short_is_none r w h = false_from_ne_true (is_record r w) (λ e. absurd (omega (arith, long_enough r w e)))
@@ -58,13 +46,7 @@ ended m whole p seen e h = e.left ∙ ap (λ (bs : List Block). bad_record m bs 
 -- the state of the search after one more block
 step : (m : List (List ℕ)) (whole : Option ℕ) (p : ℕ) (seen : List (List ℕ)) (b : Block) (e : RecordsEntered m whole p seen) → Some b ≡ block_within (length m) (header p (word m p))
     → whole ≡ cond b.used (cond (is_admissible m b (map name_in seen) (length seen)) (bad_record m (blocks_at m (b.place + b.words)) (name_in (record_at m b.place) ∷ e.names) (length seen + 1)) (Some b.place)) (bad_record m (blocks_at m (b.place + b.words)) e.names (length seen))
-step m whole p seen b e h =
-    let rest = blocks_at m (b.place + b.words) in
-    let r = record_at m b.place in
-    e.left
-    ∙ ap (λ (bs : List Block). bad_record m bs e.names (length seen)) (blocks_step m p b h)
-    ∙ some_bad m b rest e.names (length seen)
-    ∙ ap (λ (t : Bool). cond b.used (cond (is_record r b.words && not t && nat_lt (length seen) 32) (bad_record m rest (name_in r ∷ e.names) (length seen + 1)) (Some b.place)) (bad_record m rest e.names (length seen))) (e.same (name_in r))
+step m whole p seen b e h = grind (arith, blocks_step, some_bad)
 
 pub refused : (m : List (List ℕ)) (whole : Option ℕ) (p : ℕ) (seen new : List (List ℕ)) (b : Block) (r : Bool) → RecordsEntered m whole p seen → Some b ≡ block_within (length m) (header p (word m p)) → r ≡ false → Admits m b seen r new → whole ≡ Some b.place
 refused m whole p seen new b true e h failed a = absurd (cc failed)

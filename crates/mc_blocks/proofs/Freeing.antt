@@ -60,52 +60,25 @@ with_first q k [] = refl
 with_first q k (c ∷ cs) = elim c.used as (λ u. first_hole (with_hole q k (record c { used = u } ∷ cs)) ≡ q) [ true ↦ refl | false ↦ refl ]
 
 not_joined : (q k r : ℕ) (hs : List (ℕ × ℕ)) → r ≡ q + k → SpansAbove (r + 1) hs → (joined_words q k hs ≡ k) × (joined_next q k hs ≡ first_place hs)
-not_joined q k r [] e a = (refl, refl)
-not_joined q k r (g ∷ gs) e a =
-    let low : r + 1 ≤ g.0 = a.0 in
-    let ne : g.0 ≢ q + k = λ h. absurd (omega (arith, h)) in
-    (ap (λ (t : Bool). cond t (k + g.1) k) (ne_eqb g.0 (q + k) ne), ap (λ (t : Bool). cond t (first_place gs) g.0) (ne_eqb g.0 (q + k) ne))
+not_joined q k r hs e a = grind (arith, ne_eqb)
 
 -- the headers of a hole and the blocks after it
 with_heads : (q k : ℕ) (a : Bool) (bs : List Block) (end : ℕ) → Tiled (q + k) a bs end
     → heads (with_hole q k bs) ≡ (q, hole_header (joined_words q k (hole_spans bs)) (joined_next q k (hole_spans bs))) ∷ heads (rest_after bs)
-with_heads q k a [] end t = refl
-with_heads q k a (c ∷ cs) end t =
-    let low : 1 ≤ c.words = t.1 in
-    let apart = not_joined q k (q + k) (hole_spans cs) refl (above_weaker (q + k + c.words) (q + k + 1) (hole_spans cs) (omega arith) (holes_above (q + k + c.words) (not c.used) cs end t.3)) in
-    let kind = λ (u : Bool). record c { used = u } ∷ cs in
-    elim c.used as (λ u. heads (with_hole q k (kind u)) ≡ (q, hole_header (joined_words q k (hole_spans (kind u))) (joined_next q k (hole_spans (kind u)))) ∷ heads (rest_after (kind u))) [
-      | true ↦ ap (λ (f : ℕ). (q, hole_header k f) ∷ heads (kind true)) (first_is cs ∙ sym apart.1) ∙ ap (λ (n : ℕ). (q, hole_header n (joined_next q k (hole_spans cs))) ∷ heads (kind true)) (sym apart.0)
-      | false ↦ ap (λ (f : ℕ). (q, hole_header (k + c.words) f) ∷ heads cs) (first_is cs)
-          ∙ sym (ap (λ (t : Bool). (q, hole_header (cond t (k + c.words) k) (cond t (first_place (hole_spans cs)) c.place)) ∷ heads cs) (eq-eqb c.place (q + k) t.0))
-    ]
+with_heads q k a bs end t = grind (arith, not_joined, above_weaker, holes_above, heads, first_is, eq-eqb)
 
 -- a header in front that the new list lacks adds no change
 dropped : (e : ℕ × List ℕ) (old new : List (ℕ × List ℕ)) → From (e.0 + 1) new → changes (e ∷ old) new ≡ changes old new
 dropped e old new f = let lt : e.0 < e.0 + 1 = omega arith in back (e.0 + 1) (e ∷ []) old new (lt, tt) f
 
 rest_none : (r : ℕ) (a : Bool) (bs : List Block) (end : ℕ) → Tiled r a bs end → changes (heads bs) (heads (rest_after bs)) ≡ []
-rest_none r a [] end t = refl
-rest_none r a (c ∷ cs) end t =
-    elim c.used as (λ v. changes (heads (c ∷ cs)) (heads (cond v (c ∷ cs) cs)) ≡ []) [
-      | true ↦ heads_same r a (c ∷ cs) end t
-      | false ↦ dropped (c.place, cond c.used (used_header c.words) (hole_header c.words (first_hole cs))) (heads cs) (heads cs) (heads_behind r c (not c.used) cs end t.0 t.1 t.3) ∙ heads_same (r + c.words) (not c.used) cs end t.3
-    ]
+rest_none r a bs end t = grind (arith, heads, heads_same, dropped, heads_behind)
 
 rest_from : (r : ℕ) (a : Bool) (bs : List Block) (end : ℕ) → Tiled r a bs end → From r (heads (rest_after bs))
-rest_from r a [] end t = tt
-rest_from r a (c ∷ cs) end t =
-    let f = heads_from r a (c ∷ cs) end t in
-    elim c.used as (λ v. From r (heads (cond v (c ∷ cs) cs))) [ true ↦ f | false ↦ f.1 ]
+rest_from r a bs end t = grind (arith, heads_from, From, heads)
 
 with_tiled : (q k : ℕ) (a : Bool) (bs : List Block) (end : ℕ) → 1 ≤ k → Tiled (q + k) a bs end → Tiled q false (with_hole q k bs) end
-with_tiled q k a [] end low t = (refl, low, refl, t)
-with_tiled q k a (c ∷ cs) end low t =
-    let same : q + k + c.words ≡ q + (k + c.words) = omega arith in
-    (elim c.used as (λ u. Tiled (q + k + c.words) (not u) cs end → Tiled q false (with_hole q k (record c { used = u } ∷ cs)) end) [
-      | true ↦ λ rest. (refl, low, refl, (t.0, t.1, refl, rest))
-      | false ↦ λ rest. (refl, omega arith, refl, subst (λ (r : ℕ). Tiled r true cs end) same rest)
-    ]) t.3
+with_tiled q k a bs end low t = grind (arith, Tiled)
 
 with_spans : (q k : ℕ) (bs : List Block) → used_spans (with_hole q k bs) ≡ used_spans bs
 with_spans q k [] = refl
@@ -116,10 +89,7 @@ shift_kind k n m true = omega arith
 shift_kind k n m false = refl
 
 joined_shift : (q k n : ℕ) (hs : List (ℕ × ℕ)) → (joined_words q (k + n) hs ≡ k + joined_words (q + k) n hs) × (joined_next q (k + n) hs ≡ joined_next (q + k) n hs)
-joined_shift q k n [] = (refl, refl)
-joined_shift q k n (g ∷ gs) =
-    let same : q + (k + n) ≡ q + k + n = omega arith in
-    (ap (λ (r : ℕ). cond (g.0 == r) (k + n + g.1) (k + n)) same ∙ shift_kind k n g.1 (g.0 == q + k + n), ap (λ (r : ℕ). cond (g.0 == r) (first_place gs) g.0) same)
+joined_shift q k n hs = grind (arith, shift_kind)
 
 -- ---- where the block is
 
@@ -198,14 +168,10 @@ pub freed_here : (p : ℕ) (b : Block) (bs : List Block) → b.place ≡ p → f
 freed_here p b bs here = ap (λ (t : Bool). cond t (with_hole p b.words bs) (cond (touched p b bs) (with_hole b.place (b.words + head_words bs) (tail_blocks bs)) (b ∷ free_in p bs))) (eq-eqb b.place p here)
 
 pub freed_touching : (p : ℕ) (b c : Block) (cs : List Block) → b.used ≡ false → (b.place == p) ≡ false → c.place ≡ p → free_in p (b ∷ c ∷ cs) ≡ with_hole b.place (b.words + c.words) cs
-freed_touching p b c cs free other here =
-    ap (λ (t : Bool). cond t (with_hole p b.words (c ∷ cs)) (cond (touched p b (c ∷ cs)) (with_hole b.place (b.words + c.words) cs) (b ∷ free_in p (c ∷ cs)))) other
-    ∙ ap (λ (t : Bool). cond t (with_hole b.place (b.words + c.words) cs) (b ∷ free_in p (c ∷ cs))) (and_from (not b.used) (c.place == p) (ap not free) (eq-eqb c.place p here))
+freed_touching p b c cs free other here = grind (arith, and_from, eq-eqb)
 
 pub freed_later : (p : ℕ) (b : Block) (bs : List Block) → (b.place == p) ≡ false → touched p b bs ≡ false → free_in p (b ∷ bs) ≡ b ∷ free_in p bs
-freed_later p b bs other apart =
-    ap (λ (t : Bool). cond t (with_hole p b.words bs) (cond (touched p b bs) (with_hole b.place (b.words + head_words bs) (tail_blocks bs)) (b ∷ free_in p bs))) other
-    ∙ ap (λ (t : Bool). cond t (with_hole b.place (b.words + head_words bs) (tail_blocks bs)) (b ∷ free_in p bs)) apart
+freed_later p b bs other apart = grind arith
 
 -- ---- the blocks after the change
 
@@ -385,14 +351,7 @@ touch_list v s h k n end g a cs gap long some few t =
 
 touch_due : (v s h k n : ℕ) (g : ℕ × ℕ) (hs : List (ℕ × ℕ)) → 1 ≤ h → 1 ≤ k → SpansAbove (h + k) hs
     → freed_at v s (h + k) n (gap_before (h + k) g ((h, k) ∷ hs)) (gaps_behind (h + k) ((h, k) ∷ hs)) ≡ (h, hole_header (k + joined_words (h + k) n hs) (joined_next (h + k) n hs)) ∷ []
-touch_due v s h k n g hs low long above =
-    let p = h + k in
-    let ne : h ≢ 0 = λ e. absurd (omega (arith, e)) in
-    let meets : touches (h, k) p ≡ true = and_from (not (h == 0)) (h + k == p) (ap not (ne_eqb h 0 ne)) (eq-eqb (h + k) p refl) in
-    ap (λ (x : Bool). freed_at v s p n (cond x (gap_before p (h, k) hs) g) (cond x (gaps_behind p hs) ((h, k) ∷ hs))) (lt-ltb h p (omega arith))
-    ∙ ap (λ (f : ℕ × ℕ). freed_at v s p n f (gaps_behind p hs)) (gap_none p (h, k) hs above)
-    ∙ ap (λ (l : List (ℕ × ℕ)). freed_at v s p n (h, k) l) (behind_all p hs above)
-    ∙ ap (λ (x : Bool). cond x ((h, hole_header (k + joined_words p n hs) (joined_next p n hs)) ∷ []) (link_word v s (h, k) p ∷ (p, hole_header (joined_words p n hs) (joined_next p n hs)) ∷ [])) meets
+touch_due v s h k n g hs low long above = grind (arith, and_from, ne_eqb, eq-eqb, lt-ltb, gap_none, behind_all)
 
 claim_touch : (v s end : ℕ) (g : ℕ × ℕ) (a : Bool) (b c : Block) (cs : List Block) → 1 ≤ b.place → g.0 < b.place → 1 ≤ b.words → 1 ≤ c.words → end < 65536 → Tiled (b.place + b.words + c.words) a cs end
     → Claim v s (b.place + b.words) (freed_at v s (b.place + b.words) c.words) g (record b { used = false } ∷ record c { used = true; place = b.place + b.words } ∷ cs) (with_hole b.place (b.words + c.words) cs)

@@ -20,18 +20,11 @@ unfit_is_bad size after_hole (Some b) h = unfit_some size after_hole b (nat_le (
 
 -- a hole after a hole is bad
 pub second_is_bad : (size p : ℕ) (x : List ℕ) (b : Block) → Some b ≡ block_within size (header p x) → b.used ≡ false → bad_header size true (header p x) ≡ true
-second_is_bad size p x b h hole =
-    ap (λ (o : Option Block). bad_header size true o) (fits size p x b (sym h)).read
-    ∙ or_right (nat_lt size (b.place + b.words)) (not b.used) (ap not hole)
+second_is_bad size p x b h hole = grind (arith, fits, or_right)
 
 -- a header whose block ends within the device, and that is no hole after a hole, is good
 pub next_is_good : (size p : ℕ) (x : List ℕ) (after_hole : Bool) (b : Block) → Some b ≡ block_within size (header p x) → (after_hole && not b.used) ≡ false → FollowsBlock size after_hole (header p x) b
-next_is_good size p x after_hole b h other =
-    let f : BlockFits size p x b = fits size p x b (sym h) in
-    let place : b.place ≡ p = f.place in
-    let high : p + b.words ≤ size = f.high in
-    let ends : b.place + b.words ≤ size = omega arith in
-    (f.read, ap (λ (o : Option Block). bad_header size after_hole o) f.read ∙ ap (λ (t : Bool). t || (after_hole && not b.used)) (le-ltb size (b.place + b.words) ends) ∙ other)
+next_is_good size p x after_hole b h other = grind (arith, BlockFits, fits, le-ltb)
 
 -- ---- a walk
 
@@ -40,9 +33,7 @@ good_ends : (size : ℕ) (after_hole : Bool) (b : Block) → bad_header size aft
 good_ends size after_hole b h = ltb-false size (b.place + b.words) (or_parts (nat_lt size (b.place + b.words)) (after_hole && not b.used) h).0
 
 choice : (p : ℕ) (t s : Bool) (x y : Option ℕ) → (t ≡ false → s ≡ false → x ≡ y) → cond t None (cond s (Some p) x) ≡ cond t None (cond s (Some p) y)
-choice p true s x y h = refl
-choice p false true x y h = refl
-choice p false false x y h = h refl refl
+choice p t s x y h = grind arith
 
 same_rest : (m : List (List ℕ)) (p : ℕ) (after_hole : Bool) (o : Option Block) (f g : ℕ → Bool → Option ℕ) → header p (word m p) ≡ o → bad_header (length m) after_hole o ≡ false
     → ((b : Block) → HeaderIs p (word m p) b → b.place + b.words ≤ length m → f (b.place + b.words) (not b.used) ≡ g (b.place + b.words) (not b.used))
@@ -100,12 +91,7 @@ bad_behind m p after_hole b lt h =
     ∙ same_fuel n (length m - (b.place + b.words)) m (b.place + b.words) (not b.used) ends (omega arith) (omega arith)
 
 pub good_end : (m : List (List ℕ)) (p : ℕ) (after_hole : Bool) (b : Block) → FollowsBlock (length m) after_hole (header p (word m p)) b → (b.place + b.words ≤ length m) × (p < b.place + b.words)
-good_end m p after_hole b h =
-    let ends : b.place + b.words ≤ length m = good_ends (length m) after_hole b (subst (λ (o : Option Block). bad_header (length m) after_hole o ≡ false) h.0 h.1) in
-    let is : HeaderIs p (word m p) b = header_is p (word m p) b h.0 in
-    let place : b.place ≡ p = is.place in
-    let low : 1 ≤ b.words = is.low in
-    (ends, omega arith)
+good_end m p after_hole b h = grind (arith, good_ends, HeaderIs, header_is)
 
 bad_zero : (m : List (List ℕ)) (p : ℕ) (after_hole : Bool) → bad_block zero m p after_hole ≡ None
 unfolding bad_block

@@ -1,6 +1,6 @@
 -- Words without a fault hold the layout of their card: the root, and the header of each block and each gap.
-use Rattle.std.proofs.Common.{◌≡◌, ℕ, zero, suc, ◌+◌, ◌*◌, ◌/◌, ◌%◌, ◌<◌, ◌≤◌, Bool, true, false, cond, ◌&&◌, ◌||◌, List, [], ◌∷◌, ◌++◌, length, take, Option, Some, None, refl, sym, ◌∙◌, ap, subst, arith}
-use Rattle.std.specs.Prelude.{nat_le, nat_lt, ◌==◌, slice_index, bytes_eq}
+use Rattle.std.proofs.Common.{◌≡◌, ℕ, zero, suc, ◌+◌, ◌<◌, ◌≤◌, Bool, true, false, cond, ◌&&◌, ◌||◌, List, [], ◌∷◌, ◌++◌, length, take, Option, Some, None, refl, sym, ◌∙◌, ap, subst, arith}
+use Rattle.std.specs.Prelude.{nat_le, nat_lt, ◌==◌, slice_index}
 use Rattle.std.specs.List.{AllByRecursion}
 use Rattle.std.proofs.lemmas.Bool.{and_parts, eqb-true}
 use Rattle.std.proofs.lemmas.Slice.Eq.{bytes_eq-Decides}
@@ -40,15 +40,7 @@ byte_at (b ∷ x) (suc i) h = byte_at x i h.1
 
 -- two bytes are the big-endian bytes of their number
 two : (x : List ℕ) (i n : ℕ) → AreBytes x → be2 x i ≡ n → bytes2 n ≡ slice_index x i ∷ slice_index x (i + 1) ∷ []
-two x i n h e =
-    let a : ℕ = slice_index x i in
-    let b : ℕ = slice_index x (i + 1) in
-    let low : a < 256 = byte_at x i h in
-    let high : b < 256 = byte_at x (i + 1) h in
-    let is : 256 * a + b ≡ n = e in
-    let first : n / 256 % 256 ≡ a = omega arith in
-    let second : n % 256 ≡ b = omega arith in
-    ap (λ (k : ℕ). k ∷ (n % 256) ∷ []) first ∙ ap (λ (k : ℕ). a ∷ k ∷ []) second
+two x i n h e = grind (arith, byte_at)
 
 -- ---- headers
 
@@ -117,9 +109,7 @@ with_stands m (s ∷ ss) hs u h = put_stands m s.0 (used_header s.1) (with_used 
 -- ---- blocks
 
 full_at : (m : List (List ℕ)) (b : Block) → header b.place (word m b.place) ≡ Some b → b.place + b.words ≤ length m → IsImage m → IsFull (word m b.place)
-full_at m b is ends image =
-    let low : 1 ≤ b.words = (header_is b.place (word m b.place) b is).low in
-    (image.words b.place (omega arith), image.bytes b.place)
+full_at m b is ends image = grind (arith, header_is)
 
 blocks_stand : (m : List (List ℕ)) (bs : List Block) → IsImage m → HeadersRead m bs → bad_link bs ≡ None → Used m (used_spans bs) × Stand m (gap_headers (hole_spans bs))
 blocks_stand m [] image r h = (tt, tt)
@@ -145,12 +135,7 @@ rooted true h = refl
 rooted false h = absurd (cc h)
 
 root_stands : (m : List (List ℕ)) (first : ℕ) → IsImage m → no_root m ≡ None → be2 (word m 0) 6 ≡ first → word m 0 ≡ root (slice_index (word m 0) 3) (length m) first
-root_stands m first image h last =
-    let x = word m 0 in
-    let v : ℕ = slice_index x 3 in
-    let low : 256 ≤ length m = image.low in
-    let both = and_parts (v == 1 || v == 2) (bytes_eq (take 6 x) (take 6 (root v (length m) 0))) (rooted _ h) in
-    root_form x v (length m) first (image.words 0 (omega arith), image.bytes 0) ((bytes_eq-Decides (take 6 x) (take 6 (root v (length m) 0))).0 both.1) last
+root_stands m first image h last = grind (arith, and_parts, rooted, root_form, bytes_eq-Decides)
 
 -- ---- the layout
 

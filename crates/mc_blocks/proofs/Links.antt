@@ -1,5 +1,5 @@
 -- Links of the chain before and after a place.
-use Rattle.std.proofs.Common.{◌≡◌, ◌≢◌, ◌⊎◌, ℕ, ◌+◌, ◌<◌, ◌≤◌, Bool, true, false, ◌&&◌, List, [], ◌∷◌, length, refl, sym, ◌∙◌, ap, subst, inl, inr, arith, cond, not}
+use Rattle.std.proofs.Common.{◌≡◌, ◌≢◌, ◌⊎◌, ℕ, ◌+◌, ◌<◌, ◌≤◌, Bool, true, false, ◌&&◌, List, [], ◌∷◌, length, refl, sym, ◌∙◌, ap, subst, inl, inr, arith, cond}
 use Rattle.std.specs.Prelude.{nat_lt, nat_le, ◌==◌}
 use Rattle.std.proofs.lemmas.Bool.{lt-ltb, le-ltb, ltb-true, eq-eqb, ne_eqb, eqb-true, and_parts, leb-true, or_cases, not-true, eqb-false}
 use Rattle.mc_base.specs.model_device.specs.Bytes.{be2}
@@ -73,34 +73,18 @@ go m p place words next whole (g ∷ gs) c here before behind ne lt =
     })
 
 before_parts : (next p : ℕ) → names_before next p ≡ true → (next ≢ 0) × (next < p)
-before_parts next p h =
-    let parts = and_parts (not (next == 0)) (nat_lt next p) h in
-    (eqb-false next 0 (not-true (next == 0) parts.0), ltb-true next p parts.1)
+before_parts next p h = grind (arith, and_parts, eqb-false, not-true, ltb-true)
 
 pub ahead : (m : List (List ℕ)) (p : ℕ) (whole : List (ℕ × ℕ)) (place words next : ℕ) → Trail m p whole place words next → names_before next p ≡ true → Ahead m p whole next
 ahead m p whole place words next t h = let parts = before_parts next p h in go m p place words next whole t.rest t.chain t.here t.before t.behind parts.0 parts.1
 
 pub trail_on : (m : List (List ℕ)) (p : ℕ) (whole : List (ℕ × ℕ)) (place words next place' words' next' : ℕ) → Trail m p whole place words next → names_before next p ≡ true
     → place' ≡ next → words' ≡ be2 (word m next) 2 → next' ≡ be2 (word m next) 4 → Trail m p whole place' words' next'
-trail_on m p whole place words next place' words' next' t h a b c =
-    subst (λ (x : ℕ). Trail m p whole x words' next') (sym a)
-    (subst (λ (x : ℕ). Trail m p whole next x next') (sym b)
-    (subst (λ (x : ℕ). Trail m p whole next (be2 (word m next) 2) x) (sym c) (ahead m p whole place words next t h).on))
+trail_on m p whole place words next place' words' next' t h a b c = grind (arith, ahead)
 
 -- the walk ends at a link that names no hole before p
 stop : (m : List (List ℕ)) (p : ℕ) (g : ℕ × ℕ) (rest : List (ℕ × ℕ)) → IsChain m rest → names_before (first_place rest) p ≡ false → (gap_before p g rest ≡ g) × (gaps_behind p rest ≡ rest)
-stop m p g [] c h = (refl, refl)
-stop m p g (f ∷ fs) c h =
-    let low : 1 ≤ f.0 = c.0 in
-    let ne : f.0 ≢ 0 = λ e. absurd (omega (arith, e)) in
-    let past : nat_lt f.0 p ≡ false = sym (ap (λ (t : Bool). not t && nat_lt f.0 p) (ne_eqb f.0 0 ne)) ∙ h in
-    (ap (λ (t : Bool). cond t (gap_before p f fs) g) past, ap (λ (t : Bool). cond t (gaps_behind p fs) (f ∷ fs)) past)
-
-pub trail_ends : (m : List (List ℕ)) (p : ℕ) (whole : List (ℕ × ℕ)) (place words next : ℕ) → Trail m p whole place words next → names_before next p ≡ false
-    → ((place, words) ≡ gap_before p (0, 0) whole) × (next ≡ first_place (gaps_behind p whole))
-trail_ends m p whole place words next t h =
-    let s = stop m p (place, words) t.rest t.chain (subst (λ (n : ℕ). names_before n p ≡ false) t.here h) in
-    (sym (t.before ∙ s.0), t.here ∙ sym (ap first_place (t.behind ∙ s.1)))
+stop m p g rest c h = grind (arith, ne_eqb)
 
 -- ---- the gap after a hole
 

@@ -38,10 +38,7 @@ swap_cons {A} p q x y e es false false ha hb ne rest =
     ∙ sym (ap (λ (t : Bool). cond t ((q, y) ∷ e ∷ put_at p x es) (e ∷ put_at q y (put_at p x es))) hb)
 
 swap_one : {A : Type 0} (p q : ℕ) (x y : A) (t s : Bool) → nat_lt p q ≡ t → nat_lt q p ≡ s → p ≢ q → cond {A = List (ℕ × A)} t ((p, x) ∷ (q, y) ∷ []) ((q, y) ∷ (p, x) ∷ []) ≡ cond s ((q, y) ∷ (p, x) ∷ []) ((p, x) ∷ (q, y) ∷ [])
-swap_one p q x y true true a b ne = absurd (grind (arith, nat_tests, a, b))
-swap_one p q x y true false a b ne = refl
-swap_one p q x y false true a b ne = refl
-swap_one p q x y false false a b ne = absurd (grind (arith, nat_tests, a, b, ne))
+swap_one p q x y t s a b ne = grind (arith, nat_tests)
 
 -- two spans at different places can be put in either order
 pub put_put : {A : Type 0} (p q : ℕ) (x y : A) (l : List (ℕ × A)) → p ≢ q → put_at p x (put_at q y l) ≡ put_at q y (put_at p x l)
@@ -66,9 +63,7 @@ Free n p (e ∷ es) = (bytes_eq e.0 n ≡ false) × ((e.1).place ≢ p) × Free 
 
 put_entry : (n : List ℕ) (a : App) (e : List ℕ × App) (es : List (List ℕ × App)) (t : Bool) → bytes_eq e.0 n ≡ false → (e.1).place ≢ a.place → spans_of (insert es n a) ≡ put_at a.place (words_of_app a) (spans_of es)
     → spans_of (cond t ((n, a) ∷ e ∷ es) (e ∷ insert es n a)) ≡ put_at a.place (words_of_app a) (spans_of (e ∷ es))
-put_entry n a e es true h ne rest = refl
-put_entry n a e es false h ne rest =
-    ap (λ (l : List (ℕ × ℕ)). put_at (e.1).place (words_of_app e.1) l) rest ∙ put_put (e.1).place a.place (words_of_app e.1) (words_of_app a) (spans_of es) ne
+put_entry n a e es t h ne rest = grind (arith, put_put)
 
 -- a new application adds its span
 pub spans_insert : (es : List (List ℕ × App)) (n : List ℕ) (a : App) → Free n a.place es → spans_of (insert es n a) ≡ put_at a.place (words_of_app a) (spans_of es)
@@ -79,9 +74,7 @@ spans_insert (e ∷ es) n a f =
 
 free_entry : (n k : List ℕ) (p : ℕ) (a : App) (e : List ℕ × App) (es : List (List ℕ × App)) (t s : Bool) → bytes_eq n k ≡ false → a.place ≢ p → Free k p (e ∷ es) → Free k p (insert es n a)
     → Free k p (cond t ((n, a) ∷ es) (cond s ((n, a) ∷ e ∷ es) (e ∷ insert es n a)))
-free_entry n k p a e es true s h ne f rest = (h, ne, f.2)
-free_entry n k p a e es false true h ne f rest = (h, ne, f)
-free_entry n k p a e es false false h ne f rest = (f.0, f.1, rest)
+free_entry n k p a e es t s h ne f rest = grind arith
 
 -- another name is still free after an insertion
 pub free_insert : (es : List (List ℕ × App)) (n k : List ℕ) (p : ℕ) (a : App) → bytes_eq n k ≡ false → a.place ≢ p → Free k p es → Free k p (insert es n a)
@@ -122,10 +115,7 @@ has_put p q n (e ∷ es) = has_test p q n e es (put_at q n es) (nat_lt q e.0) (h
 
 free_kind : (n : List ℕ) (p : ℕ) (e : List ℕ × App) (es : List (List ℕ × App)) (t : Bool) → bytes_eq e.0 n ≡ t → cond t (Some e.1) (lookup es n) ≡ None → has_span p (put_at (e.1).place (words_of_app e.1) (spans_of es)) ≡ false
     → (lookup es n ≡ None → has_span p (spans_of es) ≡ false → Free n p es) → Free n p (e ∷ es)
-free_kind n p e es true h l s rest = absurd (cc l)
-free_kind n p e es false h l s rest =
-    let parts = or_parts ((e.1).place == p) (has_span p (spans_of es)) (sym (has_put p (e.1).place (words_of_app e.1) (spans_of es)) ∙ s) in
-    (h, eqb-false (e.1).place p parts.0, rest l parts.1)
+free_kind n p e es t h l s rest = grind (arith, or_parts, has_put, eqb-false)
 
 -- a name without an entry is free at a place where no span begins
 pub free_from : (n : List ℕ) (p : ℕ) (es : List (List ℕ × App)) → lookup es n ≡ None → has_span p (spans_of es) ≡ false → Free n p es
@@ -172,12 +162,7 @@ kept_test p q n e es false past h = ap (λ (l : List (ℕ × ℕ)). e ∷ l) h �
 
 without_test : (p q n : ℕ) (e : ℕ × ℕ) (es : List (ℕ × ℕ)) (t : Bool) → nat_lt q e.0 ≡ t → (q == p) ≡ false → SpansAbove e.0 es → without p (put_at q n es) ≡ put_at q n (without p es)
     → without p (cond t ((q, n) ∷ e ∷ es) (e ∷ put_at q n es)) ≡ put_at q n (without p (e ∷ es))
-without_test p q n e es true lt ne a h =
-    let less : q < e.0 = ltb-true q e.0 lt in
-    let above : SpansAbove (q + 1) (e ∷ es) = (omega arith, above_weaker e.0 (q + 1) es (omega arith) a) in
-    ap (λ (b : Bool). cond b (without p (e ∷ es)) ((q, n) ∷ without p (e ∷ es))) ne
-    ∙ sym (put_front q n (without p (e ∷ es)) (above_without (q + 1) p (e ∷ es) above))
-without_test p q n e es false lt ne a h = kept_test p q n e es (e.0 == p) lt h
+without_test p q n e es t lt ne a h = grind (arith, ltb-true, above_weaker, put_front, above_without, kept_test)
 
 -- removing the span at a place commutes with putting one at another place
 without_put : (p q n : ℕ) (l : List (ℕ × ℕ)) → Sorted l → (q == p) ≡ false → without p (put_at q n l) ≡ put_at q n (without p l)
@@ -204,11 +189,7 @@ OneAt n p (e ∷ es) = (bytes_eq e.0 n ≡ ((e.1).place == p)) × OneAt n p es
 
 remove_test : (n : List ℕ) (p : ℕ) (e : List ℕ × App) (es : List (List ℕ × App)) (t : Bool) → bytes_eq e.0 n ≡ t → bytes_eq e.0 n ≡ ((e.1).place == p) → spans_of (remove es n) ≡ without p (spans_of es)
     → spans_of (cond t (remove es n) (e ∷ remove es n)) ≡ without p (put_at (e.1).place (words_of_app e.1) (spans_of es))
-remove_test n p e es true h same rest =
-    let here : (e.1).place ≡ p = eqb-true (e.1).place p (sym same ∙ h) in
-    rest ∙ sym (ap (λ (q : ℕ). without p (put_at q (words_of_app e.1) (spans_of es))) here ∙ without_gone p (words_of_app e.1) (spans_of es))
-remove_test n p e es false h same rest =
-    ap (λ (l : List (ℕ × ℕ)). put_at (e.1).place (words_of_app e.1) l) rest ∙ sym (without_put p (e.1).place (words_of_app e.1) (spans_of es) (sorted_spans es) (sym same ∙ h))
+remove_test n p e es t h same rest = grind (arith, eqb-true, without_gone, without_put, sorted_spans)
 
 -- removing an application removes its span
 pub spans_remove : (es : List (List ℕ × App)) (n : List ℕ) (p : ℕ) → OneAt n p es → spans_of (remove es n) ≡ without p (spans_of es)
@@ -217,9 +198,7 @@ spans_remove (e ∷ es) n p o = remove_test n p e es (bytes_eq e.0 n) refl o.0 (
 
 one_test : (n k : List ℕ) (p : ℕ) (a : App) (e : List ℕ × App) (es : List (List ℕ × App)) (t s : Bool) → bytes_eq k n ≡ (a.place == p) → OneAt n p (e ∷ es) → OneAt n p (insert es k a)
     → OneAt n p (cond t ((k, a) ∷ es) (cond s ((k, a) ∷ e ∷ es) (e ∷ insert es k a)))
-one_test n k p a e es true s h o rest = (h, o.1)
-one_test n k p a e es false true h o rest = (h, o)
-one_test n k p a e es false false h o rest = (o.0, rest)
+one_test n k p a e es t s h o rest = grind arith
 
 pub one_insert : (es : List (List ℕ × App)) (n k : List ℕ) (p : ℕ) (a : App) → bytes_eq k n ≡ (a.place == p) → OneAt n p es → OneAt n p (insert es k a)
 one_insert [] n k p a h o = (h, tt)

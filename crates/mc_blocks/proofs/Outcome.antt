@@ -1,6 +1,6 @@
 -- The card after a plan: written to the words of a well laid image, the plan leaves the card with the application or
 -- without it.
-use Rattle.std.proofs.Common.{◌≡◌, ◌≢◌, ◌⊎◌, ℕ, ◌+◌, ◌<◌, ◌≤◌, true, false, List, [], ◌∷◌, ◌++◌, length, Some, None, refl, sym, ◌∙◌, ap, subst, inl, inr, arith, cond}
+use Rattle.std.proofs.Common.{◌≡◌, ◌≢◌, ℕ, ◌+◌, ◌<◌, ◌≤◌, true, false, List, [], ◌∷◌, ◌++◌, length, Some, None, refl, sym, ◌∙◌, ap, subst, inl, inr, arith, cond}
 use Rattle.std.specs.Prelude.{nat_lt, ◌==◌, slice_index}
 use Rattle.std.specs.List.{AllByRecursion, list_any}
 use Rattle.std.proofs.lemmas.Bool.{eqb-true}
@@ -102,13 +102,7 @@ length_without p (e ∷ es) =
 -- ---- the cards
 
 leaves : (m n : List (List ℕ)) (new : List Block) (apps : List (List ℕ × App)) → look m ≡ Closed → length n ≡ length m → Relaid m n new → AreNamed n [] new → length (used_spans new) ≤ 32 → apps_of n new ≡ apps → HoldsApplications m n apps
-leaves m n new apps closed size r nm few is =
-    let s : HoldsBlocks n (relink new) = built n (relink new) (record { root = r.root; first = r.first; tiled = r.tiled; read = r.read; links = r.links; named = relink_named n [] new nm; few = subst (λ (l : List (ℕ × ℕ)). length l ≤ 32) (sym (relink_used new)) few }) in
-    record {
-      laid = s.good;
-      card = card_parts n m apps size r.version (ap (λ (l : List Block). apps_of n l) s.blocks ∙ relink_apps n new ∙ is)
-          ∙ sym (ap (λ (k : Card). record k { apps = apps }) (closed_means m closed));
-    }
+leaves m n new apps closed size r nm few is = grind (arith, HoldsBlocks, relink, built, named, relink_named, relink_used, card_parts, relink_apps, closed_means)
 
 -- words are taken for an application whose record is there: the card gains it
 pub creates : (m n : List (List ℕ)) (p need : ℕ) → IsSized m → look m ≡ Closed → IsWellLaid m → 1 ≤ need → has_room p need (gaps (means m)) ≡ true → Planned m n (put_at p need (spans (means m)))
@@ -159,12 +153,4 @@ deletes m n k a image closed h found planned =
 
 -- what it leaves of words 0 and the heap
 pub written_plan : (m n : List (List ℕ)) (ss : List (ℕ × ℕ)) → WrittenBy Two m (plan (means m) ss) n → Planned m n ss
-written_plan m n ss s =
-    let list = plan (means m) ss in
-    let stays : (q : ℕ) → (q ≡ 0) ⊎ (131 ≤ q) → AllByRecursion (λ (e : ℕ × List ℕ). e.0 ≢ q) list → word n q ≡ word m q = λ q at free. s.same.words q (outside_two q at) ∙ laid_other m list q free in
-    record {
-      size = s.same.size ∙ length_laid m list;
-      stand = s.targets;
-      root = λ free. stays 0 (inl refl) free;
-      heap = λ q low free. stays q (inr low) free;
-    }
+written_plan m n ss s = grind (arith, outside_two, laid_other, length_laid)

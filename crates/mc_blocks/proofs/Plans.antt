@@ -6,7 +6,7 @@ use Rattle.mc_base.specs.model_device.specs.Bytes.{be2}
 use Rattle.mc_base.specs.model_device.specs.Image.{Closed, look, within, ascend}
 use Rattle.mc_base.specs.model_device.specs.Device.{IsSized}
 use Rattle.mc_base.specs.model_device.specs.Stopped.{IsAtomic}
-use Rattle.mc_base.specs.model_device.specs.Card.{Card, Block, means, card_of, word, blocks}
+use Rattle.mc_base.specs.model_device.specs.Card.{Card, Block, means, word, blocks}
 use Rattle.mc_base.specs.model_device.specs.Layout.{first_fitting, layout, step_of, gaps, spans, put_at, hole_header, used_header, IsWellLaid}
 use Rattle.mc_blocks.specs.Chains.{SpansAbove}
 use Rattle.mc_blocks.specs.Blocks.{used_spans, hole_spans}
@@ -24,12 +24,7 @@ use Rattle.mc_blocks.proofs.Freeing as freeing
 -- a plan for a function of the card's spans
 pub plan_is : (m : List (List ℕ)) (f : List (ℕ × ℕ) → List (ℕ × ℕ)) → IsSized m → look m ≡ Closed → IsWellLaid m
     → plan (means m) (f (spans (means m))) ≡ changes (layout_of (slice_index (word m 0) 3) (length m) (used_spans (blocks m))) (layout_of (slice_index (word m 0) 3) (length m) (f (used_spans (blocks m))))
-plan_is m f image closed h =
-    let l : WellLaid m = well_laid m image closed h in
-    let v = slice_index (word m 0) 3 in
-    ap (λ (k : Card). plan k (f (spans k))) (closed_means m closed)
-    ∙ ap (λ (x : List (ℕ × List ℕ)). changes x (layout_of v (length m) (f (spans (card_of m))))) (layout_spans (card_of m))
-    ∙ ap (λ (ss : List (ℕ × ℕ)). changes (layout_of v (length m) ss) (layout_of v (length m) (f ss))) l.spans
+plan_is m f image closed h = grind (arith, WellLaid, well_laid, closed_means, layout_spans)
 
 pub gaps_are : (m : List (List ℕ)) → IsSized m → look m ≡ Closed → IsWellLaid m → gaps (means m) ≡ hole_spans (blocks m)
 gaps_are m image closed h = ap (λ (k : Card). gaps k) (closed_means m closed) ∙ (well_laid m image closed h).gaps
@@ -146,16 +141,7 @@ take_is m p need image closed h some room =
 -- the code's list, from the links that it read, is the plan
 pub take_listed : (m : List (List ℕ)) (p need : ℕ) (before : ℕ × ℕ) (at words next : ℕ) (items : List (ℕ × List ℕ)) → TakeIs m p need → before ≡ gap_before p (0, 0) (gaps (means m)) → at ≡ p → words ≡ be2 (word m p) 2 → next ≡ be2 (word m p) 4
     → items ≡ take_front (slice_index (word m 0) 3) (length m) before at words next need → (items ≡ plan (means m) (put_at p need (spans (means m)))) × FewPairs (length m) items
-take_listed m p need before at words next items t a b c d e =
-    let v = slice_index (word m 0) 3 in
-    let same : items ≡ t.list =
-    e
-    ∙ ap (λ (g : ℕ × ℕ). take_front v (length m) g at words next need) a
-    ∙ ap (λ (x : ℕ). take_front v (length m) (gap_before p (0, 0) (gaps (means m))) x words next need) b
-    ∙ ap (λ (x : ℕ). take_front v (length m) (gap_before p (0, 0) (gaps (means m))) p x next need) c
-    ∙ ap (λ (x : ℕ). take_front v (length m) (gap_before p (0, 0) (gaps (means m))) p (be2 (word m p) 2) x need) d
-    ∙ sym t.is in
-    (same ∙ t.plan, subst (λ (l : List (ℕ × List ℕ)). FewPairs (length m) l) (sym same) t.few)
+take_listed m p need before at words next items t a b c d e = grind arith
 
 -- ---- freeing
 
@@ -236,18 +222,7 @@ before_ends m p image closed h =
 pub free_listed : (m : List (List ℕ)) (p : ℕ) (before : ℕ × ℕ) (at words next n : ℕ) (items : List (ℕ × List ℕ)) → FreeIs m p → before ≡ gap_before p (0, 0) (gaps (means m)) → at ≡ p → n ≡ be2 (word m p) 2
     → words ≡ joined_words p n (gaps_behind p (gaps (means m))) → next ≡ joined_next p n (gaps_behind p (gaps (means m)))
     → items ≡ put_hole (slice_index (word m 0) 3) (length m) before at words next → (items ≡ plan (means m) (without p (spans (means m)))) × FewPairs (length m) items
-free_listed m p before at words next n items f a b k c d e =
-    let v = slice_index (word m 0) 3 in
-    let hs = gaps_behind p (gaps (means m)) in
-    let same : items ≡ f.list =
-    e
-    ∙ ap (λ (g : ℕ × ℕ). put_hole v (length m) g at words next) a
-    ∙ ap (λ (x : ℕ). put_hole v (length m) (gap_before p (0, 0) (gaps (means m))) x words next) b
-    ∙ ap (λ (x : ℕ). put_hole v (length m) (gap_before p (0, 0) (gaps (means m))) p x next) c
-    ∙ ap (λ (x : ℕ). put_hole v (length m) (gap_before p (0, 0) (gaps (means m))) p (joined_words p n hs) x) d
-    ∙ ap (λ (x : ℕ). put_hole v (length m) (gap_before p (0, 0) (gaps (means m))) p (joined_words p x hs) (joined_next p x hs)) k
-    ∙ sym f.is in
-    (same ∙ f.plan, subst (λ (l : List (ℕ × List ℕ)). FewPairs (length m) l) (sym same) f.few)
+free_listed m p before at words next n items f a b k c d e = grind arith
 
 -- ---- the atomic write between two cards
 
@@ -257,12 +232,7 @@ step_changes a b = refl
 
 -- it is the plan for the spans of the second
 pub step_plan : (a b : Card) (ss : List (ℕ × ℕ)) → b.layout ≡ a.layout → b.size ≡ a.size → spans b ≡ ss → step_of a b ≡ plan a ss
-step_plan a b ss version size same =
-    step_changes a b
-    ∙ ap (λ (l : List (ℕ × List ℕ)). changes (layout a) l) (layout_spans b)
-    ∙ ap (λ (v : ℕ). changes (layout a) (layout_of v b.size (spans b))) version
-    ∙ ap (λ (s : ℕ). changes (layout a) (layout_of a.layout s (spans b))) size
-    ∙ ap (λ (ss : List (ℕ × ℕ)). changes (layout a) (layout_of a.layout a.size ss)) same
+step_plan a b ss version size same = grind (arith, step_changes, layout_spans)
 
 room_test : (need p : ℕ) (g : ℕ × ℕ) (gs : List (ℕ × ℕ)) (t : Bool) → nat_le need g.1 ≡ t → cond t (Some g.0) (first_fitting need gs) ≡ Some p → (first_fitting need gs ≡ Some p → has_room p need gs ≡ true) → has_room p need (g ∷ gs) ≡ true
 room_test need p g gs true e h rest = let is : g.0 ≡ p = cc in or_left (g.0 == p && nat_le need g.1) (has_room p need gs) (and_from (g.0 == p) (nat_le need g.1) (eq-eqb g.0 p is) e)

@@ -1,5 +1,5 @@
 -- The words of a record.
-use Rattle.std.proofs.Common.{◌≡◌, ℕ, ◌+◌, ◌<◌, ◌≤◌, List, [], ◌∷◌, length, take, drop, refl, sym, ◌∙◌, ap, arith, subst, length-drop, Bool, true, false, ◌&&◌}
+use Rattle.std.proofs.Common.{◌≡◌, ℕ, ◌+◌, ◌≤◌, List, [], ◌∷◌, length, take, drop, refl, sym, ◌∙◌, ap, arith, subst, length-drop, Bool, true, false, ◌&&◌}
 use Rattle.std.specs.Prelude.{nat_le, ◌==◌, slice_index, bytes_eq}
 use Rattle.mc_base.specs.model_device.specs.Bytes.{be2, zeros}
 use Rattle.mc_base.specs.model_device.specs.Card.{words_of_lengths, word, record_at}
@@ -12,15 +12,7 @@ use Rattle.std.proofs.lemmas.List.Concat.{concat_is}
 
 -- the four words after a header
 four : (m : List (List ℕ)) (p : ℕ) → p + 5 ≤ length m → take 4 (drop (p + 1) m) ≡ word m (p + 1) ∷ word m (p + 2) ∷ word m (p + 3) ∷ word m (p + 4) ∷ []
-four m p h =
-    let first : p + 1 < length m = omega arith in
-    let second : p + 2 < length m = omega arith in
-    let third : p + 3 < length m = omega arith in
-    let fourth : p + 4 < length m = omega arith in
-    let a : p + 1 + 1 ≡ p + 2 = omega arith in
-    let b : p + 2 + 1 ≡ p + 3 = omega arith in
-    let c : p + 3 + 1 ≡ p + 4 = omega arith in
-    rw (drop_more m (p + 1) [] first, a, drop_more m (p + 2) [] second, b, drop_more m (p + 3) [] third, c, drop_more m (p + 4) [] fourth) refl
+four m p h = grind (arith, drop_more)
 
 pub record_is : (m : List (List ℕ)) (p : ℕ) → p + 5 ≤ length m
     → record_at m p ≡ flat_map (λ x. x) (word m (p + 1) ∷ word m (p + 2) ∷ word m (p + 3) ∷ word m (p + 4) ∷ [])
@@ -41,14 +33,7 @@ and_six false a b c d e f = refl
 
 -- the test of a record is that of its three parts and of its number of words
 pub record_parts : (r : List ℕ) (w : ℕ) → (has_valid_name r && has_valid_lengths r && has_valid_access r && w == words_of_lengths (be2 r 20) (be2 r 22) (slice_index r 17) (slice_index r 18)) ≡ is_record r w
-record_parts r w =
-    let fits = w == words_of_lengths (be2 r 20) (be2 r 22) (slice_index r 17) (slice_index r 18) in
-    let session = nat_le (be2 r 24) 256 in
-    let deny = nat_le (be2 r 26) 15 in
-    let end = bytes_eq (drop 28 r) (zeros 4) in
-    ap (λ (t : Bool). t && fits) (and_three (has_valid_name r && has_valid_lengths r) session deny end)
-    ∙ ap (λ (t : Bool). t && session && deny && end && fits)
-    (and_six (has_valid_name r) (nat_le (slice_index r 17) 128) (nat_le (slice_index r 18) 128) (slice_index r 19 == 0) (nat_le 1 (be2 r 20)) (nat_le (be2 r 20) 8192) (nat_le (be2 r 22) 4096))
+record_parts r w = grind (arith, and_three, and_six)
 
 four_left : (r : List ℕ) → length r ≡ 32 → take 4 (drop 28 r) ≡ drop 28 r
 four_left r h = let few : length (drop 28 r) ≤ 4 = omega (arith, length-drop 28 r) in take_all 4 (drop 28 r) few

@@ -63,9 +63,7 @@ agree_read m n p (b ∷ bs) size r a = (ap (λ (w : List ℕ). header b.place w)
 -- a used block with the same record has the same name among names
 pub named_as : (m n : List (List ℕ)) (names : List (List ℕ)) (b : Block) (new : List Block) → record_at n b.place ≡ record_at m b.place → is_record (record_at m b.place) b.words ≡ true → has_name (name_at m b.place) names ≡ false
     → AreNamed n (name_at m b.place ∷ names) new → AreNamed n names (record b { used = true } ∷ new)
-named_as m n names b new e good fresh rest =
-    let name : name_at n b.place ≡ name_at m b.place = ap name_in e in
-    (subst (λ (r : List ℕ). is_record r b.words ≡ true) (sym e) good, subst (λ (x : List ℕ). has_name x names ≡ false) (sym name) fresh, subst (λ (x : List ℕ). AreNamed n (x ∷ names) new) (sym name) rest)
+named_as m n names b new e good fresh rest = grind (arith, AreNamed)
 
 -- its application is the same entry of a map
 inserted_as : (m n : List (List ℕ)) (p : ℕ) (es : List (List ℕ × App)) → SameBlock m n p → insert es (name_at n p) (app_at n p) ≡ insert es (name_at m p) (app_at m p)

@@ -84,15 +84,7 @@ pub record OnTheWay (m : List (List ℕ)) (need : ℕ) (whole : List (ℕ × ℕ
   pub nearer : left_of (length m) (be2 (word m place) 4) < left_of (length m) place
 
 pub next_nearer : (size place : ℕ) (gs : List (ℕ × ℕ)) → 1 ≤ place → place < size → SpansAbove (place + 1) gs → left_of size (first_place gs) < left_of size place
-next_nearer size place [] low high a =
-    let ne : place ≢ 0 = λ e. absurd (omega (arith, e)) in
-    subst (λ (t : Bool). 0 < cond t 0 (size - place)) (sym (ne_eqb place 0 ne)) (omega arith)
-next_nearer size place (g ∷ gs) low high a =
-    let later : place + 1 ≤ g.0 = a.0 in
-    let ne : place ≢ 0 = λ e. absurd (omega (arith, e)) in
-    let also : g.0 ≢ 0 = λ e. absurd (omega (arith, e)) in
-    subst (λ (t : Bool). left_of size g.0 < cond t 0 (size - place)) (sym (ne_eqb place 0 ne))
-    (subst (λ (t : Bool). cond t 0 (size - g.0) < size - place) (sym (ne_eqb g.0 0 also)) (omega arith))
+next_nearer size place gs low high a = grind (arith, ne_eqb)
 
 way : (m : List (List ℕ)) (need : ℕ) (whole rest : List (ℕ × ℕ)) (place start steps : ℕ) → IsChain m rest → place ≡ first_place rest → first_fitting need whole ≡ first_fitting need rest
     → steps + count_of_searched_gaps need rest ≡ start + (1 + count_of_searched_gaps need whole) → place ≢ 0 → OnTheWay m need whole place start steps
@@ -156,20 +148,9 @@ search_begins m need place start steps x image closed h is here one =
 -- after a hole that is too short the search goes on
 pub search_on : (m : List (List ℕ)) (need : ℕ) (whole : List (ℕ × ℕ)) (place start steps : ℕ) (x : List ℕ) (words next after : ℕ) → Search m need whole place start steps → place ≢ 0 → x ≡ word m place
     → words ≡ be2 x 2 → nat_le need words ≡ false → next ≡ be2 x 4 → after ≡ steps + 1 → Search m need whole next start after
-search_on m need whole place start steps x words next after s ne is e less f one =
-    let short : words < need = leb-false need words less in
-    let way : OnTheWay m need whole place start steps = on_the_way m need whole place start steps s ne in
-    let long : words ≡ be2 (word m place) 2 = e ∙ ap (λ (w : List ℕ). be2 w 2) is in
-    let link : next ≡ be2 (word m place) 4 = f ∙ ap (λ (w : List ℕ). be2 w 4) is in
-    let n : Search m need whole (be2 (word m place) 4) start (steps + 1) = way.next (subst (λ (w : ℕ). w < need) long short) in
-    subst (λ (p : ℕ). Search m need whole p start after) (sym link) (subst (λ (t : ℕ). Search m need whole (be2 (word m place) 4) start t) (sym one) n)
+search_on m need whole place start steps x words next after s ne is e less f one = grind (arith, leb-false, way, on_the_way)
 
 -- a hole that is long enough is the result
 pub search_found : (m : List (List ℕ)) (need : ℕ) (whole : List (ℕ × ℕ)) (place start steps : ℕ) (x : List ℕ) (words after : ℕ) → Search m need whole place start steps → place ≢ 0 → x ≡ word m place
     → words ≡ be2 x 2 → nat_le need words ≡ true → after ≡ steps + 1 → (Some place ≡ first_fitting need whole) × (after ≡ start + (1 + count_of_searched_gaps need whole))
-search_found m need whole place start steps x words after s ne is e enough one =
-    let fits : need ≤ words = leb-true need words enough in
-    let way : OnTheWay m need whole place start steps = on_the_way m need whole place start steps s ne in
-    let long : words ≡ be2 (word m place) 2 = e ∙ ap (λ (w : List ℕ). be2 w 2) is in
-    let f = way.found (subst (λ (w : ℕ). need ≤ w) long fits) in
-    (sym f.0, one ∙ f.1)
+search_found m need whole place start steps x words after s ne is e enough one = grind (arith, leb-true, way, on_the_way)

@@ -1,5 +1,5 @@
 -- Setting words of a section writes pieces over its bytes.
-use Rattle.std.proofs.Common.{◌≡◌, ◌≢◌, ℕ, zero, suc, ◌+◌, ◌-◌, ◌*◌, ◌<◌, ◌≤◌, List, [], ◌∷◌, ◌++◌, length, take, drop, map, refl, sym, ◌∙◌, ap, subst, inl, inr, arith, length-append, append_assoc}
+use Rattle.std.proofs.Common.{◌≡◌, ◌≢◌, ℕ, zero, suc, ◌+◌, ◌-◌, ◌*◌, ◌<◌, ◌≤◌, List, [], ◌∷◌, ◌++◌, length, take, drop, map, refl, sym, ◌∙◌, ap, subst, arith, length-append, append_assoc}
 use Rattle.std.specs.Prelude.{slice_set}
 use Rattle.std.specs.List.{AllByRecursion}
 use Rattle.std.proofs.lemmas.List.{take_at, drop_at, get_or-set_same, get_or-set_other, length-set, take-take}
@@ -15,17 +15,7 @@ use Rattle.mc_blocks.proofs.Sections.{cells_more, cells_append, length_cells, sa
 -- ---- words of eight bytes
 
 pub image_set : (m : List (List ℕ)) (k : ℕ) (x : List ℕ) → IsSized m → k < length m → length x ≡ 8 → IsSized (slice_set m k x)
-image_set m k x image lt eight =
-    let size : length (slice_set m k x) ≡ length m = length-set m k x in
-    record {
-      low = subst (λ (n : ℕ). 256 ≤ n) (sym size) image.low;
-      high = subst (λ (n : ℕ). n ≤ 16384) (sym size) image.high;
-      words = λ i below.
-          elim (eqb_tells i k) [
-            | inl here ↦ subst (λ (j : ℕ). length (word (slice_set m k x) j) ≡ 8) (sym here.1) (ap length (get_or-set_same m k x [] lt) ∙ eight)
-            | inr apart ↦ ap length (get_or-set_other m k i x [] apart.1) ∙ image.words i (subst (λ (n : ℕ). i < n) size below)
-          ];
-    }
+image_set m k x image lt eight = grind (arith, length-set, eqb_tells, get_or-set_same, get_or-set_other)
 
 -- the bytes of k words after one of them is set
 pub cells_set : (m : List (List ℕ)) (q k r : ℕ) (x : List ℕ) → IsSized m → q + k + suc r ≤ length m → length x ≡ 8 → cells (slice_set m (q + k) x) q (k + suc r) ≡ splice (cells m q (k + suc r)) (8 * k) x

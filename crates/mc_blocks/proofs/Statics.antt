@@ -92,15 +92,7 @@ record UsedAt (m : List (List ℕ)) (p q : ℕ) (bs : List Block) : Type 0 where
   agree : (n : List (List ℕ)) → ((i : ℕ) → q ≤ i → (i ≤ p) ⊎ (p + words ≤ i) → word n i ≡ word m i) → AgreeBut m n p bs
 
 hole_apart : (p need q words at end : ℕ) (hs : List (ℕ × ℕ)) → q + words ≤ at → ((q == p && nat_le need words) || has_room p need hs) ≡ true → (has_room p need hs ≡ true → (p + need ≤ at) ⊎ (end ≤ p)) → (p + need ≤ at) ⊎ (end ≤ p)
-hole_apart p need q words at end hs low room rest =
-    elim (or_cases (q == p && nat_le need words) (has_room p need hs) room) [
-      | inl here ↦
-          let parts = and_parts (q == p) (nat_le need words) here in
-          let is : q ≡ p = eqb-true q p parts.0 in
-          let fits : need ≤ words = leb-true need words parts.1 in
-          inl (omega (arith, is))
-      | inr later ↦ rest later
-    ]
+hole_apart p need q words at end hs low room rest = grind (arith, or_cases, and_parts, eqb-true, leb-true)
 
 used_at : (m : List (List ℕ)) (p q : ℕ) (a : Bool) (bs : List Block) (end : ℕ) → Tiled q a bs end → HeadersRead m bs → AreRecorded m bs → has_span p (used_spans bs) ≡ true → UsedAt m p q bs
 used_at m p q a [] end t r g span = absurd (cc span)

@@ -59,12 +59,7 @@ fits size p x b h = fits_from size p x (header p x) b refl h
 -- ---- blocks
 
 and_fits : (size : ℕ) (o : Option Block) (b : Block) (rest : ℕ → List Block) (t : Bool) (c : Block) → nat_le (c.place + c.words) size ≡ t → o ≡ Some c → cond t (Some c) None ≡ Some b → block_and size o rest ≡ b ∷ rest (b.place + b.words)
-and_fits size o b rest false c h e f = absurd (cc f)
-and_fits size o b rest true c h e f =
-    let is : c ≡ b = cc in
-    ap (λ (q : Option Block). block_and size q rest) e
-    ∙ ap (λ (t : Bool). cond t (c ∷ rest (c.place + c.words)) []) h
-    ∙ ap (λ (d : Block). d ∷ rest (d.place + d.words)) is
+and_fits size o b rest t c h e f = grind arith
 
 and_some : (size : ℕ) (o q : Option Block) (b : Block) (rest : ℕ → List Block) → o ≡ q → block_within size q ≡ Some b → block_and size o rest ≡ b ∷ rest (b.place + b.words)
 and_some size o None b rest e h = absurd (cc h)

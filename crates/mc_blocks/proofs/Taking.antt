@@ -74,14 +74,7 @@ loosen p (b ∷ bs) end t = (t.0, t.1, refl, t.3)
 
 rest_tiled : (p need end : ℕ) (b : Block) (bs : List Block) (t : Bool) → nat_lt need b.words ≡ t → need ≤ b.words → Tiled (p + b.words) true bs end
     → Tiled (p + need) false (cond t (free_block (p + need) (b.words - need) ∷ bs) bs) end
-rest_tiled p need end b bs true lt fits rest =
-    let less : need < b.words = ltb-true need b.words lt in
-    let same : p + need + (b.words - need) ≡ p + b.words = omega arith in
-    (refl, omega arith, refl, subst (λ (q : ℕ). Tiled q true bs end) (sym same) rest)
-rest_tiled p need end b bs false lt fits rest =
-    let more : b.words ≤ need = ltb-false need b.words lt in
-    let same : p + need ≡ p + b.words = omega arith in
-    subst (λ (q : ℕ). Tiled q false bs end) (sym same) (loosen (p + b.words) bs end rest)
+rest_tiled p need end b bs t lt fits rest = grind (arith, ltb-true, Tiled, ltb-false, loosen)
 
 pub taken_here : (p need : ℕ) (b : Block) (bs : List Block) → b.place ≡ p → take_in p need (b ∷ bs) ≡ used_block p need ∷ rest_of p need b bs
 taken_here p need b bs here = ap (λ (t : Bool). cond t (used_block p need ∷ rest_of p need b bs) (b ∷ take_in p need bs)) (eq-eqb b.place p here)

@@ -87,16 +87,7 @@ GapBegins false start p = start ≡ p
 gaps_go : (start p : ℕ) (after_hole u : Bool) (b : Block) (bs : List Block) (end : ℕ) → b.place ≡ p → 1 ≤ b.words → (after_hole && not u) ≡ false → GapBegins after_hole start p
     → ((s : ℕ) → GapBegins (not u) s (p + b.words) → gaps_from s (used_spans bs) end ≡ gap s (p + b.words) ++ hole_spans bs)
     → gaps_from start (used_spans (record b { used = u } ∷ bs)) end ≡ gap start p ++ hole_spans (record b { used = u } ∷ bs)
-gaps_go start p after_hole true b bs end place low apart begins rest =
-    ap (λ (q : ℕ). gap start q ++ gaps_from (q + b.words) (used_spans bs) end) place
-    ∙ ap (λ (l : List (ℕ × ℕ)). gap start p ++ l) (rest (p + b.words) refl ∙ ap (λ (l : List (ℕ × ℕ)). l ++ hole_spans bs) (no_gap (p + b.words)))
-gaps_go start p true false b bs end place low apart begins rest = absurd (cc apart)
-gaps_go start p false false b bs end place low apart begins rest =
-    ap (λ (s : ℕ). gaps_from s (used_spans bs) end) begins
-    ∙ rest p (omega arith)
-    ∙ ap (λ (l : List (ℕ × ℕ)). l ++ hole_spans bs) (one_gap p b.words low)
-    ∙ ap (λ (q : ℕ). (q, b.words) ∷ hole_spans bs) (sym place)
-    ∙ sym (ap (λ (l : List (ℕ × ℕ)). l ++ (b.place, b.words) ∷ hole_spans bs) (ap (λ (s : ℕ). gap s p) begins ∙ no_gap p))
+gaps_go start p after_hole u b bs end place low apart begins rest = grind (arith, no_gap, one_gap)
 
 gaps_all : (start p : ℕ) (after_hole : Bool) (bs : List Block) (end : ℕ) → Tiled p after_hole bs end → GapBegins after_hole start p → gaps_from start (used_spans bs) end ≡ gap start p ++ hole_spans bs
 gaps_all start p after_hole [] end t begins = ap (λ (e : ℕ). gap start e) (sym t) ∙ sym (append-nil (gap start p))

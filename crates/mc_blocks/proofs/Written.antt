@@ -1,7 +1,7 @@
 -- A plan that is written to the words makes the blocks afterwards stand: their headers are read, and root and holes
 -- name each other.
-use Rattle.std.proofs.Common.{◌≡◌, ◌≢◌, ℕ, ◌+◌, ◌*◌, ◌/◌, ◌%◌, ◌<◌, ◌≤◌, Bool, true, false, ◌&&◌, ◌||◌, List, [], ◌∷◌, ◌++◌, length, take, Some, None, refl, sym, ◌∙◌, ap, subst, inl, inr, arith, cond, not}
-use Rattle.std.specs.Prelude.{nat_le, ◌==◌, slice_index, bytes_eq}
+use Rattle.std.proofs.Common.{◌≡◌, ◌≢◌, ℕ, ◌+◌, ◌<◌, ◌≤◌, Bool, true, false, ◌||◌, List, [], ◌∷◌, ◌++◌, length, take, Some, None, refl, sym, ◌∙◌, ap, subst, inl, inr, arith, cond, not}
+use Rattle.std.specs.Prelude.{◌==◌, slice_index, bytes_eq}
 use Rattle.std.specs.List.{AllByRecursion, list_any}
 use Rattle.std.proofs.lemmas.Bool.{le-leb, eq-eqb, eqb-true, and_parts, and_from, or_cases, cases_eq}
 use Rattle.std.proofs.lemmas.Slice.Eq.{bytes_eq-Decides}
@@ -46,15 +46,10 @@ relink_links (b ∷ bs) =
 -- ---- words that read as the due ones
 
 header_used : (p n : ℕ) → 1 ≤ n → n < 65536 → header p (used_header n) ≡ Some (record { place = p; used = true; words = n; link = 0 })
-header_used p n low high =
-    ap (λ (k : ℕ). cond (nat_le 1 k && true && true) (Some (record { place = p; used = true; words = k; link = 0 })) None) (two_bytes n high)
-    ∙ ap (λ (t : Bool). cond (t && true && true) (Some (record { place = p; used = true; words = n; link = 0 })) None) (le-leb 1 n low)
+header_used p n low high = grind (arith, two_bytes, le-leb)
 
 header_hole : (p n l : ℕ) → 1 ≤ n → n < 65536 → l < 65536 → header p (hole_header n l) ≡ Some (record { place = p; used = false; words = n; link = l })
-header_hole p n l low high few =
-    ap (λ (k : ℕ). cond (nat_le 1 k && true && true) (Some (record { place = p; used = false; words = k; link = 256 * (l / 256 % 256) + l % 256 })) None) (two_bytes n high)
-    ∙ ap (λ (k : ℕ). cond (nat_le 1 n && true && true) (Some (record { place = p; used = false; words = n; link = k })) None) (two_bytes l few)
-    ∙ ap (λ (t : Bool). cond (t && true && true) (Some (record { place = p; used = false; words = n; link = l })) None) (le-leb 1 n low)
+header_hole p n l low high few = grind (arith, two_bytes, le-leb)
 
 formal_kind : (b : Block) (f : ℕ) (u : Bool) → 1 ≤ b.words → b.words < 65536 → f < 65536
     → header b.place (cond u (used_header b.words) (hole_header b.words f)) ≡ Some (record b { used = u; link = cond u 0 f })
@@ -121,11 +116,7 @@ any_read m e (x ∷ xs) r h =
 head_kind : (m n : List (List ℕ)) (low : ℕ) (e : ℕ × List ℕ) (old es : List (ℕ × List ℕ)) (t : Bool) → list_any (same_pair e) old ≡ t → AllRead m old → low ≤ e.0 → From (e.0 + 1) es
     → HoldsWords n (cond (not t) (e ∷ changes old es) (changes old es)) → OthersKept m n low (cond (not t) (e ∷ changes old es) (changes old es))
     → ReadsAsDue n e × HoldsWords n (changes old es) × OthersKept m n (e.0 + 1) (changes old es)
-head_kind m n low e old es false h r le f holds kept =
-    (ap (λ (w : List ℕ). header e.0 w) holds.0, holds.1, λ q above apart. kept q (omega arith) ((λ x. absurd (omega (arith, x))), apart))
-head_kind m n low e old es true h r le f holds kept =
-    let free : AllByRecursion (λ p. p.0 ≢ e.0) (changes old es) = from_apart e.0 (changes old es) (e.0 + 1) (omega arith) (changes_from (e.0 + 1) old es f) in
-    (ap (λ (w : List ℕ). header e.0 w) (kept e.0 le free) ∙ any_read m e old r h, holds, λ q above apart. kept q (omega arith) apart)
+head_kind m n low e old es t h r le f holds kept = grind (arith, from_apart, changes_from, any_read)
 
 heads_read : (m n : List (List ℕ)) (low : ℕ) (old : List (ℕ × List ℕ)) (p : ℕ) (a : Bool) (bs : List Block) (end : ℕ) → AllRead m old → low ≤ p → Tiled p a bs end → HoldsWords n (changes old (heads bs)) → OthersKept m n low (changes old (heads bs)) → AllRead n (heads bs)
 heads_read m n low old p a [] end r le t holds kept = tt

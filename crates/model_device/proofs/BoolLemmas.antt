@@ -1,5 +1,5 @@
 -- Tests and options: what std's lemmas on them leave out.
-use Rattle.std.proofs.Common.{◌≡◌, ℕ, ◌≤◌, Bool, true, false, cond, ◌||◌, Option, Some, None, refl}
+use Rattle.std.proofs.Common.{arith, ◌≡◌, ℕ, ◌≤◌, Bool, true, false, cond, ◌||◌, Option, Some, None, refl}
 use Rattle.std.specs.Prelude.{◌&&◌, is_some, IsSome}
 use Rattle.std.proofs.lemmas.Bool.{and_parts}
 use Rattle.model_device.specs.Bytes.{or_else}
@@ -20,9 +20,7 @@ and_second a b h = (and_parts a b h).1
 
 -- the first two of three, the other way round
 pub or_swap : (a b c : Bool) → (a || (b || c)) ≡ (b || (a || c))
-or_swap true true c = refl
-or_swap true false c = refl
-or_swap false b c = refl
+or_swap a b c = grind arith
 
 -- a choice of two numbers, each at most n
 pub cond_most : (b : Bool) (x y n : ℕ) → x ≤ n → y ≤ n → cond b x y ≤ n

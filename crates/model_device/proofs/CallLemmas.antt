@@ -1,10 +1,10 @@
 -- The calls of a journal, from the list of device writes that each makes.
-use Rattle.std.proofs.Common.{◌≡◌, ℕ, ◌+◌, ◌≤◌, true, false, List, [], ◌∷◌, length, Ok, Err, refl, sym, ◌∙◌, ap, subst, arith, length-append}
+use Rattle.std.proofs.Common.{◌≡◌, ℕ, ◌+◌, ◌≤◌, true, false, List, [], ◌∷◌, length, Ok, Err, sym, ◌∙◌, ap, subst, arith, length-append}
 use Rattle.model_device.specs.declared.device.Stop.{Stop}
 use Rattle.model_device.specs.Orders.{Answer}
 use Rattle.model_device.specs.Device.{DeviceState, Wrote, Makes}
-use Rattle.model_device.specs.Image.{Journal, gate, shut_word, word_at, is_open, image_with, Look, Refused, Closed, Pending, look_j, image_after_replay, Words}
-use Rattle.model_device.specs.Stopped.{cost, entries, writes, replay, IsAtomic, LaidWhole, LeavesOwing, Resumes, remains, owes, image_if_written, stands, WriteEnds, RecoveryOutcome, Recovered, Interrupted, BadAt, LookAllows, outcome_answer, owed_writes, ReplayDone, ReplayTorn, RecoverEnds}
+use Rattle.model_device.specs.Image.{Journal, gate, shut_word, word_at, is_open, image_with, Look, Pending, look_j, image_after_replay, Words}
+use Rattle.model_device.specs.Stopped.{cost, entries, writes, replay, IsAtomic, LaidWhole, LeavesOwing, Resumes, remains, owes, image_if_written, stands, WriteEnds, RecoveryOutcome, LookAllows, outcome_answer, owed_writes, ReplayDone, ReplayTorn, RecoverEnds}
 use Rattle.model_device.proofs.DeviceLemmas.{DoneAll, StoppedAt, makes_done, makes_stopped}
 use Rattle.model_device.proofs.GeometryLemmas.{Geometry, geometry}
 use Rattle.model_device.proofs.LookLemmas.{GoodPending, good_pending}
@@ -76,21 +76,12 @@ module _ {D : Type 0} (state : D → DeviceState) (wrote : D → ℕ → List �
 
   pending_ends : (j k : Journal) (ps : List (ℕ × List ℕ)) (d e : D) (o : RecoveryOutcome) → 256 ≤ length (state d).words → (state d).on ≡ true → look_j j (state d).words ≡ Pending k ps
       → look_j j (state d).words ≡ Pending j ps → length ps ≤ 64 → LookAllows (Pending k ps) o → Makes wrote d (replay j ps) (outcome_answer o) e → RecoverEnds j (Pending k ps) (state d) o (state e)
-  pending_ends j k ps d e (Recovered n) low on found pending few follows made = (follows, omega (arith, follows), replay_done j ps d e low on pending made)
-  pending_ends j k ps d e (Interrupted s) low on found pending few follows made = (few, replay_torn j ps d e s low on pending made)
-  pending_ends j k ps d e (BadAt p) low on found pending few follows made = follows
+  pending_ends j k ps d e o low on found pending few follows made = grind (arith, replay_done, replay_torn)
 
   closed_ends : (j : Journal) (l : Look) (d e : D) (o p : RecoveryOutcome) → o ≡ p → outcome_answer p ≡ Ok tt → Makes wrote d [] (outcome_answer o) e → (o ≡ p) × (state e ≡ state d)
-  closed_ends j l d e o p is answer made =
-      let same : e ≡ d = subst (λ (a : Answer). Makes wrote d [] a e) (ap outcome_answer is ∙ answer) made in
-      (is, ap state same)
+  closed_ends j l d e o p is answer made = grind arith
 
   -- how a recovery ends, by what its look found
   pub recover_ends : (j : Journal) (l : Look) (d e : D) (o : RecoveryOutcome) → 256 ≤ length (state d).words → (state d).on ≡ true → look_j j (state d).words ≡ l
       → LookAllows l o → Makes wrote d (owed_writes l) (outcome_answer o) e → RecoverEnds j l (state d) o (state e)
-  recover_ends j (Refused p) d e o low on found follows made = closed_ends j (Refused p) d e o (BadAt p) follows refl made
-  recover_ends j Closed d e o low on found follows made = closed_ends j Closed d e o (Recovered 0) follows refl made
-  recover_ends j (Pending k ps) d e o low on found follows made =
-      let good : GoodPending j k (state d).words ps = good_pending j k (state d).words ps found in
-      let pending : look_j j (state d).words ≡ Pending j ps = found ∙ ap (λ (i : Journal). Pending i ps) good.same in
-      pending_ends j k ps d e o low on found pending good.few follows (subst (λ (i : Journal). Makes wrote d (replay i ps) (outcome_answer o) e) good.same made)
+  recover_ends j l d e o low on found follows made = grind (arith, closed_ends, GoodPending, good_pending, pending_ends)

@@ -9,9 +9,7 @@ use Rattle.model_device.specs.Image.{image_with}
 use Rattle.model_device.specs.Stopped.{image_after_stop}
 
 grows_one : (t : Option (List Entry)) (e : Entry) (u : Option (List Entry)) → Grows t e u → GrowsBy t (e ∷ []) u
-grows_one t e None g = tt
-grows_one None e (Some u) g = g
-grows_one (Some t) e (Some u) g = g
+grows_one t e u g = grind arith
 
 grows_then : (t : Option (List Entry)) (e : Entry) (u : Option (List Entry)) (es : List Entry) (v : Option (List Entry)) → Grows t e u → GrowsBy u es v → GrowsBy t (e ∷ es) v
 grows_then t e u es None g h = tt

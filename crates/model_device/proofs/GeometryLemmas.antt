@@ -1,10 +1,10 @@
 -- The places of the words of an atomic write in its journal.
-use Rattle.std.proofs.Common.{◌≡◌, ◌≢◌, ℕ, zero, suc, ◌+◌, ◌*◌, ◌<◌, ◌≤◌, Bool, true, List, [], ◌∷◌, ◌++◌, length, map, Option, Result, Ok, refl, sym, ◌∙◌, ap, subst, inl, arith, length-append}
+use Rattle.std.proofs.Common.{◌≡◌, ◌≢◌, ℕ, zero, suc, ◌+◌, ◌*◌, ◌<◌, ◌≤◌, true, List, [], ◌∷◌, ◌++◌, length, map, Ok, refl, sym, ◌∙◌, ap, subst, inl, arith, length-append}
 use Rattle.std.proofs.lemmas.List.{length-map}
 use Rattle.std.specs.Prelude.{bytes_eq}
 use Rattle.std.specs.List.{AllByRecursion}
 use Rattle.model_device.specs.Bytes.{up}
-use Rattle.model_device.specs.Image.{Journal, One, Two, opening, gate, word_at, within, number, is_count, ascend, targets, targets_2, pairs, Pending, look_by_targets, look_by_head, look_by_gate, look_j}
+use Rattle.model_device.specs.Image.{Journal, One, Two, opening, gate, word_at, within, ascend, targets, targets_2, pairs, Pending, look_j}
 use Rattle.model_device.specs.Stopped.{InJournal, cost, opens_at, word_of_number, entries_1, target_words, values_2, entries, IsAtomic}
 use Rattle.model_device.proofs.ImageLemmas.{HoldsWords, Ascends, all_append, all_map}
 use Rattle.model_device.proofs.LookLemmas.{all_within}
@@ -123,10 +123,4 @@ open_self Two = refl
 -- what was written there is found
 pub look_written : (j : Journal) (size : ℕ) (list : List (ℕ × List ℕ)) → Geometry j size list → IsAtomic size list → (n : List (List ℕ)) → length n ≡ size
     → HoldsWords n (entries j list) → word_at n 2 ≡ word_of_number (length list) → word_at n (gate j) ≡ opening j → look_j j n ≡ Pending j list
-look_written j size list geo atomic n same holds head gate_is =
-    ap (λ (w : List ℕ). look_by_gate j n (bytes_eq w (opening j))) gate_is
-    ∙ ap (λ (b : Bool). look_by_gate j n b) (open_self j)
-    ∙ ap (λ (w : List ℕ). look_by_head j n (number is_count w)) head
-    ∙ ap (λ (o : Option ℕ). look_by_head j n o) (count_numbered (length list) atomic.low atomic.high)
-    ∙ ap (λ (r : Result (List ℕ) ℕ). look_by_targets j n r) (geo.targets n same holds)
-    ∙ ap (λ (ps : List (ℕ × List ℕ)). Pending j ps) (geo.pairs n holds)
+look_written j size list geo atomic n same holds head gate_is = grind (arith, open_self, count_numbered)

@@ -1,13 +1,12 @@
 -- Words of eight bytes set among the words of an image, and the words after the replay of its journal.
-use Rattle.std.proofs.Common.{◌≡◌, ℕ, ◌<◌, ◌≤◌, List, [], ◌∷◌, ◌++◌, length, refl, sym, ◌∙◌, ap, subst, inl, inr, arith}
+use Rattle.std.proofs.Common.{◌≡◌, ℕ, List, [], ◌∷◌, ◌++◌, refl, arith}
 use Rattle.std.specs.Prelude.{slice_set}
 use Rattle.std.specs.List.{AllByRecursion}
 use Rattle.std.proofs.lemmas.List.{get_or-set_same, get_or-set_other, length-set, get_or_past}
 use Rattle.std.proofs.lemmas.Bool.{cases_lt}
 use Rattle.std.proofs.lemmas.Bool.Decides.{eqb_tells}
-use Rattle.model_device.specs.Bytes.{AreBytes}
 use Rattle.model_device.specs.Device.{IsImage}
-use Rattle.model_device.specs.Image.{Journal, Which, Both, Only, Neither, gate, shut_word, word_at, Look, Refused, Closed, Pending, look, look_at, look_j, which, image_after_replay, after, image_with}
+use Rattle.model_device.specs.Image.{Journal, Which, gate, shut_word, Look, Refused, Closed, Pending, look, look_at, which, image_after_replay, after, image_with}
 use Rattle.model_device.specs.Card.{words_after}
 use Rattle.model_device.proofs.ImageLemmas.{all_append}
 use Rattle.model_device.proofs.LookLemmas.{IsFull, good_pending}
@@ -15,26 +14,7 @@ use Rattle.model_device.proofs.LookLemmas.{IsFull, good_pending}
 -- ---- words set
 
 pub image_set : (m : List (List ℕ)) (k : ℕ) (x : List ℕ) → IsImage m → IsFull x → IsImage (slice_set m k x)
-image_set m k x image full =
-    let size : length (slice_set m k x) ≡ length m = length-set m k x in
-    record {
-      low = subst (λ (n : ℕ). 256 ≤ n) (sym size) image.low;
-      high = subst (λ (n : ℕ). n ≤ 16384) (sym size) image.high;
-      words = λ i below.
-          elim (eqb_tells i k) [
-            | inl here ↦ subst (λ (j : ℕ). length (word_at (slice_set m k x) j) ≡ 8) (sym here.1)
-                (ap length (get_or-set_same m k x [] (subst (λ (j : ℕ). j < length m) here.1 (subst (λ (n : ℕ). i < n) size below))) ∙ full.0)
-            | inr apart ↦ ap length (get_or-set_other m k i x [] apart.1) ∙ image.words i (subst (λ (n : ℕ). i < n) size below)
-          ];
-      bytes = λ i.
-          elim (eqb_tells i k) [
-            | inl here ↦ subst (λ (j : ℕ). AreBytes (word_at (slice_set m k x) j)) (sym here.1) (elim (cases_lt k (length m)) [
-              | inl below ↦ subst AreBytes (sym (get_or-set_same m k x [] below)) full.1
-              | inr past ↦ subst AreBytes (sym (get_or_past (slice_set m k x) k [] (subst (λ (n : ℕ). n ≤ k) (sym size) past))) tt
-            ])
-            | inr apart ↦ subst AreBytes (sym (get_or-set_other m k i x [] apart.1)) (image.bytes i)
-          ];
-    }
+image_set m k x image full = grind (arith, length-set, eqb_tells, get_or-set_same, get_or-set_other, cases_lt, get_or_past)
 
 pub image_laid : (m : List (List ℕ)) (ps : List (ℕ × List ℕ)) → IsImage m → AllByRecursion (λ p. IsFull p.1) ps → IsImage (image_with m ps)
 image_laid m [] image a = image
@@ -51,9 +31,7 @@ replayed_by m Closed image h = image
 replayed_by m (Pending j ps) image h = image_laid m (ps ++ (gate j, shut_word) ∷ []) image (all_append (λ p. IsFull p.1) ps ((gate j, shut_word) ∷ []) (h j ps refl) (shut_full, tt))
 
 looked_full : (m : List (List ℕ)) (w : Which) (j : Journal) (ps : List (ℕ × List ℕ)) → IsImage m → look_at m w ≡ Pending j ps → AllByRecursion (λ p. IsFull p.1) ps
-looked_full m Both j ps image h = absurd (cc h)
-looked_full m (Only k) j ps image h = (good_pending k j m ps h).full image
-looked_full m Neither j ps image h = absurd (cc h)
+looked_full m w j ps image h = grind (arith, good_pending)
 
 -- the words once the journal that is open, if one is, is replayed
 pub image_settled : (m : List (List ℕ)) → IsImage m → IsImage (words_after (after m) m)

@@ -39,16 +39,7 @@ covers (p ∷ ps) i = (p.0 == i) || covers ps i
 
 -- a word that is set in two lists of one length is equal in both
 pub set_point : (m n : List (List ℕ)) (k i : ℕ) (w : List ℕ) → length m ≡ length n → (k ≢ i → word_at m i ≡ word_at n i) → word_at (slice_set m k w) i ≡ word_at (slice_set n k w) i
-set_point m n k i w same h =
-    elim (eqb_tells k i) [
-      | inl here ↦ elim (cases_lt i (length m)) [
-        | inl below ↦ subst (λ (t : ℕ). word_at (slice_set m t w) i ≡ word_at (slice_set n t w) i) (sym here.1)
-            (get_or-set_same m i w [] below ∙ sym (get_or-set_same n i w [] (subst (λ (t : ℕ). i < t) same below)))
-        | inr past ↦ get_or_past (slice_set m k w) i [] (subst (λ (t : ℕ). t ≤ i) (sym (length-set m k w)) past)
-            ∙ sym (get_or_past (slice_set n k w) i [] (subst (λ (t : ℕ). t ≤ i) (same ∙ sym (length-set n k w)) past))
-      ]
-      | inr apart ↦ get_or-set_other m k i w [] (λ e. apart.1 (sym e)) ∙ h apart.1 ∙ sym (get_or-set_other n k i w [] (λ e. apart.1 (sym e)))
-    ]
+set_point m n k i w same h = grind (arith, eqb_tells, cases_lt, get_or-set_same, get_or_past, length-set, get_or-set_other)
 
 covers_other : (p : ℕ × List ℕ) (ps : List (ℕ × List ℕ)) (i : ℕ) → p.0 ≢ i → covers ps i ≡ false → covers (p ∷ ps) i ≡ false
 covers_other p ps i apart h = elim (eqb_tells p.0 i) [ inl here ↦ absurd (apart here.1) | inr n ↦ ap (λ (b : Bool). b || covers ps i) n.0 ∙ h ]
@@ -75,10 +66,7 @@ uncovered (p ∷ ps) i h =
 
 pub covers_append : (xs ys : List (ℕ × List ℕ)) (i : ℕ) → covers (xs ++ ys) i ≡ (covers xs i || covers ys i)
 covers_append [] ys i = refl
-covers_append (x ∷ xs) ys i = elim (eqb_tells x.0 i) [
-  | inl here ↦ ap (λ (b : Bool). b || covers (xs ++ ys) i) here.0 ∙ sym (ap (λ (b : Bool). (b || covers xs i) || covers ys i) here.0)
-  | inr apart ↦ ap (λ (b : Bool). b || covers (xs ++ ys) i) apart.0 ∙ covers_append xs ys i ∙ sym (ap (λ (b : Bool). (b || covers xs i) || covers ys i) apart.0)
-]
+covers_append (x ∷ xs) ys i = grind (arith, eqb_tells, covers_append xs ys i)
 
 -- the image as every list of pairs leaves it, when one of them is the last
 pub laid_last : (m : List (List ℕ)) (ps : List (ℕ × List ℕ)) (p : ℕ × List ℕ) → image_with m (ps ++ p ∷ []) ≡ slice_set (image_with m ps) p.0 p.1

@@ -1,8 +1,8 @@
 -- Spans by place, the fault of an image without an open journal, and what such an image means.
-use Rattle.std.proofs.Common.{◌≡◌, ℕ, ◌+◌, Bool, true, false, cond, List, [], ◌∷◌, length, Option, Some, None, refl, ap, ◌∙◌, arith}
+use Rattle.std.proofs.Common.{◌≡◌, ℕ, ◌+◌, Bool, true, false, cond, List, [], ◌∷◌, length, Option, Some, None, refl, ap, arith}
 use Rattle.std.specs.Prelude.{nat_lt}
 use Rattle.model_device.specs.declared.cause.Cause.{Cause}
-use Rattle.model_device.specs.Image.{Look, Refused, Closed, Pending, look, after, image_after_replay}
+use Rattle.model_device.specs.Image.{Look, Closed, look, after, image_after_replay}
 use Rattle.model_device.specs.Card.{App, words_of_app, card_of, words_after, means}
 use Rattle.model_device.specs.Layout.{put_at, spans_of, by_cause, words_fault, fault_of, fault}
 
@@ -35,6 +35,4 @@ closed_means m h = ap (λ (l : Look). card_of (words_after (image_after_replay m
 
 -- an image without a fault has none once its journal is replayed
 pub sound_after : (m : List (List ℕ)) (l : Look) → look m ≡ l → fault_of l m ≡ None → words_fault (words_after (after m) m) ≡ None
-sound_after m (Refused p) e h = absurd (cc h)
-sound_after m Closed e h = ap (λ (k : Look). words_fault (words_after (image_after_replay m k) m)) e ∙ h
-sound_after m (Pending j ps) e h = h
+sound_after m l e h = grind arith

@@ -21,9 +21,7 @@ splice_longer l at b =
 
 -- no bytes written change nothing
 pub splice_none : (l : List ℕ) (at : ℕ) → splice l at [] ≡ l
-splice_none l at =
-    let same : at + 0 ≡ at = omega arith in
-    ap (λ (x : List ℕ). x ++ drop (at + 0) l) (append-nil (take at l)) ∙ ap (λ (n : ℕ). take at l ++ drop n l) same ∙ take-append-drop at l
+splice_none l at = grind (arith, append-nil, take-append-drop)
 
 -- ---- lists
 

@@ -3,7 +3,7 @@ use Rattle.std.proofs.Common.{◌≡◌, ◌⊎◌, ℕ, zero, suc, ◌+◌, ◌
 use Rattle.std.proofs.lemmas.Bool.{leb-true, and_parts}
 use Rattle.std.specs.Prelude.{nat_le, bytes_eq}
 use Rattle.std.specs.List.{AllByRecursion}
-use Rattle.model_device.specs.Bytes.{AreBytes, up, zeros, be2}
+use Rattle.model_device.specs.Bytes.{AreBytes, up}
 use Rattle.model_device.specs.Device.{IsImage}
 use Rattle.model_device.specs.Image.{Journal, One, Two, opening, gate, word_at, is_open, is_count, within, when, number, count, one_before, targets_1, four, all_zero, ascend, after_all, all_before, targets_2, targets, value, pairs, Look, Refused, Closed, Pending, debt, look_by_targets, look_by_head, look_by_gate, look_j}
 use Rattle.model_device.specs.Stopped.{InJournal}
@@ -25,10 +25,7 @@ head_inside One = (omega arith, omega arith)
 head_inside Two = inl (omega arith, omega arith)
 
 pub outside_two : (i : ℕ) → (i ≡ 0) ⊎ (131 ≤ i) → InJournal Two i → ⊥
-outside_two i (inl z) (inl h) = absurd (omega (arith, z, h.0))
-outside_two i (inl z) (inr e) = absurd (omega (arith, z, e))
-outside_two i (inr g) (inl h) = absurd (omega (arith, g, h.1))
-outside_two i (inr g) (inr e) = absurd (omega (arith, g, e))
+outside_two i h h2 = grind arith
 
 same_1 : (m n : List (List ℕ)) → SameInside One m n → (c i : ℕ) → i + c ≤ 64 → targets_1 m i c ≡ targets_1 n i c
 unfolding targets_1
@@ -67,10 +64,7 @@ when_some false n c h = absurd (cc h)
 
 -- a number passed its test
 number_test : (test : ℕ → Bool) (g : List ℕ) (c : ℕ) → number test g ≡ Some c → test c ≡ true
-number_test test g c h =
-    let w : ((bytes_eq (take 6 g) (zeros 6) && test (be2 g 6)) ≡ true) × (be2 g 6 ≡ c) = when_some (bytes_eq (take 6 g) (zeros 6) && test (be2 g 6)) (be2 g 6) c h in
-    let t : test (be2 g 6) ≡ true = (and_parts (bytes_eq (take 6 g) (zeros 6)) (test (be2 g 6)) w.0).1 in
-    subst (λ (n : ℕ). test n ≡ true) w.1 t
+number_test test g c h = grind (arith, when_some, and_parts)
 
 pub count_range : (c : ℕ) → is_count c ≡ true → (1 ≤ c) × (c ≤ 64)
 count_range c h = let b : (nat_le 1 c ≡ true) × (nat_le c 64 ≡ true) = and_parts (nat_le 1 c) (nat_le c 64) h in (leb-true 1 c b.0, leb-true c 64 b.1)
@@ -212,9 +206,7 @@ same_headed j m n s (Some c) h =
     ap (λ (r : Result (List ℕ) ℕ). look_by_targets j m r) (same_targets j m n s c few) ∙ same_aimed j m n s c few (targets j n c) refl
 
 same_opened : (j : Journal) (m n : List (List ℕ)) → SameInside j m n → (b : Bool) → look_by_gate j m b ≡ look_by_gate j n b
-same_opened j m n s false = refl
-same_opened j m n s true =
-    ap (λ (w : List ℕ). look_by_head j m (number is_count w)) (s.words 2 (head_inside j)) ∙ same_headed j m n s (count n) refl
+same_opened j m n s b = grind (arith, head_inside, same_headed)
 
 pub look_same : (j : Journal) (m n : List (List ℕ)) → SameInside j m n → look_j j m ≡ look_j j n
 look_same j m n s = ap (λ (w : List ℕ). look_by_gate j m (bytes_eq w (opening j))) (s.words (gate j) (gate_inside j)) ∙ same_opened j m n s (is_open j n)

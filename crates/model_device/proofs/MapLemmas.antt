@@ -50,26 +50,10 @@ apart K a b x p q = false_from_ne_true (bytes_eq a b) (λ e. two_names K a b x p
 -- ---- maps
 
 module _ {A : Type 0} where
-  -- an entry of this name, and one of another
-  pub lookup_here : (e : List ℕ × A) (es : List (List ℕ × A)) (n : List ℕ) → bytes_eq e.0 n ≡ true → lookup (e ∷ es) n ≡ Some e.1
-  lookup_here e es n h = ap (λ b. cond b (Some e.1) (lookup es n)) h
-
   pub lookup_there : (e : List ℕ × A) (es : List (List ℕ × A)) (n : List ℕ) → bytes_eq e.0 n ≡ false → lookup (e ∷ es) n ≡ lookup es n
   lookup_there e es n h = ap (λ b. cond b (Some e.1) (lookup es n)) h
 
   -- ---- insertion
-
-  -- the first entry, by the two tests of an insertion
-  pub insert_here : (e : List ℕ × A) (es : List (List ℕ × A)) (n : List ℕ) (a : A) → bytes_eq e.0 n ≡ true → insert (e ∷ es) n a ≡ (n, a) ∷ es
-  insert_here e es n a h = ap (λ b. cond b ((n, a) ∷ es) (cond (name_before n e.0) ((n, a) ∷ e ∷ es) (e ∷ insert es n a))) h
-
-  pub insert_before : (e : List ℕ × A) (es : List (List ℕ × A)) (n : List ℕ) (a : A) → bytes_eq e.0 n ≡ false → name_before n e.0 ≡ true → insert (e ∷ es) n a ≡ (n, a) ∷ e ∷ es
-  insert_before e es n a h k =
-      ap (λ b. cond b ((n, a) ∷ es) (cond (name_before n e.0) ((n, a) ∷ e ∷ es) (e ∷ insert es n a))) h ∙ ap (λ b. cond b ((n, a) ∷ e ∷ es) (e ∷ insert es n a)) k
-
-  pub insert_behind : (e : List ℕ × A) (es : List (List ℕ × A)) (n : List ℕ) (a : A) → bytes_eq e.0 n ≡ false → name_before n e.0 ≡ false → insert (e ∷ es) n a ≡ e ∷ insert es n a
-  insert_behind e es n a h k =
-      ap (λ b. cond b ((n, a) ∷ es) (cond (name_before n e.0) ((n, a) ∷ e ∷ es) (e ∷ insert es n a))) h ∙ ap (λ b. cond b ((n, a) ∷ e ∷ es) (e ∷ insert es n a)) k
 
   pub lookup_inserted_lem : (es : List (List ℕ × A)) (n : List ℕ) (a : A) → lookup (insert es n a) n ≡ Some a
   lookup_inserted_lem [] n a = grind (arith, name_is_itself n)
@@ -95,28 +79,7 @@ module _ {A : Type 0} where
   -- insertions under two names may change places
   pub insert_swap : (es : List (List ℕ × A)) (n : List ℕ) (a : A) (m : List ℕ) (b : A) → bytes_eq n m ≡ false → insert (insert es n a) m b ≡ insert (insert es m b) n a
   insert_swap [] n a m b p = grind (arith, p, other_way n m, not_after n m, not_after m n, one_before n m)
-  insert_swap (e ∷ es) n a m b p =
-      grind (
-        arith,
-        p,
-        other_way n m p,
-        other_way e.0 n,
-        other_way e.0 m,
-        same_name e.0 n,
-        same_name e.0 m,
-        not_after n m,
-        not_after m n,
-        one_before n m p,
-        one_before e.0 n,
-        one_before e.0 m,
-        before_both n e.0 m,
-        before_both m e.0 n,
-        not_after n e.0,
-        not_after m e.0,
-        not_after e.0 n,
-        not_after e.0 m,
-        insert_swap es n a m b p,
-      )
+  insert_swap (e ∷ es) n a m b p = grind (arith, other_way, same_name, not_after, one_before, before_both, insert_swap es n a m b p)
 
   -- ---- removal
 

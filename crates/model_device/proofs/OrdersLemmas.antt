@@ -1,5 +1,5 @@
 -- How lists of steps that are done in order compose.
-use Rattle.std.specs.Prelude.{◌≡◌, List, [], ◌∷◌, ◌++◌, Ok, Err}
+use Rattle.std.specs.Prelude.{List, [], ◌∷◌, ◌++◌, Ok, Err}
 use Rattle.std.proofs.Common.{subst, inl, inr}
 use Rattle.model_device.specs.declared.device.Stop.{Stop}
 use Rattle.model_device.specs.Orders.{Answer, InOrder}

@@ -1,10 +1,9 @@
 -- Pieces of bytes that are laid over a list: pieces after others, the words that they touch, and the pending words that
 -- hold them.
-use Rattle.std.proofs.Common.{◌≡◌, ℕ, ◌+◌, ◌*◌, ◌/◌, ◌<◌, ◌≤◌, List, [], ◌∷◌, ◌++◌, length, refl, ap, subst, ◌∙◌, arith}
-use Rattle.std.specs.Prelude.{IfSome, slice_index}
+use Rattle.std.proofs.Common.{◌≡◌, ℕ, ◌+◌, ◌*◌, ◌/◌, ◌<◌, ◌≤◌, List, [], ◌∷◌, ◌++◌, length, refl, ap, ◌∙◌, arith}
 use Rattle.std.proofs.lemmas.Bool.Decides.{nat_tests}
 use Rattle.model_device.specs.Bytes.{splice}
-use Rattle.model_device.specs.Pieces.{laid_pieces, touched_words, with_number, with_words, with_touched, pending_at, HoldPieces}
+use Rattle.model_device.specs.Pieces.{laid_pieces, touched_words, with_number, with_words, with_touched, HoldPieces}
 
 -- pieces that are laid after others
 pub laid_append : (l : List ℕ) (ps qs : List (ℕ × List ℕ)) → laid_pieces l (ps ++ qs) ≡ laid_pieces (laid_pieces l ps) qs
@@ -48,8 +47,4 @@ one_word n at (x ∷ b) ns some low high =
 
 -- words that hold pieces hold others that touch the same words and leave the same bytes
 pub held_same : (l : List ℕ) (ps qs ws : List (ℕ × List ℕ)) → touched_words ps ≡ touched_words qs → laid_pieces l ps ≡ laid_pieces l qs → HoldPieces l ps ws → HoldPieces l qs ws
-held_same l ps qs ws words laid held = record {
-  pending = held.pending;
-  touched_words = held.touched_words ∙ words;
-  bytes = λ n k lt within. subst (λ (t : List ℕ). IfSome (pending_at ws n) (λ b. slice_index b k ≡ slice_index t (8 * n + k))) laid (held.bytes n k lt within);
-}
+held_same l ps qs ws words laid held = grind arith

@@ -41,11 +41,7 @@ module _ (j : Journal) (m : List (List ℕ)) (list : List (ℕ × List ℕ)) (lo
   free_list i h = or_parts (covers list i) (covers ((gate j, shut_word) ∷ []) i) (sym (covers_append list ((gate j, shut_word) ∷ []) i) ∙ h)
 
   in_targets : (k : ℕ) (x : List ℕ) → Resumes j (image_after_stop m list k x) (length list + 1) (image_with m (replay j list))
-  in_targets k x =
-      let n = image_after_stop m list k x in
-      pending_resumes j n (image_with m (replay j list)) list
-      (look_same j n m (record { size = length_torn m list k x; words = λ i inside. torn_other m list k x i (list_other i inside) }) ∙ pending)
-      (laid_same n m (replay j list) (length_torn m list k x) (λ i free. torn_other m list k x i (uncovered list i (free_list i free).0)))
+  in_targets k x = grind (arith, pending_resumes, look_same, length_torn, torn_other, list_other, laid_same, uncovered, free_list)
 
   abbrev shutting : List ℕ → List (List ℕ)
   shutting x = slice_set (image_with m list) (gate j) x
@@ -54,31 +50,13 @@ module _ (j : Journal) (m : List (List ℕ)) (list : List (ℕ × List ℕ)) (lo
   shutting_other x i apart = get_or-set_other (image_with m list) (gate j) i x [] apart
 
   shutting_inside : (i : ℕ) → InJournal j i → word_at (shutting (opening j)) i ≡ word_at m i
-  shutting_inside i inside = elim (eqb_tells i (gate j)) [
-    | inl here ↦ subst (λ (t : ℕ). word_at (shutting (opening j)) t ≡ word_at m t) (sym here.1)
-        (gate_at (image_with m list) (opening j) (length_laid m list) ∙ sym (open_same j (word_at m (gate j)) good.opens))
-    | inr apart ↦ shutting_other (opening j) i apart.1 ∙ laid_other m list i (list_other i inside)
-  ]
+  shutting_inside i inside = grind (arith, eqb_tells, gate_at, length_laid, open_same, good, shutting_other, laid_other, list_other)
 
   in_last_open : (x : List ℕ) → x ≡ opening j → Resumes j (shutting x) (length list + 1) (image_with m (replay j list))
-  in_last_open x e =
-      let n = shutting (opening j) in
-      let size : length n ≡ length m = length-set (image_with m list) (gate j) (opening j) ∙ length_laid m list in
-      subst (λ (t : List ℕ). Resumes j (shutting t) (length list + 1) (image_with m (replay j list))) (sym e)
-      (pending_resumes j n (image_with m (replay j list)) list
-      (look_same j n m (record { size = size; words = shutting_inside }) ∙ pending)
-      (laid_same n m (replay j list) size
-      (λ i free. let parts = free_list i free in
-      shutting_other (opening j) i (λ e. (uncovered ((gate j, shut_word) ∷ []) i parts.1).0 (sym e)) ∙ laid_other m list i (uncovered list i parts.0))))
+  in_last_open x e = grind (arith, length-set, length_laid, pending_resumes, look_same, shutting_inside, laid_same, free_list, shutting_other, uncovered, laid_other)
 
   in_last_closed : (x : List ℕ) → bytes_eq x (opening j) ≡ false → Resumes j (shutting x) 0 (image_with m (replay j list))
-  in_last_closed x e =
-      closed_resumes j (shutting x) (image_with m (replay j list)) (ap (λ (w : List ℕ). bytes_eq w (opening j)) (gate_at (image_with m list) x (length_laid m list)) ∙ e)
-      (subst (λ (t : List (List ℕ)). SameBut (gate j) (shutting x) t) (sym (laid_last m list (gate j, shut_word)))
-      (record {
-        size = length-set (image_with m list) (gate j) x ∙ sym (length-set (image_with m list) (gate j) shut_word);
-        words = λ i apart. shutting_other x i apart ∙ sym (shutting_other shut_word i apart);
-      }))
+  in_last_closed x e = grind (arith, closed_resumes, gate_at, length_laid, laid_last, length-set, shutting_other)
 
   remains_early : (k : ℕ) (x : List ℕ) → k ≤ length list → remains j (length list) k x ≡ length list + 1
   remains_early k x h = ap (λ (b : Bool). cond (b || bytes_eq x (opening j)) (length list + 1) 0) (le-leb k (length list) h)

@@ -1,6 +1,6 @@
 -- The tear lemma: what an atomic write leaves that was stopped at any of its device writes, whatever word that left.
 use Rattle.std.proofs.Common.{◌≡◌, ◌≢◌, ◌⊎◌, ℕ, zero, suc, ◌+◌, ◌-◌, ◌<◌, ◌≤◌, Bool, true, false, cond, not, ◌&&◌, ◌||◌, ◌==◌, List, [], ◌∷◌, ◌++◌, length, map, refl, sym, ◌∙◌, ap, subst, inl, inr, arith}
-use Rattle.std.specs.Prelude.{bytes_eq, nat_le, nat_lt, slice_set}
+use Rattle.std.specs.Prelude.{bytes_eq, nat_le, slice_set}
 use Rattle.std.specs.List.{AllByRecursion}
 use Rattle.std.proofs.lemmas.List.{get_or-set_same, get_or-set_other, length-set}
 use Rattle.std.proofs.lemmas.Bool.{cases_lt, le-ltb, lt-ltb, leb-true, eqb-true, ltb-true, and_parts, or_cases}
@@ -55,11 +55,7 @@ eqb_here a b h = elim (eqb_tells a b) [ inl here ↦ here.0 | inr apart ↦ absu
 
 -- a target is no place of a journal
 target_is : (size t : ℕ) → within size t ≡ true → (t ≡ 0) ⊎ (131 ≤ t)
-target_is size t h =
-    elim (or_cases (t == 0) (nat_le 131 t && nat_lt t size) h) [
-      | inl is ↦ inl (eqb-true t 0 is)
-      | inr heap ↦ inr (leb-true 131 t (and_parts (nat_le 131 t) (nat_lt t size) heap).0)
-    ]
+target_is size t h = grind (arith, or_cases, eqb-true, leb-true, and_parts)
 
 outside_is : (j : Journal) (t : ℕ) → (t ≡ 0) ⊎ (131 ≤ t) → InJournal j t → ⊥
 outside_is One t h inside = omega (arith, h, inside)
@@ -73,11 +69,7 @@ targets_outside j size list i a inside =
     all_map (λ p. within size p.0 ≡ true) (λ p. p.0 ≢ i) (λ p w e. target_outside j size p.0 w (subst (λ (t : ℕ). InJournal j t) (sym e) inside)) list a
 
 pub within_below : (size t : ℕ) → 256 ≤ size → within size t ≡ true → t < size
-within_below size t h w =
-    elim (or_cases (t == 0) (nat_le 131 t && nat_lt t size) w) [
-      | inl is ↦ let e : t ≡ 0 = eqb-true t 0 is in omega arith
-      | inr heap ↦ ltb-true t size (and_parts (nat_le 131 t) (nat_lt t size) heap).1
-    ]
+within_below size t h w = grind (arith, or_cases, eqb-true, ltb-true, and_parts)
 
 pub ascends_list : (size least : ℕ) (list : List (ℕ × List ℕ)) → ascend size least (map (λ p. p.0) list) ≡ true → Ascends least list
 ascends_list size least [] h = tt
@@ -173,46 +165,25 @@ module _ (j : Journal) (m : List (List ℕ)) (list : List (ℕ × List ℕ)) (lo
   entries_gate : AllByRecursion (λ p. p.0 ≢ gate j) (entries j list)
   entries_gate = all_map (λ p. InEntries j p.0) (λ p. p.0 ≢ gate j) (λ p inside. inside.apart) (entries j list) geo.places
 
-  head_closed : is_open j at_head ≡ false
-  head_closed = still_closed at_head (other_head (gate j) (gate_bound j).1 ∙ laid_other m (entries j list) (gate j) entries_gate)
-
   -- stopped in its targets and values
   in_values : (k : ℕ) (x : List ℕ) → LeavesOwing j (image_after_stop m (entries j list) k x) 0 m
-  in_values k x =
-      closed_leaves j (image_after_stop m (entries j list) k x) m (still_closed _ (torn_other m (entries j list) k x (gate j) entries_gate))
-      (record { size = length_torn m (entries j list) k x; words = λ i out. torn_other m (entries j list) k x i (entries_apart i (λ inside. out inside.inside)) })
+  in_values k x = grind (arith, closed_leaves, still_closed, torn_other, entries_gate, length_torn, entries_apart)
 
   -- stopped in its head
   in_head : (x : List ℕ) → LeavesOwing j (slice_set at_values 2 x) 0 m
   in_head x =
-      closed_leaves j (slice_set at_values 2 x) m
-      (still_closed _ (get_or-set_other at_values 2 (gate j) x [] (gate_bound j).1 ∙ laid_other m (entries j list) (gate j) entries_gate))
-      (record {
-        size = length-set at_values 2 x ∙ length_values;
-        words = λ i out. get_or-set_other at_values 2 i x [] (λ e. apart_from j i 2 (head_inside j) out (sym e)) ∙ values_outside i out;
-      })
+      grind (arith, closed_leaves, still_closed, get_or-set_other, gate_bound, laid_other, entries_gate, length-set, length_values, apart_from, head_inside, values_outside)
 
   -- replayed from an image that is as before outside but for targets
   replayed_same : (n : List (List ℕ)) → length n ≡ length m → ((i : ℕ) → (InJournal j i → ⊥) → covers list i ≡ false → word_at n i ≡ word_at m i) → SameOutside j (image_with n (replay j list)) (image_with m list)
-  replayed_same n same h = record {
-    size = length_laid n (replay j list) ∙ same ∙ sym (length_laid m list);
-    words = λ i out.
-        subst (λ (t : List (List ℕ)). word_at t i ≡ word_at (image_with m list) i) (sym (laid_last n list (gate j, shut_word)))
-        (gate_outside (image_with n list) shut_word i out ∙ laid_point n m list i same (h i out));
-  }
+  replayed_same n same h = grind (arith, length_laid, laid_last, gate_outside, laid_point)
 
   -- stopped in its gate: it is durable if the word that was left is the commit record
   in_gate_open : (x : List ℕ) → x ≡ opening j → LeavesOwing j (at_gate at_head x) (length list + 1) (image_with m list)
-  in_gate_open x e =
-      subst (λ (t : List ℕ). LeavesOwing j (at_gate at_head t) (length list + 1) (image_with m list)) (sym e)
-      (pending_leaves j (at_gate at_head (opening j)) (image_with m list) list written
-      (replayed_same (at_gate at_head (opening j)) (length-set at_head (gate j) (opening j) ∙ length_head)
-      (λ i out free. gate_outside at_head (opening j) i out ∙ head_outside i out)))
+  in_gate_open x e = grind (arith, pending_leaves, written, replayed_same, length-set, length_head, gate_outside, head_outside)
 
   in_gate_closed : (x : List ℕ) → bytes_eq x (opening j) ≡ false → LeavesOwing j (at_gate at_head x) 0 m
-  in_gate_closed x e =
-      closed_leaves j (at_gate at_head x) m (ap (λ (w : List ℕ). bytes_eq w (opening j)) (gate_at at_head x length_head) ∙ e)
-      (record { size = length-set at_head (gate j) x ∙ length_head; words = λ i out. gate_outside at_head x i out ∙ head_outside i out })
+  in_gate_closed x e = grind (arith, closed_leaves, gate_at, length_head, length-set, gate_outside, head_outside)
 
   -- stopped in its targets
   abbrev opened_image : List (List ℕ)
@@ -239,9 +210,7 @@ module _ (j : Journal) (m : List (List ℕ)) (list : List (ℕ × List ℕ)) (lo
   last_outside x i out = gate_outside (image_with opened_image list) x i out ∙ laid_point opened_image m list i length_opened (λ free. opened_outside i out)
 
   in_last_closed : (x : List ℕ) → bytes_eq x (opening j) ≡ false → LeavesOwing j (at_gate (image_with opened_image list) x) 0 (image_with m list)
-  in_last_closed x e =
-      closed_leaves j (at_gate (image_with opened_image list) x) (image_with m list) (ap (λ (w : List ℕ). bytes_eq w (opening j)) (gate_at (image_with opened_image list) x length_targets) ∙ e)
-      (record { size = length-set (image_with opened_image list) (gate j) x ∙ length_targets ∙ sym (length_laid m list); words = last_outside x })
+  in_last_closed x e = grind (arith, closed_leaves, gate_at, length_targets, length-set, length_laid, last_outside)
 
   last_inside : (i : ℕ) → InJournal j i → word_at (at_gate (image_with opened_image list) (opening j)) i ≡ word_at opened_image i
   last_inside i inside = elim (eqb_tells i (gate j)) [
@@ -252,12 +221,7 @@ module _ (j : Journal) (m : List (List ℕ)) (list : List (ℕ × List ℕ)) (lo
 
   in_last_open : (x : List ℕ) → x ≡ opening j → LeavesOwing j (at_gate (image_with opened_image list) x) (length list + 1) (image_with m list)
   in_last_open x e =
-      let n = at_gate (image_with opened_image list) (opening j) in
-      subst (λ (t : List ℕ). LeavesOwing j (at_gate (image_with opened_image list) t) (length list + 1) (image_with m list)) (sym e)
-      (pending_leaves j n (image_with m list) list
-      (look_same j n opened_image (record { size = length-set (image_with opened_image list) (gate j) (opening j) ∙ length_laid opened_image list; words = last_inside }) ∙ written)
-      (replayed_same n (length-set (image_with opened_image list) (gate j) (opening j) ∙ length_targets)
-      (λ i out free. gate_outside (image_with opened_image list) (opening j) i out ∙ laid_other opened_image list i (uncovered list i free) ∙ opened_outside i out)))
+      grind (arith, pending_leaves, look_same, length-set, length_laid, last_inside, written, replayed_same, length_targets, gate_outside, laid_other, uncovered, opened_outside)
 
   -- ---- which of these a stop is
 
@@ -271,14 +235,10 @@ module _ (j : Journal) (m : List (List ℕ)) (list : List (ℕ × List ℕ)) (lo
   owes_by k x s hs = ap (λ (t : Bool). cond (t && not ((k == cost j (length list)) && not (bytes_eq x (opening j)))) (length list + 1) 0) hs
 
   stands_before : (k : ℕ) (x : List ℕ) → k < opens_at j (length list) → stands j (length list) k x ≡ false
-  stands_before k x lt =
-      ap (λ (b : Bool). b || ((k == opens_at j (length list)) && bytes_eq x (opening j))) (le-ltb (opens_at j (length list)) k (omega arith))
-      ∙ ap (λ (b : Bool). b && bytes_eq x (opening j)) (eqb_apart k (opens_at j (length list)) (λ e. absurd (omega (arith, e))))
+  stands_before k x lt = grind (arith, le-ltb, eqb_apart)
 
   stands_at : (k : ℕ) (x : List ℕ) → k ≡ opens_at j (length list) → stands j (length list) k x ≡ bytes_eq x (opening j)
-  stands_at k x e =
-      ap (λ (b : Bool). b || ((k == opens_at j (length list)) && bytes_eq x (opening j))) (le-ltb (opens_at j (length list)) k (omega (arith, e)))
-      ∙ ap (λ (b : Bool). b && bytes_eq x (opening j)) (eqb_here k (opens_at j (length list)) e)
+  stands_at k x e = grind (arith, le-ltb, eqb_here)
 
   stands_after : (k : ℕ) (x : List ℕ) → opens_at j (length list) < k → stands j (length list) k x ≡ true
   stands_after k x lt = ap (λ (b : Bool). b || ((k == opens_at j (length list)) && bytes_eq x (opening j))) (lt-ltb (opens_at j (length list)) k lt)
@@ -288,16 +248,11 @@ module _ (j : Journal) (m : List (List ℕ)) (list : List (ℕ × List ℕ)) (lo
       owes_by k x true hs ∙ ap (λ (b : Bool). cond (not (b && not (bytes_eq x (opening j)))) (length list + 1) 0) (eqb_apart k (cost j (length list)) apart)
 
   owes_last : (k : ℕ) (x : List ℕ) (b : Bool) → stands j (length list) k x ≡ true → k ≡ cost j (length list) → bytes_eq x (opening j) ≡ b → owes j (length list) k x ≡ cond (not (not b)) (length list + 1) 0
-  owes_last k x b hs e hb =
-      owes_by k x true hs ∙ ap (λ (t : Bool). cond (not (t && not (bytes_eq x (opening j)))) (length list + 1) 0) (eqb_here k (cost j (length list)) e)
-      ∙ ap (λ (t : Bool). cond (not (not t)) (length list + 1) 0) hb
+  owes_last k x b hs e hb = grind (arith, owes_by, eqb_here)
 
   -- the atomic write that was stopped at its write k, which left x
   Tears : ℕ → List ℕ → List (List ℕ) → Type 0
   Tears k x n = LeavesOwing j n (owes j (length list) k x) (image_if_written (stands j (length list) k x) m list)
-
-  rest_writes : List (ℕ × List ℕ)
-  rest_writes = (2, word_of_number (length list)) ∷ (gate j, opening j) ∷ replay j list
 
   tear_1 : (k : ℕ) (x : List ℕ) → 1 ≤ k → k ≤ length (entries j list) → Tears k x (image_after_stop m (writes j list) k x)
   unfolding Tears

@@ -1,10 +1,9 @@
 -- What an atomic write puts into its journal is what a look finds there.
-use Rattle.std.proofs.Common.{◌≡◌, ℕ, zero, suc, ◌+◌, ◌-◌, ◌*◌, ◌/◌, ◌%◌, ◌<◌, ◌≤◌, Bool, true, ◌&&◌, ◌==◌, List, [], ◌∷◌, ◌++◌, length, take, drop, map, Option, Some, Result, Ok, refl, ◌∙◌, ap, inl, inr, arith, take_all, le-leb}
+use Rattle.std.proofs.Common.{◌≡◌, ℕ, zero, suc, ◌+◌, ◌-◌, ◌*◌, ◌<◌, ◌≤◌, Bool, true, ◌&&◌, List, [], ◌∷◌, ◌++◌, length, take, drop, map, Option, Some, Result, Ok, refl, ◌∙◌, ap, arith, take_all, le-leb}
 use Rattle.std.proofs.lemmas.List.{drop_all}
-use Rattle.std.specs.Prelude.{nat_le, nat_lt}
 use Rattle.std.specs.List.{AllByRecursion}
 use Rattle.std.proofs.lemmas.Bool.{ltb-true, eqb-true, and_parts, or_cases}
-use Rattle.model_device.specs.Image.{One, Two, word_at, is_count, within, when, number, one_before, targets_1, four, all_zero, ascend, after_all, all_before, targets_2, pairs}
+use Rattle.model_device.specs.Image.{One, Two, word_at, is_count, within, number, one_before, targets_1, four, all_zero, ascend, after_all, all_before, targets_2, pairs}
 use Rattle.model_device.specs.Stopped.{word_of_number, entries_1, four_targets, target_words, values_2}
 use Rattle.model_device.proofs.ImageLemmas.{HoldsWords}
 use Rattle.model_device.proofs.ListLemmas.{two_bytes}
@@ -13,16 +12,10 @@ use Rattle.model_device.proofs.ListLemmas.{two_bytes}
 
 -- a target has two bytes
 pub within_small : (size t : ℕ) → size ≤ 16384 → within size t ≡ true → t < 65536
-within_small size t hs h =
-    elim (or_cases (t == 0) (nat_le 131 t && nat_lt t size) h) [
-      | inl is ↦ let e : t ≡ 0 = eqb-true t 0 is in omega arith
-      | inr in_heap ↦ let lt : t < size = ltb-true t size (and_parts (nat_le 131 t) (nat_lt t size) in_heap).1 in omega arith
-    ]
+within_small size t hs h = grind (arith, or_cases, eqb-true, ltb-true, and_parts)
 
 number_numbered : (test : ℕ → Bool) (t : ℕ) → t < 65536 → test t ≡ true → number test (word_of_number t) ≡ Some t
-number_numbered test t h ok =
-    let e : 256 * (t / 256 % 256) + t % 256 ≡ t = two_bytes t h in
-    ap (λ (n : ℕ). when (test n) n) e ∙ ap (λ (b : Bool). when b t) ok
+number_numbered test t h ok = grind (arith, two_bytes)
 
 pub count_numbered : (c : ℕ) → 1 ≤ c → c ≤ 64 → number is_count (word_of_number c) ≡ Some c
 count_numbered c low high = number_numbered is_count c (omega arith) (rw (le-leb 1 c low, le-leb c 64 high) refl)
@@ -48,11 +41,7 @@ pairs_1 n (p ∷ ps) i h =
 -- ---- journal 2
 
 four_back : (a b c d : ℕ) → a < 65536 → b < 65536 → c < 65536 → d < 65536 → four (four_targets (a ∷ b ∷ c ∷ d ∷ [])) ≡ a ∷ b ∷ c ∷ d ∷ []
-four_back a b c d ha hb hc hd =
-    ap (λ (x : ℕ). x ∷ (256 * (b / 256 % 256) + b % 256) ∷ (256 * (c / 256 % 256) + c % 256) ∷ (256 * (d / 256 % 256) + d % 256) ∷ []) (two_bytes a ha)
-    ∙ ap (λ (x : ℕ). a ∷ x ∷ (256 * (c / 256 % 256) + c % 256) ∷ (256 * (d / 256 % 256) + d % 256) ∷ []) (two_bytes b hb)
-    ∙ ap (λ (x : ℕ). a ∷ b ∷ x ∷ (256 * (d / 256 % 256) + d % 256) ∷ []) (two_bytes c hc)
-    ∙ ap (λ (x : ℕ). a ∷ b ∷ c ∷ x ∷ []) (two_bytes d hd)
+four_back a b c d ha hb hc hd = grind (arith, two_bytes)
 
 step_2 : (n : List (List ℕ)) (i k c least : ℕ) (all now past us : List ℕ) → four (word_at n (3 + i)) ≡ all → take c all ≡ now → drop c all ≡ past
     → all_zero past ≡ true → ascend (length n) least now ≡ true → targets_2 n (i + 1) k (c - 4) (after_all least now) ≡ Ok us → targets_2 n i (suc k) c least ≡ Ok (now ++ us)
@@ -70,16 +59,7 @@ Small ts = AllByRecursion (λ t. t < 65536) ts
 
 -- the first four of ascending targets ascend, and so do the others after them
 first_four : (size least a b c d : ℕ) (ts : List ℕ) → ascend size least (a ∷ b ∷ c ∷ d ∷ ts) ≡ true → (ascend size least (a ∷ b ∷ c ∷ d ∷ []) ≡ true) × (ascend size (d + 1) ts ≡ true)
-first_four size least a b c d ts h =
-    let a1 = and_parts (nat_le least a) (within size a && ascend size (a + 1) (b ∷ c ∷ d ∷ ts)) h in
-    let a2 = and_parts (within size a) (ascend size (a + 1) (b ∷ c ∷ d ∷ ts)) a1.1 in
-    let b1 = and_parts (nat_le (a + 1) b) (within size b && ascend size (b + 1) (c ∷ d ∷ ts)) a2.1 in
-    let b2 = and_parts (within size b) (ascend size (b + 1) (c ∷ d ∷ ts)) b1.1 in
-    let c1 = and_parts (nat_le (b + 1) c) (within size c && ascend size (c + 1) (d ∷ ts)) b2.1 in
-    let c2 = and_parts (within size c) (ascend size (c + 1) (d ∷ ts)) c1.1 in
-    let d1 = and_parts (nat_le (c + 1) d) (within size d && ascend size (d + 1) ts) c2.1 in
-    let d2 = and_parts (within size d) (ascend size (d + 1) ts) d1.1 in
-    (rw (a1.0, a2.0, b1.0, b2.0, c1.0, c2.0, d1.0, d2.0) refl, d2.1)
+first_four size least a b c d ts h = grind (arith, and_parts)
 
 pub read_2 : (n : List (List ℕ)) (k i least : ℕ) (ts : List ℕ) → Small ts → ascend (length n) least ts ≡ true → length ts ≤ 4 * k → HoldsWords n (target_words i k ts)
     → targets_2 n i k (length ts) least ≡ Ok ts

@@ -1,6 +1,6 @@
 -- The card that the words of a device hold: a map from names to applications, read from its used blocks by their
 -- lengths.
-use Rattle.std.specs.Prelude.{◌≡◌, ℕ, zero, suc, ◌+◌, ◌-◌, Bool, cond, ◌&&◌, ◌||◌, nat_le, ◌==◌, List, [], ◌∷◌, length, take, drop, slice_index, slice_index_or, Option, Some, None}
+use Rattle.std.specs.Prelude.{ℕ, zero, suc, ◌+◌, Bool, cond, ◌&&◌, ◌||◌, nat_le, ◌==◌, List, [], ◌∷◌, length, take, drop, slice_index, slice_index_or, Option, Some, None}
 use Rattle.std.specs.List.{concat}
 use Rattle.model_device.specs.Bytes.{up, be2, insert}
 use Rattle.model_device.specs.Image.{After, Words, NoWords, after}

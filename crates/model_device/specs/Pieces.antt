@@ -1,5 +1,5 @@
 -- Pieces of bytes that are laid over a list, in order.
-use Rattle.std.specs.Prelude.{◌≡◌, ◌<◌, ◌≤◌, ◌*◌, ◌++◌, take, map, IfSome, slice_index, length, Some, is_none, zero, suc, ℕ, ◌+◌, ◌-◌, cond, nat_lt, nat_le, ◌==◌, List, [], ◌∷◌, slice_get, Option, None}
+use Rattle.std.specs.Prelude.{◌≡◌, ◌<◌, ◌≤◌, ◌*◌, take, map, IfSome, slice_index, length, Some, is_none, zero, suc, ℕ, ◌+◌, ◌-◌, cond, nat_lt, nat_le, ◌==◌, List, [], ◌∷◌, slice_get, Option, None}
 use Rattle.std.specs.List.{AllByRecursion}
 use Rattle.model_device.specs.Bytes.{down, splice, or_else}
 
