@@ -127,15 +127,18 @@ IsByteChange (Fixed n ps) = ArePieces ps
 IsByteChange (Created n a) = IsByteApp (n, a)
 IsByteChange (Deleted n) = ⊤
 
+-- an item carries bytes alone
 abbrev pub IsByteItem : Item → Type 0
 IsByteItem Plain = ⊤
 IsByteItem (Atomic w c) = IsByteChange c
 
+-- a change of bytes leaves the applications of bytes
 pub changed : (m : List (List ℕ × App)) (c : Change) → AreByteApps m → IsByteChange c → AreByteApps (apps_after_change c m)
 changed m (Fixed n ps) h k = changed_apps m n (Some ps) k h
 changed m (Created n a) h k = each_inserted IsByteApp m n a k h
 changed m (Deleted n) h k = each_removed IsByteApp m n h
 
+-- items of bytes leave the applications of bytes
 pub items_bytes : (is : List Item) (m : List (List ℕ × App)) → AreByteApps m → AllByRecursion IsByteItem is → AreByteApps (apps_after_items m is)
 items_bytes [] m h k = h
 items_bytes (Plain ∷ is) m h k = items_bytes is m h k.1

@@ -27,6 +27,7 @@ use Rattle.law_bytes.proofs.RowBytes.{row_bytes}
 
 -- ---- applications
 
+-- the code of an application on a card of bytes is of bytes
 pub code_bytes : (m : List (List ℕ × App)) (n : List ℕ) (o : Option App) → lookup m n ≡ o → AreByteApps m → AreBytes (code_in o)
 code_bytes m n None e h = tt
 code_bytes m n (Some a) e h = (each_found IsByteApp m n a h e).code
@@ -34,6 +35,7 @@ code_bytes m n (Some a) e h = (each_found IsByteApp m n a h e).code
 changed_by : (m : List (List ℕ × App)) (n : List ℕ) (ps : List (ℕ × List ℕ)) (o : Option App) → lookup m n ≡ o → ArePieces ps → AreByteApps m → AreByteApps (changed_app m n ps o)
 changed_by m n ps o e k h = grind (arith, each_found, each_inserted, laid)
 
+-- a change of static bytes leaves the applications of bytes
 pub changed_apps : (m : List (List ℕ × App)) (n : List ℕ) (c : Option (List (ℕ × List ℕ))) → IsChange c → AreByteApps m → AreByteApps (map_changed m n c)
 changed_apps m n None k h = h
 changed_apps m n (Some ps) k h = changed_by m n ps (lookup m n) refl k h
@@ -52,6 +54,7 @@ first_bytes : (f : Frame) (fs : List Frame) → IsNamedFrame f → AllByRecursio
 first_bytes f [] h k = h.bytes
 first_bytes f (g ∷ gs) h k = first_bytes g gs k.0 k.1
 
+-- the session bytes of a chain of bytes are bytes
 pub session_bytes : (ch : Chain) → IsByteChain ch → AreBytes (chain_session ch)
 session_bytes ch h = grind (arith, taken, first_bytes)
 
@@ -101,6 +104,7 @@ fetched ch code (Ok i) d h =
     row_turned ch i.0 (row i.0 f ch.public (around ch)) h (row_keeps i.0 f ch.public (around ch))
     (row_bytes i.0 f ch.public (around ch) d.shaped (record { static = was.static; pieces = was.pieces; stack = was.stack }) h.public (caller ch.below h.below))
 
+-- each turn keeps a chain of bytes
 pub turn_bytes : TurnBytesLaw
 unfolding turn_of_chain
 turn_bytes ch h =
@@ -112,6 +116,7 @@ turn_bytes ch h =
 ran : (t : Acted) (session : List ℕ) (f : Follows) (rest : Chain → Ran) → AreByteWrites t.writes → AreBytes session → OnGoing f IsByteChain → ((c : Chain) → IsByteChain c → IsByteRun (rest c)) → IsByteRun (run_after_turn t session f rest)
 ran t session f rest w s g again = grind (arith, all_append)
 
+-- a run keeps a chain of bytes
 pub run_bytes : RunBytesLaw
 unfolding run_of_chain
 run_bytes zero ch h = record { writes = tt; session = session_bytes ch h }
@@ -121,6 +126,7 @@ run_bytes (suc n) ch h =
 
 -- ---- beginnings
 
+-- the public segment of a command of bytes is of bytes
 pub command_bytes : (a : ApduParts) → IsByteCommand a → AreBytes (new_public a)
 command_bytes a h = grind (arith, joined, zero_bytes, pair_bytes)
 
@@ -129,5 +135,6 @@ started m name session a None e h n s k = record { apps = h; frame = begun name 
 started m name session a (Some b) e h n s k =
     record { apps = h; frame = begun name (length b.code) b.deny b.fixed session n (each_found IsByteApp m name b h e).fixed s; below = tt; public = command_bytes a k }
 
+-- a command of bytes begins a chain of bytes
 pub start_bytes : StartBytesLaw
 start_bytes m name session a h n s k = started m name session a (lookup m name) refl h n s k

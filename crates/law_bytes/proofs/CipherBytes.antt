@@ -269,6 +269,7 @@ each_bytes cipher is (suc n) size message h =
     joined (cipher (take size message)) (each cipher (blocks_of n size (drop size message))) (is (take size message) (taken size message h))
     (each_bytes cipher is n size (drop size message) (bytes_from message size h))
 
+-- a message enciphered block by block is of bytes if each block is
 pub message_bytes : (cipher : List ℕ → List ℕ) → ((b : List ℕ) → AreBytes b → AreBytes (cipher b)) → (size : ℕ) (message : List ℕ) → AreBytes message → AreBytes (ecb cipher size message)
 message_bytes cipher is size message h = each_bytes cipher is (length message / size) size message h
 
@@ -281,12 +282,15 @@ chain_bytes cipher is (suc n) size message last h l =
 
 -- ---- the ciphers by their names
 
+-- a block enciphered under a key of bytes is of bytes
 pub enciphered : (c : Cipher) (key block : List ℕ) → AreBytes key → AreBytes block → AreBytes (encipherment c key block)
 enciphered c key block k h = grind (arith, enciphered_des, enciphered_triple, enciphered_aes)
 
+-- a block deciphered under a key of bytes is of bytes
 pub deciphered : (c : Cipher) (key block : List ℕ) → AreBytes key → AreBytes block → AreBytes (decipherment c key block)
 deciphered c key block k h = grind (arith, deciphered_des, deciphered_triple, deciphered_aes)
 
+-- a signature under a key of bytes is of bytes
 pub signed : (c : Cipher) (key start message : List ℕ) → AreBytes key → AreBytes start → AreBytes message → AreBytes (signature c key start message)
 unfolding des.des_signature des.tdes_signature aes.aes_signature
 signed Des key start message k s h = chain_bytes (des.des_encipher key) (λ b _. enciphered_des key b) (length message / 8) 8 message start h s
@@ -308,6 +312,7 @@ unfolding digest_bytes
 digest_words h zero = tt
 digest_words h (suc n) = joined (digest_bytes h n) (bytes_high_first 4 (slice_index h n)) (digest_words h n) (high_first 4 (slice_index h n))
 
+-- a digest is of bytes
 pub digested : (m : List ℕ) → AreBytes (sha1 m)
 unfolding sha1
 digested m = digest_words (hash_after (padded_message m) (length (padded_message m) / 64)) 5

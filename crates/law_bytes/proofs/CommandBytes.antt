@@ -115,6 +115,7 @@ unfolding RestBytes
 managers_rest ins p1 p2 p None k = tt
 managers_rest ins p1 p2 p (Some r) k = k.0
 
+-- a command to the manager whose body is bytes takes a route of bytes
 pub managers_bytes : (ins p1 p2 : ℕ) (b : List ℕ) → AreBytes (drop 1 b) → IsByteRoute (route (0xBE ∷ ins ∷ p1 ∷ p2 ∷ b))
 unfolding apdu_read
 managers_bytes ins p1 p2 b h = managers_rest ins p1 p2 (first_or_zero b) (rest_read b) (rest_bytes b h)
@@ -271,6 +272,7 @@ routed_bytes c session_state budget (ToManager a) k apps is =
     made_bytes c session_state apps is a (order_of a.ins) (manager_command c session_state (manage (room_on c) c.apps session_state a)) k (command_made c session_state a)
 routed_bytes c session_state budget (ToApplication a) k apps is = passed_bytes c session_state session_state.selected a budget refl apps is k
 
+-- a command on a card of bytes has a result of bytes
 pub commanded : (c : Card) (session_state : SessionState) (b : List ℕ) (budget : ℕ) → IsByteRoute (route b) → AreByteApps c.apps → IsByteSession session_state → IsByteResult (command c session_state b budget)
 unfolding command
 commanded c session_state b budget k apps is = routed_bytes c session_state budget (route b) k apps is
@@ -281,6 +283,7 @@ with_rest : (b : Bool) (r rest : Command) → IsByteResult r → IsByteResult re
 with_rest true r rest h k = record { items = all_append IsByteItem r.items rest.items h.items k.items; session_state = k.session_state }
 with_rest false r rest h k = h
 
+-- so have several commands in a row
 pub sent_bytes : (c : Card) (session_state : SessionState) (budget : ℕ) (bs : List (List ℕ)) → AllByRecursion (λ b. IsByteRoute (route b)) bs → AreByteApps c.apps → IsByteSession session_state → IsByteResult (send c session_state budget bs)
 unfolding send
 sent_bytes c session_state budget [] k apps is = record { items = tt; session_state = is }

@@ -139,5 +139,6 @@ play_from z (l ∷ ls) ws k h =
     let next : IsByteState (step z l (first_failure ws)).after = step_bytes z l (first_failure ws) k.0 h in
     (next, play_from (step z l (first_failure ws)).after ls (drop 1 ws) k.1 next)
 
+-- each state of a play of bytes is of bytes
 pub play_bytes : PlayBytesLaw
 play_bytes ls m ws k image = play_from (start m) ls ws k image

@@ -19,6 +19,7 @@ use Rattle.law_bytes.proofs.CipherBytes.{message_bytes, enciphered, deciphered, 
 
 -- ---- frames
 
+-- a frame of bytes stays so after a pop
 pub popped : (f : Frame) (n : ℕ) → IsByteFrame f → IsByteFrame (frame_after_pop f n)
 popped f n h = record { static = h.static; pieces = h.pieces; stack = h.stack }
 
@@ -174,6 +175,7 @@ pub effect_bytes : (i : Ins) (f : Frame) (public : List ℕ) (x : Around) → Sh
 effect_bytes i f public x s h p c =
     subst (λ (d : Done). IsByteEffect d.effect) (sym (shapes i f public x)) (meant (shape i f public x) f public (shape_bytes f public x h p c i s) h p)
 
+-- each row of an instruction in its ranges keeps a frame of bytes
 pub row_bytes : RowBytesLaw
 unfolding row
 row_bytes i f public x s h p c = on_done (λ d. IsByteEffect d.effect) (first_cause (causes i f public x)) (effect i f public x) (effect_bytes i f public x s h p c)

@@ -350,6 +350,7 @@ line_filled n t line.Power b o j v g k x is h can = power_filled n t b o j v g k
 line_filled n t (line.Sent sent) b o j v g k x is h can = command_filled n t (line.Sent sent) (sent_command n t sent) b o j v g k x h can
 line_filled n t _ b o j v g k x is h can = absurd (cc is)
 
+-- every word that a cut leaves does what one of the three fills does
 pub fill_law : FillLaw
 fill_law s m k x idle is =
     let e : s ≡ past_power s.base s.owed s.by s.live s.budget Unarmed = ap (λ (z : Armed). past_power s.base s.owed s.by s.live s.budget z) idle.unarmed in

@@ -27,6 +27,7 @@ abbrev pub EitherWay : {A E : Type 0} → (A → Type 0) → (E → Type 0) → 
 EitherWay P Q (Ok a) = P a
 EitherWay P Q (Err e) = Q e
 
+-- what holds of an answer or a refusal goes through a next step
 pub either_way : {A B E : Type 0} (P : A → Type 0) (R : B → Type 0) (Q : E → Type 0) (x : Result A E) (f : A → Result B E) → EitherWay P Q x → ((a : A) → P a → EitherWay R Q (f a)) → EitherWay R Q (x >>= f)
 either_way P R Q (Ok a) f h g = g a h
 either_way P R Q (Err e) f h g = h
@@ -226,6 +227,7 @@ module _ (limit : ℕ) (rules : Rules) (moves : AreMoves rules.moves) (start : S
 
 -- ---- the law
 
+-- a broken rule is broken by its tries when they are played, and by no shorter way
 pub broken_law : BrokenLaw
 unfolding first_state
 broken_law limit n name path text x read ends =

@@ -43,6 +43,7 @@ pub record DoneSame (s : State) (c : CardState) (m : Move) (w : Manner) : Type 0
   pub shows : ShowsSame (step_of s m w) (step_of (play_of c) m w)
   pub after : (a : List (List ℕ × ℕ)) → Agrees (recovery m.number w (step_of s m w).after) (state_in (recovery m.number w (step_of (play_of c) m w).after) a)
 
+-- a move that can be made in a play does the same in the state that agrees with it
 pub done_same : (s : State) (c : CardState) (m : Move) (w : Manner) → is_card_line m.line ≡ true → Agrees s c → CanMake s m w → DoneSame s c m w
 done_same s c m w is h can =
     let d = move_done s c m w [] (fill_of w) is (own_fill w) h can in
@@ -55,6 +56,7 @@ done_same s c m w is h can =
 
 -- ---- states
 
+-- the state of a play that agrees with a state is that state
 pub state_of : (z : State) (c : CardState) → Agrees z c → state_in z c.allowances ≡ c
 state_of z c h = ap (λ (y : State). state_in y c.allowances) h.is ∙ states_equal c.allowances _ _ _ _ _ _ h.base h.live h.budget
 
@@ -69,6 +71,7 @@ can_other : (s t : Warm) (m : Move) (w : Manner) → s.live ≡ t.live → write
 can_other s t m Whole e n can = tt
 can_other s t m (CutAt k x) e n can = (subst (λ (v : Live). is_running v ≡ true) e can.0, can.1, subst (λ (i : ℕ). k ≤ i) n can.2)
 
+-- a state decides the answers of its moves
 pub state_law : StateLaw
 state_law s t m h is =
     let c : CardState = warm_state s [] in
@@ -102,6 +105,7 @@ bases_same : (f : Option (Cause × ℕ)) (m n : List (List ℕ)) → means m ≡
 bases_same None m n h = ap (λ (c : Card). OnCard c) h
 bases_same (Some f) m n h = refl
 
+-- what the words of a device mean decides the state
 pub words_law : WordsLaw
 words_law i b m n a e h =
     before_power_power i b m a

@@ -22,6 +22,7 @@ either_whole : (b : Bool) (s t u v : Stopped) → s.whole ≡ u.whole → t.whol
 either_whole true s t u v first second = first
 either_whole false s t u v first second = second
 
+-- the items that a cut leaves whole depend on its word by whether that opens a journal
 pub whole_same : (is : List Item) (k : ℕ) (x y : List ℕ) → OpenAlike x y → (at_stop is k x).whole ≡ (at_stop is k y).whole
 whole_same [] k x y h = refl
 whole_same (Plain ∷ is) k x y h = either_whole (k == 1) _ _ _ _ refl (ap (λ (js : List Item). Plain ∷ js) (whole_same is (k - 1) x y h))
@@ -32,6 +33,7 @@ whole_same (Atomic w c ∷ is) k x y h =
 
 -- ---- the fill that does what a word does
 
+-- one of the fills, which opens a journal exactly if the word does
 pub record FillFor (x : List ℕ) : Type 0 where
   pub fill : List ℕ
   pub is : IsFill fill
@@ -41,6 +43,7 @@ fill_by : (x : List ℕ) (b : Bool) → bytes_eq x (opening Two) ≡ b → FillF
 fill_by x true h = record { fill = opening Two; is = inr (inr refl); alike = h }
 fill_by x false h = record { fill = zeros 8; is = inl refl; alike = h }
 
+-- each word has such a fill
 pub fill_for : (x : List ℕ) → FillFor x
 fill_for x = fill_by x (bytes_eq x (opening Two)) refl
 
@@ -52,6 +55,7 @@ cut_first k f rest h = grind arith
 cut_here : (i n k : ℕ) (f : List ℕ) → IsFill f → i ≡ k → Among (CutAt k f) (cuts_from i (suc n))
 cut_here i n k f is e = subst (λ (j : ℕ). Among (CutAt k f) (cuts_from j (suc n))) (sym e) (cut_first k f (cuts_from (k + 1) n) is)
 
+-- each cut at a counted write with one of the fills is among those that are tried
 pub cuts_among : (n i k : ℕ) (f : List ℕ) → IsFill f → i ≤ k → k < i + n → Among (CutAt k f) (cuts_from i n)
 cuts_among zero i k f is low high = absurd (omega arith)
 cuts_among (suc n) i k f is low high = elim (eq-or-lt_of_le low) [

@@ -50,6 +50,7 @@ blanks_small (c ∷ t) = grind (arith, blank_small, kept_by, blanks_small t)
 
 -- ---- the law
 
+-- patterns match as those of expectations do, in either case of letters
 pub fits_law : FitsLaw
 unfolding fits
 fits_law p t =

@@ -13,9 +13,11 @@ use Rattle.law_explore.specs.Safety.{after_cuts, RecoveryLaw}
 
 -- ---- states of equal parts
 
+-- a state of its parts
 abbrev pub state_by : Base → Live → ℕ → List (List ℕ × ℕ) → CardState
 state_by b v g a = record { base = b; live = v; budget = g; allowances = a }
 
+-- states of equal parts are equal
 pub states_equal : (a : List (List ℕ × ℕ)) (b c : Base) (v w : Live) (g h : ℕ) → b ≡ c → v ≡ w → g ≡ h → state_by b v g a ≡ state_by c w h a
 states_equal a b c v w g h x y z =
     ap (λ (e : Base). state_by e v g a) x ∙ ap (λ (e : Live). state_by c e g a) y ∙ ap (λ (e : ℕ). state_by c w e a) z
@@ -70,12 +72,14 @@ cut_power : (n k : ℕ) (x : List ℕ) (s : Warm) → next (next (AfterPower s) 
 unfolding step
 cut_power n k x s = refl
 
+-- a power line without a stop leaves what is after its power
 pub whole_power : (n : ℕ) (s : Warm) → s.armed ≡ Unarmed → next (AfterPower s) (n, line.Power) ≡ AfterPower (power_after s None)
 unfolding step
 whole_power n s e = ap (λ (a : Armed). AfterPower (power_after s (hit_of a (power_moves s) None))) e
 
 -- ---- several of them
 
+-- several cuts in power lines lead to a state that one whole power line heals
 pub record CutTo (n : ℕ) (cs : List (ℕ × List ℕ)) (s : Warm) : Type 0 where
   pub warm : Warm
   pub is : after_cuts n cs (AfterPower s) ≡ AfterPower warm
@@ -84,6 +88,7 @@ pub record CutTo (n : ℕ) (cs : List (ℕ × List ℕ)) (s : Warm) : Type 0 whe
 once_heals : (s : Warm) (k : ℕ) (x : List ℕ) → Heals (cut_once s k x) s
 once_heals s k x = grind (arith, power_heals (record s { armed = ArmedCut k x }) (hit_of (ArmedCut k x) (power_moves s) None))
 
+-- after any cuts a whole power line leads where it does without them
 pub cuts_heal : (n : ℕ) (cs : List (ℕ × List ℕ)) (s : Warm) → s.armed ≡ Unarmed → CutTo n cs s
 unfolding after_cuts
 cuts_heal n [] s e = record { warm = s; is = refl; heals = record { base = refl; live = refl; budget = refl; unarmed = e } }
@@ -100,6 +105,7 @@ cuts_heal n (c ∷ cs) s e =
 pub healed : (i : ℕ) (s t : Warm) (a : List (List ℕ × ℕ)) → Heals s t → t.armed ≡ Unarmed → state_in (next (AfterPower s) (i, line.Power)) a ≡ state_in (next (AfterPower t) (i, line.Power)) a
 healed i s t a h e = grind (arith, whole_power, states_equal)
 
+-- cuts in power lines lead to no other state once a power line is whole
 pub recovery_law : RecoveryLaw
 recovery_law n i cs s a e =
     let c = cuts_heal n cs s e in

@@ -54,9 +54,11 @@ came_from : {A B E : Type 0} (f : A → B) (x : Result A E) (b : B) → ok_as f 
 came_from f (Ok a) b h = record { value = a; is = refl; same = cc h }
 came_from f (Err e) b h = absurd (cc h)
 
+-- the state after a try and its recovery, with these allowances
 abbrev pub left_by : CardState → Move → Manner → List (List ℕ × ℕ) → CardState
 left_by c m w a = state_in (recovery m.number w (step_of (play_of c) m w).after) a
 
+-- the outcome of a try that breaks nothing is its state with the allowances after it
 pub outcome_from : (ons : List OnRule) (c : CardState) (m : Move) (w : Manner) (d : CardState) → outcome ons c (try_by m w) ≡ Ok d
     → CameFrom {E = List ℕ} (left_by c m w) (allowances_after ons m (step_of (play_of c) m w) c.allowances) d
 unfolding outcome
@@ -65,6 +67,7 @@ outcome_from ons c m w d h = came_from (left_by c m w) (allowances_after ons m (
 -- ---- all actions
 
 module _ (limit : ℕ) (rules : Rules) (moves : AreMoves rules.moves) where
+  -- no list of as many actions as a state is safe for breaks a rule
   pub safe_keeps : (ts : List Action) (s : State) (c : CardState) → Agrees s c → Safe limit rules (length ts) c → KeepsRules rules s c.allowances ts
   safe_keeps [] s c agrees safe = tt
   safe_keeps (t ∷ ts) s c agrees safe = λ can.
@@ -82,6 +85,7 @@ module _ (limit : ℕ) (rules : Rules) (moves : AreMoves rules.moves) where
 
 -- ---- the laws
 
+-- the ending of a search is that of its depths from the first state
 pub ending_first : (limit n : ℕ) (x : Exploration) → (search_of limit n x).ending ≡ (search_from n limit x.rules (first_state x)).ending
 unfolding search_of
 ending_first limit n x = refl
@@ -93,11 +97,14 @@ keeps_from limit n text x e read ends ts promise =
     safe_keeps limit x.rules (moves_of_exploration text x read) ts (AfterPower (first_play x.lines)) (first_state x) (first_agrees x)
     (search_safe limit x.rules (λ e d k. Promises limit x.rules e.ending d k) (promise_by_ending limit x.rules) n (first_state x) (length ts) (subst (λ (z : Ending). Promises limit x.rules z 0 (length ts)) (sym ends ∙ ending_first limit n x) promise))
 
+-- a search that ends with all states is safe for every number of actions
 pub all_law : AllLaw
 all_law limit n text x read ends ts = keeps_from limit n text x All read ends ts tt
 
+-- a search that ends at a depth is safe for as many actions
 pub depth_law : DepthLaw
 depth_law limit n d text x read ends ts few = keeps_from limit n text x (AtDepth d) read ends ts (omega arith)
 
+-- a search that ends at its limit of states is safe for fewer actions than the depth it ended at
 pub limit_law : LimitLaw
 limit_law limit n d text x read ends ts few = keeps_from limit n text x (TooMany d) read ends ts (omega arith)

@@ -123,6 +123,7 @@ allowances_are (x ∷ xs) (y ∷ ys) h =
 allowances_are [] (y ∷ ys) h = absurd (cc h)
 allowances_are (x ∷ xs) [] h = absurd (cc h)
 
+-- states that the test takes for one are equal
 pub state_is : (c d : CardState) → is_same_state c d ≡ true → c ≡ d
 unfolding is_same_state
 state_is c d h =
@@ -140,6 +141,7 @@ known_by : (c d : CardState) (ds : List CardState) (b : Bool) → is_same_state 
 known_by c d ds true e h rest = inl (state_is c d e)
 known_by c d ds false e h rest = inr (rest h)
 
+-- a state that is found known is among the known ones
 pub known_among : (c : CardState) (ds : List CardState) → is_known c ds ≡ true → Among c ds
 unfolding is_known
 known_among c [] h = absurd (cc h)

@@ -19,14 +19,17 @@ abbrev pub IfGoesOn : {A E : Type 0} → (A → Type 0) → Result A E → Type 
 IfGoesOn P (Ok a) = P a
 IfGoesOn P (Err e) = ⊤
 
+-- what holds of a value that is not refused goes through a next step
 pub goes_on : {A B E : Type 0} (P : A → Type 0) (Q : B → Type 0) (x : Result A E) (f : A → Result B E) → IfGoesOn P x → ((a : A) → P a → IfGoesOn Q (f a)) → IfGoesOn Q (x >>= f)
 goes_on P Q (Ok a) f h g = g a h
 goes_on P Q (Err e) f h g = tt
 
+-- what is implied holds of a value that is not refused
 pub weaker : {A E : Type 0} (P Q : A → Type 0) (x : Result A E) → ((a : A) → P a → Q a) → IfGoesOn P x → IfGoesOn Q x
 weaker P Q (Ok a) f h = f a h
 weaker P Q (Err e) f h = tt
 
+-- what holds of all elements holds of one among them
 pub among_all : {A : Type 0} (P : A → Type 0) (a : A) (xs : List A) → AllByRecursion P xs → Among a xs → P a
 among_all P a [] h i = absurd i
 among_all P a (x ∷ xs) h (inl e) = subst P (sym e) h.0
@@ -260,6 +263,7 @@ module _ (limit : ℕ) (rules : Rules) where
   no_halt (RuleBroken name path) d k h = h
   no_halt Full d k h = omega arith
 
+  -- the number of tries that an ending allows is a promise
   pub promise_by_ending : IsPromise (λ e d k. Promises e.ending d k)
   promise_by_ending =
       record {

@@ -9,6 +9,7 @@ use Rattle.law_explore.specs.Matching.{fits}
 use Rattle.law_explore.specs.Tries.{result_text, turn_text, occasions, times, effect_times, allowances_after}
 use Rattle.law_explore.specs.Safety.{ShowsSame}
 
+-- two next steps that agree on each value agree after an answer
 pub bind_same : {A B E : Type 0} (x : Result A E) (f g : A → Result B E) → ((a : A) → f a ≡ g a) → (x >>= f) ≡ (x >>= g)
 bind_same (Ok a) f g h = h a
 bind_same (Err e) f g h = refl
@@ -20,6 +21,7 @@ occasions_same AtTurn p t u h = ap (λ (ts : List Turn). length (filter (λ v. f
 times_same : (r : OnRule) (m : Move) (t u : Step) → ShowsSame t u → times r m t ≡ times r m u
 times_same r m t u h = ap (λ (n : ℕ). cond (fits r.move m.text) n 0) (occasions_same r.occasion r.pattern t u h)
 
+-- steps that show the same leave the same allowances
 pub allowances_same : (ons : List OnRule) (m : Move) (t u : Step) (a : List (List ℕ × ℕ)) → ShowsSame t u → allowances_after ons m t a ≡ allowances_after ons m u a
 unfolding allowances_after
 allowances_same [] m t u a h = refl

@@ -98,5 +98,6 @@ first_agrees x =
     let f = first_is x.lines in
     record { warm = first_play x.lines; is = refl; base = refl; live = refl; budget = refl; unarmed = f.unarmed; started = f.started }
 
+-- an exploration begins with a settled card or with none
 pub first_law : FirstLaw
 first_law ls = grind (arith, first_is ls, first_play ls)

@@ -247,6 +247,7 @@ first_unarmed b o j v g a = grind arith
 
 -- ---- the law
 
+-- the statements of a broken rule, appended to their deck, play to where their tries lead
 pub statements_law : StatementsLaw
 unfolding statements_to first_play LeadPlays
 statements_law n ls t ts counts runs cards =

@@ -16,13 +16,16 @@ use Rattle.law_machine.specs.Limited.{AreLimited}
 use Rattle.law_rows.proofs.Keeping.{length_laid}
 use Rattle.model_card.specs.model_device.proofs.MapLemmas.{same_name, lookup_inserted_lem, lookup_beside, lookup_removed_lem, lookup_left}
 
+-- the lengths of static and session bytes of an application, if there is one
 abbrev pub size_of : Option App → Option (ℕ × ℕ)
 size_of None = None
 size_of (Some a) = Some (length a.fixed, a.session)
 
+-- those of the application under a name
 abbrev pub size_in : List (List ℕ × App) → List ℕ → Option (ℕ × ℕ)
 size_in m n = size_of (lookup m n)
 
+-- two maps have applications of the same sizes
 abbrev pub SameSizes : List (List ℕ × App) → List (List ℕ × App) → Type 0
 SameSizes m d = (n : List ℕ) → size_in d n ≡ size_in m n
 
@@ -45,6 +48,7 @@ changed_size (Some a) m n ps e h k = by (bytes_eq n k) refl
         (ap size_of (lookup_inserted_lem m n (with_pieces ps a)) ∙ ap (λ (l : ℕ). Some (l, a.session)) same ∙ sym (ap size_of e))
     by false is = ap size_of (lookup_beside m n (with_pieces ps a) k is)
 
+-- a change inside the static bytes of its application keeps all sizes
 pub changed_sizes : (m : List (List ℕ × App)) (n : List ℕ) (ps : List (ℕ × List ℕ)) → InsideApp (size_in m n) ps → SameSizes m (map_changed m n (Some ps))
 changed_sizes m n ps h = changed_size (lookup m n) m n ps refl h
 
@@ -54,19 +58,23 @@ changed_sizes m n ps h = changed_size (lookup m n) m n ps refl h
 abbrev pub WriteFits : List (List ℕ × App) → Write → Type 0
 WriteFits m w = InsideApp (size_in m w.name) w.pieces
 
+-- pieces that lie in an application lie in one of the same size
 pub moved_inside : (m d : List (List ℕ × App)) (n : List ℕ) (ps : List (ℕ × List ℕ)) → SameSizes m d → InsideApp (size_in m n) ps → InsideApp (size_in d n) ps
 moved_inside m d n ps same h = subst (λ (s : Option (ℕ × ℕ)). InsideApp s ps) (sym (same n)) h
 
+-- writes that fit a map fit one of the same sizes
 pub moved_writes : (m d : List (List ℕ × App)) (ws : List Write) → SameSizes m d → AllByRecursion (WriteFits m) ws → AllByRecursion (WriteFits d) ws
 moved_writes m d [] same a = tt
 moved_writes m d (w ∷ ws) same a = (moved_inside m d w.name w.pieces same a.0, moved_writes m d ws same a.1)
 
 -- ---- limited maps
 
+-- an application is within the limit of static bytes, if there is one
 abbrev pub Limit : Option (ℕ × ℕ) → Type 0
 Limit None = ⊤
 Limit (Some s) = s.0 ≤ most_static
 
+-- each application of a map is within the limit
 abbrev pub Limited : List (List ℕ × App) → Type 0
 Limited m = (n : List ℕ) → Limit (size_in m n)
 
@@ -74,12 +82,15 @@ limit_of : (o : Option App) (a : App) → o ≡ Some a → Limit (size_of o) →
 limit_of None a e h = absurd (cc e)
 limit_of (Some b) a e h = let same : b ≡ a = cc e in subst (λ (c : App). length c.fixed ≤ most_static) same h
 
+-- the applications of a map within the limit are so one by one
 pub are_limited : (m : List (List ℕ × App)) → Limited m → AreLimited m
 are_limited m h n a e = limit_of (lookup m n) a e (h n)
 
+-- a map of the same sizes is within the limit
 pub limited_same : (m d : List (List ℕ × App)) → SameSizes m d → Limited m → Limited d
 limited_same m d same h n = subst Limit (sym (same n)) (h n)
 
+-- a map stays within the limit with an application that is
 pub limited_inserted : (m : List (List ℕ × App)) (n : List ℕ) (a : App) → Limited m → length a.fixed ≤ most_static → Limited (insert m n a)
 limited_inserted m n a h small k = by (bytes_eq n k) refl
   where
@@ -87,6 +98,7 @@ limited_inserted m n a h small k = by (bytes_eq n k) refl
     by true is = subst (λ (j : List ℕ). Limit (size_in (insert m n a) j)) (same_name n k is) (subst (λ (o : Option App). Limit (size_of o)) (sym (lookup_inserted_lem m n a)) small)
     by false is = subst (λ (o : Option App). Limit (size_of o)) (sym (lookup_beside m n a k is)) (h k)
 
+-- a map stays within the limit without an application
 pub limited_removed : (m : List (List ℕ × App)) (n : List ℕ) → Limited m → Limited (remove m n)
 limited_removed m n h k = by (bytes_eq n k) refl
   where
@@ -102,6 +114,7 @@ ChangeFits m (Fixed n ps) = InsideApp (size_in m n) ps
 ChangeFits m (Created n a) = length a.fixed ≤ most_static
 ChangeFits m (Deleted n) = ⊤
 
+-- the items keep a map within the limit, one after the other
 abbrev pub ItemsFit : List (List ℕ × App) → List Item → Type 0
 ItemsFit m [] = ⊤
 ItemsFit m (Plain ∷ is) = ItemsFit m is
@@ -112,6 +125,7 @@ limited_changed m (Fixed n ps) h f = limited_same m (apps_after_change (Fixed n 
 limited_changed m (Created n a) h f = limited_inserted m n a h f
 limited_changed m (Deleted n) h f = limited_removed m n h
 
+-- items that fit leave a map within the limit
 pub limited_done : (is : List Item) (m : List (List ℕ × App)) → Limited m → ItemsFit m is → Limited (apps_after_items m is)
 limited_done [] m h f = h
 limited_done (Plain ∷ is) m h f = limited_done is m h f
@@ -138,6 +152,7 @@ fit_append [] js m f g = g
 fit_append (Plain ∷ is) js m f g = fit_append is js m f g
 fit_append (Atomic w c ∷ is) js m f g = (f.0, fit_append is js (apps_after_change c m) f.1 g)
 
+-- a map whose applications are within the limit one by one is
 pub limited_from : (m : List (List ℕ × App)) → AreLimited m → Limited m
 limited_from m h n = by (lookup m n) refl
   where

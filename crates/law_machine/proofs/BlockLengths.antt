@@ -18,9 +18,11 @@ use Rattle.law_machine.proofs.CipherBlocks.{length_des, length_des_back, length_
 
 -- ---- lists
 
+-- a number written in as many bytes as a block is no longer
 pub worked_short : (a : List ℕ) (n v : ℕ) → length a ≤ n → length (bytes (length a) v) ≤ n
 worked_short a n v few = omega (arith, length_bytes (length a) v)
 
+-- a byte-by-byte result is no longer than its first operand
 pub each_short : (op : ℕ → ℕ → ℕ) (a b : List ℕ) (n : ℕ) → length a ≤ n → length (each_byte op a b) ≤ n
 each_short op [] b n few = omega arith
 each_short op (x ∷ a) [] n few = omega arith
@@ -28,19 +30,24 @@ each_short op (x ∷ a) (y ∷ b) n few =
     let less : length (each_byte op a b) ≤ length a = each_short op a b (length a) (omega arith) in
     omega arith
 
+-- a block mapped byte by byte is no longer
 pub map_short : (op : ℕ → ℕ) (a : List ℕ) (n : ℕ) → length a ≤ n → length (map op a) ≤ n
 map_short op a n few = omega (arith, length-map a op)
 
+-- at most n bytes are read from the stack
 pub stacked_short : (f : Frame) (k n : ℕ) → length (stack_bytes f k n) ≤ n
 stacked_short f k n = omega (arith, length-take n (drop (f.dt - k - dynamic_base) f.dyn))
 
+-- at most n bytes are read at a place
 pub in_short : (f : Frame) (public : List ℕ) (n : ℕ) (place : Option Place) → length (bytes_in f public n place) ≤ n
 in_short f public n place = grind (arith, length-take)
 
+-- a block or none is no longer than the block
 pub none_or : (b : Bool) (l : List ℕ) (n : ℕ) → length l ≤ n → length (cond b [] l) ≤ n
 none_or true l n few = omega arith
 none_or false l n few = few
 
+-- at most n bytes are read at an address
 pub at_short : (f : Frame) (public : List ℕ) (a n : ℕ) → length (bytes_at f public a n) ≤ n
 unfolding bytes_at
 at_short f public a n = none_or (n == 0) (bytes_in f public n (where_is f a n)) n (in_short f public n (where_is f a n))
@@ -100,9 +107,11 @@ each_blocks cipher (suc n) size message h =
 pub ecb_short : (c : Cipher) (cipher : List ℕ → List ℕ) (message : List ℕ) → Short (block_len c) cipher → length (ecb cipher (block_len c) message) ≤ length message
 ecb_short c cipher message h = grind (arith, each_blocks)
 
+-- an enciphered message is no longer than the message
 pub enciphered_message : (c : Cipher) (key message : List ℕ) → length (ecb (encipherment c key) (block_len c) message) ≤ length message
 enciphered_message c key message = ecb_short c (encipherment c key) message (enciphered_short c key)
 
+-- a deciphered message is no longer than the message
 pub deciphered_message : (c : Cipher) (key message : List ℕ) → length (ecb (decipherment c key) (block_len c) message) ≤ length message
 deciphered_message c key message = ecb_short c (decipherment c key) message (deciphered_short c key)
 

@@ -12,6 +12,7 @@ use Rattle.law_machine.specs.FewHeaders.{FewHeadersLaw}
 use Rattle.model_card.specs.model_device.proofs.BoolLemmas.{or_swap}
 use Rattle.model_card.specs.model_device.proofs.LayoutLemmas.{length_spans}
 
+-- a header word: its place and its bytes
 abbrev pub Pair : Type 0
 Pair = ℕ × List ℕ
 
@@ -22,12 +23,15 @@ one_if false = 0
 
 -- ---- filters over insertions
 
+-- the number of header words that pass a test
 abbrev pub count : (Pair → Bool) → List Pair → ℕ
 count t es = length (filter t es)
 
+-- a word in front counts one if it passes
 pub count_first : (t : Pair → Bool) (e : Pair) (es : List Pair) → count t (e ∷ es) ≡ one_if (t e) + count t es
 count_first t e es = grind arith
 
+-- a word put at its place counts one if it passes
 pub count_put : (t : Pair → Bool) (p : ℕ) (x : List ℕ) (es : List Pair) → count t (put_at p x es) ≡ one_if (t (p, x)) + count t es
 count_put t p x [] = count_first t (p, x) []
 count_put t p x (e ∷ es) = by (nat_lt p e.0) (count_put t p x es)
@@ -36,6 +40,7 @@ count_put t p x (e ∷ es) = by (nat_lt p e.0) (count_put t p x es)
     by true r = count_first t (p, x) (e ∷ es)
     by false r = let a = count_first t e (put_at p x es) in let b = count_first t e es in omega (arith, a, b, r)
 
+-- a test counts at most one
 pub one_most : (b : Bool) → one_if b ≤ 1
 one_most true = omega arith
 one_most false = omega arith
@@ -48,6 +53,7 @@ count_most t (e ∷ es) =
     let o : one_if (t e) ≤ 1 = one_most (t e) in
     omega arith
 
+-- some word passes a test if the one that was put does, or another
 pub any_put : (q : Pair → Bool) (p : ℕ) (x : List ℕ) (es : List Pair) → list_any q (put_at p x es) ≡ (q (p, x) || list_any q es)
 any_put q p x [] = refl
 any_put q p x (e ∷ es) = by (nat_lt p e.0) (any_put q p x es)
@@ -139,6 +145,7 @@ chained_length (g ∷ gs) = ap suc (chained_length gs)
 
 -- ---- the headers that stay
 
+-- a header word is the same as itself
 pub self_pair : (e : Pair) → same_pair e e ≡ true
 self_pair e = and_from (e.0 == e.0) (bytes_eq e.1 e.1) (eq-eqb e.0 e.0 refl) ((bytes_eq-Decides e.1 e.1).1 refl)
 
@@ -161,6 +168,7 @@ insert_count t (e ∷ es) n a = by (bytes_eq e.0 n) (name_before n e.0) (insert_
     by false true r o = omega (arith, r, o)
     by false false r o = omega (arith, r, o)
 
+-- an insertion adds at most one application
 pub insert_length : (m : List (List ℕ × App)) (n : List ℕ) (a : App) → length (insert m n a) ≤ length m + 1
 insert_length [] n a = omega arith
 insert_length (e ∷ es) n a = by (bytes_eq e.0 n) (name_before n e.0) (insert_length es n a)
@@ -178,6 +186,7 @@ remove_count t (e ∷ es) n = by (bytes_eq e.0 n) (remove_count t es n)
     by true r = omega (arith, r)
     by false r = omega (arith, r)
 
+-- a removal adds none
 pub remove_length : (m : List (List ℕ × App)) (n : List ℕ) → length (remove m n) ≤ length m
 remove_length [] n = omega arith
 remove_length (e ∷ es) n = by (bytes_eq e.0 n) (remove_length es n)
@@ -216,6 +225,7 @@ module _ (c d : Card) where
       let most : count fresh (head ∷ with_used (spans d) hs) ≤ length d.apps + k + 2 = omega arith in
       most
 
+-- a creation or a deletion changes at most four header words more than there are applications
 pub few_headers_law : FewHeadersLaw
 few_headers_law c n a =
     let made : Card = record c { apps = insert c.apps n a } in

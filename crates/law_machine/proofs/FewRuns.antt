@@ -51,10 +51,12 @@ pub record FewFrame (f : Frame) : Type 0 where
   pub held : HoldsFew f
   pub name : length f.name ≤ 16
 
+-- each frame is within the limits, with a name of at most 16 bytes
 abbrev pub AllFew : List Frame → Type 0
 AllFew [] = ⊤
 AllFew (f ∷ fs) = FewFrame f × AllFew fs
 
+-- each instruction of an application's code is within its ranges
 abbrev pub Coded : List (List ℕ × App) → Type 0
 Coded m = (n : List ℕ) (at : ℕ) (i : Ins) (next : ℕ) → instruction_at (code_in (lookup m n)) at ≡ Ok (i, next) → Shaped i
 
@@ -68,9 +70,11 @@ pub record FewChain (ch : Chain) : Type 0 where
 coded_moved : (m d : List (List ℕ × App)) → SameCode m d → Coded m → Coded d
 coded_moved m d same h n at i next e = h n at i next (subst (λ (c : List ℕ). instruction_at c at ≡ Ok (i, next)) (same n) e)
 
+-- a write touches at most 64 words
 abbrev pub FewOfWrite : Write → Type 0
 FewOfWrite w = w.words ≤ 64
 
+-- what follows a turn is within the limits, if the run goes on
 abbrev pub FewNext : Follows → Type 0
 FewNext (Ends o) = ⊤
 FewNext (Continues c) = FewChain c
@@ -108,6 +112,7 @@ follows_few s t short h = grind (arith, exited_few, called_few)
 
 -- ---- turns
 
+-- the name of the frame that delegated has at most 16 bytes
 pub reported_by : (fs : List Frame) → AllFew fs → IfSome (delegator_in fs) (λ n. length n ≤ 16)
 reported_by [] a = tt
 reported_by (f ∷ fs) a = a.0.name
@@ -161,6 +166,7 @@ fetched_few ch (Err Undefined) e fits h = record { writes = tt; next = tt }
 fetched_few ch (Err Past) e fits h = record { writes = tt; next = tt }
 fetched_few ch (Ok i) e fits h = row_turn_few ch i.0 i.1 fits h (h.coded ch.frame.name ch.frame.at i.0 i.1 e)
 
+-- a turn of a chain within the limits writes few words, and what follows it is within them
 pub acted_few : (ch : Chain) → ChainFits ch → FewChain ch → ActFew (turn_of_chain ch)
 unfolding turn_of_chain
 acted_few ch fits h = fetched_few ch (instruction_at (code_in (lookup ch.map ch.frame.name)) ch.frame.at) refl fits h
@@ -179,10 +185,12 @@ ran_few (suc n) ch fits h =
     let t : ActFew (turn_of_chain ch) = acted_few ch fits h in
     ran_on_few ch (turn_of_chain ch) _ (turn_of_chain ch).follows (λ c. run_of_chain n c) t.writes (acted_fits ch fits).next t.next (λ c k l. ran_few n c k l)
 
+-- a run of an application within the limits begins within them
 pub start_few : (m : List (List ℕ × App)) (first session : List ℕ) (apdu : ApduParts) (o : Option App) → lookup m first ≡ o → AreCoded m → length first ≤ 16 → FewChain (start_app m first session apdu (unwrap_or o no_app))
 start_few m first session apdu None e good short = record { frame = new_few first no_app session short (omega arith); below = tt; limited = limited_from m good.limited; coded = good.shaped }
 start_few m first session apdu (Some a) e good short = record { frame = new_few first a session short (good.limited first a e); below = tt; limited = limited_from m good.limited; coded = good.shaped }
 
+-- each atomic write of a run touches at most 64 words
 pub few_runs_law : FewRunsLaw
 few_runs_law m first session apdu budget good short =
     ran_few budget (start m first session apdu) (start_fits m first session apdu (lookup m first) refl) (start_few m first session apdu (lookup m first) refl good short)

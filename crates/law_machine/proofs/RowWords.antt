@@ -25,14 +25,17 @@ use Rattle.law_machine.proofs.ActWords.{ChangesFew, WriteFacts, Tested, act_most
 
 -- ---- no cause holds
 
+-- none of some causes holds
 abbrev pub NoneHolds : List (Abend × Bool) → Type 0
 NoneHolds [] = ⊤
 NoneHolds (c ∷ cs) = (c.1 ≡ false) × NoneHolds cs
 
+-- if the first cause does not hold, what is left has none
 pub not_first : (b : Bool) (a : Abend) (rest : Option Abend) → cond b (Some a) rest ≡ None → (b ≡ false) × (rest ≡ None)
 not_first true a rest e = absurd (cc e)
 not_first false a rest e = (refl, e)
 
+-- if there is no first cause, none holds
 pub none_holds : (cs : List (Abend × Bool)) → first_cause cs ≡ None → NoneHolds cs
 none_holds [] e = tt
 none_holds (c ∷ cs) e =
@@ -58,9 +61,11 @@ operand_facts f o n b none short small = record { short = short; small = small; 
 byte_most : (n : ℕ) → n < 256 → n ≤ 256
 byte_most n h = omega arith
 
+-- a number in a range is at most its upper end
 pub ranged : (low high n : ℕ) → in_range low high n ≡ true → n ≤ high
 ranged low high n h = leb-true n high (and_parts (nat_le low n) (nat_le n high) h).1
 
+-- the first argument byte is a byte, or zero if there is none
 pub first_byte : (args : List ℕ) → AllByRecursion (λ b. b < 256) args → slice_index args 0 < 256
 first_byte [] a = omega arith
 first_byte (b ∷ bs) a = a.0
@@ -269,6 +274,7 @@ judged_words : (i : Ins) (f : Frame) (public : List ℕ) (x : Around) → Shaped
 judged_words i f public x shaped reported few (Some a) e = tt
 judged_words i f public x shaped reported few None e = (row_few i f public x (record { shaped = shaped; reported = reported; none = none_holds (causes i f public x) e })).words few
 
+-- a row touches at most the words of its instruction
 pub row_words : (i : Ins) (f : Frame) (public : List ℕ) (x : Around) → Shaped i → IsReportedName i x.delegator → (most_words i ≡ 64 → length (touched_words f.pieces) ≤ 64) → EndsWithin (most_words i) (row i f public x)
 unfolding row
 row_words i f public x shaped reported few = judged_words i f public x shaped reported few (first_cause (causes i f public x)) refl
@@ -297,6 +303,7 @@ delegates_done : (o : Option Primitive) (args : List ℕ) (f : Frame) (public : 
 delegates_done None args f public x none n e = absurd (cc e)
 delegates_done (Some p) args f public x none n e = delegates_prim p args f public x none.1.1 n e
 
+-- a delegation has a name of at most 16 bytes
 pub delegates_short : (i : Ins) (f : Frame) (public : List ℕ) (x : Around) → NoneHolds (causes i f public x) → (n : List ℕ) → (effect i f public x).next ≡ Delegates n → length n ≤ 16
 unfolding causes effect
 delegates_short (ins.Prim set number args) f public x none n e = delegates_done (primitive set number) args f public x none n e
@@ -306,6 +313,7 @@ most_of_64 : (o : Option Primitive) → most_of o ≤ 64
 most_of_64 (Some SetProtection) = omega arith
 most_of_64 o = omega arith
 
+-- an instruction touches at most 64 words
 pub most_64 : (i : Ins) → most_words i ≤ 64
 most_64 (ins.Prim set number args) = most_of_64 (primitive set number)
 most_64 i = omega arith
@@ -315,13 +323,16 @@ most_of_is : (o : Option Primitive) → (most_of o ≡ 64) ⊎ (most_of o ≡ 33
 most_of_is (Some SetProtection) = inl refl
 most_of_is o = inr refl
 
+-- it may touch 64 or at most 33
 pub most_is : (i : Ins) → (most_words i ≡ 64) ⊎ (most_words i ≡ 33)
 most_is (ins.Prim set number args) = most_of_is (primitive set number)
 most_is i = inr refl
 
+-- a row changes few words, in a frame within the limits
 pub few_words_law : FewWordsLaw
 unfolding row
 few_words_law i f public x shaped reported held = judged_few i f public x shaped reported held (first_cause (causes i f public x)) refl
 
+-- 33 words cost at most 78 device writes, and 64 words 147; in journal 1 they cost 102 and 195
 pub few_writes_law : FewWritesLaw
 few_writes_law w = (λ h. record { two = omega arith; one = omega arith }, λ h. record { two = omega arith; one = omega arith })

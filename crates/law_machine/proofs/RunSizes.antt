@@ -27,15 +27,18 @@ abbrev pub AsMany : Option (ℕ × ℕ) → ℕ → Type 0
 AsMany None n = ⊤
 AsMany (Some s) n = s.0 ≡ n
 
+-- a frame has the sizes of its application, and the pieces that wait lie in it
 pub record FrameFits (m : List (List ℕ × App)) (f : Frame) : Type 0 where
   pub fixed : AsMany (size_in m f.name) (length f.fixed)
   pub inside : PiecesWithin (length f.fixed) f.pieces
   pub session : f.session ≤ length f.dyn
 
+-- each frame has the sizes of its application
 abbrev pub FramesFit : List (List ℕ × App) → List Frame → Type 0
 FramesFit m [] = ⊤
 FramesFit m (f ∷ fs) = FrameFits m f × FramesFit m fs
 
+-- each frame of a chain has the sizes of its application
 pub record ChainFits (ch : Chain) : Type 0 where
   pub frame : FrameFits ch.map ch.frame
   pub below : FramesFit ch.map ch.below
@@ -59,6 +62,7 @@ abbrev pub NextFits : Chain → Follows → Type 0
 NextFits ch (Ends o) = ⊤
 NextFits ch (Continues c) = SameSizes ch.map c.map × ChainFits c × ((first_frame c.frame c.below).session ≡ (first_frame ch.frame ch.below).session)
 
+-- the writes of a turn lie in their applications, and what follows has the same sizes
 pub record ActFits (ch : Chain) (t : Acted) : Type 0 where
   pub writes : AllByRecursion (WriteFits ch.map) t.writes
   pub next : NextFits ch t.follows
@@ -155,12 +159,14 @@ fetched_fits ch (Err Undefined) h = record { writes = tt; next = tt }
 fetched_fits ch (Err Past) h = record { writes = tt; next = tt }
 fetched_fits ch (Ok i) h = row_fits ch i.0 i.1 h
 
+-- a turn of a chain that fits writes inside its applications and keeps their sizes
 pub acted_fits : (ch : Chain) → ChainFits ch → ActFits ch (turn_of_chain ch)
 unfolding turn_of_chain
 acted_fits ch h = fetched_fits ch (instruction_at (code_in (lookup ch.map ch.frame.name)) ch.frame.at) h
 
 -- ---- runs
 
+-- the writes of a run lie in their applications, and it ends with this number of session bytes
 pub record RanFits (m : List (List ℕ × App)) (bytes : ℕ) (r : Ran) : Type 0 where
   pub writes : AllByRecursion (WriteFits m) r.writes
   pub session : length r.session ≡ bytes
@@ -188,6 +194,7 @@ ran_on_fits ch t (Continues c) rest h writes next more =
       session = r.session ∙ next.2;
     }
 
+-- a run of a chain that fits writes inside its applications
 pub ran_fits : (n : ℕ) (ch : Chain) → ChainFits ch → RanFits ch.map (first_frame ch.frame ch.below).session (run_of_chain n ch)
 unfolding run_of_chain
 ran_fits zero ch h = record { writes = tt; session = session_length ch h }
@@ -195,6 +202,7 @@ ran_fits (suc n) ch h =
     let t : ActFits ch (turn_of_chain ch) = acted_fits ch h in
     ran_on_fits ch (turn_of_chain ch) (turn_of_chain ch).follows (λ c. run_of_chain n c) h t.writes t.next (λ c k. ran_fits n c k)
 
+-- the frame with which an application begins fits it
 pub start_fits : (m : List (List ℕ × App)) (first session : List ℕ) (apdu : ApduParts) (o : Option App) → lookup m first ≡ o → ChainFits (start_app m first session apdu (unwrap_or o no_app))
 start_fits m first session apdu None e = record { frame = new_fits m first no_app session (subst (λ (o : Option App). AsMany (size_of o) 0) (sym e) tt); below = tt }
 start_fits m first session apdu (Some a) e = record { frame = new_fits m first a session (subst (λ (o : Option App). AsMany (size_of o) (length a.fixed)) (sym e) refl); below = tt }

@@ -76,6 +76,7 @@ few_words at (c ∷ b) h =
 
 -- ---- pieces
 
+-- a piece of at most 256 bytes touches at most 33 words
 pub one_piece : (at : ℕ) (b : List ℕ) → length b ≤ 256 → length (touched_words ((at, b) ∷ [])) ≤ 33
 unfolding touched_words
 one_piece at b h = few_words at b h

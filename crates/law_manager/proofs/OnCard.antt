@@ -39,6 +39,7 @@ module _ (c : Card) (session_state : SessionState) (a : ApduParts) where
       subst (λ (is : List Item). IsCommand c session_state a Creates (done [] (record session_state { load = None }) is)) (sym items) (on.created l n h)
   on_card _ _ (of.deleted h) = on.deleted h
 
+-- each command makes plain items alone, except for the atomic write of a creation or a deletion
 pub commands_law : CommandsLaw
 commands_law o c session_state a = on_card c session_state a o (managed o (room_on c) c.apps session_state a) (answers_law o (room_on c) c.apps session_state a)
 
@@ -56,5 +57,6 @@ select_found c session_state a o is false true = on.unselected 0x6700 refl
 select_found c session_state a None is false false = on.unselected 0x6A82 refl
 select_found c session_state a (Some app) is false false = on.selected app is
 
+-- a SELECT is refused, or selects an application on the card with zeros as its session bytes
 pub selects_law : SelectsLaw
 selects_law c session_state a = select_found c session_state a (lookup c.apps a.body) refl (not (a.p2 == 0 || a.p2 == 0x0C)) (is_empty a.body)

@@ -42,6 +42,7 @@ module _ (room : Sizes → Option ℕ) (map : List (List ℕ × App)) (session_s
       by_test 0x22 (Loads part.Fci) _ _ refl (by_test 0x16 Creates _ _ refl (by_test 0x18 Deletes _ _ refl (record { answer = refl; ins = tt }))))))
       )
 
+-- the manager takes a command of class BE as the command that its INS names
 pub order_law : OrderLaw
 order_law room map session_state a = let t = table room map session_state a in record { is = t.answer; ins = t.ins }
 
@@ -150,6 +151,7 @@ module _ (room : Sizes → Option ℕ) (apps : List (List ℕ × App)) (session_
       unless Deletes (delete_refusals apps session_state a) (delete_done session_state a) (refl, (refl, (refl, (refl, tt)))) (λ e.
       of.deleted (record { other = (none_of _ 0x6985 _ (none_of _ 0x6A82 _ (none_of _ 0x6700 _ (none_of _ 0x6A86 _ e).1).1).1).0 }))
 
+-- each answer of the manager is a refusal, or what its command does if no refusal holds
 pub answers_law : AnswersLaw
 unfolding Answers
 answers_law Opens room apps session_state a = opens room apps session_state a

@@ -9,10 +9,12 @@ pub plains_are : (P : List Item → Type 0) → ((is : List Item) → P is → P
 plains_are P next zero is h = h
 plains_are P next (suc n) is h = next (plains n is) (plains_are P next n is h)
 
+-- plain items before others change no application
 pub plains_done : (apps : List (List ℕ × App)) (n : ℕ) (is : List Item) → apps_after_items apps (plains n is) ≡ apps_after_items apps is
 plains_done apps zero is = refl
 plains_done apps (suc n) is = plains_done apps n is
 
+-- each plain item before others makes one device write
 pub plains_moves : (n : ℕ) (is : List Item) → moves (plains n is) ≡ n + moves is
 plains_moves zero is = omega arith
 plains_moves (suc n) is = let rest = plains_moves n is in omega (arith, rest)

@@ -24,11 +24,13 @@ abbrev pub NoneOf : List ℕ → List Frame → Type 0
 NoneOf n [] = ⊤
 NoneOf n (f ∷ fs) = (bytes_eq f.name n ≡ false) × NoneOf n fs
 
+-- no frame of a chain in which a name is not active has that name
 pub inactive : (n : List ℕ) (f : Frame) (fs : List Frame) → is_active n f fs ≡ false → NoneOf n (f ∷ fs)
 inactive n f [] h = (h, tt)
 inactive n f (g ∷ gs) h =
     ((or_parts (bytes_eq f.name n) (is_active n g gs) h).0, inactive n g gs (or_parts (bytes_eq f.name n) (is_active n g gs) h).1)
 
+-- nor has the first frame of such a chain
 pub first_none : (n : List ℕ) (f : Frame) (fs : List Frame) → NoneOf n (f ∷ fs) → bytes_eq (first_frame f fs).name n ≡ false
 first_none n f [] h = h.0
 first_none n f (g ∷ gs) h = first_none n g gs h.1
@@ -65,6 +67,7 @@ pub record Runs {E : Type 0} (o : Domain E) (q : Asked E) (h : List E) (fixed : 
   pub at : o.at (entry_over q fs) h f public
   pub none : NoneOf o.watch.name fs
 
+-- a frame waits, if it is the application's, else the rest holds
 abbrev pub WaitsIf : {E : Type 0} → Bool → Domain E → Asked E → List E → List ℕ → Frame → List Frame → Type 0 → Type 0
 WaitsIf true o q h fixed f fs rest = Waits o q h fixed f fs
 WaitsIf false o q h fixed f fs rest = rest
@@ -74,6 +77,7 @@ abbrev pub AllWait : {E : Type 0} → Domain E → Asked E → List E → List �
 AllWait o q h fixed [] = o.idle h fixed
 AllWait o q h fixed (f ∷ fs) = WaitsIf (bytes_eq f.name o.watch.name) o q h fixed f fs (AllWait o q h fixed fs)
 
+-- a frame runs, if it is the application's, else the rest holds
 abbrev pub RunsIf : {E : Type 0} → Bool → Domain E → Asked E → List E → List ℕ → Frame → List Frame → List ℕ → Type 0 → Type 0
 RunsIf true o q h fixed f fs public rest = Runs o q h fixed f fs public
 RunsIf false o q h fixed f fs public rest = rest
@@ -110,15 +114,19 @@ module _ {E : Type 0} (o : Domain E) (q : Asked E) (h : List E) (fixed : List �
   pub own_runs : (f : Frame) (fs : List Frame) (p : List ℕ) → bytes_eq f.name o.watch.name ≡ true → Runs o q h fixed f fs p → StackKept o q h fixed f fs p
   own_runs f fs p n r = subst (λ (b : Bool). RunsIf b o q h fixed f fs p (AllWait o q h fixed fs)) (sym n) r
 
+  -- a frame of the application that waits is one of frames that wait
   pub own_waits : (f : Frame) (fs : List Frame) → bytes_eq f.name o.watch.name ≡ true → Waits o q h fixed f fs → AllWait o q h fixed (f ∷ fs)
   own_waits f fs n w = subst (λ (b : Bool). WaitsIf b o q h fixed f fs (AllWait o q h fixed fs)) (sym n) w
 
+  -- a frame of another application above frames that wait leaves them waiting
   pub others_wait : (f : Frame) (fs : List Frame) → bytes_eq f.name o.watch.name ≡ false → AllWait o q h fixed fs → AllWait o q h fixed (f ∷ fs)
   others_wait f fs n w = subst (λ (b : Bool). WaitsIf b o q h fixed f fs (AllWait o q h fixed fs)) (sym n) w
 
+  -- below a running frame of another application all frames wait
   pub others_wait_below : (f : Frame) (fs : List Frame) (p : List ℕ) → bytes_eq f.name o.watch.name ≡ false → StackKept o q h fixed f fs p → AllWait o q h fixed fs
   others_wait_below f fs p n s = subst (λ (b : Bool). RunsIf b o q h fixed f fs p (AllWait o q h fixed fs)) n s
 
+  -- a running frame of the application runs in the chain
   pub own_run : (f : Frame) (fs : List Frame) (p : List ℕ) → bytes_eq f.name o.watch.name ≡ true → StackKept o q h fixed f fs p → Runs o q h fixed f fs p
   own_run f fs p n s = subst (λ (b : Bool). RunsIf b o q h fixed f fs p (AllWait o q h fixed fs)) n s
 
@@ -129,10 +137,12 @@ pub record ThereKept {E : Type 0} (o : Domain E) (q : Asked E) (h : List E) (a :
   pub like : IsLike o.app a
   pub stack : StackKept o q h a.fixed f fs public
 
+-- the application is kept on the card, or it is gone and no frame is its own
 abbrev pub FoundKept : {E : Type 0} → Domain E → Asked E → List E → Option App → Frame → List Frame → List ℕ → Type 0
 FoundKept o q h None f fs public = NoneOf o.watch.name (f ∷ fs) × o.gone h
 FoundKept o q h (Some a) f fs public = ThereKept o q h a f fs public
 
+-- what a chain keeps of a domain, with the command that it runs
 pub record ChainKept {E : Type 0} (o : Domain E) (q : Asked E) (h : List E) (ch : Chain) : Type 0 where
   pub kept : FoundKept o q h (lookup ch.map o.watch.name) ch.frame ch.below ch.public
   pub command : ch.apdu ≡ q.apdu
@@ -147,6 +157,7 @@ abbrev pub EndIf : {E : Type 0} → Bool → Domain E → Asked E → List E →
 EndIf true o q k fixed session outcome = EndCovered o (entry_of q) k fixed session outcome
 EndIf false o q k fixed session outcome = o.idle k fixed
 
+-- the answer is covered, if the first frame is the application's
 abbrev pub AnswerIf : {E : Type 0} → Bool → Domain E → Asked E → List E → Outcome → Type 0
 AnswerIf true o q k outcome = AnswerCovered o q.bytes q.apdu q.before k outcome
 AnswerIf false o q k outcome = ⊤
@@ -155,6 +166,7 @@ AnswerIf false o q k outcome = ⊤
 abbrev pub StopIf : {E : Type 0} → Bool → Domain E → List E → Option App → Type 0
 StopIf b o k found = IdleCovered o (with_event (o.watch.of_end b) k) found
 
+-- what is kept at the end of a command while the application is on the card
 pub record EndOf {E : Type 0} (b : Bool) (o : Domain E) (q : Asked E) (k : List E) (a : App) (session : List ℕ) (outcome : Outcome) : Type 0 where
   pub like : IsLike o.app a
   pub ended : EndIf b o q k a.fixed session outcome
@@ -172,6 +184,7 @@ EndKept b o q k (Some a) session outcome = EndOf b o q k a session outcome
 pub beside_changed : (m : List (List ℕ × App)) (n k : List ℕ) (c : Option (List (ℕ × List ℕ))) → bytes_eq n k ≡ false → lookup (map_changed m n c) k ≡ lookup m k
 beside_changed m n k c h = grind (arith, lookup_beside)
 
+-- an application after a change of its static bytes
 abbrev pub with_change : App → Option (List (ℕ × List ℕ)) → App
 with_change a c = record a { fixed = after_change a.fixed c }
 

@@ -19,5 +19,6 @@ other_byte b i n is z same = grind (arith, equal_is)
 pub some_block : (b : List ℕ) → is_zero b ≡ false → num b ≢ 0
 some_block b z none = absurd (cc (sym (ap (λ (n : ℕ). n == 0) none) ∙ z))
 
+-- bytes that are all zero are the number zero
 pub zero_block : (b : List ℕ) → is_zero b ≡ true → num b ≡ 0
 zero_block b z = eqb-true (num b) 0 z

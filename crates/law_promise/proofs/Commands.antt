@@ -157,6 +157,7 @@ module _ {E : Type 0} (o : Domain E) (shown : IsSound o) where
 
   -- ---- the end of a session
 
+  -- the end of a command to another application leaves an idle application covered
   pub idle_end : (h : List E) (found : Option App) → IdleCovered o h found → IdleCovered o (with_event (o.watch.of_end false) h) found
   idle_end h None kept = shown.gone_on h kept
   idle_end h (Some a) kept = (kept.0, shown.idle_on h a.fixed kept.1)
@@ -258,6 +259,7 @@ module _ {E : Type 0} (o : Domain E) (shown : IsSound o) where
       subst (λ (p : List E). SessionCovered o p (lookup (apps_after_items m is) o.watch.name) session) (sym (avoid_history o.watch.name is h a))
       (subst (λ (z : Option App). SessionCovered o h z session) (sym (avoid_lookup o.watch.name is m a)) x)
 
+  -- an application in a session is on the card
   pub is_there : (h : List E) (found : Option App) (session : List ℕ) → SessionCovered o h found session → is_some found ≡ true
   is_there h None session x = absurd x
   is_there h (Some a) session x = refl
@@ -295,6 +297,7 @@ module _ {E : Type 0} (o : Domain E) (shown : IsSound o) where
 
   -- ---- a command by its route
 
+  -- a command that no stop hits keeps what the domain covers, by its route
   pub route_kept : (h : List E) (c : Card) (session_state : SessionState) (bytes : List ℕ) (budget : ℕ) (r : Route) → route bytes ≡ r → (o.of_bytes → IsKnown c session_state r) → CreatesOnly o.watch.name o.app (by_route c session_state budget r).items → SelectedCovered o h (lookup c.apps o.watch.name) session_state.selected
       → CommandKept o h c session_state r (by_route c session_state budget r)
       (with_answer o.watch (is_own_route o.watch.name session_state.selected r) bytes (Some (Answered (by_route c session_state budget r).outcome)) (after_route o.watch c session_state bytes budget r None (after_items o.watch.name (by_route c session_state budget r).items h)))
@@ -306,6 +309,7 @@ module _ {E : Type 0} (o : Domain E) (shown : IsSound o) where
       record { selected = manager_kept h c session_state budget (ToManager a) tt only holds; answer = no_parts (ToManager a) session_state.selected h _ _ (λ a e. cc e) }
   route_kept h c session_state bytes budget (ToApplication a) to known only holds = passed_kept h c session_state session_state.selected bytes a budget to (λ t. (known t).route) (λ t. ((known t).apps, (known t).session.selected)) refl holds
 
+  -- a command that a stop hits leaves the application idle, by its route
   pub route_cut : (h : List E) (c : Card) (session_state : SessionState) (bytes : List ℕ) (budget : ℕ) (r : Route) (cut : CutAt) → route bytes ≡ r → (o.of_bytes → IsKnown c session_state r)
       → let whole = (at_stop (by_route c session_state budget r).items cut.at cut.left).whole in
       HitsItems o.anywhere (by_route c session_state budget r).items cut → CreatesOnly o.watch.name o.app whole → SelectedCovered o h (lookup c.apps o.watch.name) session_state.selected

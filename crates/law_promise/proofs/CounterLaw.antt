@@ -15,6 +15,7 @@ line : (h : List ℕ) (t : Step) (k : List ℕ) → LineKept counter_outline h t
     → OnFixed counter_name (KeepsCount k) t.after × OnAnswer (AnswersCount h k) (command_for counter_name t.before t.line) t.result
 line h t k x = (fixed_from counter_outline k (KeepsCount k) t.after (λ fixed kept. counts k fixed kept) x.0, x.1)
 
+-- the counter keeps its promise in every play from a card without it
 pub counter_law : CounterLaw
 counter_law ls m ws =
     along_from counter_watch counter_app (LineKept counter_outline) _ line [] (plays (start m) ls ws) (kept_along counter_outline counter_shown ls m ws)
@@ -23,6 +24,7 @@ counter_law ls m ws =
 begun : (h fixed : List ℕ) → BeginsCount h fixed → CountKept h fixed
 begun h fixed b = record { size = b.size; holds = b.keeps.holds; small = b.small; rises = b.keeps.rises }
 
+-- the counter keeps its promise from a history that the counter on the first card begins with
 pub counter_from_law : CounterFromLaw
 counter_from_law h ls m ws =
     along_as counter_watch counter_app CountKept BeginsCount (LineKept counter_outline) _ begun line h (plays (start m) ls ws) (kept_from counter_outline counter_shown h ls m ws)

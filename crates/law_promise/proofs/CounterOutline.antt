@@ -14,6 +14,7 @@ use Rattle.law_promise.proofs.PublicBytes.{other_ins, status_set, status_beside_
 
 -- ---- what keeps
 
+-- the static bytes hold the newest count, below 65,536, and the counts rise
 pub record CountKept (h fixed : List ℕ) : Type 0 where
   pub size : length fixed ≡ 2
   pub holds : num fixed ≡ newest_count h
@@ -155,6 +156,7 @@ no_session : (session : List ℕ) → length session ≡ 0 → session ≡ []
 no_session [] e = refl
 no_session (x ∷ xs) e = absurd (cc e)
 
+-- each part of the counter's outline holds
 pub counter_shown : IsShown counter_outline
 counter_shown =
     record {

@@ -93,6 +93,7 @@ module _ {E : Type 0} (o : Domain E) (shown : IsSound o) (q : Asked E) where
       other_abended o shown q b h ch (Some i) 1 cause ok e first (other_below h (lookup ch.map o.watch.name) ch.frame ch.below ch.public e c.kept)
   other_row b h ch i (Does d) e first c t ok g = other_done b h ch i d e first c t g
 
+  -- a turn in a frame of another application keeps what the domain covers
   pub other_fetched : (b : Bool) (h : List E) (ch : Chain) (r : Result (Ins × ℕ) DecodeFault) → bytes_eq ch.frame.name o.watch.name ≡ false → bytes_eq (first_frame ch.frame ch.below).name o.watch.name ≡ b
       → ChainKept o q h ch → (o.of_bytes → OnGoing (turn_of_fetch ch r).follows IsByteChain) → TurnKept b o q h ch (turn_of_fetch ch r) None
   other_fetched b h ch (Err Undefined) e first c g = other_abended o shown q b h ch None 0 A01 tt e first (other_below h (lookup ch.map o.watch.name) ch.frame ch.below ch.public e c.kept)

@@ -50,5 +50,6 @@ read_few (x ∷ y ∷ []) h = tt
 read_few (x ∷ y ∷ z ∷ []) h = tt
 read_few (cla ∷ ins ∷ p1 ∷ p2 ∷ b) h = parts_few cla ins p1 p2 (rest_read b) h.1.0 (rest_few b h.1.1.1.1)
 
+-- a command of bytes has at most 1,024 bytes of data and one byte as INS
 pub few_data : (b : List ℕ) (a : ApduParts) → AreBytes b → apdu_read b ≡ Some a → (length a.body ≤ 1024) × (a.ins < 256)
 few_data b a h e = subst AreFew e (read_few b h)

@@ -29,6 +29,7 @@ unfolding play_at_power
 found_apps m budget armed low high =
     ap (λ (f : Option (Cause × ℕ)). apps_on (base_of f (formatted_image m))) (formatted_sound m low high) ∙ formatted_empty m low high
 
+-- a card that was formatted has no application, whatever stop hits its first power line
 pub formatted_law : FormattedLaw
 unfolding step
 formatted_law m budget number armed w n low high =

@@ -61,6 +61,7 @@ module _ {E : Type 0} (o : Domain E) (shown : IsSound o) where
   finds_late : (s : Warm) (z : State) (l : DeckLine) (after : State) → z ≡ AfterPower s → FindsNone o.watch.name z l after
   finds_late s z l after e = subst (λ (y : State). FindsNone o.watch.name y l after) (sym e) tt
 
+  -- each line of a play keeps what the domain covers on a card that may hold the application
   pub step_found : (h : List E) (z : State) (l : ℕ × DeckLine) (w : Option FailedWrite) → (o.of_bytes → IsLine l.1) → (o.of_bytes → IsByteState z) → StateFound o h z → Finds h (step z l w)
   step_found h (BeforePower m b a) l w is state kept = subst (λ (t : Step). Finds h t) (sym (early m b a l w)) (before_power_found h l.0 l.1 m b a w)
   step_found h (AfterPower s) l w is state kept = λ brings hits.

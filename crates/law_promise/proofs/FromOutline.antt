@@ -33,6 +33,7 @@ module _ {E : Type 0} (w : Watch E) (app : App) (b c : List E → List ℕ → T
   brings_as : (h : List E) (t : Step) → BringsFrom w app c h t → BringsFrom w app b h t
   brings_as h t x = record { creates = x.creates; finds = finds_as h t.before t.line t.after x.finds }
 
+  -- what holds along a play holds of other promises that it implies
   pub along_as : (h : List E) (ts : List Step) → AlongFrom w app b P h ts → AlongFrom w app c Q h ts
   along_as h [] x = tt
   along_as h (t ∷ ts) x = (

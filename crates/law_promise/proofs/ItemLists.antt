@@ -18,20 +18,24 @@ use Rattle.model_text.specs.model_device.proofs.MapLemmas.{lookup_beside, lookup
 
 -- ---- items that do not touch a name
 
+-- an item does not touch a name
 abbrev pub Avoids : List ℕ → Item → Type 0
 Avoids n Plain = ⊤
 Avoids n (Atomic w (Fixed k ps)) = bytes_eq k n ≡ false
 Avoids n (Atomic w (Created k a)) = bytes_eq k n ≡ false
 Avoids n (Atomic w (Deleted k)) = bytes_eq k n ≡ false
 
+-- no item touches a name
 abbrev pub AllAvoid : List ℕ → List Item → Type 0
 AllAvoid n [] = ⊤
 AllAvoid n (i ∷ is) = Avoids n i × AllAvoid n is
 
+-- two lists of items that do not touch a name do not touch it together
 pub avoid_append : (n : List ℕ) (is js : List Item) → AllAvoid n is → AllAvoid n js → AllAvoid n (is ++ js)
 avoid_append n [] js a b = b
 avoid_append n (i ∷ is) js a b = (a.0, avoid_append n is js a.1 b)
 
+-- items that do not touch a name leave what the card has under it
 pub avoid_lookup : (n : List ℕ) (is : List Item) (m : List (List ℕ × App)) → AllAvoid n is → lookup (apps_after_items m is) n ≡ lookup m n
 avoid_lookup n [] m a = refl
 avoid_lookup n (Plain ∷ is) m a = avoid_lookup n is m a.1
@@ -39,6 +43,7 @@ avoid_lookup n (Atomic w (Fixed k ps) ∷ is) m a = avoid_lookup n is (map_chang
 avoid_lookup n (Atomic w (Created k x) ∷ is) m a = avoid_lookup n is (insert m k x) a.1 ∙ lookup_beside m k x n a.0
 avoid_lookup n (Atomic w (Deleted k) ∷ is) m a = avoid_lookup n is (remove m k) a.1 ∙ lookup_left m k n a.0
 
+-- they leave its history
 pub avoid_history : {E : Type 0} (n : List ℕ) (is : List Item) (h : List E) → AllAvoid n is → after_items n is h ≡ h
 avoid_history n [] h a = refl
 avoid_history n (Plain ∷ is) h a = avoid_history n is h a.1
@@ -58,6 +63,7 @@ atomic_avoids : (n : List ℕ) (b : Bool) (w : ℕ) (c : Change) (f s : Stopped)
 atomic_avoids n true w c f s i a b = a
 atomic_avoids n false w c f s i a b = (i, b)
 
+-- so do those of them that a stop leaves whole
 pub whole_avoids : (n : List ℕ) (is : List Item) (k : ℕ) (x : List ℕ) → AllAvoid n is → AllAvoid n (at_stop is k x).whole
 whole_avoids n [] k x a = tt
 whole_avoids n (Plain ∷ is) k x a = plain_avoids n (k == 1) (at_stop is (k - 1) x) (whole_avoids n is (k - 1) x a.1)
@@ -67,16 +73,19 @@ whole_avoids n (Atomic w c ∷ is) k x a =
 
 -- ---- items of a run
 
+-- an item changes static bytes at most
 abbrev pub IsFixed : Item → Type 0
 IsFixed Plain = ⊤
 IsFixed (Atomic w (Fixed k ps)) = ⊤
 IsFixed (Atomic w (Created k a)) = ⊥
 IsFixed (Atomic w (Deleted k)) = ⊥
 
+-- each item changes static bytes at most
 abbrev pub AllFixed : List Item → Type 0
 AllFixed [] = ⊤
 AllFixed (i ∷ is) = IsFixed i × AllFixed is
 
+-- the items of writes change static bytes alone
 pub writes_fixed : (ws : List Write) → AllFixed (write_items ws)
 writes_fixed [] = tt
 writes_fixed (w ∷ ws) = (tt, writes_fixed ws)
@@ -93,6 +102,7 @@ atomic_fixed : (b : Bool) (w : ℕ) (c : Change) (f s : Stopped) → IsFixed (At
 atomic_fixed true w c f s i a b = a
 atomic_fixed false w c f s i a b = (i, b)
 
+-- those of them that a stop leaves whole do so too
 pub whole_fixed : (is : List Item) (k : ℕ) (x : List ℕ) → AllFixed is → AllFixed (at_stop is k x).whole
 whole_fixed [] k x a = tt
 whole_fixed (Plain ∷ is) k x a = plain_fixed (k == 1) (at_stop is (k - 1) x) (whole_fixed is (k - 1) x a.1)
@@ -100,6 +110,7 @@ whole_fixed (Atomic w c ∷ is) k x a =
     atomic_fixed (nat_le k (cost Two w)) w c (in_flight w c k x) (at_stop is (k - cost Two w) x) a.0
     (flight_fixed w c (stands Two w k x) a.0) (whole_fixed is (k - cost Two w) x a.1)
 
+-- items that change static bytes at most leave every history
 pub fixed_history : {E : Type 0} (n : List ℕ) (is : List Item) (h : List E) → AllFixed is → after_items n is h ≡ h
 fixed_history n [] h a = refl
 fixed_history n (Plain ∷ is) h a = fixed_history n is h a.1

@@ -94,6 +94,7 @@ module _ {E : Type 0} (o : Domain E) (shown : IsSound o) where
   stopped_powered true h s t x = pulled h s.base t.kind x
   stopped_powered false h s t x = pulled_cond _ h s.base t.kind x
 
+  -- a power line leaves a state that is covered on its card
   pub after_power : (h : List E) (s : Warm) (t : Option StopAt) → OnBase h s.base → StateCovered o h (AfterPower (power_after s t))
   after_power h s None x = powered h s.base x
   after_power h s (Some t) x = stopped_powered (nat_le t.at s.owed) h s t x

@@ -143,6 +143,7 @@ module _ {E : Type 0} (o : Outline E) (shown : IsShown o) where
 
   -- ---- the domain is sound
 
+  -- the domain of an outline that is shown is sound
   pub outline_sound : IsSound (domain_of o)
   outline_sound =
       record {

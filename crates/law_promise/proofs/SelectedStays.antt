@@ -32,6 +32,7 @@ module _ (c : Card) (session_state : SessionState) (n : List ℕ) (there : is_so
   made_avoids : (a : ApduParts) (o : Order) (r : Command) → IsCommand c session_state a o r → AllAvoid n r.items
   made_avoids a o r h = grind (arith, plain_avoids, apart_taken, apart_selected)
 
+  -- no command to the manager touches what is selected
   pub manager_avoids : (budget : ℕ) (r : Route) → IsManagers r → AllAvoid n (by_route c session_state budget r).items
   manager_avoids budget WrongLength h = tt
   manager_avoids budget (ToManager a) h = made_avoids a (order_of a.ins) (manager_command c session_state (manage (room_on c) c.apps session_state a)) (command_made c session_state a)
@@ -48,6 +49,7 @@ sent_avoids : (n : List ℕ) (b : Bool) (r rest : Command) → AllAvoid n r.item
 sent_avoids n true r rest h k = avoid_append n r.items rest.items h k
 sent_avoids n false r rest h k = h
 
+-- neither do several such commands in a row
 pub send_avoids : (c : Card) (session_state : SessionState) (n : List ℕ) (budget : ℕ) (bs : List (List ℕ)) → is_some (lookup c.apps n) ≡ true → is_selected session_state.selected n ≡ true → AreManagers bs → AllAvoid n (send c session_state budget bs).items
 unfolding send
 send_avoids c session_state n budget [] there selected h = tt

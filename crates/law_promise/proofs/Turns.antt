@@ -40,6 +40,7 @@ abbrev pub WritesStop : {E : Type 0} → Bool → Domain E → List E → List E
 WritesStop b o h k m [] = ⊤
 WritesStop b o h k m (w ∷ ws) = StopIf b o h (lookup m o.watch.name) × StopIf b o k (lookup (apps_after_items m (write_items (w ∷ ws))) o.watch.name)
 
+-- what a turn keeps of a domain: its stops and what follows it
 pub record TurnKept {E : Type 0} (b : Bool) (o : Domain E) (q : Asked E) (h : List E) (ch : Chain) (t : Acted) (event : Option E) : Type 0 where
   pub single : IsSingle t.writes
   pub stops : WritesStop b o h (with_event event h) ch.map t.writes
@@ -52,26 +53,32 @@ pub record BelowKept {E : Type 0} (o : Domain E) (q : Asked E) (h : List E) (a :
   pub like : IsLike o.app a
   pub waits : AllWait o q h a.fixed fs
 
+-- what the frames below leave, if the application is on the card or gone
 abbrev pub FoundBelow : {E : Type 0} → Domain E → Asked E → List E → Option App → List Frame → Type 0
 FoundBelow o q h None fs = NoneOf o.watch.name fs × o.gone h
 FoundBelow o q h (Some a) fs = BelowKept o q h a fs
 
+-- the first frame of a chain has the same name under a top frame of the same name
 pub first_name : (f g : Frame) (fs : List Frame) → f.name ≡ g.name → (first_frame f fs).name ≡ (first_frame g fs).name
 first_name f g [] e = e
 first_name f g (h ∷ fs) e = refl
 
+-- a change of static bytes is at most one write
 pub single_write : (n : List ℕ) (c : Option (List (ℕ × List ℕ))) → IsSingle (write_of n c)
 single_write n None = tt
 single_write n (Some ps) = tt
 
+-- the items of a write change the applications as the write does
 pub done_write : (m : List (List ℕ × App)) (n : List ℕ) (c : Option (List (ℕ × List ℕ))) → map_changed m n c ≡ apps_after_items m (write_items (write_of n c))
 done_write m n None = refl
 done_write m n (Some ps) = refl
 
+-- a frame begins by a selection if no frame lies below it
 pub direct_is : {E : Type 0} (q : Asked E) (fs : List Frame) → is_direct (entry_over q fs) ≡ is_first fs
 direct_is q [] = refl
 direct_is q (f ∷ fs) = refl
 
+-- an abend has no answer to cover
 pub no_answer : {E : Type 0} (b : Bool) (o : Domain E) (q : Asked E) (k : List E) (cause : Abend) → AnswerIf b o q k (Abended cause)
 no_answer true o q k cause = tt
 no_answer false o q k cause = tt
@@ -161,6 +168,7 @@ module _ {E : Type 0} (o : Domain E) (shown : IsSound o) (q : Asked E) where
   found_spent b h None f fs p e k = (sym e ∙ first_none o.watch.name f fs k.0, k.1)
   found_spent b h (Some a) f fs p e k = spent_by b (bytes_eq f.name o.watch.name) h a f fs p refl k.like k.stack e
 
+  -- if the budget ends, what the end of the command covers is kept
   pub chain_spent : (b : Bool) (h : List E) (ch : Chain) → bytes_eq (first_frame ch.frame ch.below).name o.watch.name ≡ b → ChainKept o q h ch
       → EndKept b o q h (lookup ch.map o.watch.name) (chain_session ch) (Abended A07)
   chain_spent b h ch e c = found_spent b h (lookup ch.map o.watch.name) ch.frame ch.below ch.public e c.kept

@@ -142,6 +142,7 @@ flags_keep : (f : Frame) (public : List ℕ) (o : Option (Bool × Bool)) (e : Ef
 flags_keep f public None e k = k
 flags_keep f public (Some cz) e k = record { name = k.name; deny = k.deny; session = k.session; dyn = k.dyn; public = k.public; fixed = k.fixed; inside = k.inside; changes = k.changes }
 
+-- the meaning of a shape keeps the parts of its frame that every row keeps
 pub shape_keeps : (s : Shape) (f : Frame) (public : List ℕ) → Keeps f public (meaning s f public).effect
 shape_keeps s f public = flags_keep f public s.flags (act_effect s.act (record f { dt = s.dt }) public) (act_keeps s.act (record f { dt = s.dt }) public)
 
@@ -162,6 +163,7 @@ pub on_done : (P : Done → Type 0) (o : Option Abend) (d : Done) → P d → On
 on_done P (Some a) d h = tt
 on_done P None d h = h
 
+-- each row keeps those parts
 pub row_keeps : KeepingLaw
 unfolding row
 row_keeps i f public x = on_done (λ d. Keeps f public d.effect) (first_cause (causes i f public x)) (effect i f public x) (effect_keeps i f public x)
@@ -202,6 +204,7 @@ shape_leaves _ f public x = tt
 pub effect_leaves : (i : Ins) (f : Frame) (public : List ℕ) (x : Around) → OnLeave (effect i f public x).next (Leaves f (effect i f public x).effect)
 effect_leaves i f public x = subst (λ (d : Done). OnLeave d.next (Leaves f d.effect)) (sym (shapes i f public x)) (shape_leaves i f public x)
 
+-- a row that is done and exits or delegates leaves the segments of its frame
 pub row_leaves : LeavingLaw
 unfolding row
 row_leaves i f public x = on_done (λ d. OnLeave d.next (Leaves f d.effect)) (first_cause (causes i f public x)) (effect i f public x) (effect_leaves i f public x)

@@ -16,5 +16,6 @@ done_name : (r : RowEnd) (f : Frame) (public : List ℕ) → OnDone r (λ d. Kee
 done_name (Abends c) f public h = tt
 done_name (Does d) f public h = h.name
 
+-- a row leaves the name of its frame
 pub row_name : (i : Ins) (f : Frame) (public : List ℕ) (x : Around) → RowKeepsName f.name (row i f public x)
 row_name i f public x = done_name (row i f public x) f public (row_keeps i f public x)

@@ -36,6 +36,7 @@ without : (b : Bool) (f : Frame) → cond b (frame_after_pop f 2) f ≡ record f
 without true f = refl
 without false f = refl
 
+-- what each instruction does is the meaning of its shape
 pub shapes : ShapeLaw
 unfolding effect shape
 shapes (ins.Jump k to) f public x = ap (λ (g : Frame). effect_and_next (frame_effect (frame_after_jump (holds k f) g (target f k to)) public)) (without (k == 0) f)

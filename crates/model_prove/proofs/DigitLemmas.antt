@@ -18,6 +18,7 @@ same_bools true false h = absurd (cc h)
 same_bools false true h = absurd (cc h)
 same_bools false false h = refl
 
+-- flags are the same as themselves
 pub flags_self : (f : Flags) → same_flags f f ≡ true
 flags_self f = and_from (same f.c f.c) (same f.z f.z) (same_self f.c) (same_self f.z)
 
@@ -27,6 +28,7 @@ flags_with c z = record { c = c; z = z }
 flags_eq : (c d z y : Bool) → c ≡ d → z ≡ y → flags_with c z ≡ flags_with d y
 flags_eq c d z y e h = ap (λ (b : Bool). flags_with b z) e ∙ ap (λ (b : Bool). flags_with d b) h
 
+-- flags that the test finds the same are equal
 pub flags_are : (f g : Flags) → same_flags f g ≡ true → f ≡ g
 unfolding flags_with
 flags_are f g h =

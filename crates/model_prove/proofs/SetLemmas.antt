@@ -6,9 +6,11 @@ use Rattle.model_prove.specs.Sets.{Set, is_in, numbers_from, all_bytes, put_befo
 
 -- ---- one value more
 
+-- the first value of a set is in it
 pub is_first : (v : ℕ) (s : Set) → is_in v (v ∷ s) ≡ true
 is_first v s = or_left (v == v) (is_in v s) (eq-eqb v v refl)
 
+-- a value in a set is in it with another in front
 pub is_later : (v x : ℕ) (s : Set) → is_in v s ≡ true → is_in v (x ∷ s) ≡ true
 is_later v x s h = or_right (x == v) (is_in v s) h
 
@@ -17,6 +19,7 @@ put_new true c v x xs rest e h = is_first v (x ∷ xs)
 put_new false true v x xs rest e h = or_left (x == v) (is_in v xs) (eq-eqb x v (sym (eqb-true v x e)))
 put_new false false v x xs rest e h = is_later v x rest h
 
+-- a value that is added to a set is in it
 pub new_is_in : (v : ℕ) (s : Set) → is_in v (with_value v s) ≡ true
 new_is_in v [] = is_first v []
 new_is_in v (x ∷ xs) = put_new (nat_lt v x) (v == x) v x xs (with_value v xs) refl (new_is_in v xs)
@@ -30,12 +33,14 @@ put_old false false w v x xs rest h k =
       | inr e ↦ or_right (x == w) (is_in w rest) (k e)
     ]
 
+-- a value in a set stays in it when one is added
 pub old_is_in : (w v : ℕ) (s : Set) → is_in w s ≡ true → is_in w (with_value v s) ≡ true
 old_is_in w v [] h = is_later w v [] h
 old_is_in w v (x ∷ xs) h = put_old (nat_lt v x) (v == x) w v x xs (with_value v xs) h (λ k. old_is_in w v xs k)
 
 -- ---- unions
 
+-- a value of the second set is in the union
 pub in_second : (v : ℕ) (s t : Set) → is_in v t ≡ true → is_in v (union s t) ≡ true
 in_second v [] t h = h
 in_second v (x ∷ s) t h = old_is_in v x (union s t) (in_second v s t h)
@@ -43,6 +48,7 @@ in_second v (x ∷ s) t h = old_is_in v x (union s t) (in_second v s t h)
 in_first_by : (v x : ℕ) (s t : Set) → (x == v) ≡ true → is_in v (union (x ∷ s) t) ≡ true
 in_first_by v x s t e = subst (λ (w : ℕ). is_in v (with_value w (union s t)) ≡ true) (sym (eqb-true x v e)) (new_is_in v (union s t))
 
+-- a value of the first set is in the union
 pub in_first : (v : ℕ) (s t : Set) → is_in v s ≡ true → is_in v (union s t) ≡ true
 in_first v [] t h = absurd (cc h)
 in_first v (x ∷ s) t h =
@@ -70,11 +76,13 @@ is_kept test v (x ∷ s) h e =
       | inr k ↦ kept_old (test x) v x (filter test s) (is_kept test v s k e)
     ]
 
+-- a value of both sets is in what they have in common
 pub in_common : (v : ℕ) (s t : Set) → is_in v s ≡ true → is_in v t ≡ true → is_in v (common s t) ≡ true
 in_common v s t h k = is_kept (λ w. is_in w t) v s h k
 
 -- ---- subsets
 
+-- a value of a set is in each set that includes it
 pub in_larger : (v : ℕ) (s t : Set) → is_subset s t ≡ true → is_in v s ≡ true → is_in v t ≡ true
 in_larger v [] t h k = absurd (cc k)
 in_larger v (x ∷ s) t h k =
@@ -89,6 +97,7 @@ in_larger v (x ∷ s) t h k =
 first_or_later : (v k n : ℕ) → k ≤ v → v < k + suc n → (k ≡ v) ⊎ ((suc k ≤ v) × (v < suc k + n))
 first_or_later v k n low high = grind arith
 
+-- a number from k to below k + n is among them
 pub is_between : (v k n : ℕ) → k ≤ v → v < k + n → is_in v (numbers_from k n) ≡ true
 is_between v k zero low high = absurd (omega (arith, low, high))
 is_between v k (suc n) low high =
@@ -97,5 +106,6 @@ is_between v k (suc n) low high =
       | inr p ↦ or_right (k == v) (is_in v (numbers_from (suc k) n)) (is_between v (suc k) n p.0 p.1)
     ]
 
+-- a number below 256 is among all bytes
 pub is_byte : (v : ℕ) → v < 256 → is_in v all_bytes ≡ true
 is_byte v h = is_between v 0 256 (omega arith) h

@@ -20,6 +20,7 @@ use Rattle.prove_digits.proofs.TurnLemmas.{zero_test, same_zero, zeros_made}
 
 -- ---- parts
 
+-- before the first value each part is empty
 pub no_parts : (make : ℕ → ℕ) (xs : Set) (p : Parts) → set_of p.other ≡ [] → set_of p.zero ≡ [] → set_of p.results ≡ [] → AreParts 0 make xs p
 no_parts make xs p a b c =
     record {
@@ -41,6 +42,7 @@ below_or v n xs h l i =
 wider : (v n : ℕ) (A B : Type 0) → (v < n) × A × B → (v < n + 1) × A × B
 wider v n A B h = let l = h.0 in (omega (arith, l), h.1, h.2)
 
+-- a value that is not in the set leaves the parts of those below it
 pub parts_skip : (n : ℕ) (make : ℕ → ℕ) (xs : Set) (p : Parts) → is_in n xs ≡ false → AreParts n make xs p → AreParts (n + 1) make xs p
 parts_skip n make xs p h a =
     record {
@@ -135,6 +137,7 @@ by_not : (b : Bool) → not b ≡ true → b ≡ false
 by_not true h = absurd (cc h)
 by_not false h = refl
 
+-- the part of the values that make no zero, and their results, are made of the whole set
 pub others_made : (xs : Values) (make : ℕ → ℕ) (p : Parts) → AreParts 256 make (set_of xs) p
     → AreMade (λ x. is_in x (set_of xs) && not (make x == 0)) make (set_of p.other) (set_of p.results)
 others_made xs make p a =
@@ -148,6 +151,7 @@ others_made xs make p a =
       from = λ r i s. a.results_to r i;
     }
 
+-- the part of the values that make a zero, with the result zero, is made of the whole set
 pub zeros_of : (xs : Values) (make : ℕ → ℕ) (p : Parts) (rs : Set) → AreParts 256 make (set_of xs) p → rs ≡ 0 ∷ []
     → AreMade (λ x. is_in x (set_of xs) && (make x == 0)) make (set_of p.zero) rs
 zeros_of xs make p rs a e =
@@ -183,6 +187,7 @@ not_minus code.Not h = cc h
 not_minus code.First h = cc h
 not_minus code.Zero h = cc h
 
+-- a bitwise operation keeps the carry
 pub keeps_carry : (d : Digit) (op : Operation) (x y : ℕ) (c : Bool) → bitwise_of d ≡ Some op → (digit op x y c).1 ≡ c
 keeps_carry d Plus x y c h = absurd (not_plus d h)
 keeps_carry d Minus x y c h = absurd (not_minus d h)
@@ -190,6 +195,7 @@ keeps_carry d And x y c h = refl
 keeps_carry d Or x y c h = refl
 keeps_carry d Xor x y c h = refl
 
+-- under a bitwise operation digits grow by the values that lead from flags to flags
 pub bits_grow : (dg : Digit) (op : Operation) (c z : Bool) (xs : Set) (y : ℕ) (d e : Digits) → bitwise_of dg ≡ Some op
     → IsGrown d e (λ x. is_in x xs && zero_test z ((digit op x y c).0 == 0)) y (λ x. (digit op x y c).0)
     → IsGrown d e (λ x. is_in x xs && leads_on op c c z x y) y (λ x. (digit op x y c).0)
@@ -200,6 +206,7 @@ bits_grow dg op c z xs y d e h g =
     ∙ ap (λ (b : Bool). b && same ((digit op x y c).0 == 0) z) (sym (ap (λ (b : Bool). same b c) (keeps_carry dg op x y c h) ∙ same_self c))))
     (λ x t. refl) g
 
+-- under a bitwise operation both parts of a split grow by one value of the second byte
 pub split_grow : (dg : Digit) (op : Operation) (c : Bool) (xs : Set) (y : ℕ) (old new : Split) → bitwise_of dg ≡ Some op
     → IsGrown (trio_value old.other) (trio_value new.other) (λ x. is_in x xs && not ((digit op x y c).0 == 0)) y (λ x. (digit op x y c).0)
     → IsGrown (trio_value old.zero) (trio_value new.zero) (λ x. is_in x xs && ((digit op x y c).0 == 0)) y (λ x. (digit op x y c).0)
@@ -211,6 +218,7 @@ split_grow dg op c xs y old new h p q true = bits_grow dg op c true xs y (trio_v
 pub add_is : (d : Digit) (op : Operation) → d ≡ code.Add → operation_of d ≡ Some op → Plus ≡ op
 add_is d op e h = cc (sym (ap operation_of e) ∙ h)
 
+-- the digit that subtracts has the operation minus
 pub sub_is : (d : Digit) (op : Operation) → d ≡ code.Sub → operation_of d ≡ Some op → Minus ≡ op
 sub_is d op e h = cc (sym (ap operation_of e) ∙ h)
 

@@ -87,6 +87,7 @@ zero_or : (a b : Bool) → (a && true) ≡ true → ((a && same b false) ≡ tru
 zero_or a true h = inr h
 zero_or a false h = inl h
 
+-- what a turn has from flags to flags is what leads there by the definition
 pub edge_is : (op : Operation) (xs ys : Values) (c z : Bool) (turn : Turn) → IsTurn op (set_of xs) (set_of ys) c turn → (carry zero : Bool)
     → edge_of turn z carry zero ≡ digits_from op (set_of xs) (set_of ys) (record { c = c; z = z }) (record { c = carry; z = zero })
 edge_is op xs ys c true turn h carry zero = h carry zero
@@ -116,6 +117,7 @@ other_carry op xs ys c z carry zero k h =
 
 -- ---- steps
 
+-- a step is one of an operation if its turns are, with the carries that may come before it
 pub is_step : (op : Operation) (xs ys : Values) (s : Step) (b d : Bool) → b ≡ (s.before.other || s.before.zero) → d ≡ (s.before.carry || s.before.both)
     → (b ≡ true → IsTurn op (set_of xs) (set_of ys) false s.plain) → (d ≡ true → IsTurn op (set_of xs) (set_of ys) true s.carried)
     → IsStep op (set_of xs) (set_of ys) s
@@ -129,10 +131,12 @@ is_step op xs ys s b d e h p q true true i carry zero = edge_is op xs ys true tr
 unfoldable pub turn_by : Split → Split → Turn
 turn_by clear set = record { clear = clear; set = set }
 
+-- a turn is made of its splits for a clear and a set carry
 pub turn_is : (clear set : Split) → (let t : Turn = record { clear = clear; set = set } in t) ≡ turn_by clear set
 unfolding turn_by
 turn_is clear set = refl
 
+-- a turn with no digits under the other carry is one of an operation that keeps the carry
 pub keeps_turn : (op : Operation) (xs ys : Values) (carry : Bool) (own other : Split) (t : Turn) → ((x y : ℕ) → (digit op x y carry).1 ≡ carry)
     → ((z : Bool) → trio_value (trio_in own z) ≡ digits_from op (set_of xs) (set_of ys) (record { c = carry; z = true }) (record { c = carry; z = z }))
     → ((z : Bool) → trio_value (trio_in other z) ≡ no_digits) → t ≡ cond carry (turn_by other own) (turn_by own other) → IsTurn op (set_of xs) (set_of ys) carry t

@@ -17,10 +17,12 @@ use Rattle.prove_digits.proofs.WayLemmas.{is_arc, pair_alike}
 
 -- ---- tests
 
+-- two tests that agree under a condition agree with it
 pub and_alike : (b x y : Bool) → (b ≡ true → x ≡ y) → (b && x) ≡ (b && y)
 and_alike true x y h = h refl
 and_alike false x y h = refl
 
+-- a conjunction of three may be grouped either way
 pub and_grouped : (a b c : Bool) → ((a && b) && c) ≡ (a && (b && c))
 and_grouped true b c = refl
 and_grouped false b c = refl
@@ -36,6 +38,7 @@ and_or : (m a b : Bool) → ((m && a) || (m && b)) ≡ (m && (a || b))
 and_or true a b = refl
 and_or false a b = refl
 
+-- a condition that no flag decides may be taken out of a test of all flags
 pub pair_and : (m : Bool) (h : Bool → Bool → Bool) → any_pair (λ c z. m && h c z) ≡ (m && any_pair h)
 pair_and true h = refl
 pair_and false h = refl
@@ -86,6 +89,7 @@ pair_from h true true e = or_right ((h false false || h false true) || h true fa
 
 -- ---- forward
 
+-- a step leads from flags to flags if they come before it and an arc does
 pub leads_is : (op : Operation) (p : Set × Set) (s : Step) → IsStep op p.0 p.1 s → (c z carry zero : Bool)
     → leads_from s c z carry zero ≡ (has_state s.before c z && is_arc op p (record { c = c; z = z }) (record { c = carry; z = zero }))
 unfolding leads_from
@@ -154,6 +158,7 @@ before_is s after false true = refl
 before_is s after true false = refl
 before_is s after true true = refl
 
+-- flags lead on before a step if an arc of it leads to some that do
 pub backward : (op : Operation) (p : Set × Set) (s : Step) (after : States) (w : Bool → Bool → Bool) → IsStep op p.0 p.1 s
     → ((carry zero : Bool) → has_state after carry zero ≡ (has_state (states_after s) carry zero && w carry zero)) → (c z : Bool)
     → has_state (states_before s after) c z
@@ -277,6 +282,7 @@ edges_rising s after c z d p =
     with_rising s after c z true true d3
     (with_rising s after c z true false d2 (with_rising s after c z false true d1 (with_rising s after c z false false d p)))
 
+-- the digits that a step finds ascend
 pub found_rising : (s : Step) (after : States) → AreRising (found_digits s after)
 unfolding found_digits
 found_rising s after =

@@ -84,6 +84,7 @@ grown_from_made false test result d xs ys rs v m e h =
       | inr k ↦ let q = m.from v k e in inr (q.0, sym (m.test_is q.0) ∙ q.1, q.2)
     ]
 
+-- digits that were grown by the values of a test, and their results, have grown so
 pub is_grown : (d e : Digits) (xs : Set) (y : ℕ) (rs : Set) (test : ℕ → Bool) (result : ℕ → ℕ) → e ≡ grown d xs y rs → AreMade test result xs rs → IsGrown d e test y result
 is_grown d e xs y rs test result h m =
     let b = is_empty xs in
@@ -134,6 +135,7 @@ pub record AreBelow (op : Operation) (s t : Set) (f g : Flags) (n : ℕ) (d : Di
   pub b_from : (x y : ℕ) → y < n → Leads op s t f g x y → is_in y d.b ≡ true
   pub r_from : (x y : ℕ) → y < n → Leads op s t f g x y → is_in (digit op x y f.c).0 d.r ≡ true
 
+-- of the values below zero no digits are made
 pub none_below : (op : Operation) (s t : Set) (f g : Flags) → AreBelow op s t f g 0 no_digits
 none_below op s t f g =
     record {
@@ -147,52 +149,64 @@ none_below op s t f g =
 
 -- ---- no values
 
+-- the words of a set without values
 abbrev pub zeros : List ℕ
 zeros = 0 ∷ 0 ∷ 0 ∷ 0 ∷ []
 
 zero_at : (k : ℕ) → k < 4 → get_or zeros k 0 ≡ 0
 zero_at k h = each_word (λ (w : ℕ). get_or zeros w 0 ≡ 0) refl refl refl refl k h
 
+-- no value is in words of zeros
 pub empty_words : values_of zeros ≡ []
 empty_words = none_is zeros (λ v h. at_zero zeros v (zero_at (v / 64) (is_word v h)))
 
+-- three sets without values
 abbrev pub none_trio : Trio
 none_trio = record { x = record { words = zeros }; y = record { words = zeros }; r = record { words = zeros } }
 
+-- a split without values
 abbrev pub none_split : Split
 none_split = record { other = none_trio; zero = none_trio }
 
+-- a turn without values
 abbrev pub none_turn : Turn
 none_turn = record { clear = none_split; set = none_split }
 
 same_sets : Set → Digits
 same_sets s = record { a = s; b = s; r = s }
 
+-- three sets without values are no digits
 pub none_value : trio_value none_trio ≡ no_digits
 unfolding same_sets
 none_value = ap same_sets empty_words
 
+-- they have what the values below zero lead to
 pub trio_below : (op : Operation) (s t : Set) (f g : Flags) → AreBelow op s t f g 0 (trio_value none_trio)
 trio_below op s t f g = subst (λ (d : Digits). AreBelow op s t f g 0 d) (sym none_value) (none_below op s t f g)
 
+-- so has each part of a split without values
 pub split_below : (op : Operation) (s t : Set) (f g : Flags) (z : Bool) → AreBelow op s t f g 0 (trio_value (trio_in none_split z))
 split_below op s t f g false = trio_below op s t f g
 split_below op s t f g true = trio_below op s t f g
 
+-- so has each part of a turn without values
 pub turn_below : (op : Operation) (s t : Set) (f g : Flags) (c z : Bool) → AreBelow op s t f g 0 (trio_value (trio_at none_turn c z))
 turn_below op s t f g false z = split_below op s t f g z
 turn_below op s t f g true z = split_below op s t f g z
 
+-- each part of a turn without values is no digits
 pub none_at : (c z : Bool) → trio_value (trio_at none_turn c z) ≡ no_digits
 none_at false false = none_value
 none_at false true = none_value
 none_at true false = none_value
 none_at true true = none_value
 
+-- each part of a split without values is no digits
 pub none_in : (z : Bool) → trio_value (trio_in none_split z) ≡ no_digits
 none_in false = none_value
 none_in true = none_value
 
+-- a turn has no digits to a zero if there was none so far
 pub edge_none : (t : Turn) (so_far c z : Bool) → so_far ≡ false → z ≡ true → no_digits ≡ edge_of t so_far c z
 edge_none t false c true e h = refl
 edge_none t true c z e h = absurd (cc e)
@@ -229,6 +243,7 @@ at_value op s t f g x y n l k q =
     let e : y ≡ n = omega (arith, l, k) in
     subst (λ (w : ℕ). Leads op s t f g x w) e q
 
+-- digits that grew by one value have what the values below the next one lead to
 pub more_below : (op : Operation) (s t : Set) (f g : Flags) (n : ℕ) (d e : Digits) → is_in n t ≡ true
     → IsGrown d e (λ x. is_in x s && same_flags (flags_after op x n f) g) n (λ x. (digit op x n f.c).0) → AreBelow op s t f g n d → AreBelow op s t f g (n + 1) e
 more_below op s t f g n d e h w p =

@@ -15,6 +15,7 @@ same_tests true b f g = sym (f refl)
 same_tests false true f g = g refl
 same_tests false false f g = refl
 
+-- a disjunction with false is its first part
 pub or_none : (b : Bool) → (b || false) ≡ b
 or_none true = refl
 or_none false = refl
@@ -25,20 +26,25 @@ byte_of xs v h = elim (cases_lt v 256) [ inl l ↦ l | inr g ↦ absurd (both_wa
 
 -- ---- unions
 
+-- a value of a union is in one of the sets
 pub in_either : (v : ℕ) (s t : Set) → is_in v (union s t) ≡ true → (is_in v s ≡ true) ⊎ (is_in v t ≡ true)
 in_either v s t h = or_cases (is_in v s) (is_in v t) (sym (in_union v s t) ∙ h)
 
+-- a value of the first set is in the union
 pub in_left : (v : ℕ) (s t : Set) → is_in v s ≡ true → is_in v (union s t) ≡ true
 in_left v s t h = in_union v s t ∙ or_left (is_in v s) (is_in v t) h
 
+-- a value of the second set is in the union
 pub in_right : (v : ℕ) (s t : Set) → is_in v t ≡ true → is_in v (union s t) ≡ true
 in_right v s t h = in_union v s t ∙ or_right (is_in v s) (is_in v t) h
 
+-- a value in a set of one is that one
 pub only_in : (v y : ℕ) → is_in v (y ∷ []) ≡ true → v ≡ y
 only_in v y h = elim (or_cases (y == v) false h) [ inl e ↦ sym (eqb-true y v e) | inr e ↦ absurd (cc e) ]
 
 -- ---- some element
 
+-- a value that passes a test makes some value of its set pass
 pub some_from : (test : ℕ → Bool) (v : ℕ) (s : Set) → is_in v s ≡ true → test v ≡ true → some test s ≡ true
 some_from test v [] h e = absurd (cc h)
 some_from test v (x ∷ s) h e =
@@ -47,6 +53,7 @@ some_from test v (x ∷ s) h e =
       | inr k ↦ or_right (test x) (some test s) (some_from test v s k e)
     ]
 
+-- if some value of a set passes a test, there is one
 pub some_to : (test : ℕ → Bool) (s : Set) → some test s ≡ true → (v : ℕ) × (is_in v s ≡ true) × (test v ≡ true)
 some_to test [] h = absurd (cc h)
 some_to test (x ∷ s) h =
@@ -103,6 +110,7 @@ with_old : (op : Operation) (x r : ℕ) (t : Set) (f g : Flags) (rs : Set) → i
 with_old op x r [] f g rs h = h
 with_old op x r (y ∷ t) f g rs h = put_old (same_flags (flags_after op x y f) g) r (digit op x y f.c).0 (results_with op x t f g rs) (with_old op x r t f g rs h)
 
+-- a result of two sets is made by two of their bytes
 pub results_to : (op : Operation) (r : ℕ) (s t : Set) (f g : Flags) → is_in r (results_of op s t f g) ≡ true
     → (x : ℕ) × (y : ℕ) × Leads op s t f g x y × ((digit op x y f.c).0 ≡ r)
 results_to op r [] t f g h = absurd (cc h)
@@ -125,11 +133,13 @@ results_by op x y (w ∷ s) t f g h k e =
       | inr i ↦ with_old op w (digit op x y f.c).0 t f g (results_of op s t f g) (results_by op x y s t f g i k e)
     ]
 
+-- the result of two bytes that lead from flags to flags is among the results
 pub results_from : (op : Operation) (x y : ℕ) (s t : Set) (f g : Flags) → Leads op s t f g x y → is_in (digit op x y f.c).0 (results_of op s t f g) ≡ true
 results_from op x y s t f g l = results_by op x y s t f g l.first l.second l.flags
 
 -- ---- the digits of the definition
 
+-- a byte in the first set of the digits leads on with some second one
 pub first_to : (op : Operation) (v : ℕ) (s t : Set) (f g : Flags) → is_in v (digits_from op s t f g).a ≡ true → (y : ℕ) × Leads op s t f g v y
 first_to op v s t f g h =
     let test = λ (x : ℕ). some (λ y. same_flags (flags_after op x y f) g) t in
@@ -137,11 +147,13 @@ first_to op v s t f g h =
     let r = some_to (λ y. same_flags (flags_after op v y f) g) t p.1 in
     (r.0, record { first = p.0; second = r.1; flags = r.2 })
 
+-- a first byte that leads on is in the first set of the digits
 pub first_from : (op : Operation) (x y : ℕ) (s t : Set) (f g : Flags) → Leads op s t f g x y → is_in x (digits_from op s t f g).a ≡ true
 first_from op x y s t f g l =
     let test = λ (x : ℕ). some (λ y. same_flags (flags_after op x y f) g) t in
     in_filter test x s ∙ and_from (is_in x s) (test x) l.first (some_from (λ y. same_flags (flags_after op x y f) g) y t l.second l.flags)
 
+-- a byte in the second set of the digits leads on with some first one
 pub second_to : (op : Operation) (v : ℕ) (s t : Set) (f g : Flags) → is_in v (digits_from op s t f g).b ≡ true → (x : ℕ) × Leads op s t f g x v
 second_to op v s t f g h =
     let test = λ (y : ℕ). some (λ x. same_flags (flags_after op x y f) g) s in
@@ -149,6 +161,7 @@ second_to op v s t f g h =
     let r = some_to (λ x. same_flags (flags_after op x v f) g) s p.1 in
     (r.0, record { first = r.1; second = p.0; flags = r.2 })
 
+-- a second byte that leads on is in the second set of the digits
 pub second_from : (op : Operation) (x y : ℕ) (s t : Set) (f g : Flags) → Leads op s t f g x y → is_in y (digits_from op s t f g).b ≡ true
 second_from op x y s t f g l =
     let test = λ (y : ℕ). some (λ x. same_flags (flags_after op x y f) g) s in
@@ -174,6 +187,7 @@ rises_results : (op : Operation) (s t : Set) (f g : Flags) → Rises 0 (results_
 rises_results op [] t f g = tt
 rises_results op (x ∷ s) t f g = rises_results_with op x t f g (results_of op s t f g) (rises_results op s t f g)
 
+-- the digits of two ascending sets ascend
 pub rising_from : (op : Operation) (s t : Set) (f g : Flags) → Rises 0 s → Rises 0 t → AreRising (digits_from op s t f g)
 rising_from op s t f g h k =
     record {
@@ -185,10 +199,12 @@ rising_from op s t f g h k =
 digits_with : Set → Set → Set → Digits
 digits_with a b r = record { a = a; b = b; r = r }
 
+-- digits of equal sets are equal
 pub digits_eq : (d e : Digits) → d.a ≡ e.a → d.b ≡ e.b → d.r ≡ e.r → d ≡ e
 unfolding digits_with
 digits_eq d e h k l = ap (λ (s : Set). digits_with s d.b d.r) h ∙ ap (λ (s : Set). digits_with e.a s d.r) k ∙ ap (λ (s : Set). digits_with e.a e.b s) l
 
+-- ascending digits with the same values are equal
 pub same_digits : (d e : Digits) → AreRising d → AreRising e → ((v : ℕ) → is_in v d.a ≡ is_in v e.a) → ((v : ℕ) → is_in v d.b ≡ is_in v e.b)
     → ((v : ℕ) → is_in v d.r ≡ is_in v e.r) → d ≡ e
 same_digits d e p q h k l =

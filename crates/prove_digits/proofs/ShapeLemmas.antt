@@ -13,6 +13,7 @@ pub data Part : Type 0 where
   Second : Part
   Result : Part
 
+-- the set of a part of digits
 abbrev pub part_of : Part → Digits → Set
 part_of First d = d.a
 part_of Second d = d.b
@@ -24,6 +25,7 @@ has_at k i v [] = false
 has_at k zero v (d ∷ ds) = is_in v (part_of k d)
 has_at k (suc i) v (d ∷ ds) = has_at k i v ds
 
+-- whether a part at a place has a value, if there are digits
 abbrev pub may_have : Part → ℕ → ℕ → Option (List Digits) → Bool
 may_have k i v None = false
 may_have k i v (Some ds) = has_at k i v ds
@@ -35,6 +37,7 @@ AreShaped zero (d ∷ ds) = ⊥
 AreShaped (suc n) [] = ⊥
 AreShaped (suc n) (d ∷ ds) = AreRising d × AreShaped n ds
 
+-- lists of ascending digits with the same values at each place are equal
 pub same_lists : (n : ℕ) (ds es : List Digits) → AreShaped n ds → AreShaped n es → ((k : Part) (i v : ℕ) → has_at k i v ds ≡ has_at k i v es) → ds ≡ es
 same_lists zero [] [] p q h = refl
 same_lists zero [] (e ∷ es) p q h = absurd q
@@ -47,6 +50,7 @@ same_lists (suc n) (d ∷ ds) (e ∷ es) p q h =
 
 -- ---- joined digits
 
+-- a value is in a part of joined digits if it is in that of either
 pub joined_part : (k : Part) (v : ℕ) (d e : Digits) → is_in v (part_of k (join_digit d e)) ≡ (is_in v (part_of k d) || is_in v (part_of k e))
 joined_part First v d e = in_union v d.a e.a
 joined_part Second v d e = in_union v d.b e.b
@@ -56,6 +60,7 @@ or_false : (b : Bool) → b ≡ (b || false)
 or_false true = refl
 or_false false = refl
 
+-- so it is at each place of joined lists of digits
 pub joined_at : (k : Part) (i v : ℕ) (ds es : List Digits) → has_at k i v (join_digits ds es) ≡ (has_at k i v ds || has_at k i v es)
 joined_at k i v [] es = refl
 joined_at k zero v (d ∷ ds) [] = or_false (is_in v (part_of k d))
@@ -63,6 +68,7 @@ joined_at k (suc i) v (d ∷ ds) [] = or_false (has_at k i v ds)
 joined_at k zero v (d ∷ ds) (e ∷ es) = joined_part k v d e
 joined_at k (suc i) v (d ∷ ds) (e ∷ es) = joined_at k i v ds es
 
+-- joined digits that ascend ascend
 pub joined_rising : (d e : Digits) → AreRising d → AreRising e → AreRising (join_digit d e)
 joined_rising d e p q = record { a = rises_union 0 d.a e.a p.a q.a; b = rises_union 0 d.b e.b p.b q.b; r = rises_union 0 d.r e.r p.r q.r }
 
@@ -97,6 +103,7 @@ arc_rising : (b : Bool) (f g : Flags) (d : Digits) → AreRising d → ArcsAreRi
 arc_rising true f g d p = tt
 arc_rising false f g d p = (p, tt)
 
+-- the digits of all arcs of ascending sets ascend
 pub arcs_rising : (op : Operation) (p : Set × Set) → Rises 0 p.0 → Rises 0 p.1 → ArcsAreRising (arcs op p)
 arcs_rising op p h k =
     arcs_flat all_flags (λ f. flat_map (λ g. arc_if f g (digits_from op p.0 p.1 f g)) all_flags)
@@ -121,6 +128,7 @@ from_by : (b : Bool) (n : ℕ) (ds : List Digits) (o : Option (List Digits)) →
 from_by true n ds o p q = p
 from_by false n ds o p q = q
 
+-- the way from some flags has as many digits as all ways
 pub from_shaped : (n : ℕ) (ws : List Way) (f : Flags) → WaysAreShaped n ws → MayBeShaped n (way_from ws f)
 from_shaped n [] f p = tt
 from_shaped n (w ∷ ws) f p = from_by (same_flags w.from f) n w.digits (way_from ws f) p.0 (from_shaped n ws f p.1)
@@ -140,6 +148,7 @@ abbrev pub PairsRise : List (Set × Set) → Type 0
 PairsRise [] = ⊤
 PairsRise (p ∷ ps) = (Rises 0 p.0) × (Rises 0 p.1) × PairsRise ps
 
+-- the ways through pairs of ascending sets have one digit for each pair
 pub ways_shaped : (op : Operation) (final : Flags) (ps : List (Set × Set)) → PairsRise ps → WaysAreShaped (length ps) (ways final (map (arcs op) ps))
 ways_shaped op final [] h = (tt, tt)
 ways_shaped op final (p ∷ ps) h =

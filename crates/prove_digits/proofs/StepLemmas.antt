@@ -20,6 +20,7 @@ use Rattle.prove_digits.proofs.FoundLemmas.{forward, backward, found_is, found_r
 
 -- ---- one step more
 
+-- steps with one more are steps, if it begins with the states that they end with
 pub steps_more : (op : Operation) (start mid : States) (ps : List (Set × Set)) (ss : List Step) (p : Set × Set) (m : Step) → AreSteps op start ps ss mid
     → m.before ≡ mid → IsStep op p.0 p.1 m → AreSteps op start (ps ++ p ∷ []) (ss ++ m ∷ []) (states_after m)
 steps_more op start mid [] [] p m h e i = (e ∙ h, i, refl)
@@ -27,10 +28,12 @@ steps_more op start mid [] (s ∷ ss) p m h e i = absurd h
 steps_more op start mid (q ∷ ps) [] p m h e i = absurd h
 steps_more op start mid (q ∷ ps) (s ∷ ss) p m h e i = (h.0, h.1, steps_more op (states_after s) mid ps ss p m h.2 e i)
 
+-- no steps end with the states that they begin with
 pub no_steps : (op : Operation) (start end : States) (ps : List (Set × Set)) (ss : List Step) → ps ≡ [] → ss ≡ [] → end ≡ start → AreSteps op start ps ss end
 no_steps op start end ps ss e h k =
     subst (λ (qs : List (Set × Set)). AreSteps op start qs ss end) (sym e) (subst (λ (rs : List Step). AreSteps op start [] rs end) (sym h) k)
 
+-- there are as many steps as pairs of sets
 pub steps_length : (op : Operation) (start end : States) (ps : List (Set × Set)) (ss : List Step) → AreSteps op start ps ss end → length ps ≡ length ss
 steps_length op start end [] [] h = refl
 steps_length op start end [] (s ∷ ss) h = absurd h
@@ -226,11 +229,13 @@ pairs_reverse [] h = tt
 pairs_reverse (p ∷ ps) h =
     subst (λ (qs : List (Set × Set)). PairsRise qs) (sym (reverse_more p ps)) (pairs_append (reverse ps) (p ∷ []) (pairs_reverse ps h.2) (h.0, h.1, tt))
 
+-- the sets of pairs of values ascend
 pub values_rise : (xs ys : List Values) → PairsRise (value_pairs xs ys)
 values_rise [] ys = tt
 values_rise (x ∷ xs) [] = tt
 values_rise (x ∷ xs) (y ∷ ys) = (rises_values x.words, rises_values y.words, values_rise xs ys)
 
+-- no pair is left from the shorter list's end on
 pub no_pairs_left : (xs ys : List Values) (n : ℕ) → min (length xs) (length ys) ≤ n → drop n (value_pairs xs ys) ≡ []
 no_pairs_left [] ys zero h = refl
 no_pairs_left [] ys (suc n) h = refl
@@ -239,6 +244,7 @@ no_pairs_left (x ∷ xs) [] (suc n) h = refl
 no_pairs_left (x ∷ xs) (y ∷ ys) zero h = absurd (omega (arith, h))
 no_pairs_left (x ∷ xs) (y ∷ ys) (suc n) h = no_pairs_left xs ys n (omega (arith, h))
 
+-- the pairs from a place on begin with that of the values there
 pub pairs_left : (xs ys : List Values) (n : ℕ) (d e : Values) → n < length xs → n < length ys
     → drop n (value_pairs xs ys) ≡ (set_of (get_or xs n d), set_of (get_or ys n e)) ∷ drop (suc n) (value_pairs xs ys)
 pairs_left [] ys n d e h k = absurd (omega (arith, h))
@@ -246,6 +252,7 @@ pairs_left (x ∷ xs) [] n d e h k = absurd (omega (arith, k))
 pairs_left (x ∷ xs) (y ∷ ys) zero d e h k = refl
 pairs_left (x ∷ xs) (y ∷ ys) (suc n) d e h k = pairs_left xs ys n d e (omega (arith, h)) (omega (arith, k))
 
+-- turned round, the pair at a place comes last
 pub pairs_before : (xs ys : List Values) (n : ℕ) (d e : Values) → n < length xs → n < length ys
     → reverse (drop n (value_pairs xs ys)) ≡ reverse (drop (suc n) (value_pairs xs ys)) ++ (set_of (get_or xs n d), set_of (get_or ys n e)) ∷ []
 pairs_before xs ys n d e h k =
@@ -267,6 +274,7 @@ steps_before op mid end xs ys n left d e ss rs m q a b h i j k l =
 
 -- ---- digits of values
 
+-- digits with one more byte in each list have one more at the end
 pub digits_more : (xs ys rs : List Values) (x y r : Values) → length ys ≡ length xs → length rs ≡ length xs
     → digits_of (xs ++ x ∷ []) (ys ++ y ∷ []) (rs ++ r ∷ []) ≡ digits_of xs ys rs ++ (record { a = set_of x; b = set_of y; r = set_of r }) ∷ []
 digits_more [] [] [] x y r h k = refl
@@ -280,6 +288,7 @@ digits_more (a ∷ xs) (b ∷ ys) (c ∷ rs) x y r h k =
 reverse_digits : (d : Digits) (ds : List Digits) → reverse (d ∷ ds) ≡ reverse ds ++ d ∷ []
 reverse_digits d ds = reverse-append (d ∷ []) ds
 
+-- one step back finds the states and the digits before it
 pub back_more : (f : States) (ss : List Step) (n : ℕ) (s : Step) (after : States) (d : Digits) → drop n ss ≡ s ∷ drop (suc n) ss → after ≡ back_states f (drop (suc n) ss)
     → d ≡ found_digits s after
     → (states_before s after ≡ back_states f (drop n ss)) × (reverse (back_digits f (drop (suc n) ss)) ++ d ∷ [] ≡ reverse (back_digits f (drop n ss)))
@@ -289,6 +298,7 @@ back_more f ss n s after d e a g = (
       ∙ ap (λ (c : Digits). reverse (back_digits f (drop (suc n) ss)) ++ c ∷ []) (sym (g ∙ ap (λ (t : States). found_digits s t) a))),
 )
 
+-- digits with one more trio are those of the lists with one more byte
 pub bytes_more : (xs ys rs us vs ws : List Values) (t : Trio) → length ys ≡ length xs → length rs ≡ length xs → us ≡ xs ++ t.x ∷ [] → vs ≡ ys ++ t.y ∷ []
     → ws ≡ rs ++ t.r ∷ [] → (digits_of us vs ws ≡ digits_of xs ys rs ++ trio_value t ∷ []) × (length vs ≡ length us) × (length ws ≡ length us)
 bytes_more xs ys rs us vs ws t h k e f g = (
@@ -302,12 +312,15 @@ bytes_more xs ys rs us vs ws t h k e f g = (
 abbrev pub blank_values : Values
 blank_values = record { words = [] }
 
+-- what an index past the end of trios reads
 abbrev pub blank_trio : Trio
 blank_trio = record { x = blank_values; y = blank_values; r = blank_values }
 
+-- what an index past the end of turns reads
 abbrev pub blank_turn : Turn
 blank_turn = record { clear = record { other = blank_trio; zero = blank_trio }; set = record { other = blank_trio; zero = blank_trio } }
 
+-- what an index past the end of steps reads
 abbrev pub blank_step : Step
 blank_step = record { before = record { other = false; zero = false; carry = false; both = false }; plain = blank_turn; carried = blank_turn }
 
@@ -325,6 +338,7 @@ four_lists : (a b c d : List (Flags × List Digits)) → ((([] ++ a) ++ b) ++ c)
 four_lists a b c d =
     append_assoc (a ++ b) c d ∙ append_assoc a b (c ++ d) ∙ ap (λ (w : List (Flags × List Digits)). a ++ (b ++ (c ++ w))) (append_none d)
 
+-- the ways that the steps find to all final flags are those of the definition
 pub ways_are : (op : Operation) (end : States) (xs ys : List Values) (ss : List Step) → AreSteps op (states_one false true) (reverse (value_pairs xs ys)) ss end
     → ((([] ++ way_back end false false ss) ++ way_back end false true ss) ++ way_back end true false ss) ++ way_back end true true ss ≡ ways_found op (value_pairs xs ys)
 ways_are op end xs ys ss h =

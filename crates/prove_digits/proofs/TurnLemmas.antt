@@ -17,6 +17,7 @@ abbrev pub zero_test : Bool → Bool → Bool
 zero_test true b = b
 zero_test false b = not b
 
+-- flags agree on a zero if the test for it passes
 pub same_zero : (z b : Bool) → same b z ≡ zero_test z b
 same_zero true true = refl
 same_zero true false = refl
@@ -90,6 +91,7 @@ zeros_made test make xs rs h z e =
       from = λ r i s. let q = first_in xs s in (q.0, q.1, z q.0 q.1 ∙ sym (zero_only r rs e i));
     }
 
+-- of a part only the value that a number takes to zero makes a zero
 pub zero_made : (part zero end : Values) (rs : Set) (by e : ℕ) → by < 256 → e < 256 → (e + by) % 256 ≡ 0
     → ((v : ℕ) → v < 256 → has_value end v ≡ (v == e)) → set_of zero ≡ common (set_of part) (set_of end) → rs ≡ 0 ∷ []
     → AreMade (λ x. is_in x (set_of part) && ((x + by) % 256 == 0)) (λ x. (x + by) % 256) (set_of zero) rs
@@ -156,6 +158,7 @@ taken x y k by h e = omega (arith, e, h)
 together : (x y k : ℕ) → x + (y + k) ≡ x + y + k
 together x y k = omega arith
 
+-- the digits of a sum or a difference grow by what leads from flags to flags if each part does
 pub moves_grow : (b carry : Bool) (xs below above : Set) (y by split : ℕ) (d e : Bool → Bool → Digits) → y < 256
     → split ≡ cond b (y + carried carry) (256 - (y + carried carry)) → by ≡ cond b ((256 - (y + carried carry)) % 256) ((y + carried carry) % 256)
     → ((x : ℕ) → is_in x below ≡ (is_in x xs && nat_lt x split)) → ((x : ℕ) → is_in x above ≡ (is_in x xs && not (nat_lt x split)))
@@ -204,6 +207,7 @@ parts_true true below above y by d e h p q r t false true = q
 parts_true true below above y by d e h p q r t true false = r
 parts_true true below above y by d e h p q r t true true = t
 
+-- if the values below the split make no carry, the digits of each carry grow by its own part
 pub parts_false : (s : Bool) (below above : Set) (y by : ℕ) (d e : Bool → Bool → Digits) → s ≡ false
     → IsGrown (d false false) (e false false) (λ x. is_in x below && not ((x + by) % 256 == 0)) y (λ x. (x + by) % 256)
     → IsGrown (d false true) (e false true) (λ x. is_in x below && ((x + by) % 256 == 0)) y (λ x. (x + by) % 256)

@@ -141,6 +141,7 @@ pairwise h = regroup (h (record { c = false; z = false })) (h (record { c = fals
 abbrev pub is_arc : Operation → Set × Set → Flags → Flags → Bool
 is_arc op p f g = not (is_empty (digits_from op p.0 p.1 f g).a)
 
+-- some arc passes a test if flags lead to flags whose digits pass it
 pub arcs_pass : (op : Operation) (p : Set × Set) (c z : Bool) (t : Flags → Digits → Bool)
     → any_arc (λ a. same_flags a.from (record { c = c; z = z }) && t a.to a.digits) (arcs op p)
     ≡ any_pair (λ carry zero. is_arc op p (record { c = c; z = z }) (record { c = carry; z = zero })
@@ -166,6 +167,7 @@ arcs_pass op p c z t =
 abbrev pub way_by : Operation → Flags → List (Set × Set) → Bool → Bool → Option (List Digits)
 way_by op final ps c z = way_from (ways final (map (arcs op) ps)) (record { c = c; z = z })
 
+-- a way through one more pair passes a joint test if an arc and a way after it do
 pub way_passes : (q : Option (List Digits) → Bool) (op : Operation) (final : Flags) (p : Set × Set) (ps : List (Set × Set)) (c z : Bool) → IsJoint q
     → q (way_by op final (p ∷ ps) c z)
     ≡ any_pair (λ carry zero. is_arc op p (record { c = c; z = z }) (record { c = carry; z = zero })
@@ -179,9 +181,11 @@ abbrev pub is_way : Option (List Digits) → Bool
 is_way None = false
 is_way (Some ds) = true
 
+-- whether there is a way is a joint test
 pub way_is_joint : IsJoint is_way
 way_is_joint = record { none = refl; join = λ ds es. refl }
 
+-- whether a part at a place has a value is a joint test
 pub value_is_joint : (k : Part) (i v : ℕ) → IsJoint (may_have k i v)
 value_is_joint k i v = record { none = refl; join = λ ds es. joined_at k i v ds es }
 
@@ -197,6 +201,7 @@ later_before : (k : Part) (i v : ℕ) (d : Digits) (o : Option (List Digits)) �
 later_before k i v d None = refl
 later_before k i v d (Some ds) = refl
 
+-- two tests that agree on all flags pass alike for some
 pub pair_alike : (h k : Bool → Bool → Bool) → ((c z : Bool) → h c z ≡ k c z) → any_pair h ≡ any_pair k
 pair_alike h k e =
     ap (λ (b : Bool). ((b || h false true) || h true false) || h true true) (e false false)
