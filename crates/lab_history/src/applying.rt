@@ -189,8 +189,8 @@ fn apply_end(
     }
 }
 
-/// Counts what happens while a line is played, as far as it came, and returns the first rule that is broken. `times` becomes
-/// 1 for each `on` line that applies.
+/// Counts what happens while a line is played, as far as it came, and returns the first rule that is broken. It writes 1
+/// into `times` for each `on` line that applies, of which no clause speaks.
 pub fn apply(
     rules: &Rules<'_>,
     standing: &mut Standing,

@@ -67,7 +67,7 @@ expectation_verdict (Ok t) =
     Reports (expect_text ts t.expected) (count_failed ts t.expected == 0)
 expectation_verdict (Err e) = Refusal (fault_line e)
 
--- the verdict on a sweep of a deck with its marks `#! whole`: whether each line that must be whole is
+-- the verdict on a sweep of a deck with its marks `#! whole`: whether each line that must be whole is, and each mark is of a swept line
 abbrev pub sweep_verdict : List Remark → Result (List (ℕ × DeckLine)) (ℕ × DeckCause) → LabVerdict
 sweep_verdict marks (Ok ls) = Reports (sweep_text marks ls) (is_whole marks ls)
 sweep_verdict marks (Err e) = Refusal (deck_line e)

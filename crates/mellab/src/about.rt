@@ -15,7 +15,7 @@ const HELP: &[u8] = b"usage: mellab expect | sweep | explore N | prove\n\
 mellab reads a deck of melcard from standard input, plays it on cards of its own, and writes to standard output.\n\
 \n\
 \x20 expect     each expectation of the deck that failed, and how many did; status 1 if one did\n\
-\x20 sweep      cuts power in each device write of each line: what the card was then; status 1 if a line that must be whole is not\n\
+\x20 sweep      cuts power in each device write of each line: what the card was then; status 1 if a line marked whole is not, or is not swept\n\
 \x20 explore N  tries every sequence of at most N moves of the deck, each whole and cut in each write: the shortest that breaks a rule\n\
 \x20            of the deck, with status 1, or status 6 if not all was explored; N --states M keeps at most M states, in place of 1000000\n\
 \x20 prove      decides whether an application keeps the rules of the deck, whatever a terminal sends; status 1 if that is not proved\n\
