@@ -1,5 +1,5 @@
 -- What a commit and a deletion do to a store as a bank.
-use Rattle.std.proofs.Common.{◌≡◌, ◌≢◌, ℕ, Bool, true, false, not, List, Option, Some, Ok, Err, refl, sym, ◌∙◌, ap, inl, inr}
+use Rattle.std.proofs.Common.{arith, ◌≡◌, ◌≢◌, ℕ, true, false, not, List, Option, Some, Ok, Err, refl, sym, ◌∙◌, ap, inl, inr}
 use Rattle.std.specs.Prelude.{◌⊎◌, IsSome, unwrap_or}
 use Rattle.mc_base.specs.model_device.specs.Orders.{Answer}
 use Rattle.mc_base.specs.model_device.specs.Bytes.{lookup, insert}
@@ -7,8 +7,7 @@ use Rattle.mc_base.specs.model_device.specs.Device.{DeviceState, IsSized, Wrote}
 use Rattle.mc_base.specs.model_device.specs.Card.{App, means}
 use Rattle.mc_bank.specs.model_card.specs.Items.{BankItem, Commit, Remove}
 use Rattle.mc_bank.specs.Bank.{no_app, app_of, sizes_of, with_words, apps_after_commit, item_done}
-use Rattle.mc_bank.specs.Slots.{slot_place, name_of_slot}
-use Rattle.mc_bank.specs.SlotLaws.{commit_sized, slot_stays}
+use Rattle.mc_bank.specs.SlotLaws.{commit_sized}
 use Rattle.mc_blocks.proofs.Maps.{OneAt}
 use Rattle.mc_blocks.proofs.Applications.{found_application}
 use Rattle.mc_store.specs.declared.store.Store.{Store}
@@ -22,11 +21,7 @@ use Rattle.mc_base.specs.model_device.proofs.BoolLemmas.{some_is}
 
 -- a store that is not stopped runs
 pub running : (d : DeviceState) (c : ℕ) → not (is_going d c) ≡ false → is_going d c ≡ true
-running d c h = by_test (is_going d c) h
-  where
-    by_test : (t : Bool) → not t ≡ false → t ≡ true
-    by_test true h = refl
-    by_test false h = absurd (cc h)
+running d c h = grind arith
 
 module _ {N : Type 0} (state : N → DeviceState) (wrote : N → ℕ → List ℕ → Answer → N → Type 0)
     (obeys : (d : N) (at : ℕ) (w : List ℕ) (a : Answer) (e : N) → (state d).on ≡ true → wrote d at w a e → Wrote (state d) at w a (state e)) where
@@ -69,9 +64,7 @@ module _ {N : Type 0} (state : N → DeviceState) (wrote : N → ℕ → List �
 
   -- a commit keeps all slots
   pub commit_slots : (s e : Store N) (n : List ℕ) (ws : List (ℕ × List ℕ)) (a : Answer) → store_did state wrote s (Commit n ws) a e → (k : ℕ) → store_named (state e.device) k ≡ store_named (state s.device) k
-  commit_slots s e n ws a did k =
-      slot_stays (apps_in (state s.device).words) (apps_in (state e.device).words) k (place_named (state e.device) (slot_place k)) (commit_sizes s e n ws a did)
-      ∙ ap (λ (o : Option (List ℕ)). name_of_slot (apps_in (state s.device).words) k o) (commit_places s e n ws a did (slot_place k))
+  commit_slots s e n ws a did k = grind (arith, commit_sizes, commit_places)
 
   -- a deletion keeps those of all others
   pub delete_slots : (s e : Store N) (n : List ℕ) (a : Answer) → store_did state wrote s (Remove n) a e → (k : ℕ) (l : List ℕ) → store_named (state s.device) k ≡ Some l → l ≢ n → store_named (state e.device) k ≡ Some l

@@ -7,7 +7,7 @@ use Rattle.mc_base.specs.model_device.specs.Bytes.{up, be2, lookup, remove}
 use Rattle.mc_base.specs.model_device.specs.Device.{DeviceState, IsSized, Makes}
 use Rattle.mc_base.specs.model_device.specs.Image.{Two, is_open, look, Closed}
 use Rattle.mc_base.specs.model_device.specs.Stopped.{writes, IsAtomic}
-use Rattle.mc_base.specs.model_device.specs.Card.{App, means, card_of, record_at, app_at, section}
+use Rattle.mc_base.specs.model_device.specs.Card.{App, means, card_of, record_at, app_at}
 use Rattle.mc_base.specs.model_device.specs.Layout.{spans, step_of, IsWellLaid}
 use Rattle.mc_bank.specs.model_card.specs.Items.{Commit, Remove}
 use Rattle.mc_bank.specs.Bank.{CanCommit, no_app, app_of, name_or}
@@ -72,26 +72,13 @@ delete_is d c p image going there =
 module _ {D : Type 0} (state : D → DeviceState) (wrote : D → ℕ → List ℕ → Answer → D → Type 0) where
   pub delete_did : (d e : D) (c p : ℕ) (items : List (ℕ × List ℕ)) (a : Answer) → IsSized (state d).words → is_going (state d) c ≡ true → IsSome (place_named (state d) p) → items ≡ plan (means (state d).words) (without p (spans (means (state d).words)))
       → Makes wrote d (writes Two items) a e → StoreDid state wrote d c (Remove (name_or (place_named (state d) p))) a e (count_after (Remove (name_or (place_named (state d) p))) a c)
-  delete_did d e c p items a image going there is made =
-      let k : DeleteIs (state d) c p = delete_is (state d) c p image going there in
-      record {
-        going = going;
-        image = image;
-        allowed = k.there;
-        makes = subst (λ (l : List (ℕ × List ℕ)). Makes wrote d (writes Two l) a e) (is ∙ k.writes) made;
-        count = refl;
-      }
+  delete_did d e c p items a image going there is made = grind (arith, delete_is (state d) c p image going there)
 
 -- ---- a commit
 
 -- the first word of static bytes, by the record
 pub static_first : (m : List (List ℕ)) (p : ℕ) (a : App) → IsSized m → IsUsedBlock m p → app_at m p ≡ a → static_from a ≡ p + 5 + up (be2 (record_at m p) 20) 8
-static_first m p a image block is =
-    let r = record_at m p in
-    let k : RecordIs r block.words = record_is r block.words block.good in
-    let end : p + block.words ≤ length m = block.end in
-    let long : length (section m (p + 5) (be2 r 20)) ≡ be2 r 20 = length_section m (p + 5) (be2 r 20) image (omega (arith, k.words)) in
-    ap static_from (sym is) ∙ ap (λ (x : ℕ). p + 5 + up x 8) long
+static_first m p a image block is = grind (arith, RecordIs, record_is, length_section, static_from)
 
 pub record CommitIs (d : DeviceState) (p : ℕ) (ws : List (ℕ × List ℕ)) : Type 0 where
   pub on : d.on ≡ true
@@ -143,15 +130,7 @@ commit_is d c p ws image going there can =
 module _ {D : Type 0} (state : D → DeviceState) (wrote : D → ℕ → List ℕ → Answer → D → Type 0) where
   pub commit_did : (d e : D) (c p : ℕ) (ws items : List (ℕ × List ℕ)) (a : Answer) → IsSized (state d).words → is_going (state d) c ≡ true → IsSome (place_named (state d) p) → CanCommit (app_of (apps_in (state d).words) (place_named (state d) p)).fixed ws
       → items ≡ placed_words (p + 5 + up (be2 (record_at (state d).words p) 20) 8) ws → Makes wrote d (writes Two items) a e → StoreDid state wrote d c (Commit (name_or (place_named (state d) p)) ws) a e c
-  commit_did d e c p ws items a image going there can is made =
-      let k : CommitIs (state d) p ws = commit_is (state d) c p ws image going there can in
-      record {
-        going = going;
-        image = image;
-        allowed = (k.there, k.can);
-        makes = subst (λ (l : List (ℕ × List ℕ)). Makes wrote d (writes Two l) a e) (is ∙ k.is) made;
-        count = refl;
-      }
+  commit_did d e c p ws items a image going there can is made = grind (arith, commit_is (state d) c p ws image going there can)
 
 pub one_placed : (q : ℕ) (ws : List (ℕ × List ℕ)) → length ws ≡ 1 → (q + (get_or ws 0 (0, [])).0, (get_or ws 0 (0, [])).1) ∷ [] ≡ placed_words q ws
 one_placed q [] h = absurd (omega (arith, h))

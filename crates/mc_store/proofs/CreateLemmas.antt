@@ -1,5 +1,5 @@
 -- A creation as items of a store: the words of its record, and what its calls require.
-use Rattle.std.proofs.Common.{◌≡◌, ◌⊎◌, ℕ, zero, suc, ◌+◌, ◌-◌, ◌%◌, ◌/◌, ◌<◌, ◌≤◌, true, false, List, [], ◌∷◌, ◌++◌, length, take, drop, map, Ok, Err, refl, sym, ◌∙◌, ap, subst, inl, inr, arith, length-append}
+use Rattle.std.proofs.Common.{◌≡◌, ◌⊎◌, ℕ, zero, suc, ◌+◌, ◌-◌, ◌%◌, ◌/◌, ◌<◌, ◌≤◌, true, false, List, [], ◌∷◌, ◌++◌, length, take, drop, map, Ok, Err, refl, sym, ◌∙◌, ap, inl, inr, arith, length-append}
 use Rattle.std.specs.Prelude.{OnOk, slice_index_or}
 use Rattle.std.proofs.lemmas.List.{drop_more, length-replicate, get_or_append_left}
 use Rattle.std.proofs.Math.Seq.{drop-append-add}
@@ -28,16 +28,7 @@ use Rattle.mc_store.proofs.FillLemmas.{good_on, blank_on, note_on, parts_step}
 -- eight bytes from one on
 eight : (l : List ℕ) (i : ℕ) → i + 8 ≤ length l → take 8 (drop i l)
     ≡ slice_index_or l i 0 ∷ slice_index_or l (i + 1) 0 ∷ slice_index_or l (i + 1 + 1) 0 ∷ slice_index_or l (i + 1 + 1 + 1) 0 ∷ slice_index_or l (i + 1 + 1 + 1 + 1) 0 ∷ slice_index_or l (i + 1 + 1 + 1 + 1 + 1) 0 ∷ slice_index_or l (i + 1 + 1 + 1 + 1 + 1 + 1) 0 ∷ slice_index_or l (i + 1 + 1 + 1 + 1 + 1 + 1 + 1) 0 ∷ []
-eight l i h = rw (
-  drop_more l i 0 (omega arith),
-  drop_more l (i + 1) 0 (omega arith),
-  drop_more l (i + 1 + 1) 0 (omega arith),
-  drop_more l (i + 1 + 1 + 1) 0 (omega arith),
-  drop_more l (i + 1 + 1 + 1 + 1) 0 (omega arith),
-  drop_more l (i + 1 + 1 + 1 + 1 + 1) 0 (omega arith),
-  drop_more l (i + 1 + 1 + 1 + 1 + 1 + 1) 0 (omega arith),
-  drop_more l (i + 1 + 1 + 1 + 1 + 1 + 1 + 1) 0 (omega arith),
-) refl
+eight l i h = grind (arith, drop_more)
 
 abbrev behind : Sizes → List ℕ → List ℕ
 behind s n = length n ∷ s.dir ∷ s.fci ∷ 0 ∷ (bytes2 s.code ++ bytes2 s.fixed ++ bytes2 s.session ++ bytes2 s.deny ++ zeros 4)
@@ -54,17 +45,11 @@ record_long s n is = let a = length-append (n ++ zeros (16 - length n)) (behind 
 
 pub first_word : (s : Sizes) (n r : List ℕ) (k : ℕ) → IsName n → r ≡ n ++ zeros (16 - length n) → k ≡ 0
     → slice_index_or r 0 0 ∷ slice_index_or r 1 0 ∷ slice_index_or r 2 0 ∷ slice_index_or r 3 0 ∷ slice_index_or r 4 0 ∷ slice_index_or r 5 0 ∷ slice_index_or r 6 0 ∷ slice_index_or r 7 0 ∷ [] ≡ record_word s n k
-first_word s n r k is e none =
-    sym (ap (λ (x : ℕ). record_word s n x) none
-    ∙ eight (record_bytes s n) 0 (let f = record_long s n is in omega (arith, f))
-    ∙ rw (of_front s n r 0 is e (omega arith), of_front s n r 1 is e (omega arith), of_front s n r 2 is e (omega arith), of_front s n r 3 is e (omega arith), of_front s n r 4 is e (omega arith), of_front s n r 5 is e (omega arith), of_front s n r 6 is e (omega arith), of_front s n r 7 is e (omega arith)) refl)
+first_word s n r k is e none = grind (arith, eight, record_long, of_front)
 
 pub second_word : (s : Sizes) (n r : List ℕ) (k : ℕ) → IsName n → r ≡ n ++ zeros (16 - length n) → k ≡ 1
     → slice_index_or r 8 0 ∷ slice_index_or r 9 0 ∷ slice_index_or r 10 0 ∷ slice_index_or r 11 0 ∷ slice_index_or r 12 0 ∷ slice_index_or r 13 0 ∷ slice_index_or r 14 0 ∷ slice_index_or r 15 0 ∷ [] ≡ record_word s n k
-second_word s n r k is e one =
-    sym (ap (λ (x : ℕ). record_word s n x) one
-    ∙ eight (record_bytes s n) 8 (let f = record_long s n is in omega (arith, f))
-    ∙ rw (of_front s n r 8 is e (omega arith), of_front s n r 9 is e (omega arith), of_front s n r 10 is e (omega arith), of_front s n r 11 is e (omega arith), of_front s n r 12 is e (omega arith), of_front s n r 13 is e (omega arith), of_front s n r 14 is e (omega arith), of_front s n r 15 is e (omega arith)) refl)
+second_word s n r k is e one = grind (arith, eight, record_long, of_front)
 
 pub last_word : (s : Sizes) (n : List ℕ) (k : ℕ) (w : List ℕ) → IsName n → k ≡ 3 → w ≡ bytes2 s.session ++ bytes2 s.deny ++ zeros 4 → w ≡ record_word s n k
 last_word s n k w is three e =
@@ -96,31 +81,17 @@ enter_is d c s n image going ready =
 module _ {D : Type 0} (state : D → DeviceState) (wrote : D → ℕ → List ℕ → Answer → D → Type 0) where
   pub enter_did : (d e : D) (c p need : ℕ) (s : Site) (n : List ℕ) (items : List (ℕ × List ℕ)) (a : Answer) → IsSized (state d).words → is_going (state d) c ≡ true → IsReadySite (state d).words s n → p ≡ s.place → need ≡ words_of_sizes s.sizes
       → items ≡ plan (means (state d).words) (put_at p need (spans (means (state d).words))) → Makes wrote d (writes Two items) a e → StoreDid state wrote d c (Enter s n) a e (count_after (Enter s n) a c)
-  enter_did d e c p need s n items a image going ready place sizes is made =
-      let k : EnterIs (state d) c s n = enter_is (state d) c s n image going ready in
-      record {
-        going = going;
-        image = image;
-        allowed = ready;
-        makes = subst (λ (l : List (ℕ × List ℕ)). Makes wrote d (writes Two l) a e)
-            (is ∙ ap (λ (q : ℕ). plan (means (state d).words) (put_at q need (spans (means (state d).words)))) place ∙ ap (λ (q : ℕ). plan (means (state d).words) (put_at s.place q (spans (means (state d).words)))) sizes ∙ k.plan) made;
-        count = refl;
-      }
+  enter_did d e c p need s n items a image going ready place sizes is made = grind (arith, enter_is (state d) c s n image going ready)
 
 -- ---- zeros and the words of the record
 
 pub blank_word : (d : DeviceState) (c : ℕ) (s : Site) (at n : ℕ) → IsSized d.words → is_going d c ≡ true → IsGoodIn d.words s → IsInWord s.sizes.fixed at n → part_from Data s.sizes s.place + at / 8 < length d.words
 blank_word d c s at n image going good i =
-    let g : Going d c = going_is d c going in
-    let site : AtSite d.words s = at_site d.words s image g.closed (site_bytes_of d c g).well good in
-    let lies = blanked s.sizes s.place at n i in
-    omega (arith, site.ends, lies.1)
+    grind (arith, going_is d c going, at_site d.words s image (going_is d c going).closed (site_bytes_of d c (going_is d c going)).well good, blanked s.sizes s.place at n i)
 
 pub note_word : (d : DeviceState) (c : ℕ) (s : Site) (i : ℕ) → IsSized d.words → is_going d c ≡ true → IsGoodIn d.words s → i < 4 → s.place + 1 + i < length d.words
 note_word d c s i image going good few =
-    let g : Going d c = going_is d c going in
-    let site : AtSite d.words s = at_site d.words s image g.closed (site_bytes_of d c g).well good in
-    omega (arith, site.ends)
+    grind (arith, going_is d c going, at_site d.words s image (going_is d c going).closed (site_bytes_of d c (going_is d c going)).well good)
 
 pub zeros_front : (n k : ℕ) → n ≤ k → take n (zeros k) ≡ zeros n
 zeros_front zero k h = refl
@@ -135,25 +106,11 @@ module _ {D : Type 0} (state : D → DeviceState) (wrote : D → ℕ → List �
 
   pub blank_did : (d e : D) (c : ℕ) (s : Site) (at n from : ℕ) (b : List ℕ) (a : Answer) → IsSized (state d).words → is_going (state d) c ≡ true → IsGoodIn (state d).words s → IsInWord s.sizes.fixed at n → from ≡ part_from Data s.sizes s.place → b ≡ zeros n
       → wrote d (from + at / 8) (splice (word (state d).words (from + at / 8)) (at % 8) b) a e → StoreDid state wrote d c (Blank s at n) a e c
-  blank_did d e c s at n from b a image going good i is clear made =
-      record {
-        going = going;
-        image = image;
-        allowed = (good, i);
-        makes = one_write d e _ _ a (subst (λ (q : ℕ). wrote d (q + at / 8) (splice (word (state d).words (q + at / 8)) (at % 8) (zeros n)) a e) is (subst (λ (z : List ℕ). wrote d (from + at / 8) (splice (word (state d).words (from + at / 8)) (at % 8) z) a e) clear made));
-        count = refl;
-      }
+  blank_did d e c s at n from b a image going good i is clear made = grind (arith, one_write)
 
   pub note_did : (d e : D) (c : ℕ) (s : Site) (n : List ℕ) (i place : ℕ) (w : List ℕ) (a : Answer) → IsSized (state d).words → is_going (state d) c ≡ true → IsGoodIn (state d).words s → IsName n → i < 4 → place ≡ s.place → w ≡ record_word s.sizes n i
       → wrote d (place + 1 + i) w a e → StoreDid state wrote d c (Note s n i) a e c
-  note_did d e c s n i place w a image going good name few at is made =
-      record {
-        going = going;
-        image = image;
-        allowed = (good, name, few);
-        makes = one_write d e _ _ a (subst (λ (q : ℕ). wrote d (q + 1 + i) (record_word s.sizes n i) a e) at (subst (λ (x : List ℕ). wrote d (place + 1 + i) x a e) is made));
-        count = refl;
-      }
+  note_did d e c s n i place w a image going good name few at is made = grind (arith, one_write)
 
   pub blank_going : (d e : D) (c : ℕ) (s : Site) (at n : ℕ) (a : Answer) → StoreDid state wrote d c (Blank s at n) a e c → OnOk a (is_going (state e) c ≡ true)
   blank_going d e c s at n (Ok tt) did = (blank_on state wrote obeys d e c s at n did).going

@@ -8,13 +8,12 @@ use Rattle.mc_base.specs.model_device.specs.Orders.{Answer, InOrder}
 use Rattle.mc_base.specs.model_device.specs.Bytes.{splice}
 use Rattle.mc_base.specs.model_device.specs.Device.{DeviceState, IsSized, Wrote, Makes}
 use Rattle.mc_base.specs.model_device.specs.Card.{App, Card, card_of, means, word}
-use Rattle.mc_base.specs.model_device.specs.Layout.{gaps, first_fitting}
 use Rattle.mc_bank.specs.model_card.specs.Items.{Site, BankItem, Piece, Blank, Note}
 use Rattle.mc_bank.specs.model_card.specs.Manager.{in_words, word_parts}
 use Rattle.mc_bank.specs.Bank.{part_len}
-use Rattle.mc_store.specs.Store.{apps_in, is_going, words_of_sizes, part_from, IsGoodIn, IsInWord, StoreDid}
+use Rattle.mc_store.specs.Store.{apps_in, is_going, part_from, IsGoodIn, IsInWord, StoreDid}
 use Rattle.mc_store.specs.GoingLaws.{Going, going_is, is_going_of}
-use Rattle.mc_store.specs.CreationLaws.{AtSite, at_site}
+use Rattle.mc_store.specs.CreationLaws.{at_site}
 use Rattle.mc_store.specs.TurnLaws.{CardChanged, SiteBytes, site_bytes_of, turns, parted}
 use Rattle.mc_base.specs.model_device.proofs.LayoutLemmas.{closed_means}
 use Rattle.mc_store.proofs.SiteLemmas.{no_words}
@@ -33,21 +32,7 @@ words_fuel (suc n) (suc k) at (y ∷ b) hn hk =
 -- the first part of some bytes, and those after it
 pub parts_step : (at j : ℕ) (b : List ℕ) → 1 ≤ j → j ≤ length b → at % 8 + j ≤ 8 → (j ≡ length b) ⊎ (at % 8 + j ≡ 8) → word_parts at b ≡ (at, take j b) ∷ word_parts (at + j) (drop j b)
 parts_step at j [] some few fits least = absurd (omega arith)
-parts_step at j (y ∷ ys) some few fits least =
-    let b = y ∷ ys in
-    let k = 8 - at % 8 in
-    let left = length-drop j b in
-    elim least [
-      | inl all ↦
-          let none : drop j b ≡ [] = drop_all j b (omega (arith, all)) in
-          ap (λ (l : List ℕ). (at, l) ∷ in_words (length ys) (at + k) (drop k b)) (take_all k b (omega (arith, all)) ∙ sym (take_all j b (omega (arith, all))))
-          ∙ ap (λ (l : List ℕ). (at, take j b) ∷ in_words (length ys) (at + k) l) (drop_all k b (omega (arith, all)))
-          ∙ ap (λ (l : List (ℕ × List ℕ)). (at, take j b) ∷ l) (no_words (length ys) (at + k) ∙ sym (ap (λ (l : List ℕ). word_parts (at + j) l) none))
-      | inr word ↦
-          let same : k ≡ j = omega (arith, word) in
-          ap (λ (n : ℕ). (at, take n b) ∷ in_words (length ys) (at + n) (drop n b)) same
-          ∙ ap (λ (l : List (ℕ × List ℕ)). (at, take j b) ∷ l) (words_fuel (length ys) (length (drop j b)) (at + j) (drop j b) (omega (arith, left)) (omega arith))
-    ]
+parts_step at j (y ∷ ys) some few fits least = grind (arith, length-drop, drop_all, take_all, no_words, words_fuel)
 
 -- the items of a piece
 abbrev pub piece_items : Site → Part → ℕ → List ℕ → List BankItem
@@ -85,10 +70,7 @@ module _ {S : Type 0} (one : S → BankItem → Answer → S → Type 0) where
 
 pub site_word : (d : DeviceState) (c : ℕ) (s : Site) (p : Part) (at n : ℕ) → IsSized d.words → is_going d c ≡ true → IsGoodIn d.words s → IsInWord (part_len p s.sizes) at n → part_from p s.sizes s.place + at / 8 < length d.words
 site_word d c s p at n image going good i =
-    let g : Going d c = going_is d c going in
-    let site : AtSite d.words s = at_site d.words s image g.closed (site_bytes_of d c g).well good in
-    let lies = parted p s.sizes s.place at n good.limits i in
-    omega (arith, site.ends, lies.1)
+    grind (arith, going_is d c going, at_site d.words s image (going_is d c going).closed (site_bytes_of d c (going_is d c going)).well good, parted p s.sizes s.place at n good.limits i)
 
 pub power_on : (d : DeviceState) (c : ℕ) → is_going d c ≡ true → d.on ≡ true
 power_on d c going = (going_is d c going).on
@@ -113,12 +95,7 @@ plain_on d e c going t =
     }
 
 pub good_on : (d e : DeviceState) (c : ℕ) (s : Site) → PlainOn d e c → IsGoodIn d.words s → IsGoodIn e.words s
-good_on d e c s on good =
-    record {
-      limits = good.limits;
-      few = subst (λ (x : Card). length x.apps < 32) (sym on.means) good.few;
-      place = ap (λ (x : Card). first_fitting (words_of_sizes s.sizes) (gaps x)) on.means ∙ good.place;
-    }
+good_on d e c s on good = grind arith
 
 module _ {D : Type 0} (state : D → DeviceState) (wrote : D → ℕ → List ℕ → Answer → D → Type 0)
     (obeys : (d : D) (at : ℕ) (w : List ℕ) (a : Answer) (e : D) → (state d).on ≡ true → wrote d at w a e → Wrote (state d) at w a (state e)) where
@@ -128,14 +105,7 @@ module _ {D : Type 0} (state : D → DeviceState) (wrote : D → ℕ → List �
 
   pub piece_did : (d e : D) (c : ℕ) (s : Site) (p : Part) (at from : ℕ) (b : List ℕ) (a : Answer) → IsSized (state d).words → is_going (state d) c ≡ true → IsGoodIn (state d).words s → IsInWord (part_len p s.sizes) at (length b) → from ≡ part_from p s.sizes s.place
       → wrote d (from + at / 8) (splice (word (state d).words (from + at / 8)) (at % 8) b) a e → StoreDid state wrote d c (Piece s p at b) a e c
-  piece_did d e c s p at from b a image going good i is made =
-      record {
-        going = going;
-        image = image;
-        allowed = (good, i);
-        makes = one_write d e _ _ a (subst (λ (q : ℕ). wrote d (q + at / 8) (splice (word (state d).words (q + at / 8)) (at % 8) b) a e) is made);
-        count = refl;
-      }
+  piece_did d e c s p at from b a image going good i is made = grind (arith, one_write)
 
   -- a piece that was done leaves the card
   pub piece_on : (d e : D) (c : ℕ) (s : Site) (p : Part) (at : ℕ) (b : List ℕ) → StoreDid state wrote d c (Piece s p at b) (Ok tt) e c → PlainOn (state d) (state e) c

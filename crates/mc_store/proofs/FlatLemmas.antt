@@ -49,11 +49,7 @@ module _ (m : List (List ℕ)) (image : IsSized m) where
   -- bytes of one word, put after those that were copied before
   pub word_put : (base a q skip count : ℕ) (into ys : List ℕ) → a ≤ length into → 8 * q + skip ≡ base + a → skip + count ≤ 8 → q < length m → ys ≡ take count (drop skip (word m q)) → length ys ≡ count
       → take a into ≡ take a (drop base (flat m)) → take (a + count) (put_mid a count into ys) ≡ take (a + count) (drop base (flat m))
-  word_put base a q skip count into ys low at few lt is size before =
-      take-put_mid a count into ys (a + count) (omega (arith, size)) low
-      ∙ ap (λ (l : List ℕ). take a into ++ l) (is ∙ in_word q skip count lt few ∙ ap (λ (n : ℕ). take count (drop n (flat m))) at ∙ ap (λ (l : List ℕ). take count l) (sym (drop-drop a base (flat m))))
-      ∙ ap (λ (l : List ℕ). l ++ take count (drop a (drop base (flat m)))) before
-      ∙ sym (take_sum a count (drop base (flat m)))
+  word_put base a q skip count into ys low at few lt is size before = grind (arith, take-put_mid, in_word, drop-drop, take_sum)
 
   -- that, in the form of the loop
   pub record WordPut (base a count : ℕ) (into new : List ℕ) : Type 0 where

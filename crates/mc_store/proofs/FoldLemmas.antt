@@ -1,10 +1,9 @@
 -- What the items of a load and of a creation do to a store as a bank, one after another.
-use Rattle.std.proofs.Common.{◌≡◌, ◌≢◌, ℕ, zero, suc, ◌+◌, ◌-◌, ◌%◌, drop, ◌<◌, ◌≤◌, Bool, true, false, not, List, [], ◌∷◌, ◌++◌, length, map, Some, None, Ok, Err, refl, sym, ◌∙◌, ap, subst, inl, inr, arith, append_assoc}
+use Rattle.std.proofs.Common.{◌≡◌, ◌≢◌, ℕ, zero, suc, ◌+◌, ◌-◌, ◌%◌, drop, ◌≤◌, Bool, true, false, not, List, [], ◌∷◌, ◌++◌, length, map, Some, None, Ok, Err, refl, sym, ◌∙◌, ap, subst, inl, inr, arith, append_assoc}
 use Rattle.std.specs.Prelude.{IsSome, OnOk, slice_set}
 use Rattle.std.specs.List.{AllByRecursion}
 use Rattle.std.proofs.lemmas.List.{length-replicate}
 use Rattle.mc_bank.specs.model_card.specs.declared.card.Part.{Part}
-use Rattle.mc_bank.specs.model_card.specs.declared.card.Part.TheVariants.{Code, Data, Dir, Fci}
 use Rattle.mc_base.specs.model_device.specs.declared.device.Stop.{Stop}
 use Rattle.mc_base.specs.model_device.specs.declared.device.Stop.TheVariants.{Off, Worn}
 use Rattle.mc_base.specs.model_device.specs.Counts.{Rose}
@@ -12,9 +11,8 @@ use Rattle.mc_base.specs.model_device.specs.Orders.{Answer, InOrder}
 use Rattle.mc_base.specs.model_device.specs.Bytes.{zeros, splice, lookup, insert}
 use Rattle.mc_base.specs.model_device.specs.Pieces.{laid_pieces}
 use Rattle.mc_bank.specs.model_card.specs.Manager.{in_words, word_parts, create_items}
-use Rattle.mc_base.specs.model_device.specs.Device.{DeviceState, Wrote, WriteDone, Makes}
+use Rattle.mc_base.specs.model_device.specs.Device.{DeviceState, Wrote, Makes}
 use Rattle.mc_base.specs.model_device.specs.Card.{App, Card, means, card_of}
-use Rattle.mc_base.specs.model_device.specs.Layout.{gaps, first_fitting}
 use Rattle.mc_bank.specs.model_card.specs.Items.{Site, BankItem, Piece, Blank, Note, Commit, Enter, Remove}
 use Rattle.mc_base.specs.model_device.proofs.ImageLemmas.{all_map}
 use Rattle.mc_bank.specs.Bank.{BankState, IsGoodSite, StayGood, app_of_site, item_done, part_len, IsChanged, IsStopped, StopRose, Changes}
@@ -24,7 +22,7 @@ use Rattle.mc_store.specs.Store.{apps_in, is_going, store_state, store_named, st
 use Rattle.mc_store.specs.GoingLaws.{Going, going_is, closed_settled, closed_apps, laid_apps}
 use Rattle.mc_store.specs.GapLaws.{just_one}
 use Rattle.mc_store.specs.CreationLaws.{at_site}
-use Rattle.mc_store.specs.TurnLaws.{ChangesCard, SiteBytes, site_bytes_of, turns}
+use Rattle.mc_store.specs.TurnLaws.{ChangesCard, site_bytes_of, turns}
 use Rattle.mc_store.specs.Laws.{store_obeys, store_keeps}
 use Rattle.mc_store.specs.StoreItems.{store_did}
 use Rattle.mc_store.proofs.SiteLemmas.{piece_part, piece_other, blank_part, note_part, laid_parts, part_length}
@@ -75,12 +73,7 @@ quiet_plain t (Enter s n) h = absurd h
 quiet_plain t (Remove n) h = absurd h
 
 pub same_entered : (s : Site) (f g : Part → List ℕ) → ((p : Part) → f p ≡ g p) → app_of_site s f ≡ app_of_site s g
-same_entered s f g h =
-    let x = app_of_site s f in
-    ap (λ (l : List ℕ). record x { code = l }) (h Code)
-    ∙ ap (λ (l : List ℕ). record x { code = g Code; fixed = l ++ zeros (s.sizes.fixed - s.sizes.init) }) (h Data)
-    ∙ ap (λ (l : List ℕ). record (app_of_site s g) { dir = l; fci = f Fci }) (h Dir)
-    ∙ ap (λ (l : List ℕ). record (app_of_site s g) { fci = l }) (h Fci)
+same_entered s f g h = grind arith
 
 module _ {N : Type 0} (state : N → DeviceState) (wrote : N → ℕ → List ℕ → Answer → N → Type 0)
     (obeys : (d : N) (at : ℕ) (w : List ℕ) (a : Answer) (e : N) → (state d).on ≡ true → wrote d at w a e → Wrote (state d) at w a (state e)) where
@@ -153,12 +146,7 @@ module _ {N : Type 0} (state : N → DeviceState) (wrote : N → ℕ → List �
       ]
 
   pub kept_good : (s e : Store N) → CardKept s e → StayGood (apps_in (state s.device).words) (store_room (state s.device)) (apps_in (state e.device).words) (store_room (state e.device))
-  kept_good s e k t good =
-      record {
-        limits = good.limits;
-        few = subst (λ (n : ℕ). n < 32) (sym (ap length k.apps)) good.few;
-        place = ap (λ (x : Card). first_fitting (words_of_sizes t.sizes) (gaps x)) k.card ∙ good.place;
-      }
+  kept_good s e k t good = grind arith
 
   pub kept_slots : (s e : Store N) → CardKept s e → (k : ℕ) → store_named (state e.device) k ≡ store_named (state s.device) k
   kept_slots s e k q = ap (λ (es : List (List ℕ × App)). name_of_slot es q (name_of_place es (slot_place q))) k.apps
@@ -167,10 +155,7 @@ module _ {N : Type 0} (state : N → DeviceState) (wrote : N → ℕ → List �
 
   one_written : (s m : Store N) (i : BankItem) (w : ℕ × List ℕ) → store_did state wrote s i (Ok tt) m → item_writes (state s.device).words i ≡ w ∷ [] → (state m.device).words ≡ slice_set (state s.device).words w.0 w.1
   one_written s m i w did is =
-      let made : Makes wrote s.device (w ∷ []) (Ok tt) m.device = subst (λ (l : List (ℕ × List ℕ)). Makes wrote s.device l (Ok tt) m.device) is did.makes in
-      let one : WriteDone (state s.device) w.0 w.1 (state m.device) =
-      obeys s.device w.0 w.1 (Ok tt) m.device (going_is (state s.device) s.count did.going).on (just_one wrote s.device m.device w.0 w.1 (Ok tt) made) in
-      one.words
+      grind (arith, subst (λ (l : List (ℕ × List ℕ)). Makes wrote s.device l (Ok tt) m.device) is did.makes, obeys s.device w.0 w.1 (Ok tt) m.device (going_is (state s.device) s.count did.going).on (just_one wrote s.device m.device w.0 w.1 (Ok tt) (subst (λ (l : List (ℕ × List ℕ)). Makes wrote s.device l (Ok tt) m.device) is did.makes)))
 
   -- the bytes at a site of a store that runs are in its words
   pub stands_now : (s : Store N) (t : Site) (p : Part) → is_going (state s.device) s.count ≡ true → store_site_bytes (state s.device) t p ≡ part_in (state s.device).words t p
@@ -384,11 +369,7 @@ module _ {N : Type 0} (state : N → DeviceState) (wrote : N → ℕ → List �
 
 -- a site that is good by the bank is good in the words
 pub good_in : (d : DeviceState) (c : ℕ) (t : Site) → is_going d c ≡ true → IsGoodSite (apps_in d.words) (store_room d) t → IsGoodIn d.words t
-good_in d c t going good =
-    let s : SiteBytes d.words = site_bytes_of d c (going_is d c going) in
-    record { limits = good.limits; few = subst (λ (n : ℕ). n < 32) (ap length (s.map ∙ sym s.apps)) good.few; place = good.place }
+good_in d c t going good = grind (arith, site_bytes_of d c (going_is d c going))
 
 pub fresh_in : (d : DeviceState) (c : ℕ) (n : List ℕ) → is_going d c ≡ true → lookup (apps_in d.words) n ≡ None → lookup (means d.words).apps n ≡ None
-fresh_in d c n going h =
-    let s : SiteBytes d.words = site_bytes_of d c (going_is d c going) in
-    ap (λ (es : List (List ℕ × App)). lookup es n) (s.apps ∙ sym s.map) ∙ h
+fresh_in d c n going h = grind (arith, site_bytes_of d c (going_is d c going))

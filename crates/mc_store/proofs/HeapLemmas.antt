@@ -1,12 +1,11 @@
 -- What blocks, records and applications of an image are read from: its heap alone.
 use Rattle.std.proofs.Common.{◌≡◌, ℕ, zero, suc, ◌+◌, ◌-◌, ◌≤◌, Bool, true, false, ◌&&◌, ◌||◌, List, [], ◌∷◌, length, take, drop, Option, Some, None, refl, sym, ◌∙◌, ap, arith, cond, not, length-drop}
-use Rattle.std.specs.Prelude.{nat_lt, nat_le, ◌==◌, slice_index, bytes_eq}
+use Rattle.std.specs.Prelude.{nat_lt, ◌==◌, slice_index, bytes_eq}
 use Rattle.std.specs.List.{concat, AllByRecursion}
 use Rattle.std.proofs.lemmas.List.{drop-drop, get_or-drop, get_or_default, same_lists}
-use Rattle.mc_base.specs.model_device.specs.Bytes.{be2, has_name, insert, or_else, up}
-use Rattle.mc_base.specs.model_device.specs.Card.{App, Block, word, header, block_and, blocks_from, blocks, heap_start, cells, section, record_at, name_in, name_at, app_of, app_at, apps_of, card_of}
-use Rattle.mc_base.specs.model_device.specs.Layout.{is_record, no_root, bad_header, next_block, is_hole, bad_block, bad_record, bad_link, bad_chain, first_hole, by_cause, words_fault, root}
-use Rattle.mc_base.specs.model_device.specs.declared.cause.Cause.TheVariants.{NoRoot, BadBlock, BadRecord, BadChain}
+use Rattle.mc_base.specs.model_device.specs.Bytes.{has_name, insert, up}
+use Rattle.mc_base.specs.model_device.specs.Card.{App, Block, word, header, block_and, blocks_from, blocks, heap_start, cells, section, record_at, name_in, name_at, app_at, apps_of, card_of}
+use Rattle.mc_base.specs.model_device.specs.Layout.{is_record, bad_header, next_block, is_hole, bad_block, bad_record, words_fault, root}
 use Rattle.mc_blocks.proofs.Steps.{HeaderIs, header_is}
 
 -- the test of a root
@@ -54,22 +53,7 @@ module _ (a b : List (List ℕ)) (same : SameHeap a b) where
   record_heap p low = cells_heap (p + 1) 4 (omega arith)
 
   app_heap : (p : ℕ) → 131 ≤ p → app_at a p ≡ app_at b p
-  app_heap p low =
-      let r = record_at b p in
-      let code = be2 r 20 in
-      let fixed = be2 r 22 in
-      let dir = slice_index r 17 in
-      let fci = slice_index r 18 in
-      let x = app_of b p r in
-      let one : section a (p + 5) code ≡ section b (p + 5) code = section_heap (p + 5) code (omega arith) in
-      let two : section a (p + 5 + up code 8) fixed ≡ section b (p + 5 + up code 8) fixed = section_heap (p + 5 + up code 8) fixed (omega arith) in
-      let three : section a (p + 5 + up code 8 + up fixed 8) dir ≡ section b (p + 5 + up code 8 + up fixed 8) dir = section_heap (p + 5 + up code 8 + up fixed 8) dir (omega arith) in
-      let four : section a (p + 5 + up code 8 + up fixed 8 + up dir 8) fci ≡ section b (p + 5 + up code 8 + up fixed 8 + up dir 8) fci = section_heap (p + 5 + up code 8 + up fixed 8 + up dir 8) fci (omega arith) in
-      ap (λ (l : List ℕ). app_of a p l) (record_heap p low)
-      ∙ ap (λ (l : List ℕ). record (app_of a p r) { code = l }) one
-      ∙ ap (λ (l : List ℕ). record (app_of a p r) { code = x.code; fixed = l }) two
-      ∙ ap (λ (l : List ℕ). record (app_of a p r) { code = x.code; fixed = x.fixed; dir = l }) three
-      ∙ ap (λ (l : List ℕ). record (app_of a p r) { code = x.code; fixed = x.fixed; dir = x.dir; fci = l }) four
+  app_heap p low = grind (arith, section_heap, record_heap)
 
   -- ---- blocks
 
@@ -77,11 +61,7 @@ module _ (a b : List (List ℕ)) (same : SameHeap a b) where
   header_heap p low = ap (λ (x : List ℕ). header p x) (word_heap p low)
 
   and_same : (size p : ℕ) (x : List ℕ) (o : Option Block) (f g : ℕ → List Block) → 131 ≤ p → header p x ≡ o → ((q : ℕ) → 131 ≤ q → f q ≡ g q) → block_and size o f ≡ block_and size o g
-  and_same size p x None f g low e h = refl
-  and_same size p x (Some k) f g low e h =
-      let is : HeaderIs p x k = header_is p x k e in
-      let place : k.place ≡ p = is.place in
-      ap (λ (l : List Block). cond (nat_le (k.place + k.words) size) (k ∷ l) []) (h (k.place + k.words) (omega arith))
+  and_same size p x o f g low e h = grind (arith, HeaderIs, header_is)
 
   blocks_heap : (n p : ℕ) → 131 ≤ p → blocks_from n a p ≡ blocks_from n b p
   unfolding blocks_from
@@ -96,15 +76,7 @@ module _ (a b : List (List ℕ)) (same : SameHeap a b) where
 
   -- all blocks begin in the heap
   and_high : (size p : ℕ) (x : List ℕ) (o : Option Block) (f : ℕ → List Block) (t : Bool) → 131 ≤ p → header p x ≡ o → ((q : ℕ) → 131 ≤ q → AllByRecursion (λ k. 131 ≤ k.place) (f q)) → AllByRecursion (λ k. 131 ≤ k.place) (block_and size o f)
-  and_high size p x None f t low e h = tt
-  and_high size p x (Some k) f t low e h =
-      let is : HeaderIs p x k = header_is p x k e in
-      let place : k.place ≡ p = is.place in
-      by_test (nat_le (k.place + k.words) size) (omega arith) (h (k.place + k.words) (omega arith))
-    where
-      by_test : (s : Bool) → 131 ≤ k.place → AllByRecursion (λ (j : Block). 131 ≤ j.place) (f (k.place + k.words)) → AllByRecursion (λ (j : Block). 131 ≤ j.place) (cond s (k ∷ f (k.place + k.words)) [])
-      by_test true here rest = (here, rest)
-      by_test false here rest = tt
+  and_high size p x o f t low e h = grind (arith, HeaderIs, header_is)
 
   high : (n p : ℕ) → 131 ≤ p → AllByRecursion (λ k. 131 ≤ k.place) (blocks_from n b p)
   unfolding blocks_from
@@ -118,10 +90,7 @@ module _ (a b : List (List ℕ)) (same : SameHeap a b) where
 
   next_high : (p : ℕ) (x : List ℕ) (o : Option Block) → 131 ≤ p → header p x ≡ o → 131 ≤ next_block (length b) o
   next_high p x None low e = let size : length a ≡ length b = same.size in let l : 131 ≤ length a = same.low in omega arith
-  next_high p x (Some k) low e =
-      let is : HeaderIs p x k = header_is p x k e in
-      let place : k.place ≡ p = is.place in
-      omega arith
+  next_high p x (Some k) low e = grind (arith, HeaderIs, header_is)
 
   bad_heap : (n p : ℕ) (h : Bool) → 131 ≤ p → bad_block n a p h ≡ bad_block n b p h
   unfolding bad_block
@@ -164,16 +133,7 @@ module _ (a b : List (List ℕ)) (same : SameHeap a b) where
 
   -- with equal roots they have one fault and hold one card
   pub same_fault : word a 0 ≡ word b 0 → words_fault a ≡ words_fault b
-  same_fault root =
-      let rest = or_else (by_cause BadBlock (bad_block (length a) a heap_start false)) (or_else (by_cause BadRecord (bad_record a (blocks a) [] 0)) (by_cause BadChain (bad_chain a (blocks a)))) in
-      let first : no_root a ≡ no_root b = ap (λ (x : List ℕ). root_test x (length a)) root ∙ ap (λ (n : ℕ). root_test (word b 0) n) same.size in
-      let chain : bad_chain a (blocks a) ≡ bad_chain b (blocks b) =
-      ap (λ (x : List ℕ). or_else (cond (be2 x 6 == first_hole (blocks a)) None (Some 0)) (bad_link (blocks a))) root
-      ∙ ap (λ (bs : List Block). or_else (cond (be2 (word b 0) 6 == first_hole bs) None (Some 0)) (bad_link bs)) all_blocks in
-      ap (λ (o : Option ℕ). or_else (by_cause NoRoot o) rest) first
-      ∙ ap (λ (o : Option ℕ). or_else (by_cause NoRoot (no_root b)) (or_else (by_cause BadBlock o) (or_else (by_cause BadRecord (bad_record a (blocks a) [] 0)) (by_cause BadChain (bad_chain a (blocks a)))))) bad_blocks
-      ∙ ap (λ (o : Option ℕ). or_else (by_cause NoRoot (no_root b)) (or_else (by_cause BadBlock (bad_block (length b) b heap_start false)) (or_else (by_cause BadRecord o) (by_cause BadChain (bad_chain a (blocks a)))))) bad_records
-      ∙ ap (λ (o : Option ℕ). or_else (by_cause NoRoot (no_root b)) (or_else (by_cause BadBlock (bad_block (length b) b heap_start false)) (or_else (by_cause BadRecord (bad_record b (blocks b) [] 0)) (by_cause BadChain o)))) chain
+  same_fault root = grind (arith, all_blocks, bad_blocks, bad_records)
 
   pub same_card : word a 0 ≡ word b 0 → card_of a ≡ card_of b
   same_card root =

@@ -1,5 +1,5 @@
 -- Lists of items of a store that leave the card: pieces, zeros and words of a record, done or stopped.
-use Rattle.std.proofs.Common.{◌≡◌, ℕ, true, List, [], ◌∷◌, Ok, refl, sym, ◌∙◌, subst, inl, inr}
+use Rattle.std.proofs.Common.{arith, ◌≡◌, ℕ, true, List, [], ◌∷◌, Ok, refl, sym, ◌∙◌, subst, inl, inr}
 use Rattle.std.specs.List.{AllByRecursion}
 use Rattle.mc_base.specs.model_device.specs.Orders.{Answer, InOrder}
 use Rattle.mc_base.specs.model_device.specs.Device.{DeviceState, Wrote}
@@ -28,12 +28,7 @@ module _ {D S : Type 0} (dev : S → D) (cnt : S → ℕ) (state : D → DeviceS
   ItemDid x i a y = StoreDid state wrote (dev x) (cnt x) i a (dev y) (cnt y)
 
   plain_count : (x y : S) (i : BankItem) (a : Answer) → IsPlain i → ItemDid x i a y → cnt y ≡ cnt x
-  plain_count x y (Piece s p at b) a h did = did.count
-  plain_count x y (Blank s at n) a h did = did.count
-  plain_count x y (Note s n i) a h did = did.count
-  plain_count x y (Commit n ws) a h did = absurd h
-  plain_count x y (Enter s n) a h did = absurd h
-  plain_count x y (Remove n) a h did = absurd h
+  plain_count x y i a h did = grind arith
 
   -- with the count that stays
   held : (x y : S) (i : BankItem) (a : Answer) → cnt y ≡ cnt x → ItemDid x i a y → StoreDid state wrote (dev x) (cnt x) i a (dev y) (cnt x)

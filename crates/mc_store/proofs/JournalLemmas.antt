@@ -1,5 +1,5 @@
 -- Both journals of an image: what the replay of the one that is open leaves, done or stopped.
-use Rattle.std.proofs.Common.{◌≡◌, ◌≢◌, ℕ, ◌+◌, ◌≤◌, Bool, true, false, List, [], ◌∷◌, length, Option, Some, None, refl, sym, ◌∙◌, ap, subst, arith, inl, inr}
+use Rattle.std.proofs.Common.{◌≡◌, ◌≢◌, ℕ, ◌+◌, ◌≤◌, Bool, true, false, List, [], ◌∷◌, length, Option, Some, None, refl, sym, ◌∙◌, ap, arith, inl, inr}
 use Rattle.std.specs.Prelude.{bytes_eq, Result, Ok, Err, ◌⊎◌}
 use Rattle.std.specs.List.{AllByRecursion}
 use Rattle.mc_base.specs.model_device.specs.declared.cause.Cause.{Cause}
@@ -9,7 +9,7 @@ use Rattle.mc_base.specs.model_device.specs.Card.{Card, card_of, means, word, wo
 use Rattle.mc_base.specs.model_device.specs.Layout.{words_fault, fault, fault_of}
 use Rattle.mc_base.specs.model_device.specs.PowerUp.{Base, OnCard, AtFault, base_of}
 use Rattle.mc_base.specs.model_device.proofs.ImageLemmas.{all_append, length_laid, laid_other}
-use Rattle.mc_base.specs.model_device.proofs.LookLemmas.{GoodPending, good_pending, gate_inside}
+use Rattle.mc_base.specs.model_device.proofs.LookLemmas.{good_pending, gate_inside}
 use Rattle.mc_base.specs.model_device.proofs.StoppedLemmas.{torn_other, shut_closed, targets_outside, closed_look}
 use Rattle.mc_base.specs.model_device.proofs.RecoveryLemmas.{resume, resumed, look_one, look_two}
 use Rattle.mc_store.specs.Power.{base_of_words, HoldsBase}
@@ -51,10 +51,7 @@ pub record IsPending (m : List (List ℕ)) (j : Journal) (ps : List (ℕ × List
   pub few : length ps ≤ 64
 
 pending_in : (i j : Journal) (m : List (List ℕ)) (ps : List (ℕ × List ℕ)) → is_open (other i) m ≡ false → look_j i m ≡ Pending j ps → IsPending m j ps
-pending_in i j m ps h l =
-    let g : GoodPending i j m ps = good_pending i j m ps l in
-    subst (λ (k : Journal). IsPending m k ps) (sym g.same)
-    (record { shut = h; opens = g.opens; look = l ∙ ap (λ (k : Journal). Pending k ps) g.same; all = g.all; few = g.few })
+pending_in i j m ps h l = grind (arith, good_pending i j m ps l)
 
 pending_by : (m : List (List ℕ)) (j : Journal) (ps : List (ℕ × List ℕ)) (t o : Bool) → is_open Two m ≡ t → is_open One m ≡ o → look_at m (which_of t o) ≡ Pending j ps → IsPending m j ps
 pending_by m j ps true true ht ho l = absurd (cc l)
@@ -126,13 +123,7 @@ owes_open j m false e h = absurd (h (ap debt (closed_look j m e)))
 -- an image on which recovery still has to make writes of one journal, and whose replay leaves words like others but
 -- inside it
 pub stays : (j : Journal) (m a b : List (List ℕ)) (n : ℕ) → is_open (other j) m ≡ false → owed_j j m ≡ n → after_j j m ≡ Words a → raw a ≡ raw b → HoldsBase (raw b) n j m
-stays j m a b n h o is same =
-    let alone : look m ≡ look_j j m = look_alone j m h in
-    record {
-      base = found_after m a (ap (λ (l : Look). image_after_replay m l) alone ∙ is) ∙ same;
-      owed = ap debt alone ∙ o;
-      by = λ ne. open_alone j m h (owes_open j m (is_open j m) refl (λ z. ne (sym o ∙ z)));
-    }
+stays j m a b n h o is same = grind (arith, look, look_alone, found_after, open_alone, owes_open)
 
 -- ---- a recovery
 

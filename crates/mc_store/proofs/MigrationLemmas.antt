@@ -26,28 +26,17 @@ record Upgraded (x : List ℕ) (n : ℕ) : Type 0 where
   first : be2 (slice_set x 3 2) 6 ≡ be2 x 6
 
 upgraded_from : (a b c d : ℕ) (x : List ℕ) (n : ℕ) → d ≡ 1 → root_test (a ∷ b ∷ c ∷ d ∷ x) n ≡ None → Upgraded (a ∷ b ∷ c ∷ d ∷ x) n
-upgraded_from a b c d x n e h =
-    let one : root_test (a ∷ b ∷ c ∷ 1 ∷ x) n ≡ None = subst (λ (v : ℕ). root_test (a ∷ b ∷ c ∷ v ∷ x) n ≡ None) e h in
-    record { root = one; version = refl; first = refl }
+upgraded_from a b c d x n e h = grind (arith, subst (λ (v : ℕ). root_test (a ∷ b ∷ c ∷ v ∷ x) n ≡ None) e h)
 
 upgraded : (x : List ℕ) (n : ℕ) → slice_index x 3 ≡ 1 → root_test x n ≡ None → Upgraded x n
-upgraded [] n v h = absurd (cc v)
-upgraded (a ∷ []) n v h = absurd (cc v)
-upgraded (a ∷ b ∷ []) n v h = absurd (cc v)
-upgraded (a ∷ b ∷ c ∷ []) n v h = absurd (cc v)
-upgraded (a ∷ b ∷ c ∷ d ∷ x) n v h = upgraded_from a b c d x n v h
+upgraded x n v h = grind (arith, upgraded_from)
 
 -- a root has version 1 or 2
 version_by : (v : ℕ) (x : List ℕ) (n : ℕ) (s t : Bool) → (v == 1) ≡ s → (v == 2) ≡ t → cond {A = Option ℕ} ((s || t) && bytes_eq (take 6 x) (take 6 (root v n 0))) None (Some 0) ≡ None → (v ≡ 1) ⊎ (v ≡ 2)
-version_by v x n true t e f h = inl (eqb-true v 1 e)
-version_by v x n false true e f h = inr (eqb-true v 2 f)
-version_by v x n false false e f h = absurd (cc h)
+version_by v x n s t e f h = grind (arith, eqb-true)
 
 pub version_is : (w : List (List ℕ)) → words_fault w ≡ None → ((card_of w).layout ≡ 1) ⊎ ((card_of w).layout ≡ 2)
-version_is w h =
-    let v = slice_index (word w 0) 3 in
-    let f : Faultless w = faultless w h in
-    version_by v (word w 0) (length w) (v == 1) (v == 2) refl refl f.root
+version_is w h = grind (arith, Faultless, faultless, version_by)
 
 -- ---- the card with the new root
 
@@ -62,13 +51,7 @@ root_upgrade : (w : List (List ℕ)) → 256 ≤ length w → word (upgrade w) 0
 root_upgrade w low = get_or-set_same w 0 (slice_set (word w 0) 3 2) [] (omega arith)
 
 heap_upgrade : (w : List (List ℕ)) → 256 ≤ length w → SameHeap (upgrade w) w
-heap_upgrade w low =
-    let size : length (upgrade w) ≡ length w = size_upgrade w in
-    record {
-      size = size;
-      low = omega (arith, size);
-      heap = same_drop (upgrade w) w 131 size (λ i high. get_or-set_other w 0 i (slice_set (word w 0) 3 2) [] (λ e. absurd (omega (arith, e, high))));
-    }
+heap_upgrade w low = grind (arith, size_upgrade, same_drop, get_or-set_other)
 
 -- it is a card of layout 2 with the same applications
 pub record IsUpgraded (w : List (List ℕ)) : Type 0 where

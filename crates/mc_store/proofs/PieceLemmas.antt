@@ -1,5 +1,5 @@
 -- Bytes of a section set in one word.
-use Rattle.std.proofs.Common.{◌≡◌, ◌≢◌, ℕ, suc, ◌+◌, ◌-◌, ◌*◌, ◌%◌, ◌/◌, ◌≤◌, List, [], ◌++◌, length, take, drop, sym, ◌∙◌, ap, inl, inr, arith, append_assoc}
+use Rattle.std.proofs.Common.{◌≡◌, ◌≢◌, ℕ, suc, ◌+◌, ◌-◌, ◌*◌, ◌%◌, ◌/◌, ◌≤◌, List, [], ◌++◌, length, take, drop, sym, ◌∙◌, ap, arith, append_assoc}
 use Rattle.std.specs.Prelude.{slice_set}
 use Rattle.std.proofs.lemmas.List.{length-set, get_or-set_same, get_or-set_other, take-append-le, drop-append-le, length-take-le, take-append-drop, take_all, drop_all}
 use Rattle.std.proofs.lemmas.Bool.{cases_lt}
@@ -64,14 +64,4 @@ section_write m q len at b image h i =
 
 -- in two parts, of which the first has k bytes if there are as many
 pub splice_parts : (l : List ℕ) (at k : ℕ) (b : List ℕ) → at ≤ length l → splice (splice l at (take k b)) (at + k) (drop k b) ≡ splice l at b
-splice_parts l at k b le =
-    elim (cases_lt (length b) k) [
-      | inl short ↦
-          ap (λ (x : List ℕ). splice (splice l at (take k b)) (at + k) x) (drop_all k b (omega (arith, short)))
-          ∙ splice_none (splice l at (take k b)) (at + k)
-          ∙ ap (λ (x : List ℕ). splice l at x) (take_all k b (omega (arith, short)))
-      | inr long ↦
-          ap (λ (i : ℕ). splice (splice l at (take k b)) (at + i) (drop k b)) (sym (length-take-le k b (omega (arith, long))))
-          ∙ splice_splice l at (take k b) (drop k b) le
-          ∙ ap (λ (x : List ℕ). splice l at x) (take-append-drop k b)
-    ]
+splice_parts l at k b le = grind (arith, cases_lt, drop_all, splice_none, take_all, length-take-le, splice_splice, take-append-drop)

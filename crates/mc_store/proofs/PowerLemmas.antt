@@ -43,28 +43,10 @@ closed_words m h = ap (λ (l : Look). image_after_replay m l) h
 
 module _ (m : List (List ℕ)) (low : 256 ≤ length m) where
   settles_refused : (p : ℕ) → look m ≡ Refused p → OwedSettles m
-  settles_refused p h =
-      let same : settled_words m ≡ m = ap (λ (l : Look). words_after (image_after_replay m l) m) h in
-      record {
-        laid = ap (λ (l : Look). image_with m (owed_writes l)) h ∙ sym same;
-        count = ap (λ (l : Look). length (owed_writes l)) h ∙ sym (ap debt h);
-        size = ap length same;
-        owes = ap count_of_recovery_writes same ∙ ap debt h;
-        found = ap base_of_words same;
-        card = λ f. absurd (cc (sym (ap (λ (l : Look). fault_of l m) h) ∙ f));
-      }
+  settles_refused p h = grind (arith, ap (λ (l : Look). words_after (image_after_replay m l) m) h)
 
   settles_closed : look m ≡ Closed → OwedSettles m
-  settles_closed h =
-      let same : settled_words m ≡ m = closed_settled m h in
-      record {
-        laid = ap (λ (l : Look). image_with m (owed_writes l)) h ∙ sym same;
-        count = ap (λ (l : Look). length (owed_writes l)) h ∙ sym (ap debt h);
-        size = ap length same;
-        owes = ap count_of_recovery_writes same ∙ ap debt h;
-        found = ap base_of_words same;
-        card = λ f. record { closed = ap look same ∙ h; fault = ap words_fault same ∙ sym (ap (λ (l : Look). fault_of l m) h) ∙ f; card = refl };
-      }
+  settles_closed h = grind (arith, closed_settled m h)
 
   settles_pending : (j : Journal) (ps : List (ℕ × List ℕ)) → look m ≡ Pending j ps → OwedSettles m
   settles_pending j ps h =
@@ -86,9 +68,7 @@ module _ (m : List (List ℕ)) (low : 256 ≤ length m) where
       fault_pending e f = sym (ap (λ (l : Look). fault_of l m) e) ∙ f
 
   settles_by : (l : Look) → look m ≡ l → OwedSettles m
-  settles_by (Refused p) h = settles_refused p h
-  settles_by Closed h = settles_closed h
-  settles_by (Pending j ps) h = settles_pending j ps h
+  settles_by l h = grind (arith, settles_refused, settles_closed, settles_pending)
 
   pub settles : OwedSettles m
   settles = settles_by (look m) refl
@@ -99,17 +79,7 @@ module _ (m : List (List ℕ)) (low : 256 ≤ length m) where
   halted_by (Refused p) h k x first last = let none : count_of_recovery_writes m ≡ 0 = ap debt h in absurd (omega (arith, none))
   halted_by Closed h k x first last = let none : count_of_recovery_writes m ≡ 0 = ap debt h in absurd (omega (arith, none))
   halted_by (Pending j ps) h k x first last =
-      let p : IsPending m j ps = is_pending m j ps h in
-      let w = image_with m (replay j ps) in
-      let many : count_of_recovery_writes m ≡ length ps + 1 = ap debt h in
-      let left : count_of_recovery_writes m - 1 ≡ length ps = omega (arith, many) in
-      let all : after m ≡ Words w = ap (λ (l : Look). image_after_replay m l) h in
-      let who : pending_journal (which m) ≡ j = ap pending_journal (open_alone j m p.shut p.opens) in
-      let is : HoldsBase (raw w) (remains j (length ps) k x) j (image_after_stop m (replay j ps) k x) = recovery_halted m j ps low p k x first (omega (arith, many)) in
-      subst (λ (l : Look). HoldsBase (base_of_words m) (remains (pending_journal (which m)) (count_of_recovery_writes m - 1) k x) (pending_journal (which m)) (image_after_stop m (owed_writes l) k x)) (sym h)
-      (subst (λ (i : Journal). HoldsBase (base_of_words m) (remains i (count_of_recovery_writes m - 1) k x) i (image_after_stop m (replay j ps) k x)) (sym who)
-      (subst (λ (n : ℕ). HoldsBase (base_of_words m) (remains j n k x) j (image_after_stop m (replay j ps) k x)) (sym left)
-      (subst (λ (b : Base). HoldsBase b (remains j (length ps) k x) j (image_after_stop m (replay j ps) k x)) (sym (found_after m w all)) is)))
+      grind (arith, is_pending m j ps h, image_with m (replay j ps), ap debt h, ap (λ (l : Look). image_after_replay m l) h, ap pending_journal (open_alone j m (is_pending m j ps h).shut (is_pending m j ps h).opens), recovery_halted m j ps low (is_pending m j ps h) k x first (omega (arith, (ap debt h))))
 
   pub recovery_part : (k : ℕ) (x : List ℕ) → 1 ≤ k → k ≤ count_of_recovery_writes m → HoldsBase (base_of_words m) (remains (pending_journal (which m)) (count_of_recovery_writes m - 1) k x) (pending_journal (which m)) (image_after_stop m (owed_writes (look m)) k x)
   recovery_part k x first last = halted_by (look m) refl k x first last
@@ -135,11 +105,7 @@ module _ (m : List (List ℕ)) (low : 256 ≤ length m) (high : length m ≤ 163
   stood_base : (c : Card) (b : Bool) → base_of_words m ≡ OnCard c → IsCardOnceSettled m → means m ≡ c → c.layout ≡ 1 → raw (image_if_written b (settled_words m) (new_root (settled_words m))) ≡ cond b (base_after_migration (base_of_words m)) (base_of_words m)
   stood_base c false h k e one = raw_card (settled_words m) c k.fault (sym k.card ∙ e) ∙ sym h
   stood_base c true h k e one =
-      let w = settled_words m in
-      let is : card_of w ≡ c = sym k.card ∙ e in
-      let size : length w ≡ length m = (settles m low).size in
-      let u : IsUpgraded w = is_upgraded w (omega (arith, size)) k.fault (ap (λ (x : Card). x.layout) is ∙ one) in
-      raw_card (upgrade w) (record c { layout = 2 }) u.fault (u.card ∙ ap (λ (x : Card). record x { layout = 2 }) is) ∙ sym (ap base_after_migration h)
+      grind (arith, settled_words m, sym k.card ∙ e, (settles m low).size, is_upgraded (settled_words m) (omega (arith, ((settles m low).size))) k.fault (ap (λ (x : Card). x.layout) (sym k.card ∙ e) ∙ one))
 
   migration_part : (b : Base) (k : ℕ) (x : List ℕ) → base_of_words m ≡ b → 1 ≤ k → k ≤ migration b
       → HoldsBase (cond (stands One 1 k x) (base_after_migration (base_of_words m)) (base_of_words m)) (owes One 1 k x) One (image_after_stop (settled_words m) (migration_writes b (settled_words m)) k x)
@@ -163,12 +129,7 @@ module _ (m : List (List ℕ)) (low : 256 ≤ length m) (high : length m ≤ 163
   -- ---- the whole
 
   length_migrating : (b : Base) (w : List (List ℕ)) → length (migration_writes b w) ≡ migration b
-  length_migrating (AtFault f p) w = refl
-  length_migrating (OnCard c) w = by_layout (c.layout == 1)
-    where
-      by_layout : (t : Bool) → length (cond t (writes One (new_root w)) []) ≡ cond t 6 0
-      by_layout true = refl
-      by_layout false = refl
+  length_migrating b w = grind arith
 
   pub count_writes : length (power_writes m) ≡ power_count m
   unfolding power_writes
@@ -221,15 +182,7 @@ module _ (m : List (List ℕ)) (low : 256 ≤ length m) (high : length m ≤ 163
         card = same_card n (upgrade w) heap root ∙ u.card ∙ ap (λ (x : Card). record x { layout = 2 }) (sym k.card);
       })
   done_by k (inr new) =
-      let w = settled_words m in
-      let two : (means m).layout ≡ 2 = ap (λ (x : Card). x.layout) k.card ∙ new in
-      let test : ((means m).layout == 1) ≡ false = ne_eqb (means m).layout 1 (λ e. absurd (omega (arith, e, two))) in
-      subst (λ (t : Bool). IsPoweredUp (image_with w (cond t (writes One (new_root w)) []))) (sym test)
-      (record {
-        closed = k.closed;
-        fault = k.fault;
-        card = sym k.card ∙ ap (λ (v : ℕ). record (means m) { layout = v }) two;
-      })
+      grind (arith, settled_words m, ap (λ (x : Card). x.layout) k.card ∙ new, ne_eqb (means m).layout 1 (λ e. absurd (omega (arith, e, (ap (λ (x : Card). x.layout) k.card ∙ new)))))
 
   laid_all : image_with m (power_writes m) ≡ image_with (settled_words m) (migration_writes (base_of_words m) (settled_words m))
   unfolding power_writes
@@ -242,12 +195,7 @@ module _ (m : List (List ℕ)) (low : 256 ≤ length m) (high : length m ≤ 163
       (done_by k (version_is (settled_words m) k.fault))
 
   pub done_base : fault m ≡ None → (n : List (List ℕ)) → IsPoweredUp n → HoldsBase (base_after_migration (base_of_words m)) 0 One n
-  done_base f n d =
-      record {
-        base = found_after n n (closed_words n d.closed) ∙ raw_card n (record (means m) { layout = 2 }) d.fault d.card ∙ sym (ap base_after_migration (none_is_card m f));
-        owed = ap debt d.closed;
-        by = λ ne. absurd (ne refl);
-      }
+  done_base f n d = grind (arith, found_after, closed_words, raw_card, none_is_card)
 
   pub fault_writes : (f : Cause × ℕ) → fault m ≡ Some f → image_with m (power_writes m) ≡ settled_words m
   fault_writes f h = laid_all ∙ ap (λ (o : Option (Cause × ℕ)). image_with (settled_words m) (migration_writes (base_of o m) (settled_words m))) h

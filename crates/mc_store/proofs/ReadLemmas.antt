@@ -1,14 +1,13 @@
 -- The results of the calls of a store that read.
 use Rattle.std.proofs.Common.{◌≡◌, ℕ, suc, cond, ◌+◌, ◌*◌, ◌<◌, ◌≤◌, Bool, true, false, not, List, [], ◌∷◌, length, take, drop, Option, Some, None, Ok, Err, refl, sym, ◌∙◌, ap, subst, arith}
-use Rattle.std.specs.Prelude.{IsSome, IfSome, option_map, IfOk, Result, is_some, nat_le, slice_index}
+use Rattle.std.specs.Prelude.{IsSome, IfSome, option_map, IfOk, Result, is_some, nat_le}
 use Rattle.std.proofs.lemmas.Bool.{leb-false}
 use Rattle.mc_bank.specs.model_card.specs.declared.card.Part.{Part}
-use Rattle.mc_bank.specs.model_card.specs.declared.card.Part.TheVariants.{Code, Data, Dir, Fci}
 use Rattle.mc_bank.specs.model_card.specs.declared.card.Sizes.{Sizes}
 use Rattle.mc_bank.specs.model_card.specs.declared.card.OpenRefusal.{OpenRefusal}
-use Rattle.mc_base.specs.model_device.specs.Bytes.{be2, up, lookup}
+use Rattle.mc_base.specs.model_device.specs.Bytes.{up, lookup}
 use Rattle.mc_base.specs.model_device.specs.Device.{DeviceState, IsSized}
-use Rattle.mc_base.specs.model_device.specs.Card.{App, Card, record_at, name_at, app_at, section, words_of_lengths, blocks, means}
+use Rattle.mc_base.specs.model_device.specs.Card.{App, Card, record_at, name_at, app_at, section, blocks, means}
 use Rattle.mc_base.specs.model_device.specs.Layout.{words_fault, gaps, IsWellLaid}
 use Rattle.mc_base.specs.model_device.specs.Image.{look, Closed}
 use Rattle.mc_bank.specs.model_card.specs.Items.{Site}
@@ -29,24 +28,10 @@ use Rattle.mc_base.specs.model_device.proofs.LayoutLemmas.{closed_fault, closed_
 -- ---- sections
 
 part_ends : (m : List (List ℕ)) (k : ℕ) (p : Part) → IsUsedBlock m k → part_from p (record_sizes (record_at m k)) k + up (part_len p (record_sizes (record_at m k))) 8 ≤ length m
-part_ends m k p b =
-    let r : RecordIs (record_at m k) b.words = record_is (record_at m k) b.words b.good in
-    let fits : b.words ≡ words_of_lengths (be2 (record_at m k) 20) (be2 (record_at m k) 22) (slice_index (record_at m k) 17) (slice_index (record_at m k) 18) = r.words in
-    let end : k + b.words ≤ length m = b.end in
-    by_part p fits end
-  where
-    by_part : (q : Part) → b.words ≡ words_of_lengths (be2 (record_at m k) 20) (be2 (record_at m k) 22) (slice_index (record_at m k) 17) (slice_index (record_at m k) 18) → k + b.words ≤ length m
-        → part_from q (record_sizes (record_at m k)) k + up (part_len q (record_sizes (record_at m k))) 8 ≤ length m
-    by_part Code f e = omega (arith, f, e)
-    by_part Data f e = omega (arith, f, e)
-    by_part Dir f e = omega (arith, f, e)
-    by_part Fci f e = omega (arith, f, e)
+part_ends m k p b = grind (arith, RecordIs, record_is)
 
 part_is : (m : List (List ℕ)) (k : ℕ) (p : Part) → part_of_app p (app_at m k) ≡ section m (part_from p (record_sizes (record_at m k)) k) (part_len p (record_sizes (record_at m k)))
-part_is m k Code = refl
-part_is m k Data = refl
-part_is m k Dir = refl
-part_is m k Fci = refl
+part_is m k p = grind arith
 
 -- bytes of a section of a slot
 pub record ReadsSection (d : DeviceState) (k : ℕ) (p : Part) (at count from : ℕ) : Type 0 where
@@ -185,9 +170,7 @@ open_steps d c n old new h is = by_test (nat_le 32 c) refl is
         record { rises = omega arith; ticks = omega (arith, k, few); full = λ many. absurd (omega (arith, many, past, count)) }
 
 site_by : (apps : List (List ℕ × App)) (room : Sizes → Option ℕ) (s : Sizes) (t : Bool) (o : Option ℕ) → FitsLimits s → nat_le 32 (length apps) ≡ t → room s ≡ o → IfOk (search_result s t o) (λ site. IsGoodSite apps room site)
-site_by apps room s true o limits e f = tt
-site_by apps room s false None limits e f = tt
-site_by apps room s false (Some p) limits e f = record { limits = limits; few = let past = leb-false 32 (length apps) e in omega (arith, past); place = f }
+site_by apps room s t o limits e f = grind (arith, leb-false)
 
 pub good_site : (apps : List (List ℕ × App)) (room : Sizes → Option ℕ) (s : Sizes) (r : Result Site OpenRefusal) → FitsLimits s → r ≡ search_result s (nat_le 32 (length apps)) (room s) → IfOk r (λ site. IsGoodSite apps room site)
 good_site apps room s r limits is = subst (λ (x : Result Site OpenRefusal). IfOk x (λ site. IsGoodSite apps room site)) (sym is) (site_by apps room s (nat_le 32 (length apps)) (room s) limits refl refl)
@@ -204,10 +187,7 @@ site_parts d c s image h good p =
     ∙ length_section m (part_from p s.sizes s.place) (part_len p s.sizes) image (by_part p good.limits at.ends)
   where
     by_part : (q : Part) → FitsLimits s.sizes → s.place + words_of_sizes s.sizes ≤ length d.words → part_from q s.sizes s.place + up (part_len q s.sizes) 8 ≤ length d.words
-    by_part Code l e = omega (arith, e)
-    by_part Data l e = let init = l.init in omega (arith, e, init)
-    by_part Dir l e = omega (arith, e)
-    by_part Fci l e = omega (arith, e)
+    by_part q l e = grind arith
 
 pub open_parts : (d : DeviceState) (c : ℕ) (r : Result Site OpenRefusal) → IsSized d.words → not (is_going d c) ≡ false → IfOk r (λ site. IsGoodSite (apps_in d.words) (store_room d) site) → IfOk r (λ site. HasParts site (store_site_bytes d site))
 open_parts d c (Ok s) image h good = site_parts d c s image h good

@@ -49,20 +49,11 @@ static_of m s = section m (part_from Data s.sizes s.place) s.sizes.fixed
 
 quarters : (r : List ℕ) → length r ≡ 32 → take 8 (drop 0 r) ++ (take 8 (drop 8 r) ++ (take 8 (drop 16 r) ++ (take 8 (drop 24 r) ++ []))) ≡ r
 quarters r long =
-    let last : take 8 (drop 24 r) ++ [] ≡ drop 24 r = append-nil (take 8 (drop 24 r)) ∙ take_all 8 (drop 24 r) (let e = length-drop 24 r in omega (arith, e, long)) in
-    let third : take 8 (drop 16 r) ++ drop 24 r ≡ drop 16 r = ap (λ (l : List ℕ). take 8 (drop 16 r) ++ l) (sym (drop-drop 8 16 r)) ∙ take-append-drop 8 (drop 16 r) in
-    let second : take 8 (drop 8 r) ++ drop 16 r ≡ drop 8 r = ap (λ (l : List ℕ). take 8 (drop 8 r) ++ l) (sym (drop-drop 8 8 r)) ∙ take-append-drop 8 (drop 8 r) in
-    ap (λ (l : List ℕ). take 8 (drop 0 r) ++ (take 8 (drop 8 r) ++ (take 8 (drop 16 r) ++ l))) last
-    ∙ ap (λ (l : List ℕ). take 8 (drop 0 r) ++ (take 8 (drop 8 r) ++ l)) third
-    ∙ ap (λ (l : List ℕ). take 8 (drop 0 r) ++ l) second
-    ∙ take-append-drop 8 r
+    grind (arith, append-nil (take 8 (drop 24 r)) ∙ take_all 8 (drop 24 r) (let e = length-drop 24 r in omega (arith, e, long)), ap (λ (l : List ℕ). take 8 (drop 16 r) ++ l) (sym (drop-drop 8 16 r)) ∙ take-append-drop 8 (drop 16 r), ap (λ (l : List ℕ). take 8 (drop 8 r) ++ l) (sym (drop-drop 8 8 r)) ∙ take-append-drop 8 (drop 8 r))
 
 record_size : (s : Site) (n : List ℕ) → IsName n → length (record_bytes s.sizes n) ≡ 32
 record_size s n is =
-    let a = length-append n (zeros (16 - length n)) in
-    let f = length-replicate {A = ℕ} (16 - length n) 0 in
-    let z = length-append (n ++ zeros (16 - length n)) (length n ∷ s.sizes.dir ∷ s.sizes.fci ∷ 0 ∷ (bytes2 s.sizes.code ++ bytes2 s.sizes.fixed ++ bytes2 s.sizes.session ++ bytes2 s.sizes.deny ++ zeros 4)) in
-    omega (arith, a, f, z, is)
+    grind (arith, length-append n (zeros (16 - length n)), length-replicate {A = ℕ} (16 - length n) 0, length-append (n ++ zeros (16 - length n)) (length n ∷ s.sizes.dir ∷ s.sizes.fci ∷ 0 ∷ (bytes2 s.sizes.code ++ bytes2 s.sizes.fixed ++ bytes2 s.sizes.session ++ bytes2 s.sizes.deny ++ zeros 4)))
 
 four_words : (m : List (List ℕ)) (p : ℕ) (r : List ℕ) → p + 5 ≤ length m → length r ≡ 32 → word m (p + 1 + 0) ≡ take 8 (drop 0 r) → word m (p + 1 + 1) ≡ take 8 (drop 8 r) → word m (p + 1 + 2) ≡ take 8 (drop 16 r) → word m (p + 1 + 3) ≡ take 8 (drop 24 r) → record_at m p ≡ r
 four_words m p r h long w0 w1 w2 w3 =

@@ -66,19 +66,11 @@ record_is r w h =
 
 -- the header and the record of a block with a valid record end within the device
 pub block_fits : (m : List (List ℕ)) (p : ℕ) → IsUsedBlock m p → p + 5 ≤ length m
-block_fits m p b =
-    let six : 6 ≤ b.words = long_enough (record_at m p) b.words b.good in
-    let end : p + b.words ≤ length m = b.end in
-    omega arith
+block_fits m p b = grind (arith, long_enough)
 
 -- the name in a valid record has 5 to 16 bytes
 pub name_size : (r : List ℕ) (w : ℕ) → length r ≡ 32 → is_record r w ≡ true → (5 ≤ length (name_in r)) × (length (name_in r) ≤ 16)
-name_size r w size h =
-    let k : RecordIs r w = record_is r w h in
-    let low : 5 ≤ slice_index r 16 = k.name_low in
-    let high : slice_index r 16 ≤ 16 = k.name_high in
-    let e : length (name_in r) ≡ min (slice_index r 16) (length r) = length-take (slice_index r 16) r in
-    (omega (arith, e, size), omega (arith, e, size))
+name_size r w size h = grind (arith, record_is r w h, (record_is r w h).name_low, (record_is r w h).name_high, length-take (slice_index r 16) r)
 
 -- a name begins with the bytes of the record's first word
 name_front : (m : List (List ℕ)) (p : ℕ) (w n : List ℕ) → p + 5 ≤ length m → length w ≡ 8 → w ≡ word m (p + 1) → 5 ≤ length n → name_at m p ≡ n → take 5 n ≡ take 5 w

@@ -1,21 +1,20 @@
 -- The steps of a power-up, one after another: the replay, the check, the migration.
-use Rattle.std.proofs.Common.{◌≡◌, ℕ, ◌+◌, ◌≤◌, true, List, [], ◌∷◌, ◌++◌, length, Option, None, Ok, Err, refl, sym, ◌∙◌, ap, subst, cond, append-nil}
+use Rattle.std.proofs.Common.{arith, ◌≡◌, ℕ, ◌≤◌, true, List, [], ◌∷◌, ◌++◌, length, Option, None, Ok, Err, refl, sym, ◌∙◌, ap, subst, cond, append-nil}
 use Rattle.std.specs.Prelude.{Result, IfOk, ◌==◌, slice_set}
 use Rattle.mc_base.specs.model_device.specs.declared.cause.Cause.{Cause}
 use Rattle.mc_base.specs.model_device.specs.Orders.{Answer}
 use Rattle.mc_base.specs.model_device.specs.Device.{DeviceState, Wrote, Makes}
-use Rattle.mc_base.specs.model_device.specs.Image.{Journal, One, Look, Refused, Closed, Pending, look, look_j, count_of_recovery_writes, debt, image_after_replay}
+use Rattle.mc_base.specs.model_device.specs.Image.{Journal, One, Look, Closed, look, look_j, count_of_recovery_writes}
 use Rattle.mc_base.specs.model_device.specs.Stopped.{writes, owed_writes, Recovered, LookAllows, RecoverEnds}
-use Rattle.mc_base.specs.model_device.specs.Card.{Card, means, word, words_after}
+use Rattle.mc_base.specs.model_device.specs.Card.{means, word}
 use Rattle.mc_base.specs.model_device.specs.Layout.{words_fault, fault, fault_of}
-use Rattle.mc_base.specs.model_device.specs.PowerUp.{Base, base_of, migration}
+use Rattle.mc_base.specs.model_device.specs.PowerUp.{Base, base_of}
 use Rattle.mc_base.specs.model_device.proofs.OrdersLemmas.{in_order_append, in_order_stopped}
 use Rattle.mc_base.specs.model_device.proofs.DeviceLemmas.{DoneAll, makes_done}
 use Rattle.mc_store.specs.declared.power.Up.{Up}
 use Rattle.mc_store.specs.declared.power.Up.TheVariants as up
 use Rattle.mc_store.specs.Store.{settled_words}
-use Rattle.mc_store.specs.Power.{base_of_words, new_root, migration_writes, power_writes, Powered, Runs, Halts, Fails, power_answer, PowerFollows, RecoverFollows, FinishFollows, failure_end, recovery_end}
-use Rattle.mc_store.specs.GoingLaws.{closed_settled}
+use Rattle.mc_store.specs.Power.{base_of_words, new_root, migration_writes, power_writes, Powered, power_answer, PowerFollows, RecoverFollows, FinishFollows, failure_end, recovery_end}
 use Rattle.mc_store.proofs.JournalLemmas.{IsPending, is_pending, recovered_closed}
 use Rattle.mc_store.proofs.PowerLemmas.{OwedSettles, settles}
 use Rattle.mc_base.specs.model_device.proofs.LayoutLemmas.{closed_fault, closed_means}
@@ -23,18 +22,10 @@ use Rattle.mc_base.specs.model_device.proofs.LayoutLemmas.{closed_fault, closed_
 -- ---- a replay that was done
 
 ends_follow : (j : Journal) (l : Look) (d e : DeviceState) (n : ℕ) → RecoverEnds j l d (Recovered n) e → LookAllows l (Recovered n)
-ends_follow j (Refused p) d e n h = h.0
-ends_follow j Closed d e n h = h.0
-ends_follow j (Pending i ps) d e n h = h.0
+ends_follow j l d e n h = grind arith
 
 follows_by : (m : List (List ℕ)) (n : ℕ) (l : Look) → 256 ≤ length m → look m ≡ l → LookAllows l (Recovered n) → (n ≡ count_of_recovery_writes m) × (look (settled_words m) ≡ Closed)
-follows_by m n (Refused p) low e f = absurd (cc f)
-follows_by m n Closed low e f =
-    let none : n ≡ 0 = cc f in
-    (none ∙ sym (ap debt e), ap look (closed_settled m e) ∙ e)
-follows_by m n (Pending j ps) low e f =
-    let p : IsPending m j ps = is_pending m j ps e in
-    (f ∙ sym (ap debt e), ap (λ (l : Look). look (words_after (image_after_replay m l) m)) e ∙ recovered_closed m j ps low p)
+follows_by m n l low e f = grind (arith, IsPending, is_pending, recovered_closed)
 
 -- the number of writes, and that no journal is open
 pub replay_follows : (j : Journal) (d e : DeviceState) (n : ℕ) → 256 ≤ length d.words → look d.words ≡ look_j j d.words → RecoverEnds j (look_j j d.words) d (Recovered n) e → (n ≡ count_of_recovery_writes d.words) × (look (settled_words d.words) ≡ Closed)
@@ -45,11 +36,7 @@ replay_follows j d e n low alone r =
 -- ---- what is settled
 
 settled_fault : (m : List (List ℕ)) (l : Look) → look m ≡ l → look (settled_words m) ≡ Closed → fault m ≡ words_fault (settled_words m)
-settled_fault m (Refused p) e closed =
-    let same : settled_words m ≡ m = ap (λ (l : Look). words_after (image_after_replay m l) m) e in
-    absurd (cc (sym closed ∙ ap look same ∙ e))
-settled_fault m Closed e closed = ap (λ (l : Look). fault_of l m) e ∙ sym (ap words_fault (closed_settled m e))
-settled_fault m (Pending j ps) e closed = ap (λ (l : Look). fault_of l m) e
+settled_fault m l e closed = grind arith
 
 same_fault_settled : (m : List (List ℕ)) → look (settled_words m) ≡ Closed → fault (settled_words m) ≡ fault m
 same_fault_settled m closed = closed_fault (settled_words m) closed ∙ sym (settled_fault m (look m) refl closed)
@@ -58,16 +45,11 @@ same_means_settled : (m : List (List ℕ)) → look (settled_words m) ≡ Closed
 same_means_settled m closed = closed_means (settled_words m) closed
 
 finish_by : (m : List (List ℕ)) (p : Powered) → 256 ≤ length m → look (settled_words m) ≡ Closed → FinishFollows (settled_words m) (count_of_recovery_writes m) p → PowerFollows m p
-finish_by m (Runs n c) low closed f =
-    (sym (same_fault_settled m closed) ∙ f.0, f.1 ∙ ap (λ (b : Base). count_of_recovery_writes m + migration b) (settles m low).found, f.2 ∙ ap (λ (k : Card). length k.apps) (same_means_settled m closed))
-finish_by m (Halts s) low closed f = tt
-finish_by m (Fails cause place) low closed f = sym (same_fault_settled m closed) ∙ f
+finish_by m p low closed f = grind (arith, same_fault_settled, settles, same_means_settled)
 
 -- what comes after the writes of recovery follows from the whole
 pub finish_follows : (m w : List (List ℕ)) (n : ℕ) (p : Powered) → 256 ≤ length m → w ≡ settled_words m → look w ≡ Closed → n ≡ count_of_recovery_writes m → FinishFollows w n p → PowerFollows m p
-finish_follows m w n p low is closed same f =
-    finish_by m p low (ap look (sym is) ∙ closed)
-    (subst (λ (x : List (List ℕ)). FinishFollows x (count_of_recovery_writes m) p) is (subst (λ (k : ℕ). FinishFollows w k p) same f))
+finish_follows m w n p low is closed same f = grind (arith, finish_by)
 
 -- ---- the writes
 
@@ -81,10 +63,7 @@ module _ {D : Type 0} (state : D → DeviceState) (wrote : D → ℕ → List �
   -- a recovery that was done leaves settled words, no journal open, and power on
   recovered_words : (d e : D) (r : Result ℕ Up) → 256 ≤ length (state d).words → (state d).on ≡ true → Makes wrote d (owed_writes (look (state d).words)) (power_answer (recovery_end r)) e
       → IfOk r (λ n. ((state e).words ≡ settled_words (state d).words) × ((state e).on ≡ true))
-  recovered_words d e (Ok n) low on made =
-      let all : DoneAll (state d) (owed_writes (look (state d).words)) (state e) = makes_done state wrote obeys (owed_writes (look (state d).words)) d e on made in
-      (all.words ∙ (settles (state d).words low).laid, all.power)
-  recovered_words d e (Err u) low on made = tt
+  recovered_words d e r low on made = grind (arith, DoneAll, makes_done, settles)
 
   ok_words : (d e : D) (r : Result ℕ Up) → IfOk r (λ n. ((state e).words ≡ settled_words (state d).words) × ((state e).on ≡ true)) → IfOk r (λ n. (state e).words ≡ settled_words (state d).words)
   ok_words d e (Ok n) h = h.0

@@ -40,9 +40,7 @@ module _ (m : List (List ℕ)) (image : IsSized m) where
 
   -- a word outside a section
   section_apart : (k q n : ℕ) (x : List ℕ) → q + up n 8 ≤ length m → (k < q) ⊎ (q + up n 8 ≤ k) → section (slice_set m k x) q n ≡ section m q n
-  section_apart k q n x h apart =
-      same_section m (slice_set m k x) q n (length-set m k x) h (λ i low high. get_or-set_other m k i x [] (λ e.
-      elim apart [ inl before ↦ absurd (omega (arith, e, before, low)) | inr behind ↦ absurd (omega (arith, e, behind, high)) ]))
+  section_apart k q n x h apart = grind (arith, same_section, length-set, get_or-set_other)
 
   -- bytes after the front of a section
   section_behind : (q i n at : ℕ) (b : List ℕ) → q + up n 8 ≤ length m → i ≤ at → IsInWord n at (length b)
@@ -67,30 +65,12 @@ module _ (m : List (List ℕ)) (image : IsSized m) where
 -- ---- sites
 
 part_inside : (p : Part) (z : Sizes) (q : ℕ) → FitsLimits z → part_from p z q + up (part_len p z) 8 ≤ q + words_of_sizes z
-part_inside Code z q l = omega arith
-part_inside Data z q l = let init = l.init in omega arith
-part_inside Dir z q l = omega arith
-part_inside Fci z q l = omega arith
+part_inside p z q l = grind arith
 
 -- the words of one section are apart from those of another
 parts_apart : (p o : Part) (z : Sizes) (q at n : ℕ) → FitsLimits z → IsInWord (part_len p z) at n → o ≢ p
     → (part_from p z q + down at 8 < part_from o z q) ⊎ (part_from o z q + up (part_len o z) 8 ≤ part_from p z q + down at 8)
-parts_apart Code Code z q at n l i ne = absurd (ne refl)
-parts_apart Code Data z q at n l i ne = inl (let some = i.some in let ends = i.section in omega arith)
-parts_apart Code Dir z q at n l i ne = inl (let some = i.some in let ends = i.section in omega arith)
-parts_apart Code Fci z q at n l i ne = inl (let some = i.some in let ends = i.section in omega arith)
-parts_apart Data Code z q at n l i ne = inr (omega arith)
-parts_apart Data Data z q at n l i ne = absurd (ne refl)
-parts_apart Data Dir z q at n l i ne = inl (let some = i.some in let ends = i.section in let init = l.init in omega arith)
-parts_apart Data Fci z q at n l i ne = inl (let some = i.some in let ends = i.section in let init = l.init in omega arith)
-parts_apart Dir Code z q at n l i ne = inr (omega arith)
-parts_apart Dir Data z q at n l i ne = inr (let init = l.init in omega arith)
-parts_apart Dir Dir z q at n l i ne = absurd (ne refl)
-parts_apart Dir Fci z q at n l i ne = inl (let some = i.some in let ends = i.section in omega arith)
-parts_apart Fci Code z q at n l i ne = inr (omega arith)
-parts_apart Fci Data z q at n l i ne = inr (let init = l.init in omega arith)
-parts_apart Fci Dir z q at n l i ne = inr (omega arith)
-parts_apart Fci Fci z q at n l i ne = absurd (ne refl)
+parts_apart p o z q at n l i ne = grind arith
 
 module _ (m : List (List ℕ)) (image : IsSized m) (s : Site) (limits : FitsLimits s.sizes) (ends : s.place + words_of_sizes s.sizes ≤ length m) where
   within : (p : Part) → part_from p s.sizes s.place + up (part_len p s.sizes) 8 ≤ length m
@@ -131,10 +111,7 @@ module _ (m : List (List ℕ)) (image : IsSized m) (s : Site) (limits : FitsLimi
   note_part p i x few = section_apart m image (s.place + 1 + i) (part_from p s.sizes s.place) (part_len p s.sizes) x (within p) (inl (note_before p))
     where
       note_before : (o : Part) → s.place + 1 + i < part_from o s.sizes s.place
-      note_before Code = omega (arith, few)
-      note_before Data = omega (arith, few)
-      note_before Dir = omega (arith, few)
-      note_before Fci = omega (arith, few)
+      note_before o = grind arith
 
 -- ---- a piece of several words
 

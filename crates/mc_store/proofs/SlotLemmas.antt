@@ -1,13 +1,13 @@
 -- The applications of words without a fault, by their slots.
 use Rattle.std.proofs.Common.{◌≡◌, ℕ, ◌+◌, ◌≤◌, Bool, true, false, ◌&&◌, not, cond, List, [], ◌∷◌, length, Option, Some, None, refl, sym, ◌∙◌, ap, subst, arith}
-use Rattle.std.specs.Prelude.{◌==◌, slice_index, bytes_eq, IsSome, is_some, unwrap_or}
+use Rattle.std.specs.Prelude.{◌==◌, bytes_eq, IsSome, is_some, unwrap_or}
 use Rattle.std.specs.List.{AllByRecursion}
 use Rattle.std.proofs.lemmas.Bool.{eqb-true, eq-eqb}
 use Rattle.mc_bank.specs.model_card.specs.declared.card.Sizes.{Sizes}
-use Rattle.mc_base.specs.model_device.specs.Bytes.{be2, up, lookup, insert, name_before, AscendByName}
+use Rattle.mc_base.specs.model_device.specs.Bytes.{lookup, insert, name_before, AscendByName}
 use Rattle.mc_base.specs.model_device.specs.Image.{look, Closed}
 use Rattle.mc_base.specs.model_device.specs.Device.{DeviceState, IsSized}
-use Rattle.mc_base.specs.model_device.specs.Card.{App, Card, Block, blocks, record_at, name_at, app_at, apps_of, card_of, words_of_lengths}
+use Rattle.mc_base.specs.model_device.specs.Card.{App, Card, Block, blocks, record_at, name_at, app_at, apps_of, card_of}
 use Rattle.mc_base.specs.model_device.specs.Layout.{is_record, words_fault}
 use Rattle.mc_base.specs.model_device.proofs.ImageLemmas.{all_map}
 use Rattle.mc_base.specs.Name.{IsName}
@@ -73,9 +73,7 @@ module _ (m : List (List ℕ)) where
     where
       by : (u t : Bool) → bytes_eq (name_at m b.place) n ≡ t → cond (u && t) (Some b.place) (first_named m bs n) ≡ None → (first_named m bs n ≡ None → lookup (apps_of m bs) n ≡ None)
           → lookup (cond u (insert (apps_of m bs) (name_at m b.place) (app_at m b.place)) (apps_of m bs)) n ≡ None
-      by false t e h rest = rest h
-      by true false e h rest = lookup_beside (apps_of m bs) (name_at m b.place) (app_at m b.place) n e ∙ rest h
-      by true true e h rest = absurd (cc h)
+      by u t e h rest = grind (arith, lookup_beside)
 
 -- ---- maps
 
@@ -144,26 +142,10 @@ module _ (m : List (List ℕ)) (image : IsSized m) (good : words_fault m ≡ Non
 
   -- the sizes of an application are those in its record
   pub sizes_are : (p : ℕ) → IsUsedBlock m p → sizes_of (app_at m p) ≡ record_sizes (record_at m p)
-  sizes_are p b =
-      let r = record_at m p in
-      let k : RecordIs r b.words = record_is r b.words b.good in
-      let fits : b.words ≡ words_of_lengths (be2 r 20) (be2 r 22) (slice_index r 17) (slice_index r 18) = k.words in
-      let end : p + b.words ≤ length m = b.end in
-      let one : length (app_at m p).code ≡ be2 r 20 = length_section m (p + 5) (be2 r 20) image (omega (arith, fits, end)) in
-      let two : length (app_at m p).fixed ≡ be2 r 22 = length_section m (p + 5 + up (be2 r 20) 8) (be2 r 22) image (omega (arith, fits, end)) in
-      let three : length (app_at m p).dir ≡ slice_index r 17 = length_section m (p + 5 + up (be2 r 20) 8 + up (be2 r 22) 8) (slice_index r 17) image (omega (arith, fits, end)) in
-      let four : length (app_at m p).fci ≡ slice_index r 18 = length_section m (p + 5 + up (be2 r 20) 8 + up (be2 r 22) 8 + up (slice_index r 17) 8) (slice_index r 18) image (omega (arith, fits, end)) in
-      let s = sizes_of (app_at m p) in
-      ap (λ (n : ℕ). record s { code = n }) one
-      ∙ ap (λ (n : ℕ). record s { code = be2 r 20; fixed = n; init = n }) two
-      ∙ ap (λ (n : ℕ). record s { code = be2 r 20; fixed = be2 r 22; init = be2 r 22; dir = n }) three
-      ∙ ap (λ (n : ℕ). record s { code = be2 r 20; fixed = be2 r 22; init = be2 r 22; dir = slice_index r 17; fci = n }) four
+  sizes_are p b = grind (arith, RecordIs, record_is, length_section)
 
   pub fits_limits : (p : ℕ) → IsUsedBlock m p → FitsLimits (record_sizes (record_at m p))
-  fits_limits p b =
-      let k : RecordIs (record_at m p) b.words = record_is (record_at m p) b.words b.good in
-      let deny : be2 (record_at m p) 26 ≤ 15 = k.deny in
-      record { some_code = k.code_low; code = k.code_high; fixed = k.fixed; init = omega arith; session = k.session; dir = k.dir; fci = k.fci; deny = omega arith }
+  fits_limits p b = grind (arith, RecordIs, record_is)
 
   entry_is : (e : List ℕ × App) → IsOf m e → IsApplication e
   entry_is e h =

@@ -89,9 +89,7 @@ module _ (m : List (List ℕ)) (image : IsSized m) (closed : look m ≡ Closed) 
   by_atomic : (list ps : List (ℕ × List ℕ)) (w : ℕ) (b : Base) (c : Card) (k : ℕ) (x : List ℕ) → list ≡ ps → w ≡ length ps
       → HoldsBase (OnCard (cond (stands Two (length list) k x) c (means m))) (owes Two (length list) k x) Two (image_after_stop m (writes Two list) k x)
       → HoldsBase (OnCard (cond (stands Two w k x) c (means m))) (owes Two w k x) Two (image_after_stop m (writes Two ps) k x)
-  by_atomic list ps w b c k x e n h =
-      subst (λ (v : ℕ). HoldsBase (OnCard (cond (stands Two v k x) c (means m))) (owes Two v k x) Two (image_after_stop m (writes Two ps) k x)) (sym n)
-      (subst (λ (l : List (ℕ × List ℕ)). HoldsBase (OnCard (cond (stands Two (length l) k x) c (means m))) (owes Two (length l) k x) Two (image_after_stop m (writes Two l) k x)) e h)
+  by_atomic list ps w b c k x e n h = grind arith
 
   pub item_stops : (i : BankItem) (k : ℕ) (x : List ℕ) → Allows m i → 1 ≤ k → k ≤ length (item_writes m i) → IsStoppedAt m i k x (image_after_stop m (item_writes m i) k x)
   item_stops (Piece s p at b) k x allowed first last =
