@@ -11,10 +11,7 @@ use Rattle.model_text.specs.Text.{ok_as}
 use Rattle.model_text.specs.Assembly.{WordForm, CodeItem, byte, both, all_bytes, primitive, Plain, item_of_word, ByDistance, ByPlace, AddressedByte, AddressedWord, Primitive}
 
 one_more : {A : Type 0} (r : Result ℕ AsmCause) (f : A → List ℕ) (s : Result A AsmCause) → ok_as (λ p. p.0 ∷ p.1) (both r (ok_as f s)) ≡ ok_as (λ p. p.0 ∷ f p.1) (both r s)
-one_more (Ok a) f (Ok b) = refl
-one_more (Ok a) f (Err d) = refl
-one_more (Err c) f (Ok b) = refl
-one_more (Err c) f (Err d) = refl
+one_more r f s = grind arith
 
 last_one : (r : Result ℕ AsmCause) → ok_as (λ p. p.0 ∷ p.1) (both r (all_bytes [])) ≡ ok_as (λ n. n ∷ []) r
 last_one (Ok a) = refl
@@ -52,16 +49,10 @@ by_pair form None = Err BadOperands
 by_pair form (Some p) = item_of_word form (p.0 ∷ p.1 ∷ [])
 
 pub distance_of_pair : (f : ℕ → ℤ → Ins) (ts : List (List ℕ)) → item_of_word (ByDistance f) ts ≡ by_pair (ByDistance f) (pair_of ts)
-distance_of_pair f [] = refl
-distance_of_pair f (a ∷ []) = refl
-distance_of_pair f (a ∷ b ∷ []) = refl
-distance_of_pair f (a ∷ b ∷ c ∷ ts) = refl
+distance_of_pair f ts = grind arith
 
 pub place_of_pair : (f : ℕ → ℕ → Ins) (ts : List (List ℕ)) → length ts ≢ 0 → item_of_word (ByPlace f) ts ≡ by_pair (ByPlace f) (pair_of ts)
-place_of_pair f [] h = absurd (h refl)
-place_of_pair f (a ∷ []) h = refl
-place_of_pair f (a ∷ b ∷ []) h = refl
-place_of_pair f (a ∷ b ∷ c ∷ ts) h = refl
+place_of_pair f ts h = grind arith
 
 pub no_addressed_byte : (f : ℕ → ℤ → ℕ → Ins) (ts : List (Bor (List ℕ))) → 3 ≤ length ts → Err BadOperands ≡ item_of_word (AddressedByte f) (texts ts)
 no_addressed_byte f [] h = absurd (omega (arith, h))

@@ -1,5 +1,5 @@
 -- The operands of a line.
-use Rattle.std.proofs.Common.{◌≡◌, ◌≢◌, ℕ, suc, ◌≤◌, false, List, [], ◌∷◌, ◌++◌, length, append-nil, subst, Bor, take, Option, Some, None, Result, arith, refl, sym, ap, ◌∙◌}
+use Rattle.std.proofs.Common.{◌≡◌, ◌≢◌, ℕ, suc, ◌≤◌, false, List, [], ◌∷◌, ◌++◌, length, append-nil, Bor, take, Option, Some, None, Result, arith, refl, sym, ap, ◌∙◌}
 use Rattle.std.specs.Prelude.{map, nat_le, ◌==◌}
 use Rattle.model_text.specs.Text.{first_cut, trim, is_empty}
 use Rattle.model_text.specs.Assembly.{WordForm, Bare, OfByte, OfBytes, OfWord, OfWords, RawByte, ByDistance, ByPlace, Primitive, Addressed, AddressedByte, AddressedWord, words, operands, item_of_word, word_and_operands, label_and_rest, line_read, CodeItem, Line}
@@ -38,12 +38,7 @@ first_five_long (AddressedByte f) a b c d e ts = refl
 first_five_long (AddressedWord f) a b c d e ts = refl
 
 pub first_five : (f : WordForm) (ts : List (List ℕ)) → item_of_word f (take 5 ts) ≡ item_of_word f ts
-first_five f [] = refl
-first_five f (a ∷ []) = refl
-first_five f (a ∷ b ∷ []) = refl
-first_five f (a ∷ b ∷ c ∷ []) = refl
-first_five f (a ∷ b ∷ c ∷ d ∷ []) = refl
-first_five f (a ∷ b ∷ c ∷ d ∷ e ∷ ts) = sym (first_five_long f a b c d e ts)
+first_five f ts = grind (arith, first_five_long)
 
 -- ---- operands one by one
 
@@ -62,9 +57,7 @@ front_of (x ∷ xs) ys = ap (λ l. x ∷ l) (front_of xs ys)
 -- one more operand
 pub operand_more : (ps : List (Bor (List ℕ))) (p : Bor (List ℕ)) (t f : List ℕ) (b : Option (List ℕ)) (w : List (List ℕ)) → p.now ≡ trim f → f ≡ (first_cut (λ c. c == 44) t).0 → b ≡ (first_cut (λ c. c == 44) t).1
     → texts ps ++ operands (Some t) ≡ w → texts (ps ++ p ∷ []) ++ operands b ≡ w
-operand_more ps p t f b w e g h i =
-    let j : p.now ∷ operands b ≡ operands (Some t) = rw (e, g, h) (sym (operands_at t)) in
-    texts_one ps p (operands b) ∙ ap (λ l. texts ps ++ l) j ∙ i
+operand_more ps p t f b w e g h i = grind (arith, operands_at, texts_one)
 
 -- five operands that were read are the first five
 pub operands_full : (ps : List (Bor (List ℕ))) (qs w : List (List ℕ)) → length ps ≡ 5 → texts ps ++ qs ≡ w → texts ps ≡ take 5 w
@@ -82,10 +75,7 @@ operands_all ps w l h =
 
 pub word_then : (s : List ℕ × Option (List ℕ)) (w : List ℕ) (rest : Option (List ℕ)) (f : WordForm) (ops : List (List ℕ)) (r : Result CodeItem AsmCause)
     → w ≡ s.0 → rest ≡ s.1 → is_empty w ≡ false → lookup words w ≡ Some f → ops ≡ take 5 (operands rest) → r ≡ item_of_word f ops → r ≡ word_and_operands s
-word_then s w rest f ops r e g h i j k =
-    let n : is_empty s.0 ≡ false = subst (λ (x : List ℕ). is_empty x ≡ false) e h in
-    let l : lookup words s.0 ≡ Some f = subst (λ (x : List ℕ). lookup words x ≡ Some f) e i in
-    rw (n, l) (k ∙ ap (item_of_word f) j ∙ first_five f (operands rest) ∙ ap (λ o. item_of_word f (operands o)) g)
+word_then s w rest f ops r e g h i j k = grind (arith, first_five)
 
 pub line_by_parts : (l t f : List ℕ) (b : Option (List ℕ)) (r : Result Line AsmCause)
     → t ≡ (first_cut (λ c. c == 59) l).0 → f ≡ (first_cut (λ c. c == 58) t).0 → b ≡ (first_cut (λ c. c == 58) t).1 → r ≡ label_and_rest f b → r ≡ line_read l

@@ -60,11 +60,7 @@ digit_solid : (c : ℕ) → is_digit c ≡ true → solid c ≡ true
 digit_solid c h = grind (arith, h)
 
 decimal_no_hex : (ds : List ℕ) → every is_digit ds ≡ true → bytes_eq (take 2 ds) (codes "0x") ≡ false
-decimal_no_hex [] h = refl
-decimal_no_hex (a ∷ []) h = and_false (a == 48)
-decimal_no_hex (a ∷ b ∷ ds) h =
-    let d : is_digit b ≡ true = and_first (is_digit b) (every is_digit ds) (and_second (is_digit a) (every is_digit (b ∷ ds)) h) in
-    rw (no_x b d) (and_false (a == 48))
+decimal_no_hex ds h = grind (arith, and_false, and_first, and_second, no_x)
 
 natural_of : (n : ℕ) (ds : List ℕ) → Numeral n ds → natural ds ≡ Some n
 natural_of n ds k = rw (decimal_no_hex ds k.digits) (number_of n ds k)
@@ -89,23 +85,7 @@ byte_solid n h = numeral_solid n (decimal n) (decimal_is n (wide n 256 h (omega 
 -- ---- words
 
 digit_read : (d : ℕ) → d < 16 → hex_value (hex_digit d) ≡ Some d
-digit_read zero h = refl
-digit_read (suc zero) h = refl
-digit_read (suc (suc zero)) h = refl
-digit_read (suc (suc (suc zero))) h = refl
-digit_read (suc (suc (suc (suc zero)))) h = refl
-digit_read (suc (suc (suc (suc (suc zero))))) h = refl
-digit_read (suc (suc (suc (suc (suc (suc zero)))))) h = refl
-digit_read (suc (suc (suc (suc (suc (suc (suc zero))))))) h = refl
-digit_read (suc (suc (suc (suc (suc (suc (suc (suc zero)))))))) h = refl
-digit_read (suc (suc (suc (suc (suc (suc (suc (suc (suc zero))))))))) h = refl
-digit_read (suc (suc (suc (suc (suc (suc (suc (suc (suc (suc zero)))))))))) h = refl
-digit_read (suc (suc (suc (suc (suc (suc (suc (suc (suc (suc (suc zero))))))))))) h = refl
-digit_read (suc (suc (suc (suc (suc (suc (suc (suc (suc (suc (suc (suc zero)))))))))))) h = refl
-digit_read (suc (suc (suc (suc (suc (suc (suc (suc (suc (suc (suc (suc (suc zero))))))))))))) h = refl
-digit_read (suc (suc (suc (suc (suc (suc (suc (suc (suc (suc (suc (suc (suc (suc zero)))))))))))))) h = refl
-digit_read (suc (suc (suc (suc (suc (suc (suc (suc (suc (suc (suc (suc (suc (suc (suc zero))))))))))))))) h = refl
-digit_read (suc (suc (suc (suc (suc (suc (suc (suc (suc (suc (suc (suc (suc (suc (suc (suc d)))))))))))))))) h = absurd (omega (arith, h))
+digit_read d h = grind arith
 
 hex_solid : (d : ℕ) → d < 16 → solid (hex_digit d) ≡ true
 hex_solid d h = grind (arith, h)
@@ -130,9 +110,6 @@ word_solid w = record {
   all = rw (hex_solid (w / 4096 % 16) (below_16 (w / 4096)), hex_solid (w / 256 % 16) (below_16 (w / 256)), hex_solid (w / 16 % 16) (below_16 (w / 16)), hex_solid (w % 16) (below_16 w)) refl;
 }
 
-pub word_no_label : (w : ℕ) → is_label (hex_word w) ≡ false
-word_no_label w = refl
-
 -- ---- signed numbers
 
 -- a signed number z from -half to half - 1, and its text
@@ -148,12 +125,7 @@ begins_digit n [] k = refl
 begins_digit n (c ∷ ds) k = no_sign c (and_first (is_digit c) (every is_digit ds) k.digits)
 
 pub signed_read : (half : ℕ) (z : ℤ) → Half half z → signed_operand half (signed_decimal z) ≡ Ok z
-signed_read half (pos n) k =
-    let d = decimal_is n (wide n half (below n half k.fits) (omega (arith, k.bound))) in
-    rw (begins_digit n (decimal n) d, natural_of n (decimal n) d, k.fits) refl
-signed_read half (negsuc n) k =
-    let d = decimal_is (suc n) (wide (suc n) (suc half) (omega (arith, below n half k.fits)) (omega (arith, k.bound))) in
-    rw (number_of (suc n) (decimal (suc n)) d, k.fits) refl
+signed_read half z k = grind (arith, decimal_is, wide, below, begins_digit, natural_of, number_of)
 
 pub signed_solid : (half : ℕ) (z : ℤ) → Half half z → Solid (signed_decimal z)
 signed_solid half (pos n) k = numeral_solid n (decimal n) (decimal_is n (wide n half (below n half k.fits) (omega (arith, k.bound))))
@@ -204,15 +176,7 @@ no_close c h = grind (arith, h)
 
 -- a condition is read back from its name
 pub condition_read : (c : ℕ) → 0 < c → c < 8 → condition (condition_name c) ≡ Ok c
-condition_read zero l h = absurd (omega (arith, l))
-condition_read (suc zero) l h = refl
-condition_read (suc (suc zero)) l h = refl
-condition_read (suc (suc (suc zero))) l h = refl
-condition_read (suc (suc (suc (suc zero)))) l h = refl
-condition_read (suc (suc (suc (suc (suc zero))))) l h = refl
-condition_read (suc (suc (suc (suc (suc (suc zero)))))) l h = refl
-condition_read (suc (suc (suc (suc (suc (suc (suc zero))))))) l h = refl
-condition_read (suc (suc (suc (suc (suc (suc (suc (suc c)))))))) l h = absurd (omega (arith, h))
+condition_read c l h = grind arith
 
 -- the facts of a register's name
 record Register (tag : ℕ) (name : List ℕ) : Type 0 where
@@ -243,10 +207,6 @@ condition_solid (suc (suc (suc (suc (suc (suc zero)))))) l h = record { some = r
 condition_solid (suc (suc (suc (suc (suc (suc (suc zero))))))) l h = record { some = refl; all = refl }
 condition_solid (suc (suc (suc (suc (suc (suc (suc (suc c)))))))) l h = absurd (omega (arith, h))
 
-some_front : (s t : List ℕ) → is_empty s ≡ false → is_empty (s ++ t) ≡ false
-some_front [] t h = absurd (cc h)
-some_front (c ∷ s) t h = refl
-
 address_is : (tag : ℕ) (off : ℤ) → address_text tag off ≡ register_name tag ++ (91 ∷ (signed_decimal off ++ 93 ∷ []))
 address_is tag off =
     append_assoc (register_name tag ++ codes "[") (signed_decimal off) (codes "]") ∙ append_assoc (register_name tag) (codes "[") (signed_decimal off ++ codes "]")
@@ -264,7 +224,4 @@ address_read tag off l h f =
 
 pub address_solid : (tag : ℕ) (off : ℤ) → 0 < tag → tag < 8 → FitsSigned w16 off → Solid (address_text tag off)
 address_solid tag off l h f =
-    let r = register_is tag l h in
-    let s = signed_solid 32768 off (half_16 off f) in
-    let all = every_append solid (register_name tag) (91 ∷ (signed_decimal off ++ 93 ∷ [])) r.all (every_append solid (signed_decimal off) (93 ∷ []) s.all refl) in
-    rw (address_is tag off) (record { some = some_front (register_name tag) (91 ∷ (signed_decimal off ++ 93 ∷ [])) r.some; all = all })
+    grind (arith, register_is tag l h, signed_solid 32768 off (half_16 off f), every_append solid (register_name tag) (91 ∷ (signed_decimal off ++ 93 ∷ [])) (register_is tag l h).all (every_append solid (signed_decimal off) (93 ∷ []) (signed_solid 32768 off (half_16 off f)).all refl))

@@ -1,5 +1,5 @@
 -- Operands by their parts.
-use Rattle.std.proofs.Common.{◌≡◌, ℕ, List, [], ◌∷◌, Option, Some, None, Result, Err, refl}
+use Rattle.std.proofs.Common.{arith, ◌≡◌, ℕ, List, Option, Some, None, Result, Err}
 use Rattle.std.specs.Prelude.{ℤ, FitsSigned, ◌==◌}
 use Rattle.std.specs.Int.{w16, cast_signed, cast_unsigned}
 use Rattle.std.proofs.lemmas.Int.{to_z-of_z}
@@ -20,19 +20,10 @@ address_after None = Err BadOperands
 address_after (Some p) = offset_after (place_among 1 register_names p.0) p.1
 
 offset_pieces : (o : Option ℕ) (ps : List (List ℕ)) (rest : List ℕ) → pieces (λ c. c == 93) rest ≡ ps → offset_and_end o ps ≡ offset_after o rest
-offset_pieces None ps rest e = refl
-offset_pieces (Some tag) [] rest e = rw e refl
-offset_pieces (Some tag) (a ∷ []) rest e = rw e refl
-offset_pieces (Some tag) (a ∷ [] ∷ []) rest e = rw e refl
-offset_pieces (Some tag) (a ∷ (c ∷ b) ∷ []) rest e = rw e refl
-offset_pieces (Some tag) (a ∷ [] ∷ c ∷ ps) rest e = rw e refl
-offset_pieces (Some tag) (a ∷ (d ∷ b) ∷ c ∷ ps) rest e = rw e refl
+offset_pieces o ps rest e = grind arith
 
 register_pieces : (ps : List (List ℕ)) → register_and_rest ps ≡ address_after (pair_of ps)
-register_pieces [] = refl
-register_pieces (a ∷ []) = refl
-register_pieces (a ∷ b ∷ []) = offset_pieces (place_among 1 register_names a) (pieces (λ c. c == 93) b) b refl
-register_pieces (a ∷ b ∷ c ∷ ps) = refl
+register_pieces ps = grind (arith, offset_pieces)
 
 pub address_parts : (t : List ℕ) → address t ≡ address_after (two_parts 91 t)
 address_parts t = register_pieces (pieces (λ c. c == 91) t)

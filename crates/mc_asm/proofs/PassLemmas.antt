@@ -1,5 +1,5 @@
 -- The two passes over a text.
-use Rattle.std.proofs.Common.{◌≡◌, ℕ, zero, suc, ◌+◌, ◌<◌, ◌≤◌, Bool, true, false, cond, List, [], ◌∷◌, ◌++◌, length, Option, Some, None, Result, Ok, Err, arith, refl, sym, ap, subst, append_assoc, drop, get_or, add-one, ◌∙◌}
+use Rattle.std.proofs.Common.{◌≡◌, ℕ, zero, suc, ◌+◌, ◌<◌, ◌≤◌, Bool, true, false, cond, List, [], ◌∷◌, ◌++◌, length, Option, Some, None, Result, Ok, Err, arith, refl, sym, ap, append_assoc, drop, get_or, add-one, ◌∙◌}
 use Rattle.std.specs.Prelude.{bytes_eq, nat_le, MatchResult, IfOk, IfErr}
 use Rattle.std.specs.Ordering.{is_eq, nat_cmp}
 use Rattle.std.specs.Cmp.Lexicographic.{slice_cmp}
@@ -91,9 +91,7 @@ laid_new place l k false h = absurd (cc h)
 laid_read : (labels : List (List ℕ × ℕ)) (place : ℕ) (text : List ℕ) (k : Line) (r : Result Line AsmCause) → line_read text ≡ r
     → (r >>= λ l. only_if (is_new labels l.label) LabelTwice l >>= λ l. only_if (nat_le (place + size l.item) 8192) TooLong l) ≡ Ok k → LaidLine text place k
 laid_read labels place text k (Err c) e h = absurd (cc h)
-laid_read labels place text k (Ok l) e h =
-    let n = laid_new place l k (is_new labels l.label) h in
-    record { read = e ∙ ap Ok n.0; short = subst (λ (j : Line). nat_le (place + size j.item) 8192 ≡ true) n.0 n.1 }
+laid_read labels place text k (Ok l) e h = grind (arith, laid_new place l k (is_new labels l.label) h)
 
 laid_line : (labels : List (List ℕ × ℕ)) (place : ℕ) (text : List ℕ) (k : Line) → line_laid labels place text ≡ Ok k → LaidLine text place k
 unfolding line_laid

@@ -1,7 +1,7 @@
 -- Texts in two parts.
 use Rattle.std.proofs.Common.{◌≡◌, ℕ, Bool, List, ◌∷◌, Option, Some, None, refl}
 use Rattle.std.specs.Prelude.{◌==◌}
-use Rattle.model_text.specs.Text.{first_cut, pieces}
+use Rattle.model_text.specs.Text.{first_cut}
 use Rattle.mc_asm.specs.Parts.{pair_of, two_parts}
 use Rattle.mc_text.proofs.ReadingLemmas.{pieces_at, pieces_cut}
 
