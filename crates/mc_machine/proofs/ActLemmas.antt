@@ -6,17 +6,16 @@ use Rattle.law_machine.specs.model_machine.specs.declared.machine.Abend.{Abend}
 use Rattle.law_machine.specs.model_device.specs.declared.device.Stop.{Stop}
 use Rattle.law_machine.specs.model_device.specs.Orders.{InOrder}
 use Rattle.law_machine.specs.model_device.specs.Bytes.{lookup}
-use Rattle.law_machine.specs.model_device.specs.Card.{App}
 use Rattle.law_machine.specs.model_machine.specs.Code.{instruction_at}
 use Rattle.law_machine.specs.model_machine.specs.Frame.{Frame, Effect, session_of}
-use Rattle.law_machine.specs.model_machine.specs.Primitives.{Around, Then, Goes, Exits, Delegates}
+use Rattle.law_machine.specs.model_machine.specs.Primitives.{Around, Then, Exits}
 use Rattle.law_machine.specs.model_machine.specs.Row.{RowEnd, Abends, Does, row}
 use Rattle.law_machine.specs.model_machine.specs.Chain.{Chain, Turn, Outcome, Reply, Abended, Follows, Continues, Ends, code_in, around, first_frame, chain_session, write_of, words_of_write, pair_of, chain_after_effect, follows, abends_at, done_turn, row_turn, frame_at, turn_of_fetch, turn_of_chain, turn_of}
 use Rattle.mc_bank.specs.Bank.{app_of}
 use Rattle.mc_segs.specs.declared.ends.Halt.{Halt}
 use Rattle.mc_segs.specs.declared.ends.Halt.TheVariants as halt
 use Rattle.mc_segs.specs.declared.ends.Next.{Next}
-use Rattle.mc_segs.specs.HeldFrames.{Held, Seen, frame_on_bank, frame_reading, app_under}
+use Rattle.mc_segs.specs.HeldFrames.{Held, frame_on_bank, frame_reading, app_under}
 use Rattle.mc_segs.specs.Ends.{EndActs as CallActs, EffectDone, scene, then_of}
 use Rattle.mc_machine.specs.Alike.{SameEffect, SameRowEnd, KeepsEffect, KeepsRow}
 use Rattle.mc_machine.specs.Chains.{Chained, RunsAs, FitsChain, ChainWrote, first_held, session_in}
@@ -47,9 +46,7 @@ held_kept h k (j ∷ hs) same = refl
 
 -- a chain ends only if its frame exits
 ends_exit : (k : Chain) (th : Then) (o : Outcome) → follows k th ≡ Ends o → th ≡ Exits
-ends_exit k Goes o is = absurd (cc is)
-ends_exit k Exits o is = refl
-ends_exit k (Delegates n) o is = absurd (cc is)
+ends_exit k th o is = grind arith
 
 pub one_less : (n : ℕ) → n ≢ 0 → n - 1 + 1 ≡ n
 one_less n some = omega arith
@@ -72,11 +69,7 @@ row_count ch i (Does d) = refl
 module _ {B : Type 0} (ghosts : Ghosts B) where
   pub turned : (b : B) (c : Chained) (ch : Chain) (found : Result (Ins × ℕ) DecodeFault) → RunsAs (ghosts.state b) (ghosts.named b) c ch → c.left ≢ 0
       → found ≡ instruction_at (app_under (ghosts.state b) (ghosts.named b) c.running).code c.running.frame.at → turn_of c.left ch ≡ turn_of_fetch ch found
-  turned b c ch found r some is =
-      let map : lookup ch.map ch.frame.name ≡ Some (app_under (ghosts.state b) (ghosts.named b) c.running) =
-      ap (λ (m : List (List ℕ × App)). lookup m ch.frame.name) r.map ∙ app_is (ghosts.state b) (ghosts.named b) c.running ch.frame r.running in
-      not_spent c.left ch some ∙ acted_is ch ∙ ap (λ (o : Option App). turn_of_fetch ch (instruction_at (code_in o) ch.frame.at)) map
-      ∙ ap (λ (at : ℕ). turn_of_fetch ch (instruction_at (app_under (ghosts.state b) (ghosts.named b) c.running).code at)) (sym (ap (λ (t : Seen). t.at) r.running.same)) ∙ ap (λ (x : Result (Ins × ℕ) DecodeFault). turn_of_fetch ch x) (sym is)
+  turned b c ch found r some is = grind (arith, app_is, not_spent, acted_is)
 
   -- the running frame's static bytes are those of its application
   pub own_fixed : (b : B) (c : Chained) (ch : Chain) → RunsAs (ghosts.state b) (ghosts.named b) c ch → (app_under (ghosts.state b) (ghosts.named b) c.running).fixed ≡ (app_of (ghosts.state b).apps (Some ch.frame.name)).fixed
@@ -86,11 +79,7 @@ module _ {B : Type 0} (ghosts : Ghosts B) where
   reported_old : (b : B) (c : Chained) (ch : Chain) (o : Option Outcome) (i : Option Ins) (w : Option ℕ) → RunsAs (ghosts.state b) (ghosts.named b) c ch
       → ◌≡◌ {A = Turn} (record { depth = length ch.below + 1; at = ch.frame.at; ins = i; dt = ch.frame.dt; c = ch.frame.c; z = ch.frame.z; end = o; wrote = w })
       (record { depth = length c.below + 1; at = c.running.frame.at; ins = i; dt = c.running.frame.dt; c = c.running.frame.c; z = c.running.frame.z; end = o; wrote = w })
-  reported_old b c ch o i w r =
-      let seen_so : frame_reading ch.frame ≡ frame_reading (frame_on_bank ghosts b c.running) = sym r.running.same in
-      reported_same (length ch.below + 1) (length c.below + 1) ch.frame.at c.running.frame.at ch.frame.dt c.running.frame.dt ch.frame.c c.running.frame.c ch.frame.z c.running.frame.z o o i w
-      (ap (λ (k : ℕ). k + 1) (sym (as_many (ghosts.state b) (ghosts.named b) c.below ch.below r.below)))
-      (ap (λ (t : Seen). t.at) seen_so) (ap (λ (t : Seen). t.dt) seen_so) (ap (λ (t : Seen). t.c) seen_so) (ap (λ (t : Seen). t.z) seen_so) refl
+  reported_old b c ch o i w r = grind (arith, reported_same, as_many)
 
   -- an abend, after which no byte was written
   pub abends_done : (b e : B) (c d : Chained) (ch : Chain) (i : Option Ins) (count : ℕ) (a : Abend) (step : Step) → RunsAs (ghosts.state b) (ghosts.named b) c ch → (ghosts.state b).stopped ≡ false → e ≡ b → session_in d ≡ session_in c → d.left + count ≡ c.left
@@ -146,11 +135,7 @@ module _ {B : Type 0} (ghosts : Ghosts B) where
 
     performed_stops : (stop : Stop) (x y : RowEnd) → SameRowEnd (app_under (ghosts.state b) (ghosts.named b) c.running).fixed x y
         → CallActs ghosts (scene b e (chain_at_next c next).running mid.running c.public mid.public) x (Err (halt.Stop stop)) → InOrder (ChainWrote ghosts) b (row_turn ch i y).writes (Err stop) e
-    performed_stops stop (Abends p) (Abends q) same acts = absurd acts
-    performed_stops stop (Abends p) (Does d) same acts = absurd same
-    performed_stops stop (Does d) (Abends q) same acts = absurd same
-    performed_stops stop (Does d) (Does k) same acts =
-        writes_of ghosts ch.frame.name (app_under (ghosts.state b) (ghosts.named b) c.running).fixed k.effect.changes b (Err stop) e (own_fixed b c ch r) (committed_of ghosts laws b e c ch d.effect k.effect (Err stop) r same.effect acts)
+    performed_stops stop x y same acts = grind (arith, writes_of, own_fixed, committed_of)
 
     pub performed_halts : (going : (ghosts.state b).stopped ≡ false) (some : c.left ≢ 0) (before : Step) → before ≡ step_of_frame c.running (Some i) None → (h : Halt) (x y : RowEnd) → SameRowEnd (app_under (ghosts.state b) (ghosts.named b) c.running).fixed x y
         → CallActs ghosts (scene b e (chain_at_next c next).running mid.running c.public mid.public) x (Err h) → ActDone ghosts b e c mid ch (row_turn ch i y) (step_of_halt before h)
@@ -178,11 +163,7 @@ module _ {B : Type 0} (ghosts : Ghosts B) where
     reported_mid : (y : Effect) (o p : Option Outcome) (it : Option Ins) (w : Option ℕ) → RunsAs (ghosts.state e) (ghosts.named e) mid (chain_after_effect ch y) → o ≡ p
         → ◌≡◌ {A = Turn} (record { depth = length ch.below + 1; at = ch.frame.at; ins = it; dt = y.frame.dt; c = y.frame.c; z = y.frame.z; end = o; wrote = w })
         (record { depth = length c.below + 1; at = c.running.frame.at; ins = it; dt = mid.running.frame.dt; c = mid.running.frame.c; z = mid.running.frame.z; end = p; wrote = w })
-    reported_mid y o p it w mr same =
-        let seen_so : frame_reading y.frame ≡ frame_reading (frame_on_bank ghosts e mid.running) = sym mr.running.same in
-        reported_same (length ch.below + 1) (length c.below + 1) ch.frame.at c.running.frame.at y.frame.dt mid.running.frame.dt y.frame.c mid.running.frame.c y.frame.z mid.running.frame.z o p it w
-        (ap (λ (k : ℕ). k + 1) (sym (as_many (ghosts.state b) (ghosts.named b) c.below ch.below r.below)))
-        (sym (ap (λ (t : Seen). t.at) r.running.same)) (ap (λ (t : Seen). t.dt) seen_so) (ap (λ (t : Seen). t.c) seen_so) (ap (λ (t : Seen). t.z) seen_so) same
+    reported_mid y o p it w mr same = grind (arith, reported_same, as_many)
 
     -- the turn, by what follows its instruction
     finish : (y : Effect) (d : Chained) (step : Step) (pairs : List (List ℕ × List ℕ)) (t : Follows) → RunsAs (ghosts.state e) (ghosts.named e) mid (chain_after_effect ch y) → InOrder (ChainWrote ghosts) b (write_of ch.frame.name y.changes) (Ok tt) e

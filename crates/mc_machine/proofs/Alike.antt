@@ -1,11 +1,11 @@
 -- A row has the same effect on frames with the same reading, whichever pieces their pending bytes come from.
-use Rattle.std.proofs.Common.{◌≡◌, ℕ, List, Option, Some, None, refl, sym, ap, ◌∙◌}
+use Rattle.std.proofs.Common.{arith, ◌≡◌, ℕ, List, Option, Some, None, refl, sym, ap, ◌∙◌}
 use Rattle.law_machine.specs.model_machine.specs.declared.instruction.Ins.{Ins}
 use Rattle.law_machine.specs.model_machine.specs.declared.machine.Abend.{Abend}
 use Rattle.law_machine.specs.model_device.specs.Pieces.{laid_pieces, touched_words}
 use Rattle.law_machine.specs.model_machine.specs.Frame.{Frame}
 use Rattle.law_machine.specs.model_machine.specs.Primitives.{Around, Done}
-use Rattle.law_machine.specs.model_machine.specs.Row.{RowEnd, Abends, Does, causes, effect, first_cause, row_end, row}
+use Rattle.law_machine.specs.model_machine.specs.Row.{RowEnd, causes, effect, first_cause, row_end, row}
 use Rattle.law_machine.specs.model_device.specs.Orders.{Answer}
 use Rattle.law_machine.specs.model_card.specs.Items.{BankItem}
 use Rattle.mc_segs.specs.HeldFrames.{Seen, frame_reading}
@@ -45,32 +45,19 @@ frame_of qs t =
     }
 
 pub seen_pieces : (f g : Frame) → frame_reading f ≡ frame_reading g → SamePieces f.fixed f.pieces g.pieces
-seen_pieces f g e =
-    let fixed : f.fixed ≡ g.fixed = ap (λ (t : Seen). t.fixed) e in
-    record {
-      laid = ap (λ (l : List ℕ). laid_pieces l g.pieces) fixed ∙ sym (ap (λ (t : Seen). t.read) e);
-      words = sym (ap (λ (t : Seen). t.pending) e);
-      none = sym (ap (λ (t : Seen). t.none) e);
-    }
+seen_pieces f g e = grind arith
 
 pub rows_alike : (i : Ins) (f g : Frame) (public : List ℕ) (x : Around) → IsGuarded f → frame_reading f ≡ frame_reading g → seen_end f.fixed (row i f public x) ≡ seen_end g.fixed (row i g public x)
-rows_alike i f g public x guard e =
-    let same : with_pieces g.pieces f ≡ g = ap (λ (t : Seen). frame_of g.pieces t) e in
-    sym (row_same i f g.pieces public x (seen_pieces f g e) guard) ∙ ap (λ (h : Frame). seen_end h.fixed (row i h public x)) same
+rows_alike i f g public x guard e = grind (arith, with_pieces, row_same, seen_pieces)
 
 -- ---- from what is seen back to the ends
 
 ends_seen : (fixed : List ℕ) (r t : RowEnd) → seen_end fixed r ≡ seen_end fixed t → SameRowEnd fixed r t
-ends_seen fixed (Abends a) (Abends b) e = cc e
-ends_seen fixed (Abends a) (Does d) e = absurd (cc e)
-ends_seen fixed (Does d) (Abends b) e = absurd (cc e)
-ends_seen fixed (Does d) (Does k) e = record { effect = record { frame = cc e; public = cc e; changes = cc e }; next = cc e }
+ends_seen fixed r t e = grind arith
 
 -- rows on two frames with the same reading, by cases on how the rows end
 pub rows_end_alike : (i : Ins) (f g : Frame) (public : List ℕ) (x : Around) → IsGuarded f → frame_reading f ≡ frame_reading g → SameRowEnd f.fixed (row i f public x) (row i g public x)
-rows_end_alike i f g public x guard e =
-    let fixed : f.fixed ≡ g.fixed = ap (λ (t : Seen). t.fixed) e in
-    ends_seen f.fixed (row i f public x) (row i g public x) (rows_alike i f g public x guard e ∙ ap (λ (l : List ℕ). seen_end l (row i g public x)) (sym fixed))
+rows_end_alike i f g public x guard e = grind (arith, ends_seen, rows_alike)
 
 -- a frame is guarded if one with the same reading is
 pub guarded_seen : (f g : Frame) → frame_reading f ≡ frame_reading g → IsGuarded f → IsGuarded g
@@ -79,21 +66,11 @@ guarded_seen f g e guard = λ off. sym (ap (λ (t : Seen). t.none) e) ∙ guard 
 -- ---- static changes with the same reading: the bytes after them, and their commit
 
 some_seen : (fixed : List ℕ) (ps qs : List (ℕ × List ℕ)) → seen_change fixed (Some ps) ≡ seen_change fixed (Some qs) → (laid_pieces fixed ps ≡ laid_pieces fixed qs) × (touched_words ps ≡ touched_words qs)
-some_seen fixed ps qs e =
-    let both : (laid_pieces fixed ps, touched_words ps) ≡ (laid_pieces fixed qs, touched_words qs) = cc e in
-    (ap (λ (t : List ℕ × List ℕ). t.0) both, ap (λ (t : List ℕ × List ℕ). t.1) both)
+some_seen fixed ps qs e = grind arith
 
 pub changed_seen : (fixed : List ℕ) (c d : Option (List (ℕ × List ℕ))) → seen_change fixed c ≡ seen_change fixed d → changed_bytes fixed c ≡ changed_bytes fixed d
-changed_seen fixed None None e = refl
-changed_seen fixed None (Some qs) e = absurd (cc e)
-changed_seen fixed (Some ps) None e = absurd (cc e)
-changed_seen fixed (Some ps) (Some qs) e = (some_seen fixed ps qs e).0
+changed_seen fixed c d e = grind (arith, some_seen)
 
 pub committed_seen : {B : Type 0} (did : B → BankItem → Answer → B → Type 0) (name fixed : List ℕ) (c d : Option (List (ℕ × List ℕ))) (b : B) (a : Answer) (e : B)
     → seen_change fixed c ≡ seen_change fixed d → IsOneCommit did name fixed c b a e → IsOneCommit did name fixed d b a e
-committed_seen did name fixed None None b a e s done = done
-committed_seen did name fixed None (Some qs) b a e s done = absurd (cc s)
-committed_seen did name fixed (Some ps) None b a e s done = absurd (cc s)
-committed_seen did name fixed (Some ps) (Some qs) b a e s done =
-    let same = some_seen fixed ps qs s in
-    (done.0, held_same fixed ps qs done.0 same.1 same.0 done.1, done.2, done.3)
+committed_seen did name fixed c d b a e s done = grind (arith, some_seen, held_same)

@@ -1,5 +1,5 @@
 -- Frames that differ in the pieces that their pending bytes come from: what they read, and the limit of pending words.
-use Rattle.std.proofs.Common.{◌≡◌, ℕ, Bool, true, false, cond, List, [], ◌∷◌, ◌++◌, length, take, drop, Option, Some, None, refl, sym, ap, ◌∙◌}
+use Rattle.std.proofs.Common.{arith, ◌≡◌, ℕ, Bool, true, false, cond, List, [], ◌∷◌, ◌++◌, length, Option, Some, None, refl, sym, ap, ◌∙◌}
 use Rattle.std.specs.Prelude.{nat_lt, ◌==◌}
 use Rattle.law_machine.specs.model_device.specs.Bytes.{zeros}
 use Rattle.law_machine.specs.model_device.specs.Pieces.{laid_pieces, touched_words, with_touched}
@@ -29,10 +29,7 @@ same_pushed fixed ps qs p s = record {
 -- ---- reading
 
 bytes_in_same : (f : Frame) (qs : List (ℕ × List ℕ)) (public : List ℕ) (n : ℕ) (place : Option Place) → SamePieces f.fixed f.pieces qs → bytes_in (with_pieces qs f) public n place ≡ bytes_in f public n place
-bytes_in_same f qs public n None s = refl
-bytes_in_same f qs public n (Some (Static i)) s = ap (λ (l : List ℕ). take n (drop i l)) s.laid
-bytes_in_same f qs public n (Some (Dynamic i)) s = refl
-bytes_in_same f qs public n (Some (Public i)) s = refl
+bytes_in_same f qs public n place s = grind arith
 
 bytes_same : (f : Frame) (qs : List (ℕ × List ℕ)) (public : List ℕ) (a n : ℕ) → SamePieces f.fixed f.pieces qs → bytes_at (with_pieces qs f) public a n ≡ bytes_at f public a n
 unfolding bytes_at

@@ -1,15 +1,13 @@
 -- Frames that differ in the pieces that their pending bytes come from: a row has the same shape, and each act has the
 -- same effect on them.
-use Rattle.std.proofs.Common.{◌≡◌, ℕ, Bool, true, false, cond, List, [], ◌∷◌, ◌++◌, length, Option, Some, None, refl, sym, ap, ◌∙◌}
-use Rattle.std.specs.Prelude.{◌==◌, ◌||◌, nat_le}
+use Rattle.std.proofs.Common.{arith, ◌≡◌, ℕ, Bool, true, false, cond, List, [], ◌∷◌, length, Option, Some, None, refl, ap}
 use Rattle.law_machine.specs.model_machine.specs.declared.instruction.Ins.{Ins}
 use Rattle.law_machine.specs.model_machine.specs.declared.instruction.Ins.TheVariants as ins
-use Rattle.law_machine.specs.model_device.specs.Bytes.{splice}
 use Rattle.law_machine.specs.model_device.specs.Pieces.{laid_pieces, touched_words}
-use Rattle.law_machine.specs.model_machine.specs.Frame.{Frame, Effect, Place, Static, Dynamic, Public, where_is, static_written, write_effect_at, write_effect, frame_after_entry, frame_after_push, frame_with_top, come_back, pending_change, protect}
+use Rattle.law_machine.specs.model_machine.specs.Frame.{Frame, Effect, Place, where_is, static_written, write_effect_at, write_effect, pending_change, protect}
 use Rattle.law_machine.specs.model_machine.specs.Primitives.{Around, frame_effect, Primitive, DelegatorAid, primitive}
 use Rattle.law_machine.specs.model_machine.specs.Row.{effect}
-use Rattle.law_machine.specs.law_rows.specs.Shapes.{Act, Stays, Answers, Jumps, Calls, Returns, Pushes, Replaces, Writes, Protects, Shape, with_status, with_length, act_effect, with_flags, meaning, delegator_shape, prim_shape, pair_shape, shape}
+use Rattle.law_machine.specs.law_rows.specs.Shapes.{Act, Shape, act_effect, with_flags, meaning, delegator_shape, prim_shape, pair_shape, shape}
 use Rattle.law_machine.specs.law_rows.proofs.RowShapes.{shapes}
 use Rattle.mc_segs.specs.HeldFrames.{Seen, frame_reading, no_pieces}
 use Rattle.mc_machine.specs.Alike.{seen_change, IsGuarded, SameEffect, SameDone}
@@ -52,25 +50,10 @@ none_is [] e = refl
 none_is (p ∷ ps) e = absurd (cc e)
 
 static_same : (b : Bool) (f : Frame) (qs : Pieces) (public : List ℕ) (i : ℕ) (bytes : List ℕ) → HasSamePieces f qs → (b ≡ false → no_pieces f.pieces ≡ true) → SameEffect f.fixed (static_written b (with_pieces qs f) public i bytes) (static_written b f public i bytes)
-static_same true f qs public i bytes s guard = record {
-  frame = seen_same (record f { pieces = f.pieces ++ (i, bytes) ∷ [] }) (qs ++ (i, bytes) ∷ []) (same_pushed f.fixed f.pieces qs (i, bytes) s);
-  public = refl;
-  changes = refl;
-}
-static_same false f qs public i bytes s guard =
-    let none = guard refl in
-    let same : qs ≡ f.pieces = none_is qs (s.none ∙ none) ∙ sym (none_is f.pieces none) in
-    record {
-      frame = ap (λ (ps : List (ℕ × List ℕ)). frame_reading (record f { fixed = splice f.fixed i bytes; pieces = ps })) same;
-      public = refl;
-      changes = refl;
-    }
+static_same b f qs public i bytes s guard = grind (arith, seen_same, same_pushed, none_is)
 
 written_in_same : (f : Frame) (qs : Pieces) (public bytes : List ℕ) (place : Option Place) → HasSamePieces f qs → IsGuarded f → SameEffect f.fixed (write_effect_at (with_pieces qs f) public bytes place) (write_effect_at f public bytes place)
-written_in_same f qs public bytes None s guard = framed_same f qs public s
-written_in_same f qs public bytes (Some (Static i)) s guard = static_same f.protected f qs public i bytes s guard
-written_in_same f qs public bytes (Some (Dynamic i)) s guard = framed_same (record f { dyn = splice f.dyn i bytes }) qs public s
-written_in_same f qs public bytes (Some (Public i)) s guard = framed_same f qs (splice public i bytes) s
+written_in_same f qs public bytes place s guard = grind (arith, framed_same, static_same)
 
 written_same : (f : Frame) (qs : Pieces) (public : List ℕ) (a : ℕ) (bytes : List ℕ) → HasSamePieces f qs → IsGuarded f → SameEffect f.fixed (write_effect (with_pieces qs f) public a bytes) (write_effect f public a bytes)
 unfolding write_effect
@@ -85,28 +68,10 @@ cond_same fixed true d e k l s t = s
 cond_same fixed false d e k l s t = t
 
 protect_same : (f : Frame) (qs : Pieces) (public : List ℕ) (mode : ℕ) → HasSamePieces f qs → SameEffect f.fixed (protect (with_pieces qs f) public mode) (protect f public mode)
-protect_same f qs public mode s =
-    let on = nat_le 2 mode in
-    let changes : seen_change f.fixed (pending_change (with_pieces qs f) qs) ≡ seen_change f.fixed (pending_change f f.pieces) =
-    committed_seen (with_pieces qs f) qs ∙ rw (s.laid, s.words, s.none) (sym (committed_seen f f.pieces)) in
-    cond_same f.fixed (mode == 1 || mode == 3) _ _ _ _ (record {
-      frame = ap (λ (l : List ℕ). frame_reading (record f { fixed = l; pieces = []; protected = on })) s.laid;
-      public = refl;
-      changes = changes;
-    }) (record { frame = refl; public = refl; changes = refl })
+protect_same f qs public mode s = grind (arith, with_pieces, committed_seen, cond_same)
 
 act_same : (act : Act) (f : Frame) (qs : Pieces) (public : List ℕ) → HasSamePieces f qs → IsGuarded f → SameEffect f.fixed (act_effect act (with_pieces qs f) public) (act_effect act f public)
-act_same Stays f qs public s guard = framed_same f qs public s
-act_same (Answers sw la) f qs public s guard = framed_same f qs (with_length la (with_status sw public)) s
-act_same (Jumps true to) f qs public s guard = framed_same (record f { at = to }) qs public s
-act_same (Jumps false to) f qs public s guard = framed_same f qs public s
-act_same (Calls true to) f qs public s guard = framed_same (frame_after_entry f to) qs public s
-act_same (Calls false to) f qs public s guard = framed_same f qs public s
-act_same (Returns less more) f qs public s guard = framed_same (come_back f less more) qs public s
-act_same (Pushes b) f qs public s guard = framed_same (frame_after_push f b) qs public s
-act_same (Replaces b) f qs public s guard = framed_same (frame_with_top f b) qs public s
-act_same (Writes a n b) f qs public s guard = written_same f qs public a b s guard
-act_same (Protects mode) f qs public s guard = protect_same f qs public mode s
+act_same act f qs public s guard = grind (arith, framed_same, written_same, protect_same)
 
 -- ---- rows
 

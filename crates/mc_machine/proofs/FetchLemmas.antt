@@ -2,11 +2,11 @@
 -- first bytes are the code that is left, is the instruction at the front of that code, unless it is longer than what is
 -- left.
 use Rattle.std.proofs.Common.{◌≡◌, ℕ, zero, suc, ◌+◌, ◌<◌, ◌≤◌, Bool, true, false, cond, List, [], ◌∷◌, length, take, drop, Option, Some, None, Result, Ok, Err, arith, refl, sym, ap, subst, inl, inr, ◌∙◌}
-use Rattle.std.specs.Prelude.{min, nat_eq, replicate, slice_index, option_map}
+use Rattle.std.specs.Prelude.{min, replicate, slice_index, option_map}
 use Rattle.law_machine.specs.model_machine.specs.declared.instruction.DecodeFault.{DecodeFault}
 use Rattle.law_machine.specs.model_machine.specs.declared.instruction.DecodeFault.TheVariants.{Undefined, Past}
 use Rattle.law_machine.specs.model_machine.specs.declared.instruction.Ins.{Ins}
-use Rattle.law_machine.specs.model_machine.specs.Code.{Form, Plain, OneByte, TwoBytes, Word, TwoWords, Near, Target, Primitive, Offset, ByteOffset, WordOffset, Kind, U8, U16, I16, operands, total, form, kinds, spell, made_of, DecodesTo, instruction_at, from_place}
+use Rattle.law_machine.specs.model_machine.specs.Code.{Form, Kind, U8, U16, I16, operands, total, form, kinds, spell, made_of, DecodesTo, instruction_at, from_place}
 use Rattle.mc_isa.proofs.PlaceLemmas.{decoded_only}
 use Rattle.mc_isa.proofs.RowLemmas.{Good, GoodRow, good_form}
 use Rattle.std.proofs.lemmas.List.{take-take}
@@ -27,17 +27,7 @@ replicated (suc n) = let h = replicated n in omega (arith, h)
 
 -- operands have at most five bytes
 operands_few : (b : ℕ) (f : Form) → Good b f → total (operands f) ≤ 5
-operands_few b (Plain i) g = omega arith
-operands_few b (OneByte f) g = omega arith
-operands_few b (TwoBytes f) g = omega arith
-operands_few b (Word f) g = omega arith
-operands_few b (TwoWords f) g = omega arith
-operands_few b (Near f) g = omega arith
-operands_few b (Target c f) g = let h = target_few (nat_eq c 0) in omega (arith, h)
-operands_few b (Primitive set) g = let h = replicated set in omega (arith, h, g.0)
-operands_few b (Offset tag f) g = let h = behind_few (nat_eq tag 0) in omega (arith, h)
-operands_few b (ByteOffset tag f) g = let h = behind_few (nat_eq tag 0) in omega (arith, h)
-operands_few b (WordOffset tag f) g = let h = behind_few (nat_eq tag 0) in omega (arith, h)
+operands_few b f g = grind (arith, target_few, replicated, behind_few)
 
 row_few : (b : ℕ) (o : Option Form) (ks : List Kind) → GoodRow b o → option_map operands o ≡ Some ks → total ks ≤ 5
 row_few b None ks g e = absurd (cc e)
@@ -49,9 +39,7 @@ kinds_few b ks e = row_few b (form b) ks (good_form b) e
 -- ---- the front of the code that is left
 
 first_of : (n : ℕ) (l : List ℕ) → 0 < n → slice_index (take n l) 0 ≡ slice_index l 0
-first_of zero l h = absurd (omega (arith, h))
-first_of (suc n) [] h = refl
-first_of (suc n) (x ∷ l) h = refl
+first_of n l h = grind arith
 
 byte_of : (code : List ℕ) (at : ℕ) → slice_index (drop at code) 0 ≡ slice_index code at
 byte_of code zero = refl
@@ -91,11 +79,7 @@ fault_there code window at left Undefined w u =
     let some = w.some in
     record { inside = omega (arith, end, some); byte = subst (λ (b : ℕ). kinds b ≡ None) (first_byte code window at left w) u.byte }
 fault_there code window at left Past w (inl none) = let six = w.six in absurd (omega (arith, none, six))
-fault_there code window at left Past w (inr past) =
-    let few = kinds_few (slice_index window 0) past.0 past.1 in
-    let long = past.2 in
-    let six = w.six in
-    absurd (omega (arith, few, long, six))
+fault_there code window at left Past w (inr past) = grind (arith, kinds_few (slice_index window 0) past.0 past.1, past.2, w.six)
 
 -- an instruction that is longer than the code that is left
 pub past_there : (code window : List ℕ) (at left : ℕ) (i : Ins) (n : ℕ) → IsWindow code window at left → DecodesTo window 0 (Ok (i, n)) → left < n → DecodesTo code at (Err Past)

@@ -1,6 +1,6 @@
 -- The number of words that a turn writes: at most one atomic write, of no more words than its instruction changes, and
 -- no write with an exit.
-use Rattle.std.proofs.Common.{◌≡◌, ℕ, ◌≤◌, Bool, true, false, cond, List, [], ◌∷◌, length, Option, Some, None, Result, Ok, Err, refl, sym, ap, subst, ◌∙◌, inl, inr, arith}
+use Rattle.std.proofs.Common.{◌≡◌, ℕ, ◌≤◌, Bool, true, false, cond, List, [], ◌∷◌, length, Option, Some, None, Result, Ok, Err, refl, sym, subst, ◌∙◌, inl, inr, arith}
 use Rattle.std.specs.Prelude.{⊤, bytes_eq, IfSome}
 use Rattle.std.specs.List.{AllByRecursion}
 use Rattle.law_machine.specs.model_machine.specs.declared.instruction.Ins.{Ins}
@@ -61,13 +61,7 @@ one_written n (Some ps) = omega arith
 
 -- a turn by the end of its row
 row_writes : (ch : Chain) (i : Ins) (y : RowEnd) → QuietExit i y → EndsWithin (most_words i) y → WritesFew (row_turn ch i y)
-row_writes ch i (Abends a) quiet within = record { one = omega arith; words = tt; exit = λ e. refl }
-row_writes ch i (Does d) quiet within =
-    record {
-      one = one_written ch.frame.name d.effect.changes;
-      words = few_written (most_words i) ch.frame.name d.effect.changes within;
-      exit = λ e. ap (λ (o : Option (List (ℕ × List ℕ))). write_of ch.frame.name o) (quiet e);
-    }
+row_writes ch i y quiet within = grind (arith, one_written, few_written)
 
 -- a turn without an instruction
 pub abend_writes : (ch : Chain) (a : Abend) → WritesFew (abends_at ch None 0 a)

@@ -16,9 +16,7 @@ use Rattle.mc_machine.proofs.ReadsLemmas.{as_many, active_runs, app_by, entered_
 use Rattle.law_machine.specs.model_device.proofs.MapLemmas.{other_way}
 
 neither : (a b : Bool) → false ≡ (a || b) → (a ≡ false) × (b ≡ false)
-neither true b e = absurd (cc e)
-neither false true e = absurd (cc e)
-neither false false e = (refl, refl)
+neither a b e = grind arith
 
 -- a name that no frame runs differs from the names of all frames
 others_apart : (n : List ℕ) (f : Frame) (fs : List Frame) → is_active n f fs ≡ false → AllByRecursion (λ (g : Frame). bytes_eq n g.name ≡ false) (f ∷ fs)
@@ -34,20 +32,7 @@ module _ (s : BankState) (named : ℕ → Option (List ℕ)) where
   -- ---- delegations
 
   public_runs : (c : Chained) (ch : Chain) (sw : ℕ) → RunsAs s named c ch → RunsAs s named (record c { public = with_sw c.public sw }) (record ch { public = with_sw ch.public sw })
-  public_runs c ch sw r = record {
-    map = r.map;
-    running = r.running;
-    below = r.below;
-    public = ap (λ (p : List ℕ). with_sw p sw) r.public;
-    case = r.case;
-    le = r.le;
-    few = r.few;
-    apart = r.apart;
-  }
-
-  pub missing_call : (c : Chained) (ch : Chain) (n : List ℕ) → lookup s.apps n ≡ None → RunsAs s named c ch → RunsAs s named (record c { public = with_sw c.public 0x6A82 }) (chain_after_call ch n (lookup ch.map n))
-  missing_call c ch n none r =
-      subst (λ (o : Option App). RunsAs s named (record c { public = with_sw c.public 0x6A82 }) (chain_after_call ch n o)) (sym (ap (λ (m : List (List ℕ × App)). lookup m n) r.map ∙ none)) (public_runs c ch 0x6A82 r)
+  public_runs c ch sw r = grind arith
 
   refusal_is : (c : Chained) (ch : Chain) (n : List ℕ) (b : Bool) → b ≡ (has_frame named n (c.running ∷ c.below) || nat_le 4 (length c.below + 1)) → RunsAs s named c ch → (is_active n ch.frame ch.below || nat_le 4 (depth_of ch)) ≡ b
   refusal_is c ch n b is r =

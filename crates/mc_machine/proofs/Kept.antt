@@ -8,7 +8,7 @@ use Rattle.law_machine.specs.model_device.specs.Bytes.{bytes2}
 use Rattle.law_machine.specs.model_machine.specs.Frame.{Frame, Effect, Place, Static, Dynamic, Public, where_is, public_base, public_end, static_written, write_effect_at, write_effect, protect}
 use Rattle.law_machine.specs.model_machine.specs.Primitives.{Around, Done}
 use Rattle.law_machine.specs.model_machine.specs.Row.{effect, causes, first_cause, row}
-use Rattle.law_machine.specs.law_rows.specs.Keeping.{Keeps, after_change}
+use Rattle.law_machine.specs.law_rows.specs.Keeping.{after_change}
 use Rattle.law_machine.specs.law_rows.specs.Shapes.{Act, Answers, Jumps, Calls, Writes, Protects, Shape, with_status, with_length, act_effect, with_flags, meaning, shape}
 use Rattle.law_machine.specs.law_rows.proofs.RowShapes.{shapes}
 use Rattle.law_machine.specs.law_rows.proofs.Keeping.{effect_keeps as parts_kept, on_done}
@@ -30,12 +30,7 @@ KeepsRestOf f public e = KeepsRest f.code_len (IsGuarded f) public e
 
 public_fits : (s d p : Bool) (a n i : ℕ) (j k : ℕ) → p ≡ (nat_le public_base a && nat_le (a + n) public_end)
     → cond s (Some (Static j)) (cond d (Some (Dynamic k)) (cond p (Some (Public (a - public_base))) None)) ≡ Some (Public i) → i + n ≤ 1041
-public_fits true d p a n i j k test e = absurd (cc e)
-public_fits false true p a n i j k test e = absurd (cc e)
-public_fits false false true a n i j k test e =
-    let place : a - public_base ≡ i = cc e in
-    grind (arith, nat_tests)
-public_fits false false false a n i j k test e = absurd (cc e)
+public_fits s d p a n i j k test e = grind (arith, nat_tests)
 
 static_kept : (b : Bool) (f : Frame) (public : List ℕ) (i : ℕ) (bytes : List ℕ) → f.protected ≡ b → KeepsRestOf f public (static_written b f public i bytes)
 static_kept true f public i bytes on = record { code_kept = refl; guard_kept = λ g off. absurd (cc (on, off)); public_kept = λ e. e }
@@ -97,15 +92,7 @@ changed_is fixed (Some ps) = refl
 
 -- an instruction's effect keeps these, whether the row abends or not
 pub effect_keeps : (i : Ins) (f : Frame) (public : List ℕ) (x : Around) → KeepsEffect f public (effect i f public x).effect
-effect_keeps i f public x =
-    let k : Keeps f public (effect i f public x).effect = parts_kept i f public x in
-    let rest = effect_kept i f public x in
-    record {
-      app = record { name = k.name; code_len = rest.code_kept; session = k.session; deny = k.deny };
-      guarded = rest.guard_kept;
-      fixed = k.fixed ∙ changed_is f.fixed (effect i f public x).effect.changes;
-      public = rest.public_kept;
-    }
+effect_keeps i f public x = grind (arith, parts_kept, effect_kept, changed_is)
 
 pub row_keeps : (i : Ins) (f : Frame) (public : List ℕ) (x : Around) → KeepsRow f public (row i f public x)
 unfolding row

@@ -1,13 +1,13 @@
 -- A turn of an application that no frame waits for, by what its instruction did.
-use Rattle.std.proofs.Common.{◌≡◌, ◌≢◌, ℕ, ◌-◌, Bool, true, false, cond, List, [], ◌∷◌, Option, Some, None, Result, Ok, Err, refl, sym, ap, subst, ◌∙◌}
-use Rattle.std.specs.Prelude.{nat_lt, option_map, IsSome}
+use Rattle.std.proofs.Common.{arith, ◌≡◌, ◌≢◌, ℕ, ◌-◌, Bool, true, false, cond, List, [], ◌∷◌, Option, Some, None, Result, Ok, Err, refl, sym, ap, subst, ◌∙◌}
+use Rattle.std.specs.Prelude.{option_map, IsSome}
 use Rattle.law_machine.specs.model_machine.specs.declared.instruction.Ins.{Ins}
 use Rattle.law_machine.specs.model_machine.specs.declared.machine.Abend.{Abend}
 use Rattle.law_machine.specs.model_machine.specs.declared.machine.Abend.TheVariants.{A09}
-use Rattle.law_machine.specs.model_machine.specs.Frame.{Frame, la_of}
+use Rattle.law_machine.specs.model_machine.specs.Frame.{Frame}
 use Rattle.law_machine.specs.model_machine.specs.Primitives.{Then, Exits}
 use Rattle.law_machine.specs.model_machine.specs.Row.{RowEnd, Abends, Does}
-use Rattle.law_machine.specs.model_machine.specs.Chain.{Chain, Turn, Abended, Follows, Ends as Ended, Acted, frame_at, row_turn, chain_after_effect, follows, after_exit, last_exit, reply_of}
+use Rattle.law_machine.specs.model_machine.specs.Chain.{Chain, Turn, Abended, Ends as Ended, Acted, frame_at, row_turn, chain_after_effect, follows, after_exit, last_exit, reply_of}
 use Rattle.mc_bank.specs.Bank.{BankState}
 use Rattle.mc_segs.specs.declared.ends.Next.TheVariants as go
 use Rattle.mc_segs.specs.declared.ends.Next.{Next}
@@ -52,11 +52,7 @@ module _ (s : BankState) (named : ℕ → Option (List ℕ)) (old h : Held) (pub
   exit_by false = (refl, refl, reply_is)
 
   pub exit_follows : Followed s named (lone_chain h public case le left) (lone_chain h public case le left) i (step_of_frame old (Some i) None) (exit_step old h i (last_end public)) (follows k Exits)
-  exit_follows =
-      let c = lone_chain h public case le left in
-      let same : cond (nat_lt 1024 (la_of public)) (Ended (Abended A09)) (Ended (reply_of k)) ≡ follows k Exits =
-      ap (λ (p : List ℕ). cond (nat_lt 1024 (la_of p)) (Ended (Abended A09)) (Ended (reply_of k))) r.public ∙ sym (exited_is k.below r.below) in
-      subst (λ (f : Follows). Followed s named c c i (step_of_frame old (Some i) None) (exit_step old h i (last_end public)) f) same (exit_by (nat_lt 1024 (la_of public)))
+  exit_follows = grind (arith, exited_is, exit_by)
 
 -- ---- turns
 
@@ -129,14 +125,7 @@ module _ {B : Type 0} (ghosts : Ghosts B) where
   -- the code of an application that goes on is the same as before
   pub goes_code : (laws : BankLaws ghosts) (b e : B) (old h : Held) (public segment seen : List ℕ) (x : RowEnd) (o : Result Next Halt) → lone_of o seen ≡ Ok Goes → IsSome (ghosts.named b old.slot) → CallActs ghosts (scene b e old h public segment) x o
       → (app_under (ghosts.state e) (ghosts.named e) h).code ≡ (app_under (ghosts.state b) (ghosts.named b) old).code
-  goes_code laws b e old h public segment seen (Abends a) (Ok go.Go) is there acts = absurd acts
-  goes_code laws b e old h public segment seen (Does d) (Ok go.Go) is there acts =
-      let done = acts.1 in
-      code_under_stays ghosts laws (app_under (ghosts.state b) (ghosts.named b) old).fixed d.effect.changes b e old h there done.slot done.commits
-  goes_code laws b e old h public segment seen x (Ok go.Exit) is there acts = absurd (cc is)
-  goes_code laws b e old h public segment seen x (Ok (go.Delegate name)) is there acts = absurd (cc is)
-  goes_code laws b e old h public segment seen x (Err (halt.Abend a)) is there acts = absurd (cc is)
-  goes_code laws b e old h public segment seen x (Err (halt.Stop stop)) is there acts = absurd (cc is)
+  goes_code laws b e old h public segment seen x o is there acts = grind (arith, code_under_stays)
 
   -- a turn that delegates has called a name
   pub name_called : (b e : B) (c : Chained) (d : ℕ → Chained) (ch : Chain) (t : Acted) (callee : Option (List ℕ)) → LoneDone ghosts b e c d ch t (Ok Delegates) callee → IsSome callee

@@ -1,5 +1,5 @@
 -- A chain of the code that runs as a chain of the definitions: its parts, one by one.
-use Rattle.std.proofs.Common.{◌≡◌, ℕ, Bool, true, false, List, [], ◌∷◌, length, suc, Option, Some, None, refl, sym, ap, subst, ◌∙◌}
+use Rattle.std.proofs.Common.{arith, ◌≡◌, ℕ, Bool, true, false, List, [], ◌∷◌, length, suc, Option, Some, None, refl, sym, ap, subst, ◌∙◌}
 use Rattle.std.specs.Prelude.{IsSome, bytes_eq, ◌||◌, unwrap_or}
 use Rattle.std.proofs.lemmas.List.{length-replicate}
 use Rattle.mc_bank.specs.Bank.{BankState, app_of, name_or, no_app, sizes_of}
@@ -7,7 +7,7 @@ use Rattle.law_machine.specs.model_device.specs.Bytes.{lookup, zeros}
 use Rattle.law_machine.specs.model_device.specs.Card.{App}
 use Rattle.law_machine.specs.model_machine.specs.Frame.{Frame, session_of, new_frame}
 use Rattle.law_machine.specs.model_machine.specs.Chain.{Chain, delegator_in, first_frame, chain_session, is_active, frame_at}
-use Rattle.mc_segs.specs.HeldFrames.{Held, Seen, frame_reading, app_under, new_held}
+use Rattle.mc_segs.specs.HeldFrames.{Held, Seen, app_under, new_held}
 use Rattle.mc_bank.proofs.LeftLemmas.{some_name}
 use Rattle.mc_machine.specs.Chains.{Chained, FrameReadsAs, ReadAll, RunsAs, first_held, session_in}
 use Rattle.mc_machine.specs.Turns.{AllFitBank, delegator_of, has_frame, chain_at_next}
@@ -48,10 +48,7 @@ module _ (s : BankState) (named : ℕ → Option (List ℕ)) where
   all_fit (h ∷ hs) (f ∷ fs) r = (r.0.fits, all_fit hs fs r.1)
 
   pub delegators : (hs : List Held) (fs : List Frame) → ReadAll s named hs fs → delegator_of named hs ≡ delegator_in fs
-  delegators [] [] r = refl
-  delegators [] (f ∷ fs) r = absurd r
-  delegators (h ∷ hs) [] r = absurd r
-  delegators (h ∷ hs) (f ∷ fs) r = name_is h f r.0
+  delegators hs fs r = grind (arith, name_is)
 
   first_session : (h : Held) (f : Frame) (hs : List Held) (fs : List Frame) → FrameReadsAs s named h f → ReadAll s named hs fs → session_of (first_held h hs).frame ≡ session_of (first_frame f fs)
   first_session h f [] [] r rs = session_is h f r
@@ -80,59 +77,17 @@ module _ (s : BankState) (named : ℕ → Option (List ℕ)) where
   -- ---- one instruction of the budget
 
   pub advanced_reads : (h : Held) (f : Frame) (next : ℕ) → FrameReadsAs s named h f → FrameReadsAs s named (record h { frame = record h.frame { at = next } }) (frame_at f next)
-  advanced_reads h f next r = record {
-    fits = record { there = r.fits.there; app = r.fits.app; code = r.fits.code; fixed = r.fits.fixed; deny = r.fits.deny; session = r.fits.session };
-    same = ap (λ (t : Seen). record t { at = next }) r.same;
-    guarded = r.guarded;
-  }
+  advanced_reads h f next r = grind arith
 
   pub advanced_runs : (c : Chained) (ch : Chain) (next : ℕ) → RunsAs s named c ch → RunsAs s named (chain_at_next c next) (record ch { frame = frame_at ch.frame next })
-  advanced_runs c ch next r = record {
-    map = r.map;
-    running = advanced_reads c.running ch.frame next r.running;
-    below = r.below;
-    public = r.public;
-    case = r.case;
-    le = r.le;
-    few = r.few;
-    apart = r.apart;
-  }
+  advanced_runs c ch next r = grind (arith, advanced_reads)
 
   -- ---- a frame on another state of the bank with the frame's application unchanged
 
   pub moved_reads : (t : BankState) (names : ℕ → Option (List ℕ)) (h : Held) (f : Frame) → names h.slot ≡ Some f.name → lookup t.apps f.name ≡ lookup s.apps f.name → FrameReadsAs s named h f → FrameReadsAs t names h f
-  moved_reads t names h f there app r =
-      let old = name_is h f r in
-      let name : names h.slot ≡ named h.slot = there ∙ sym old in
-      let apps : app_under t names h ≡ app_under s named h =
-      ap (λ (o : Option (List ℕ)). app_of t.apps o) there ∙ ap (λ (l : Option App). unwrap_or l no_app) app ∙ ap (λ (o : Option (List ℕ)). app_of s.apps o) (sym old) in
-      record {
-        fits = record {
-          there = subst (λ (o : Option (List ℕ)). IsSome o) (sym name) r.fits.there;
-          app = subst (λ (o : Option (List ℕ)). IsSome (lookup t.apps (name_or o))) (sym there) (subst (λ (l : Option App). IsSome l) (sym (app ∙ app_is h f r)) refl);
-          code = r.fits.code ∙ ap (λ (a : App). length a.code) (sym apps);
-          fixed = r.fits.fixed ∙ ap (λ (a : App). length a.fixed) (sym apps);
-          deny = r.fits.deny ∙ ap (λ (a : App). a.deny) (sym apps);
-          session = r.fits.session ∙ ap (λ (a : App). a.session) (sym apps);
-        };
-        same = ap (λ (o : Option (List ℕ)). frame_reading (record h.frame { name = name_or o; fixed = (app_under t names h).fixed })) name ∙ ap (λ (a : App). frame_reading (record h.frame { name = name_or (named h.slot); fixed = a.fixed })) apps ∙ r.same;
-        guarded = r.guarded;
-      }
+  moved_reads t names h f there app r = grind (arith, name_is, app_is)
 
   -- ---- a new frame
 
   pub entered_reads : (slot : ℕ) (n : List ℕ) (a : App) → named slot ≡ Some n → lookup s.apps n ≡ Some a → FrameReadsAs s named (new_held slot (sizes_of a) (zeros a.session)) (new_frame n (length a.code) a.deny a.fixed (zeros a.session))
-  entered_reads slot n a there app =
-      let is : app_of s.apps (named slot) ≡ a = ap (λ (o : Option (List ℕ)). app_of s.apps o) there ∙ ap (λ (l : Option App). unwrap_or l no_app) app in
-      record {
-        fits = record {
-          there = subst (λ (o : Option (List ℕ)). IsSome o) (sym there) refl;
-          app = subst (λ (o : Option (List ℕ)). IsSome (lookup s.apps (name_or o))) (sym there) (subst (λ (l : Option App). IsSome l) (sym app) refl);
-          code = ap (λ (b : App). length b.code) (sym is);
-          fixed = length-replicate (length a.fixed) 0 ∙ ap (λ (b : App). length b.fixed) (sym is);
-          deny = ap (λ (b : App). b.deny) (sym is);
-          session = length-replicate a.session 0 ∙ ap (λ (b : App). b.session) (sym is);
-        };
-        same = ap (λ (o : Option (List ℕ)). frame_reading (new_frame (name_or o) (length a.code) a.deny (app_of s.apps (named slot)).fixed (zeros a.session))) there ∙ ap (λ (b : App). frame_reading (new_frame n (length a.code) a.deny b.fixed (zeros a.session))) is;
-        guarded = λ off. refl;
-      }
+  entered_reads slot n a there app = grind (arith, length-replicate)

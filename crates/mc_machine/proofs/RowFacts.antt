@@ -1,9 +1,9 @@
 -- An exit keeps its frame's session bytes; an instruction that is not PRIM is one of the rows.
-use Rattle.std.proofs.Common.{◌≡◌, ◌≢◌, ℕ, List, refl}
+use Rattle.std.proofs.Common.{arith, ◌≡◌, ◌≢◌, ℕ, List, refl}
 use Rattle.law_machine.specs.model_machine.specs.declared.instruction.Ins.{Ins}
 use Rattle.law_machine.specs.model_machine.specs.declared.instruction.Ins.TheVariants as ins
 use Rattle.law_machine.specs.model_machine.specs.Frame.{Frame, Effect, session_of}
-use Rattle.law_machine.specs.model_machine.specs.Primitives.{Around, Then, Goes, Exits, Delegates}
+use Rattle.law_machine.specs.model_machine.specs.Primitives.{Around, Then, Exits}
 use Rattle.law_machine.specs.model_machine.specs.Row.{effect, causes, first_cause, row, RowEnd}
 use Rattle.law_machine.specs.law_rows.specs.Keeping.{Leaves, OnLeave, OnDone}
 use Rattle.law_machine.specs.law_rows.proofs.Keeping.{effect_leaves, on_done}
@@ -14,9 +14,7 @@ abbrev pub ExitKeeps : Frame → RowEnd → Type 0
 ExitKeeps f r = OnDone r (λ d. d.next ≡ Exits → session_of d.effect.frame ≡ session_of f)
 
 session_left : (f : Frame) (e : Effect) (next : Then) → OnLeave next (Leaves f e) → next ≡ Exits → session_of e.frame ≡ session_of f
-session_left f e Goes leaves exits = absurd (cc exits)
-session_left f e Exits leaves exits = rw (leaves.session, leaves.dyn) refl
-session_left f e (Delegates n) leaves exits = absurd (cc exits)
+session_left f e next leaves exits = grind arith
 
 pub row_exits : (i : Ins) (f : Frame) (public : List ℕ) (x : Around) → ExitKeeps f (row i f public x)
 unfolding row

@@ -1,5 +1,5 @@
 -- A run by its turns: the rest of the run has the result of the whole run.
-use Rattle.std.proofs.Common.{◌≡◌, ℕ, zero, suc, ◌+◌, ◌-◌, ◌≤◌, ◌<◌, ◌≢◌, false, List, [], Some, None, Result, Ok, Err, arith, refl, sym, ap, subst, ◌∙◌}
+use Rattle.std.proofs.Common.{◌≡◌, ℕ, zero, suc, ◌+◌, ◌-◌, ◌≤◌, ◌<◌, ◌≢◌, false, List, Some, None, Result, Ok, Err, arith, refl, sym, ap, subst, ◌∙◌}
 use Rattle.std.specs.Prelude.{option_map, IfOk, OnOk, OnErr}
 use Rattle.std.specs.List.{AllByRecursion}
 use Rattle.law_machine.specs.model_machine.specs.declared.instruction.Ins.{Ins}
@@ -80,12 +80,8 @@ goes_some zero ch next e = absurd (cc e)
 goes_some (suc n) ch next e = omega arith
 
 turn_count : (n : ℕ) (ch : Chain) (f : Follows) → (turn_of n ch).follows ≡ f → (turn_of n ch).count ≤ (run_of_chain n ch).count
-turn_count n ch (Ends o) e =
-    let same : (run_of_chain n ch).count ≡ (turn_of n ch).count = ap (λ (r : Ran). r.count) (ran_ends n ch o e) in
-    omega (arith, same)
-turn_count n ch (Continues next) e =
-    let same : (run_of_chain n ch).count ≡ (turn_of n ch).count + (run_of_chain (n - 1) next).count = ap (λ (r : Ran). r.count) (ran_goes n (n - 1) ch next e (goes_some n ch next e)) in
-    omega (arith, same)
+turn_count n ch (Ends o) e = grind (arith, ap (λ (r : Ran). r.count) (ran_ends n ch o e))
+turn_count n ch (Continues next) e = grind (arith, ap (λ (r : Ran). r.count) (ran_goes n (n - 1) ch next e (goes_some n ch next e)))
 
 -- ---- a run that is underway
 
@@ -104,18 +100,7 @@ pub record Underway {B : Type 0} (ghosts : Ghosts B) (start : B) (whole : Ran) (
 module _ {B : Type 0} (ghosts : Ghosts B) where
   -- a chain before its first turn
   pub underway : (start : B) (c : Chained) (ch : Chain) (budget steps : ℕ) → (ghosts.state start).stopped ≡ false → RunsAs (ghosts.state start) (ghosts.named start) c ch → c.left ≡ budget → Underway ghosts start (run_of_chain budget ch) steps budget 0 start c steps
-  underway start c ch budget steps going runs left =
-      let same : run_of_chain c.left ch ≡ run_of_chain budget ch = ap (λ (n : ℕ). run_of_chain n ch) left in
-      record {
-        chain = ch;
-        runs = runs;
-        going = going;
-        left = omega (arith, left);
-        writes = λ a e w. subst (λ (r : Ran). InOrder (ChainWrote ghosts) start r.writes a e) same w;
-        count = ap (λ (r : Ran). steps + r.count) same;
-        session = ap (λ (r : Ran). r.session) same;
-        outcome = ap (λ (r : Ran). r.outcome) same;
-      }
+  underway start c ch budget steps going runs left = grind (arith, ap (λ (n : ℕ). run_of_chain n ch) left)
 
   -- a turn after which the chain goes on
   module _ (start : B) (whole : Ran) (ticks budget turn : ℕ) (here e : B) (c d : Chained) (steps now : ℕ) (u : Underway ghosts start whole ticks budget turn here c steps) where
@@ -218,22 +203,13 @@ module _ {B : Type 0} (ghosts : Ghosts B) where
 
   -- a turn counts no more steps than the run
   pub underway_most : (start : B) (whole : Ran) (ticks budget turn : ℕ) (here : B) (c : Chained) (steps now : ℕ) (u : Underway ghosts start whole ticks budget turn here c steps) → now ≡ steps + (turn_of c.left u.chain).count → now ≤ ticks + whole.count
-  underway_most start whole ticks budget turn here c steps now u count =
-      let few = turn_count c.left u.chain (turn_of c.left u.chain).follows refl in
-      let all = u.count in
-      omega (arith, count, few, all)
+  underway_most start whole ticks budget turn here c steps now u count = grind (arith, turn_count)
 
   -- the end of the rest of a run is that of the whole run
   pub rest_ends : (start : B) (whole : Ran) (ticks budget turn : ℕ) (here : B) (c : Chained) (steps : ℕ) (u : Underway ghosts start whole ticks budget turn here c steps) (end : B) (bytes after : List ℕ) (last : ℕ) (result : Result CodeOutcome Stop)
       → RanDone ghosts here end bytes after steps last (run_of_chain c.left u.chain) result → RanDone ghosts start end bytes after ticks last whole result
-  rest_ends start whole ticks budget turn here c steps u end bytes after last (Ok o) f =
-      let more = f.count in
-      let all = u.count in
-      record { writes = u.writes (Ok tt) end f.writes; going = f.going; count = omega (arith, more, all); session = f.session ∙ u.session; outcome = f.outcome ∙ u.outcome }
-  rest_ends start whole ticks budget turn here c steps u end bytes after last (Err s) h =
-      let more = h.count in
-      let all = u.count in
-      record { writes = u.writes (Err s) end h.writes; count = omega (arith, more, all); session = h.session }
+  rest_ends start whole ticks budget turn here c steps u end bytes after last (Ok o) f = grind (arith, f.count, u.count)
+  rest_ends start whole ticks budget turn here c steps u end bytes after last (Err s) h = grind (arith, h.count, u.count)
 
   -- no turn is left
   pub underway_spent : (start : B) (whole : Ran) (ticks budget turn : ℕ) (here : B) (c : Chained) (steps : ℕ) → Underway ghosts start whole ticks budget turn here c steps → budget ≤ turn → Finished ghosts start whole ticks here (session_in c) (Abended A07) steps

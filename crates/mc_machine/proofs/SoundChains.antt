@@ -14,7 +14,7 @@ use Rattle.law_machine.specs.model_machine.specs.Code.{instruction_at}
 use Rattle.law_machine.specs.model_machine.specs.Frame.{Frame, Effect, new_frame, la_of}
 use Rattle.law_machine.specs.model_machine.specs.Primitives.{Then, Goes, Exits, Delegates}
 use Rattle.law_machine.specs.model_machine.specs.Row.{RowEnd, Abends, Does, row}
-use Rattle.law_machine.specs.model_machine.specs.Chain.{Chain, Write, Acted, Follows, Continues, Ends, code_in, around, first_frame, chain_session, with_pieces, changed_app, map_changed, write_of, chain_after_effect, chain_after_call, called_app, is_active, depth_of, after_exit, follows, row_turn, frame_at, turn_of_fetch, turn_of_chain, turn_of}
+use Rattle.law_machine.specs.model_machine.specs.Chain.{Chain, Write, Acted, Follows, Continues, Ends, code_in, around, first_frame, chain_session, map_changed, write_of, chain_after_effect, chain_after_call, called_app, is_active, depth_of, after_exit, follows, row_turn, frame_at, turn_of_fetch, turn_of_chain, turn_of}
 use Rattle.law_machine.specs.model_card.specs.Items.{apps_after_items, write_items}
 use Rattle.mc_bank.specs.Bank.{no_app, app_of}
 use Rattle.mc_machine.specs.Sound.{IsSoundFrame, IsSoundChain}
@@ -38,24 +38,15 @@ sizes_onward a b c first second = record { fixed = λ n. second.fixed n ∙ firs
 -- an application in the place of one with the same sizes
 module _ (apps : List (List ℕ × App)) (n : List ℕ) (old new : App) (there : lookup apps n ≡ Some old) (fixed : length new.fixed ≡ length old.fixed) (session : new.session ≡ old.session) where
   inserted_at : (m : List ℕ) (b : Bool) → bytes_eq n m ≡ b → (length (app_of (insert apps n new) (Some m)).fixed ≡ length (app_of apps (Some m)).fixed) × ((app_of (insert apps n new) (Some m)).session ≡ (app_of apps (Some m)).session)
-  inserted_at m false other =
-      let same : app_of (insert apps n new) (Some m) ≡ app_of apps (Some m) = ap (λ (o : Option App). unwrap_or o no_app) (lookup_beside apps n new m other) in
-      (ap (λ (a : App). length a.fixed) same, ap (λ (a : App). a.session) same)
+  inserted_at m false other = grind (arith, lookup_beside)
   inserted_at m true own =
-      let name : n ≡ m = same_name n m own in
-      let now : app_of (insert apps n new) (Some m) ≡ new = ap (λ (k : List ℕ). app_of (insert apps n new) (Some k)) (sym name) ∙ ap (λ (o : Option App). unwrap_or o no_app) (lookup_inserted_lem apps n new) in
-      let then : app_of apps (Some m) ≡ old = ap (λ (k : List ℕ). app_of apps (Some k)) (sym name) ∙ ap (λ (o : Option App). unwrap_or o no_app) there in
-      (ap (λ (a : App). length a.fixed) now ∙ fixed ∙ ap (λ (a : App). length a.fixed) (sym then), ap (λ (a : App). a.session) now ∙ session ∙ ap (λ (a : App). a.session) (sym then))
+      grind (arith, same_name n m own, ap (λ (k : List ℕ). app_of (insert apps n new) (Some k)) (sym (same_name n m own)) ∙ ap (λ (o : Option App). unwrap_or o no_app) (lookup_inserted_lem apps n new), ap (λ (k : List ℕ). app_of apps (Some k)) (sym (same_name n m own)) ∙ ap (λ (o : Option App). unwrap_or o no_app) there)
 
   sizes_inserted : SameLengths apps (insert apps n new)
   sizes_inserted = record { fixed = λ m. (inserted_at m (bytes_eq n m) refl).0; session = λ m. (inserted_at m (bytes_eq n m) refl).1 }
 
 sizes_by : (apps : List (List ℕ × App)) (n : List ℕ) (ps : List (ℕ × List ℕ)) (o : Option App) → lookup apps n ≡ o → PiecesWithin (length (app_of apps (Some n)).fixed) ps → SameLengths apps (map_changed apps n (Some ps))
-sizes_by apps n ps None is within = subst (λ (now : List (List ℕ × App)). SameLengths apps now) (sym (ap (λ (o : Option App). changed_app apps n ps o) is)) (same_sizes apps)
-sizes_by apps n ps (Some a) is within =
-    let app : app_of apps (Some n) ≡ a = ap (λ (o : Option App). unwrap_or o no_app) is in
-    let long = length_laid ps a.fixed (subst (λ (x : App). PiecesWithin (length x.fixed) ps) app within) in
-    subst (λ (now : List (List ℕ × App)). SameLengths apps now) (sym (ap (λ (o : Option App). changed_app apps n ps o) is)) (sizes_inserted apps n a (with_pieces ps a) is long refl)
+sizes_by apps n ps o is within = grind (arith, same_sizes, length_laid, sizes_inserted)
 
 pub sizes_changed : (apps : List (List ℕ × App)) (n : List ℕ) (changes : Option (List (ℕ × List ℕ))) → ChangeWithin (length (app_of apps (Some n)).fixed) changes → SameLengths apps (map_changed apps n changes)
 sizes_changed apps n None within = same_sizes apps
@@ -101,22 +92,10 @@ frames_stay apps now (f ∷ fs) same all = (frame_stays apps now f same all.0, f
 -- the frame after an effect, on the applications after its change
 frame_kept : (apps now : List (List ℕ × App)) (f : Frame) (public : List ℕ) (e : Effect) → SameLengths apps now → IsSoundFrame apps f → Keeps f public e → IsSoundFrame now e.frame
 frame_kept apps now f public e same s k =
-    let long = fixed_length f public e k s.pieces in
-    let name : app_of now (Some e.frame.name) ≡ app_of now (Some f.name) = ap (λ (n : List ℕ). app_of now (Some n)) k.name in
-    let held = s.held in
-    let dyn = k.dyn in
-    let size = k.session in
-    record {
-      fixed = long ∙ s.fixed ∙ sym (same.fixed f.name) ∙ ap (λ (a : App). length a.fixed) (sym name);
-      pieces = subst (λ (n : ℕ). PiecesWithin n e.frame.pieces) (sym long) (k.inside s.pieces);
-      session = k.session ∙ s.session ∙ sym (same.session f.name) ∙ ap (λ (a : App). a.session) (sym name);
-      held = omega (arith, held, dyn, size);
-    }
+    grind (arith, fixed_length f public e k s.pieces, ap (λ (n : List ℕ). app_of now (Some n)) k.name, s.held, k.dyn, k.session)
 
 pub new_sound : (apps : List (List ℕ × App)) (n : List ℕ) (a : App) (session : List ℕ) → app_of apps (Some n) ≡ a → length session ≡ a.session → IsSoundFrame apps (new_frame n (length a.code) a.deny a.fixed session)
-new_sound apps n a session is size =
-    let long = length-append session (zeros (512 - length session)) in
-    record { fixed = ap (λ (x : App). length x.fixed) (sym is); pieces = tt; session = size ∙ ap (λ (x : App). x.session) (sym is); held = omega (arith, long) }
+new_sound apps n a session is size = grind (arith, length-append session (zeros (512 - length session)))
 
 -- ---- the first frame
 

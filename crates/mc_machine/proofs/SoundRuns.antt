@@ -1,16 +1,15 @@
 -- A run by its turns: its writes lie in the static segments of their applications, and the number of session bytes that
 -- it leaves.
-use Rattle.std.proofs.Common.{◌≡◌, ℕ, zero, suc, List, [], ◌∷◌, ◌++◌, length, Some, Result, Ok, Err, refl, ap, subst, ◌∙◌}
+use Rattle.std.proofs.Common.{arith, ◌≡◌, ℕ, zero, suc, List, [], ◌∷◌, ◌++◌, length, Some, Result, refl, ap, subst, ◌∙◌}
 use Rattle.law_machine.specs.model_machine.specs.declared.instruction.Ins.{Ins}
 use Rattle.law_machine.specs.model_machine.specs.declared.instruction.DecodeFault.{DecodeFault}
-use Rattle.law_machine.specs.model_machine.specs.declared.instruction.DecodeFault.TheVariants.{Undefined, Past}
 use Rattle.law_machine.specs.model_machine.specs.Code.{instruction_at}
 use Rattle.law_machine.specs.model_device.specs.Bytes.{lookup}
-use Rattle.law_machine.specs.model_machine.specs.Row.{RowEnd, Abends, Does, row}
+use Rattle.law_machine.specs.model_machine.specs.Row.{RowEnd, Abends, Does}
 use Rattle.law_machine.specs.model_device.specs.Card.{App}
 use Rattle.law_machine.specs.model_machine.specs.Apdu.{ApduParts}
 use Rattle.law_machine.specs.model_card.specs.Items.{apps_after_items, write_items}
-use Rattle.law_machine.specs.model_machine.specs.Chain.{Chain, Write, Acted, Ran, Follows, Continues, Ends, around, code_in, frame_at, chain_session, row_turn, turn_of_fetch, turn_of_chain, turn_of, end_of, map_changed, run_after_turn, run_of_chain, start}
+use Rattle.law_machine.specs.model_machine.specs.Chain.{Chain, Write, Acted, Ran, Follows, Continues, Ends, code_in, chain_session, row_turn, turn_of_fetch, turn_of_chain, turn_of, end_of, map_changed, run_after_turn, run_of_chain, start}
 use Rattle.mc_bank.specs.Bank.{app_of}
 use Rattle.mc_machine.specs.Sound.{IsSoundChain}
 use Rattle.mc_machine.proofs.SoundChains.{AreSound, FollowsSound, TurnSound, SameLengths, sizes_done, first_in, new_sound, session_size, turn_sound}
@@ -57,9 +56,7 @@ row_end ch i (Abends a) = refl
 row_end ch i (Does d) = refl
 
 fetched_end : (ch : Chain) (r : Result (Ins × ℕ) DecodeFault) → (turn_of_fetch ch r).turn.end ≡ end_of (turn_of_fetch ch r).follows
-fetched_end ch (Err Undefined) = refl
-fetched_end ch (Err Past) = refl
-fetched_end ch (Ok i) = row_end ch i.0 (row i.0 (frame_at ch.frame i.1) ch.public (around ch))
+fetched_end ch r = grind (arith, row_end)
 
 acted_end : (ch : Chain) → (turn_of_chain ch).turn.end ≡ end_of (turn_of_chain ch).follows
 unfolding turn_of_chain

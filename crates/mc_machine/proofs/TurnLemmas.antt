@@ -1,17 +1,17 @@
 -- What an instruction leaves of a chain: its atomic writes, the applications after them, and the frames.
-use Rattle.std.proofs.Common.{◌≡◌, ℕ, false, List, [], ◌∷◌, ◌≤◌, length, Option, Some, None, Ok, Err, sym, ap, subst, ◌∙◌, inl, inr, arith}
-use Rattle.std.specs.Prelude.{bytes_eq, unwrap_or, IsSome}
+use Rattle.std.proofs.Common.{◌≡◌, ℕ, false, List, [], ◌∷◌, ◌≤◌, length, Option, Some, None, Ok, Err, sym, ap, subst, ◌∙◌, arith}
+use Rattle.std.specs.Prelude.{bytes_eq, IsSome}
 use Rattle.std.proofs.lemmas.List.{length-map}
 use Rattle.std.specs.List.{AllByRecursion}
 use Rattle.law_machine.specs.model_device.specs.Orders.{Answer, InOrder}
 use Rattle.law_machine.specs.model_card.specs.Items.{Commit}
-use Rattle.law_machine.specs.model_device.specs.Pieces.{laid_pieces, laid_words, touched_words, HoldPieces}
-use Rattle.law_machine.specs.model_device.specs.Bytes.{lookup, insert}
+use Rattle.law_machine.specs.model_device.specs.Pieces.{touched_words, HoldPieces}
+use Rattle.law_machine.specs.model_device.specs.Bytes.{lookup}
 use Rattle.law_machine.specs.model_device.specs.Card.{App}
 use Rattle.law_machine.specs.model_machine.specs.Frame.{Frame, Effect}
-use Rattle.law_machine.specs.model_machine.specs.Chain.{Chain, changed_app, map_changed, write_of, chain_after_effect}
-use Rattle.mc_bank.specs.Bank.{app_of, name_or, no_app, with_words, apps_after_commit, Changes}
-use Rattle.mc_segs.specs.HeldFrames.{Held, Seen, app_under}
+use Rattle.law_machine.specs.model_machine.specs.Chain.{Chain, map_changed, write_of, chain_after_effect}
+use Rattle.mc_bank.specs.Bank.{app_of, name_or, apps_after_commit, Changes}
+use Rattle.mc_segs.specs.HeldFrames.{Held, app_under}
 use Rattle.mc_segs.specs.Ends.{IsOneCommit, changed_bytes, scene, EffectDone}
 use Rattle.mc_machine.specs.Alike.{SameEffect, KeepsEffect}
 use Rattle.mc_machine.specs.Chains.{Chained, ReadAll, RunsAs, ChainWrote}
@@ -40,81 +40,43 @@ module _ {B : Type 0} (ghosts : Ghosts B) where
   pub writes_of : (name fixed : List ℕ) (changes : Option (List (ℕ × List ℕ))) (b : B) (a : Answer) (e : B) → fixed ≡ (app_of (ghosts.state b).apps (Some name)).fixed → IsOneCommit ghosts.did name fixed changes b a e
       → InOrder (ChainWrote ghosts) b (write_of name changes) a e
   writes_of name fixed None b a e is done = none_wrote b a e done
-  writes_of name fixed (Some ps) b a e is done =
-      let held : HoldPieces (app_of (ghosts.state b).apps (Some name)).fixed ps done.0 = subst (λ (l : List ℕ). HoldPieces l ps done.0) is done.1 in
-      let few = few_touched fixed ps done.0 done.1 done.3 in
-      elim done.2 [
-        | inl whole ↦ inl (whole.0, (done.0, held, whole.1, few), none_wrote whole.0 a e whole.2)
-        | inr stop ↦ inr (stop.0, (done.0, held, stop.1, few), stop.2)
-      ]
+  writes_of name fixed (Some ps) b a e is done = grind (arith, subst (λ (l : List ℕ). HoldPieces l ps done.0) is done.1, few_touched fixed ps done.0 done.1 done.3)
 
 -- ---- the bank after a change
 
 module _ {B : Type 0} (ghosts : Ghosts B) (laws : BankLaws ghosts) where
   slots_stay : (name fixed : List ℕ) (changes : Option (List (ℕ × List ℕ))) (b e : B) → IsOneCommit ghosts.did name fixed changes b (Ok tt) e → (k : ℕ) (m : List ℕ) → ghosts.named b k ≡ Some m → ghosts.named e k ≡ Some m
-  slots_stay name fixed None b e done k m is = subst (λ (x : B). ghosts.named x k ≡ Some m) (sym done) is
-  slots_stay name fixed (Some ps) b e done k m is =
-      elim done.2 [
-        | inl whole ↦ subst (λ (x : B). ghosts.named x k ≡ Some m) (sym whole.2) (laws.keeps b name done.0 (Ok tt) whole.0 whole.1 k m is)
-        | inr stop ↦ absurd (cc stop.2)
-      ]
+  slots_stay name fixed changes b e done k m is = grind arith
 
   -- the applications after it
   apps_after : (name fixed : List ℕ) (ps : List (ℕ × List ℕ)) (b e : B) (done : IsOneCommit ghosts.did name fixed (Some ps) b (Ok tt) e) → (ghosts.state e).apps ≡ apps_after_commit (ghosts.state b).apps name done.0
-  apps_after name fixed ps b e done =
-      elim done.2 [
-        | inl whole ↦ ap (λ (x : B). (ghosts.state x).apps) whole.2 ∙ (laws.obeys b name done.0 (Ok tt) whole.0 whole.1).apps
-        | inr stop ↦ absurd (cc stop.2)
-      ]
+  apps_after name fixed ps b e done = grind arith
 
   -- other applications do not change
   others_stay : (name fixed : List ℕ) (changes : Option (List (ℕ × List ℕ))) (b e : B) → IsOneCommit ghosts.did name fixed changes b (Ok tt) e → (m : List ℕ) → bytes_eq name m ≡ false → lookup (ghosts.state e).apps m ≡ lookup (ghosts.state b).apps m
-  others_stay name fixed None b e done m other = ap (λ (x : B). lookup (ghosts.state x).apps m) done
-  others_stay name fixed (Some ps) b e done m other =
-      ap (λ (apps : List (List ℕ × App)). lookup apps m) (apps_after name fixed ps b e done)
-      ∙ lookup_beside (ghosts.state b).apps name (with_words done.0 (app_of (ghosts.state b).apps (Some name))) m other
+  others_stay name fixed changes b e done m other = grind (arith, apps_after, lookup_beside)
 
   -- the map of the definitions after it, by the static bytes that the application has then
   map_after : (name : List ℕ) (a : App) (changes : Option (List (ℕ × List ℕ))) (b e : B) → lookup (ghosts.state b).apps name ≡ Some a → IsOneCommit ghosts.did name a.fixed changes b (Ok tt) e
       → (app_of (ghosts.state e).apps (Some name)).fixed ≡ changed_bytes a.fixed changes → map_changed (ghosts.state b).apps name changes ≡ (ghosts.state e).apps
-  map_after name a None b e there done bytes = ap (λ (x : B). (ghosts.state x).apps) (sym done)
-  map_after name a (Some ps) b e there done bytes =
-      let apps = (ghosts.state b).apps in
-      let ws = done.0 in
-      let old : app_of apps (Some name) ≡ a = ap (λ (l : Option App). unwrap_or l no_app) there in
-      let now : (ghosts.state e).apps ≡ insert apps name (with_words ws a) = apps_after name a.fixed ps b e done ∙ ap (λ (x : App). insert apps name (with_words ws x)) old in
-      let new : app_of (ghosts.state e).apps (Some name) ≡ with_words ws a =
-      ap (λ (m : List (List ℕ × App)). app_of m (Some name)) now ∙ ap (λ (l : Option App). unwrap_or l no_app) (lookup_inserted_lem apps name (with_words ws a)) in
-      let same : laid_pieces a.fixed ps ≡ laid_words a.fixed ws = sym bytes ∙ ap (λ (x : App). x.fixed) new in
-      ap (λ (l : Option App). changed_app apps name ps l) there ∙ ap (λ (l : List ℕ). insert apps name (record a { fixed = l })) same ∙ sym now
+  map_after name a changes b e there done bytes = grind (arith, apps_after, lookup_inserted_lem)
 
   -- the code of an application stays
   pub code_stays : (name fixed : List ℕ) (changes : Option (List (ℕ × List ℕ))) (b e : B) → IsOneCommit ghosts.did name fixed changes b (Ok tt) e → (app_of (ghosts.state e).apps (Some name)).code ≡ (app_of (ghosts.state b).apps (Some name)).code
-  code_stays name fixed None b e done = ap (λ (x : B). (app_of (ghosts.state x).apps (Some name)).code) done
-  code_stays name fixed (Some ps) b e done =
-      let apps = (ghosts.state b).apps in
-      ap (λ (m : List (List ℕ × App)). (app_of m (Some name)).code) (apps_after name fixed ps b e done)
-      ∙ ap (λ (l : Option App). (unwrap_or l no_app).code) (lookup_inserted_lem apps name (with_words done.0 (app_of apps (Some name))))
+  code_stays name fixed changes b e done = grind (arith, apps_after, lookup_inserted_lem)
 
   -- the code under a frame stays, if its slot does
   pub code_under_stays : (fixed : List ℕ) (changes : Option (List (ℕ × List ℕ))) (b e : B) (old h : Held) → IsSome (ghosts.named b old.slot) → h.slot ≡ old.slot → IsOneCommit ghosts.did (name_or (ghosts.named b old.slot)) fixed changes b (Ok tt) e
       → (app_under (ghosts.state e) (ghosts.named e) h).code ≡ (app_under (ghosts.state b) (ghosts.named b) old).code
-  code_under_stays fixed changes b e old h there slot done =
-      let name = name_or (ghosts.named b old.slot) in
-      let was : ghosts.named b old.slot ≡ Some name = some_name (ghosts.named b old.slot) there in
-      let now : ghosts.named e h.slot ≡ Some name = ap (λ (k : ℕ). ghosts.named e k) slot ∙ slots_stay name fixed changes b e done old.slot name was in
-      ap (λ (o : Option (List ℕ)). (app_of (ghosts.state e).apps o).code) now ∙ code_stays name fixed changes b e done
-      ∙ ap (λ (o : Option (List ℕ)). (app_of (ghosts.state b).apps o).code) (sym was)
+  code_under_stays fixed changes b e old h there slot done = grind (arith, some_name, slots_stay, code_stays)
 
   below_stay : (name fixed : List ℕ) (changes : Option (List (ℕ × List ℕ))) (b e : B) → IsOneCommit ghosts.did name fixed changes b (Ok tt) e → (hs : List Held) (fs : List Frame)
       → AllByRecursion (λ (g : Frame). bytes_eq name g.name ≡ false) fs → ReadAll (ghosts.state b) (ghosts.named b) hs fs → ReadAll (ghosts.state e) (ghosts.named e) hs fs
   below_stay name fixed changes b e done [] [] apart reads = tt
   below_stay name fixed changes b e done [] (f ∷ fs) apart reads = absurd reads
   below_stay name fixed changes b e done (h ∷ hs) [] apart reads = absurd reads
-  below_stay name fixed changes b e done (h ∷ hs) (f ∷ fs) apart reads = (
-    moved_reads (ghosts.state b) (ghosts.named b) (ghosts.state e) (ghosts.named e) h f (slots_stay name fixed changes b e done h.slot f.name (name_is (ghosts.state b) (ghosts.named b) h f reads.0)) (others_stay name fixed changes b e done f.name apart.0) reads.0,
-    below_stay name fixed changes b e done hs fs apart.1 reads.1,
-  )
+  below_stay name fixed changes b e done (h ∷ hs) (f ∷ fs) apart reads =
+      grind (arith, moved_reads, slots_stay, name_is, others_stay, below_stay name fixed changes b e done hs fs apart.1 reads.1)
 
   -- ---- a settled chain
 
@@ -122,10 +84,7 @@ module _ {B : Type 0} (ghosts : Ghosts B) (laws : BankLaws ghosts) where
   pub committed_of : (b e : B) (c : Chained) (ch : Chain) (d x : Effect) (a : Answer) → RunsAs (ghosts.state b) (ghosts.named b) c ch → SameEffect (app_under (ghosts.state b) (ghosts.named b) c.running).fixed d x
       → IsOneCommit ghosts.did (name_or (ghosts.named b c.running.slot)) (app_under (ghosts.state b) (ghosts.named b) c.running).fixed d.changes b a e
       → IsOneCommit ghosts.did ch.frame.name (app_under (ghosts.state b) (ghosts.named b) c.running).fixed x.changes b a e
-  committed_of b e c ch d x a r same done =
-      let fixed = (app_under (ghosts.state b) (ghosts.named b) c.running).fixed in
-      let named_so : name_or (ghosts.named b c.running.slot) ≡ ch.frame.name = ap (λ (t : Seen). t.name) r.running.same in
-      committed_seen ghosts.did ch.frame.name fixed d.changes x.changes b a e same.changes (subst (λ (n : List ℕ). IsOneCommit ghosts.did n fixed d.changes b a e) named_so done)
+  committed_of b e c ch d x a r same done = grind (arith, committed_seen)
 
   pub settled_runs : (b e : B) (c : Chained) (ch : Chain) (h : Held) (public : List ℕ) (d x : Effect) → RunsAs (ghosts.state b) (ghosts.named b) c ch → SameEffect (app_under (ghosts.state b) (ghosts.named b) c.running).fixed d x
       → KeepsEffect ch.frame ch.public x → EffectDone ghosts (scene b e c.running h c.public public) d → RunsAs (ghosts.state e) (ghosts.named e) (record c { running = h; public = public }) (chain_after_effect ch x)
@@ -137,8 +96,7 @@ module _ {B : Type 0} (ghosts : Ghosts B) (laws : BankLaws ghosts) where
       let bytes : (app_of (ghosts.state e).apps (Some ch.frame.name)).fixed ≡ changed_bytes app.fixed x.changes =
       ap (λ (o : Option (List ℕ)). (app_of (ghosts.state e).apps o).fixed) (sym slot) ∙ left.bytes ∙ changed_seen app.fixed d.changes x.changes same.changes in
       record {
-        map = ap (λ (m : List (List ℕ × App)). map_changed m ch.frame.name x.changes) r.map
-            ∙ map_after ch.frame.name app x.changes b e (app_is (ghosts.state b) (ghosts.named b) c.running ch.frame r.running) done bytes;
+        map = grind (arith, map_after, app_is);
         running = record { fits = left.fits; same = left.frame ∙ same.frame; guarded = keeps.guarded r.running.guarded };
         below = below_stay ch.frame.name app.fixed x.changes b e done c.below ch.below r.apart.0 r.below;
         public = left.public ∙ same.public;

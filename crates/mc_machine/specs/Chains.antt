@@ -2,7 +2,7 @@
 use Rattle.std.specs.Prelude.{◌≡◌, ℕ, ◌≤◌, false, List, [], ◌∷◌, length, bytes_eq, unwrap_or, Option, Some}
 use Rattle.std.specs.List.{AllByRecursion}
 use Rattle.law_machine.specs.model_device.specs.Orders.{Answer}
-use Rattle.law_machine.specs.model_card.specs.Items.{BankItem, Commit}
+use Rattle.law_machine.specs.model_card.specs.Items.{Commit}
 use Rattle.law_machine.specs.model_device.specs.Pieces.{HoldPieces}
 use Rattle.law_machine.specs.model_machine.specs.Apdu.{apdu_case}
 use Rattle.law_machine.specs.model_machine.specs.Frame.{Frame, new_frame, session_of}

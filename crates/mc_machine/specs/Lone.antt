@@ -2,13 +2,11 @@
 use Rattle.std.specs.Prelude.{◌≡◌, ℕ, ◌+◌, ◌-◌, ◌≤◌, false, List, [], option_map, Option, Some, None, Result, Ok, Err}
 use Rattle.law_machine.specs.model_device.specs.declared.device.Stop.{Stop}
 use Rattle.law_machine.specs.model_machine.specs.declared.instruction.Ins.{Ins}
-use Rattle.law_machine.specs.model_device.specs.Orders.{Answer, InOrder}
-use Rattle.law_machine.specs.model_card.specs.Items.{BankItem}
+use Rattle.law_machine.specs.model_device.specs.Orders.{InOrder}
 use Rattle.law_machine.specs.model_device.specs.Bytes.{lookup}
 use Rattle.law_machine.specs.model_machine.specs.Chain.{Chain, Acted, Continues, Ran, chain_after_call}
 use Rattle.law_machine.specs.model_machine.specs.Chain as model
 use Rattle.law_machine.specs.model_machine.specs.Primitives.{Around}
-use Rattle.mc_bank.specs.Bank.{BankState}
 use Rattle.mc_segs.specs.HeldFrames.{Held}
 use Rattle.mc_segs.specs.declared.ends.Halt.{Halt}
 use Rattle.mc_segs.specs.declared.ends.Halt.TheVariants as halt

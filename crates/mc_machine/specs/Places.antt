@@ -3,7 +3,7 @@ use Rattle.std.specs.Prelude.{◌≡◌, ℕ, ◌+◌, Bool, true, false, List, 
 use Rattle.law_machine.specs.model_device.specs.declared.device.Stop.{Stop}
 use Rattle.law_machine.specs.model_machine.specs.Chain.{Chain, turn_of}
 use Rattle.mc_bank.specs.Bank.{BankState, AreApps}
-use Rattle.mc_machine.specs.Chains.{Chained, RunsAs, FitsChain}
+use Rattle.mc_machine.specs.Chains.{Chained, RunsAs}
 use Rattle.mc_machine.specs.Turns.{TurnDone, WritesFew}
 use Rattle.mc_machine.specs.declared.outcome.Turn.{Turn}
 use Rattle.mc_bank.specs.declared.bank.Bank.{Ghosts}

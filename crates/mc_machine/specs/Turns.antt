@@ -5,8 +5,7 @@ use Rattle.law_machine.specs.model_machine.specs.declared.machine.Abend.TheVaria
 use Rattle.law_machine.specs.model_machine.specs.declared.instruction.Ins.{Ins}
 use Rattle.law_machine.specs.model_machine.specs.declared.instruction.Ins.TheVariants as ins
 use Rattle.law_machine.specs.model_device.specs.declared.device.Stop.{Stop}
-use Rattle.law_machine.specs.model_device.specs.Orders.{Answer, InOrder}
-use Rattle.law_machine.specs.model_card.specs.Items.{BankItem}
+use Rattle.law_machine.specs.model_device.specs.Orders.{InOrder}
 use Rattle.law_machine.specs.model_machine.specs.Frame.{la_of, sw_of}
 use Rattle.law_machine.specs.model_machine.specs.Chain.{Chain, Turn as ModelTurn, Acted, Follows, Continues, Ends, chain_session}
 use Rattle.law_machine.specs.model_machine.specs.Chain as model

@@ -1,5 +1,5 @@
 -- The instruction that the table has is the only one at its address.
-use Rattle.std.proofs.Common.{◌≡◌, ℕ, ◌<◌, ◌%◌, length, slice_index_or, Ok, arith, sym, subst, ◌∙◌}
+use Rattle.std.proofs.Common.{ℕ, ◌<◌, ◌%◌, length, slice_index_or, Ok, arith, sym, subst, ◌∙◌}
 use Rattle.law_machine.specs.model_machine.specs.declared.instruction.Ins.TheVariants.{Nop}
 use Rattle.law_machine.specs.model_machine.specs.Code.{DecodesTo}
 use Rattle.mc_isa.proofs.PlaceLemmas.{decoded_only}
