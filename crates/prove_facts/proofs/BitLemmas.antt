@@ -1,19 +1,15 @@
 -- Bits of four words: of unions, of what sets have in common, of complements, of one value and of those below a number.
-use Rattle.std.specs.Prelude.{◌≡◌, ◌≢◌, ℕ, zero, suc, ◌+◌, ◌-◌, ◌*◌, ◌/◌, ◌%◌, ◌^◌, ◌<◌, ◌≤◌, min, max, Bool, true, false, not, ◌&&◌, ◌||◌, nat_lt, nat_le, ◌==◌, List, [], ◌∷◌, length, get_or, bit_and, bit_or, refl}
+use Rattle.std.specs.Prelude.{◌≡◌, ◌≢◌, ℕ, ◌+◌, ◌-◌, ◌*◌, ◌/◌, ◌%◌, ◌^◌, ◌<◌, ◌≤◌, min, max, Bool, true, false, not, ◌&&◌, ◌||◌, nat_lt, nat_le, ◌==◌, List, [], ◌∷◌, get_or, bit_and, bit_or, refl}
 use Rattle.std.specs.Int.{bit_at, bit_not, w64}
-use Rattle.std.proofs.Common.{arith, ap, sym, subst, ◌∙◌, inl, inr}
-use Rattle.std.proofs.lemmas.Bool.{and_parts, eq-eqb, ne_eqb, lt-ltb, le-ltb, le-leb, lt-leb, cases_lt, cases_eq}
+use Rattle.std.proofs.Common.{arith, ap, sym, ◌∙◌, inl, inr}
+use Rattle.std.proofs.lemmas.Bool.{eq-eqb, ne_eqb, lt-ltb, le-ltb, le-leb, lt-leb, cases_lt, cases_eq}
 use Rattle.std.proofs.lemmas.Nat.Bits.{bit_at_and, bit_at_or, bit_at_not, bit_at-lt, bit_at-zero, bit_at_ones, bit_at_ones_above, bit_at-pow_same, bit_at-pow_other, shr_and_one, same_from_bits_below}
 use Rattle.std.proofs.lemmas.Nat.{le_or_l, le_or_r, one_shl}
 use Rattle.prove_facts.specs.Sets.{has_bit}
 
 -- four words one by one
 pub each_word : (P : ℕ → Type 0) → P 0 → P 1 → P 2 → P 3 → (k : ℕ) → k < 4 → P k
-each_word P a b c d zero h = a
-each_word P a b c d (suc zero) h = b
-each_word P a b c d (suc (suc zero)) h = c
-each_word P a b c d (suc (suc (suc zero))) h = d
-each_word P a b c d (suc (suc (suc (suc k)))) h = absurd (omega arith)
+each_word h a b c d k h6 = grind arith
 
 -- a word of a value of a byte
 pub is_word : (v : ℕ) → v < 256 → v / 64 < 4
@@ -22,27 +18,13 @@ is_word v h = omega arith
 -- ---- one bit
 
 or_by : (x y z : ℕ) → x < 2 → y < 2 → z ≡ max x y → (z == 1) ≡ (x == 1) || (y == 1)
-or_by zero zero z h k e = subst (λ (n : ℕ). (n == 1) ≡ false) (sym e) refl
-or_by zero (suc zero) z h k e = subst (λ (n : ℕ). (n == 1) ≡ true) (sym e) refl
-or_by (suc zero) zero z h k e = subst (λ (n : ℕ). (n == 1) ≡ true) (sym e) refl
-or_by (suc zero) (suc zero) z h k e = subst (λ (n : ℕ). (n == 1) ≡ true) (sym e) refl
-or_by (suc (suc x)) y z h k e = absurd (omega arith)
-or_by zero (suc (suc y)) z h k e = absurd (omega arith)
-or_by (suc zero) (suc (suc y)) z h k e = absurd (omega arith)
+or_by x y z h k e = grind arith
 
 and_by : (x y z : ℕ) → x < 2 → y < 2 → z ≡ min x y → (z == 1) ≡ (x == 1) && (y == 1)
-and_by zero zero z h k e = subst (λ (n : ℕ). (n == 1) ≡ false) (sym e) refl
-and_by zero (suc zero) z h k e = subst (λ (n : ℕ). (n == 1) ≡ false) (sym e) refl
-and_by (suc zero) zero z h k e = subst (λ (n : ℕ). (n == 1) ≡ false) (sym e) refl
-and_by (suc zero) (suc zero) z h k e = subst (λ (n : ℕ). (n == 1) ≡ true) (sym e) refl
-and_by (suc (suc x)) y z h k e = absurd (omega arith)
-and_by zero (suc (suc y)) z h k e = absurd (omega arith)
-and_by (suc zero) (suc (suc y)) z h k e = absurd (omega arith)
+and_by x y z h k e = grind arith
 
 not_by : (x z : ℕ) → x < 2 → z ≡ 1 - x → (z == 1) ≡ not (x == 1)
-not_by zero z h e = subst (λ (n : ℕ). (n == 1) ≡ true) (sym e) refl
-not_by (suc zero) z h e = subst (λ (n : ℕ). (n == 1) ≡ false) (sym e) refl
-not_by (suc (suc x)) z h e = absurd (omega arith)
+not_by x z h e = grind arith
 
 pub or_bit : (a b i : ℕ) → (bit_at (bit_or a b) i == 1) ≡ (bit_at a i == 1) || (bit_at b i == 1)
 or_bit a b i = or_by (bit_at a i) (bit_at b i) (bit_at (bit_or a b) i) (bit_at-lt a i) (bit_at-lt b i) (bit_at_or a b i)
@@ -121,14 +103,6 @@ full_words v k =
     each_word (λ (w : ℕ). (bit_at (get_or ((2 ^ 64 - 1) ∷ (2 ^ 64 - 1) ∷ (2 ^ 64 - 1) ∷ (2 ^ 64 - 1) ∷ []) w 0) (v % 64) == 1) ≡ true)
     one one one one (v / 64) (is_word v k)
 
--- words that are those of all values
-pub same_full : (xs : List ℕ) (v : ℕ) → xs ≡ (2 ^ 64 - 1) ∷ (2 ^ 64 - 1) ∷ (2 ^ 64 - 1) ∷ (2 ^ 64 - 1) ∷ [] → v < 256 → has_bit xs v ≡ true
-same_full xs v e h = ap (λ (ws : List ℕ). has_bit ws v) e ∙ full_words v h
-
--- a set that is what it has in common with another
-pub same_common : (xs both : List ℕ) (v : ℕ) (y : Bool) → both ≡ xs → has_bit both v ≡ (has_bit xs v && y) → has_bit xs v ≡ true → y ≡ true
-same_common xs both v y e a i = (and_parts (has_bit xs v) y (sym a ∙ ap (λ (ws : List ℕ). has_bit ws v) e ∙ i)).1
-
 -- ---- one value
 
 -- the bit of a value in its word
@@ -175,24 +149,14 @@ one_fourth x v e h =
 -- ---- the values below a number
 
 same_lt : (a b c d : ℕ) → (a < b → c < d) → (c < d → a < b) → nat_lt a b ≡ nat_lt c d
-same_lt a b c d f g =
-    elim (cases_lt a b) [
-      | inl l ↦ lt-ltb a b l ∙ sym (lt-ltb c d (f l))
-      | inr n ↦ le-ltb a b n ∙ sym (elim (cases_lt c d) [ inl k ↦ absurd (let q : a < b = g k in omega arith) | inr k ↦ le-ltb c d k ])
-    ]
+same_lt a b c d f g = grind (arith, cases_lt, lt-ltb, le-ltb)
 
 below_bit : (m i : ℕ) → (bit_at (2 ^ m - 1) i == 1) ≡ nat_lt i m
-below_bit m i =
-    elim (cases_lt i m) [
-      | inl l ↦ ap (λ (n : ℕ). n == 1) (bit_at_ones m i l) ∙ sym (lt-ltb i m l)
-      | inr l ↦ ap (λ (n : ℕ). n == 1) (bit_at_ones_above m i l) ∙ sym (le-ltb i m l)
-    ]
+below_bit m i = grind (arith, cases_lt, bit_at_ones, lt-ltb, bit_at_ones_above, le-ltb)
 
 -- the bit of a value in the word after k words
 low_bit : (end v k n : ℕ) → n ≡ 2 ^ min (end - 64 * k) 64 - 1 → v / 64 ≡ k → (bit_at n (v % 64) == 1) ≡ nat_lt v end
-low_bit end v k n e i =
-    ap (λ (m : ℕ). bit_at m (v % 64) == 1) e ∙ below_bit (min (end - 64 * k) 64) (v % 64)
-    ∙ same_lt (v % 64) (min (end - 64 * k) 64) v end (λ h. omega arith) (λ h. omega arith)
+low_bit end v k n e i = grind (arith, below_bit, same_lt)
 
 pub below_words : (end v a b c d : ℕ) → a ≡ 2 ^ min end 64 - 1 → b ≡ 2 ^ min (end - 64) 64 - 1 → c ≡ 2 ^ min (end - 128) 64 - 1 → d ≡ 2 ^ min (end - 192) 64 - 1
     → v < 256 → has_bit (a ∷ b ∷ c ∷ d ∷ []) v ≡ nat_lt v end
@@ -204,24 +168,13 @@ below_words end v a b c d p q r s h =
 
 -- the values from one to another
 swapped : (p q : Bool) → (p && q) ≡ (q && p)
-swapped true true = refl
-swapped true false = refl
-swapped false true = refl
-swapped false false = refl
+swapped p q = grind arith
 
 not_below : (v low : ℕ) → not (nat_lt v low) ≡ nat_le low v
-not_below v low =
-    elim (cases_lt v low) [
-      | inl l ↦ ap not (lt-ltb v low l) ∙ sym (lt-leb low v l)
-      | inr l ↦ ap not (le-ltb v low l) ∙ sym (le-leb low v l)
-    ]
+not_below v low = grind (arith, cases_lt, lt-ltb, lt-leb, le-ltb, le-leb)
 
 below_next : (v high : ℕ) → nat_lt v (high + 1) ≡ nat_le v high
-below_next v high =
-    elim (cases_lt high v) [
-      | inl l ↦ le-ltb v (high + 1) (omega arith) ∙ sym (lt-leb v high l)
-      | inr l ↦ lt-ltb v (high + 1) (omega arith) ∙ sym (le-leb v high l)
-    ]
+below_next v high = grind (arith, cases_lt, le-ltb, lt-leb, lt-ltb, le-leb)
 
 pub range_test : (v low high : ℕ) → (nat_lt v (high + 1) && not (nat_lt v low)) ≡ (nat_le low v && nat_le v high)
 range_test v low high =
@@ -230,13 +183,7 @@ range_test v low high =
 -- ---- words by their bits
 
 bit_same : (x y : ℕ) → x < 2 → y < 2 → (x == 1) ≡ (y == 1) → x ≡ y
-bit_same zero zero h k e = refl
-bit_same (suc zero) (suc zero) h k e = refl
-bit_same zero (suc zero) h k e = absurd (cc e)
-bit_same (suc zero) zero h k e = absurd (cc e)
-bit_same (suc (suc x)) y h k e = absurd (omega arith)
-bit_same zero (suc (suc y)) h k e = absurd (omega arith)
-bit_same (suc zero) (suc (suc y)) h k e = absurd (omega arith)
+bit_same x y h k e = grind arith
 
 pub bit_of_word : (xs : List ℕ) (k i : ℕ) → i < 64 → has_bit xs (64 * k + i) ≡ (bit_at (get_or xs k 0) i == 1)
 unfolding has_bit
@@ -263,26 +210,9 @@ at_bit xs v k e h = ap (λ (n : ℕ). bit_at (get_or xs n 0) (v % 64) == 1) e �
 -- the lowest bit of the first word that is not zero
 pub lowest_bit : (xs : List ℕ) (k t : ℕ) → k < 4 → t < 64 → ((j : ℕ) → j < k → get_or xs j 0 ≡ 0) → bit_at (get_or xs k 0) t ≡ 1
     → ((i : ℕ) → i < t → bit_at (get_or xs k 0) i ≡ 0) → (has_bit xs (64 * k + t) ≡ true) × ((v : ℕ) → v < 64 * k + t → has_bit xs v ≡ false)
-lowest_bit xs k t l m z o h = (
-  bit_of_word xs k t m ∙ ap (λ (b : ℕ). b == 1) o,
-  λ v n. elim (cases_lt (v / 64) k) [
-    | inl j ↦ at_zero xs v (z (v / 64) j)
-    | inr j ↦
-        let e : v / 64 ≡ k = omega (arith, n, j, m) in
-        let r : v % 64 < t = omega (arith, n, j, m, e) in
-        at_bit xs v k e (h (v % 64) r)
-  ],
-)
+lowest_bit xs k t l m z o h = grind (arith, bit_of_word, cases_lt, at_zero, at_bit)
 
 -- the union of words without a bit is zero
 pub zero_union : (xs : List ℕ) → ((k : ℕ) → k < 4 → get_or xs k 0 < 2 ^ 64) → ((v : ℕ) → v < 256 → has_bit xs v ≡ false)
     → bit_or (bit_or (bit_or (get_or xs 0 0) (get_or xs 1 0)) (get_or xs 2 0)) (get_or xs 3 0) ≡ 0
-zero_union xs p h =
-    let a = zero_words xs p h 0 (omega arith) in
-    let b = zero_words xs p h 1 (omega arith) in
-    let c = zero_words xs p h 2 (omega arith) in
-    let d = zero_words xs p h 3 (omega arith) in
-    ap (λ (n : ℕ). bit_or (bit_or (bit_or n (get_or xs 1 0)) (get_or xs 2 0)) (get_or xs 3 0)) a
-    ∙ ap (λ (n : ℕ). bit_or (bit_or (bit_or 0 n) (get_or xs 2 0)) (get_or xs 3 0)) b
-    ∙ ap (λ (n : ℕ). bit_or (bit_or (bit_or 0 0) n) (get_or xs 3 0)) c
-    ∙ ap (λ (n : ℕ). bit_or (bit_or (bit_or 0 0) 0) n) d
+zero_union xs p h = grind (arith, zero_words)

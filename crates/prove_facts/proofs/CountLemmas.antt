@@ -1,11 +1,11 @@
 -- The number of values of four words.
-use Rattle.std.specs.Prelude.{◌≡◌, ℕ, zero, suc, ◌+◌, ◌-◌, ◌*◌, ◌/◌, ◌%◌, ◌^◌, ◌<◌, ◌≤◌, Bool, true, false, cond, ◌==◌, List, [], ◌∷◌, ◌++◌, length, filter, get_or, refl}
+use Rattle.std.specs.Prelude.{◌≡◌, ℕ, zero, suc, ◌+◌, ◌*◌, ◌/◌, ◌%◌, ◌^◌, ◌<◌, Bool, true, false, cond, ◌==◌, List, [], ◌∷◌, ◌++◌, length, filter, get_or, refl}
 use Rattle.std.specs.Int.{bit_at}
-use Rattle.std.proofs.Common.{arith, ap, sym, subst, ◌∙◌}
+use Rattle.std.proofs.Common.{arith, ap, sym, ◌∙◌}
 use Rattle.std.proofs.lemmas.Nat.Bits.{bit_at_lowest, bit_at-suc}
 use Rattle.std.proofs.Math.Nat.{pow-suc}
 use lib.Count.{ones, ones_step}
-use Rattle.model_prove.specs.Sets.{numbers_from, all_bytes}
+use Rattle.model_prove.specs.Sets.{numbers_from}
 use Rattle.prove_facts.specs.Sets.{has_bit, values_of}
 use Rattle.prove_facts.proofs.BitLemmas.{bit_of_word}
 
@@ -14,9 +14,7 @@ kept_length true x s = omega arith
 kept_length false x s = omega arith
 
 bit_length : (b : ℕ) → b < 2 → cond (b == 1) 1 0 ≡ b
-bit_length zero h = refl
-bit_length (suc zero) h = refl
-bit_length (suc (suc b)) h = absurd (omega arith)
+bit_length b h = grind arith
 
 ones_zero : ones 0 ≡ 0
 unfolding ones

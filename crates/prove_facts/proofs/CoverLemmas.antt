@@ -1,5 +1,5 @@
 -- Turns of loops over two lists of facts: what is left of one of them, and what is looked up in the other.
-use Rattle.std.specs.Prelude.{◌≡◌, ℕ, zero, suc, ◌+◌, ◌<◌, ◌≤◌, Bool, false, ◌&&◌, List, [], ◌∷◌, ◌++◌, length, drop, get_or}
+use Rattle.std.specs.Prelude.{◌≡◌, ℕ, ◌<◌, ◌≤◌, Bool, false, ◌&&◌, List, [], ◌∷◌, ◌++◌, length, drop, get_or}
 use Rattle.std.proofs.Common.{arith, ap, sym, subst, ◌∙◌}
 use Rattle.model_prove.specs.Sets.{Set, all_bytes, is_full, is_subset}
 use Rattle.model_prove.specs.Facts.{fact_at, values_at, joined_fact, join, follow}
@@ -28,9 +28,7 @@ first_joined (x ∷ l) d e f new h o i = joined_first e (fact_of x) (facts_of l)
 
 -- what is left of facts without two for a byte
 pub rest_sparse : (f more : Known) (i : ℕ) (x : ℕ × Set) → AreSparse 0 f → drop i f ≡ x ∷ more → AreSparse x.0 (x ∷ more)
-rest_sparse f more i x s e =
-    let t : AreSparse 0 (x ∷ more) = subst (λ (g : Known). AreSparse 0 g) e (sparse_drop 0 i f s) in
-    (omega arith, t.1, t.2)
+rest_sparse f more i x s e = grind (arith, subst (λ (g : Known). AreSparse 0 g) e (sparse_drop 0 i f s))
 
 -- what a turn over facts keeps: what is looked up goes on from a place
 pub record Turns (more next g : Known) : Type 0 where

@@ -1,10 +1,9 @@
 -- Facts in the order of their addresses: what is at an address, before it and after it.
-use Rattle.std.specs.Prelude.{◌≡◌, ◌⊎◌, ℕ, zero, suc, ◌+◌, ◌-◌, ◌<◌, ◌≤◌, Bool, true, false, cond, not, ◌&&◌, ◌||◌, nat_lt, nat_le, ◌==◌, List, [], ◌∷◌, ◌++◌, length, take, drop, get_or, map, filter, unwrap_or, Option, Some, None, Result, Ok, Err, OnOk, OnErr, ⊤, refl}
+use Rattle.std.specs.Prelude.{◌≡◌, ℕ, zero, suc, ◌+◌, ◌-◌, ◌<◌, ◌≤◌, Bool, true, false, cond, not, ◌&&◌, nat_lt, nat_le, ◌==◌, List, [], ◌∷◌, ◌++◌, length, take, drop, get_or, filter, unwrap_or, Option, Some, None, Result, Ok, Err, OnOk, OnErr, refl}
 use Rattle.std.proofs.Common.{set, arith, ap, sym, subst, ◌∙◌, inl, inr}
-use Rattle.std.proofs.lemmas.Bool.{and_from, and_left, and_right, eq-eqb, ne_eqb, eqb-true, eqb-false, leb-true, ltb-true, ltb-false, lt-ltb, le-ltb, le-leb, lt-leb, cases_lt, cases_Bool, both_ways}
-use Rattle.std.proofs.lemmas.List.{take-append-drop, take_rest, take-map, drop-map, drop-take, append_assoc, append-nil, length-map, length-take, length-drop, drop-drop, drop_more, drop_all, map-append}
-use Rattle.model_prove.specs.Sets.{Set, all_bytes, is_in, union, is_full, is_subset}
-use Rattle.model_prove.specs.Facts as known
+use Rattle.std.proofs.lemmas.Bool.{and_from, and_left, and_right, eq-eqb, ne_eqb, eqb-true, eqb-false, leb-true, lt-ltb, le-ltb, le-leb, lt-leb, cases_lt, cases_Bool, both_ways}
+use Rattle.std.proofs.lemmas.List.{take-append-drop, take_rest, take-map, drop-map, drop-take, append_assoc, append-nil, drop-drop, drop_more, drop_all, map-append}
+use Rattle.model_prove.specs.Sets.{Set, all_bytes, union, is_full, is_subset}
 use Rattle.model_prove.specs.Facts.{fact_at, values_at, without_byte, without_bytes, within, fact_before, with_fact, fact_unless, know, joined_fact, join, fact_follows, follow}
 use Rattle.prove_facts.specs.declared.facts.Fact.{Fact}
 use Rattle.prove_facts.specs.Sets.{set_of}
@@ -109,21 +108,15 @@ at_first e f a h s = ap (λ (o : Option Set). cond (e.0 == a) (Some e.1) o) (at_
 
 pub without_below : (f g : Known) (a : ℕ) → AreBelow a f → without_byte a (f ++ g) ≡ f ++ without_byte a g
 without_below [] g a b = refl
-without_below (e ∷ f) g a b =
-    ap (λ (c : Bool). cond (not c) (e ∷ without_byte a (f ++ g)) (without_byte a (f ++ g))) (ne_eqb e.0 a (λ i. omega (arith, i, b.0)))
-    ∙ ap (λ (r : Known). e ∷ r) (without_below f g a b.1)
+without_below (e ∷ f) g a b = grind (arith, ne_eqb, without_below f g a b.1)
 
 pub without_above : (f : Known) (a k : ℕ) → AreFrom k f → a < k → without_byte a f ≡ f
 without_above [] a k s h = refl
-without_above (e ∷ f) a k s h =
-    ap (λ (c : Bool). cond (not c) (e ∷ without_byte a f) (without_byte a f)) (ne_eqb e.0 a (λ i. omega (arith, i, s.0, h)))
-    ∙ ap (λ (r : Known). e ∷ r) (without_above f a k s.1 h)
+without_above (e ∷ f) a k s h = grind (arith, ne_eqb, without_above f a k s.1 h)
 
 pub with_below : (f g : Known) (e : ℕ × Set) → AreBelow e.0 f → with_fact e (f ++ g) ≡ f ++ with_fact e g
 with_below [] g e b = refl
-with_below (d ∷ f) g e b =
-    ap (λ (c : Bool). fact_before c e d (f ++ g) (with_fact e (f ++ g))) (le-ltb e.0 d.0 (omega (arith, b.0)))
-    ∙ ap (λ (r : Known). d ∷ r) (with_below f g e b.1)
+with_below (d ∷ f) g e b = grind (arith, le-ltb, with_below f g e b.1)
 
 pub with_above : (f : Known) (e : ℕ × Set) → AreFrom (suc e.0) f → with_fact e f ≡ e ∷ f
 with_above [] e s = refl
@@ -131,9 +124,7 @@ with_above (d ∷ f) e s = ap (λ (c : Bool). fact_before c e d f (with_fact e f
 
 -- a list that does not start at an address is sparse from the next one on
 pub sparse_next : (a : ℕ) (f : Known) → AreSparse a f → starts_at a f ≡ false → AreSparse (suc a) f
-sparse_next a [] s h = tt
-sparse_next a (e ∷ f) s h =
-    (elim (cases_lt a e.0) [ inl l ↦ l | inr n ↦ absurd (eqb-false e.0 a h (omega (arith, n, s.0))) ], s.1, s.2)
+sparse_next a f s h = grind (arith, cases_lt, eqb-false)
 
 unless_by : (b : Bool) (a : ℕ) (s : Set) (f g : Known) → AreBelow a f → AreFrom (suc a) g → fact_unless b (a, s) (f ++ g) ≡ f ++ (cond b [] ((a, s) ∷ []) ++ g)
 unless_by true a s f g b h = refl
@@ -141,9 +132,7 @@ unless_by false a s f g b h = with_below f g (a, s) b ∙ ap (λ (r : Known). f 
 
 -- a fact of a byte that has none
 pub know_new : (a : ℕ) (s : Set) (f g : Known) → AreBelow a f → AreFrom (suc a) g → know a s (f ++ g) ≡ f ++ (fact_alone (a, s) ++ g)
-know_new a s f g b h =
-    ap (λ (r : Known). fact_unless (is_full s) (a, s) r) (without_below f g a b ∙ ap (λ (r : Known). f ++ r) (without_above g a (suc a) h (omega arith)))
-    ∙ unless_by (is_full s) a s f g b h
+know_new a s f g b h = grind (arith, without_below, without_above, unless_by)
 
 without_first : (e : ℕ × Set) (g : Known) (a : ℕ) → (e.0 == a) ≡ true → AreFrom (suc a) g → without_byte a (e ∷ g) ≡ g
 without_first e g a i h = ap (λ (c : Bool). cond (not c) (e ∷ without_byte a g) (without_byte a g)) i ∙ without_above g a (suc a) h (omega arith)
@@ -151,9 +140,7 @@ without_first e g a i h = ap (λ (c : Bool). cond (not c) (e ∷ without_byte a 
 -- a fact of a byte that has one
 pub know_there : (a : ℕ) (s : Set) (f g : Known) (e : ℕ × Set) → AreBelow a f → (e.0 == a) ≡ true → AreFrom (suc a) g
     → know a s (f ++ e ∷ g) ≡ f ++ (fact_alone (a, s) ++ g)
-know_there a s f g e b i h =
-    ap (λ (r : Known). fact_unless (is_full s) (a, s) r) (without_below f (e ∷ g) a b ∙ ap (λ (r : Known). f ++ r) (without_first e g a i h))
-    ∙ unless_by (is_full s) a s f g b h
+know_there a s f g e b i h = grind (arith, without_below, without_first, unless_by)
 
 pub alone_sparse : (e : ℕ × Set) (b : Bool) (g : Known) → is_full e.1 ≡ b → AreSparse (suc e.0) g → AreSparse e.0 (cond b [] (e ∷ []) ++ g)
 alone_sparse e true g i s = sparse_lower e.0 (suc e.0) g (omega arith) s
@@ -169,10 +156,7 @@ leaves p e f g h k = ap (λ (c : Bool). cond c (e ∷ filter p f) (filter p f)) 
 
 pub filter_both : (p : ℕ × Set → Bool) (f g : Known) → filter p (f ++ g) ≡ filter p f ++ filter p g
 filter_both p [] g = refl
-filter_both p (e ∷ f) g = elim (cases_Bool (p e)) [
-  | inl h ↦ keeps p e (f ++ g) (filter p f ++ filter p g) h (filter_both p f g) ∙ ap (λ (r : Known). r ++ filter p g) (sym (keeps p e f (filter p f) h refl))
-  | inr h ↦ leaves p e (f ++ g) (filter p f ++ filter p g) h (filter_both p f g) ∙ ap (λ (r : Known). r ++ filter p g) (sym (leaves p e f (filter p f) h refl))
-]
+filter_both p (e ∷ f) g = grind (arith, cases_Bool, keeps, leaves, filter_both p f g)
 
 abbrev Inside : ℕ → ℕ → ℕ × Set → Bool
 Inside from to e = nat_le from e.0 && nat_lt e.0 to
@@ -278,9 +262,7 @@ sparse_filter p k (e ∷ f) s = kept_sparse (p e) k e (filter p f) s.0 s.1 (spar
 
 kept_within : (c d : Bool) (from : ℕ) (e : ℕ × Set) (f : Known) → nat_le from e.0 ≡ c → is_full e.1 ≡ false → AreSparse (suc e.0) f → AreSparse from f
     → AreSparse from (cond (c && d) (e ∷ f) f)
-kept_within true true from e f i u s t = (leb-true from e.0 i, u, s)
-kept_within true false from e f i u s t = t
-kept_within false d from e f i u s t = t
+kept_within c d from e f i u s t = grind (arith, leb-true)
 
 -- a part is sparse from its first address on
 pub sparse_within : (from to : ℕ) (f : Known) (k : ℕ) → AreSparse k f → AreSparse from (within from to f)
@@ -318,16 +300,10 @@ pub agree_rest : (e : ℕ × Set) (k : ℕ) (more rest next f : Known) → AreSp
 agree_rest e k [] rest next f s h g = tt
 agree_rest e k (d ∷ more) rest next f s h g = λ a l. g a (omega (arith, l, s.2.0)) ∙ h a (omega (arith, l, s.2.0))
 
-pub agree_self : (f g : Known) → Agree f g g
-agree_self [] g = tt
-agree_self (e ∷ f) g = λ a l. refl
-
 -- ---- what follows
 
 exchange : (p q r : Bool) → (p && (q && r)) ≡ (q && (p && r))
-exchange true q r = refl
-exchange false true r = refl
-exchange false false r = refl
+exchange p q r = grind arith
 
 follow_before : (b : Bool) (g : Known) (e d : ℕ × Set) (f rest : Known) → follow g rest ≡ (fact_follows g e && follow g f)
     → follow g (fact_before b e d f rest) ≡ (fact_follows g e && follow g (d ∷ f))
@@ -348,19 +324,12 @@ drop_fact l i d h =
 -- the next fact follows, so what is left decides
 pub follow_step : (g more rest next : Known) (e : ℕ × Set) (b : Bool) → Agree (e ∷ more) rest g → ((a : ℕ) → e.0 ≤ a → fact_at next a ≡ fact_at rest a)
     → b ≡ is_subset (values_at next e.0) e.1 → follow g (e ∷ more) ≡ (b && follow g more)
-follow_step g more rest next e b h n i =
-    let q : values_at next e.0 ≡ values_at g e.0 = ap (λ (o : Option Set). unwrap_or o all_bytes) (n e.0 (omega arith) ∙ h e.0 (omega arith)) in
-    ap (λ (c : Bool). c && follow g more) (sym (i ∙ ap (λ (s : Set). is_subset s e.1) q))
+follow_step g more rest next e b h n i = grind arith
 
 -- the next fact is joined
 pub join_step : (both new more rest next g whole : Known) (e : ℕ × Set) → Agree (e ∷ more) rest g → ((a : ℕ) → e.0 ≤ a → fact_at next a ≡ fact_at rest a)
     → new ≡ both ++ joined_fact e (fact_at next e.0) [] → both ++ join (e ∷ more) g ≡ whole → new ++ join more g ≡ whole
-join_step both new more rest next g whole e h n i w =
-    let q : fact_at next e.0 ≡ fact_at g e.0 = n e.0 (omega arith) ∙ h e.0 (omega arith) in
-    ap (λ (r : Known). r ++ join more g) (i ∙ ap (λ (o : Option Set). both ++ joined_fact e o []) q)
-    ∙ append_assoc both (joined_fact e (fact_at g e.0) []) (join more g)
-    ∙ ap (λ (r : Known). both ++ r) (sym (joined_append e (fact_at g e.0) (join more g)))
-    ∙ w
+join_step both new more rest next g whole e h n i w = grind (arith, append_assoc, joined_append)
 
 -- ---- edits of lists
 
@@ -384,16 +353,11 @@ starts_here l n a d h = ap (λ (f : Known). starts_at a f) (drop_fact l n d h)
 
 there_by : (a g : Known) (e : ℕ × Set) → AreSparse 0 a → AreBelow e.0 a → AreSparse e.0 g → starts_at e.0 g ≡ true
     → (know e.0 e.1 (a ++ g) ≡ a ++ (fact_alone e ++ drop 1 g)) × AreSparse 0 (a ++ (fact_alone e ++ drop 1 g))
-there_by a [] e s b t h = absurd (cc h)
-there_by a (d ∷ g) e s b t h =
-    let u : AreSparse (suc e.0) g = subst (λ (k : ℕ). AreSparse (suc k) g) (eqb-true d.0 e.0 h) t.2 in
-    (know_there e.0 e.1 a g d b h (sparse_from (suc e.0) g u), sparse_append 0 e.0 a (fact_alone e ++ g) s b (omega arith) (alone_sparse e (is_full e.1) g refl u))
+there_by a g e s b t h = grind (arith, eqb-true, know_there, sparse_from, sparse_append, alone_sparse)
 
 new_by : (a g : Known) (e : ℕ × Set) → AreSparse 0 a → AreBelow e.0 a → AreSparse e.0 g → starts_at e.0 g ≡ false
     → (know e.0 e.1 (a ++ g) ≡ a ++ (fact_alone e ++ g)) × AreSparse 0 (a ++ (fact_alone e ++ g))
-new_by a g e s b t h =
-    let u = sparse_next e.0 g t h in
-    (know_new e.0 e.1 a g b (sparse_from (suc e.0) g u), sparse_append 0 e.0 a (fact_alone e ++ g) s b (omega arith) (alone_sparse e (is_full e.1) g refl u))
+new_by a g e s b t h = grind (arith, sparse_next, know_new, sparse_from, sparse_append, alone_sparse)
 
 next_drop : (n : ℕ) (f : Known) → drop 1 (drop n f) ≡ drop (suc n) f
 next_drop n f = let e : n + 1 ≡ suc n = omega arith in drop-drop 1 n f ∙ ap (λ (k : ℕ). drop k f) e
@@ -421,10 +385,7 @@ alone_one e h = ap (λ (b : Bool). cond b [] (e ∷ [])) h
 
 pub removed_is : (l : List Fact) (n : ℕ) (e : ℕ × Set) → is_full e.1 ≡ true
     → facts_of (take n l ++ drop (suc n) l) ≡ take n (facts_of l) ++ (fact_alone e ++ drop (suc n) (facts_of l))
-removed_is l n e h =
-    map-append fact_of (take n l) (drop (suc n) l) ∙ ap (λ (r : Known). r ++ facts_of (drop (suc n) l)) (sym (take-map fact_of n l))
-    ∙ ap (λ (r : Known). take n (facts_of l) ++ r) (sym (drop-map fact_of (suc n) l))
-    ∙ ap (λ (r : Known). take n (facts_of l) ++ (r ++ drop (suc n) (facts_of l))) (sym (alone_full e h))
+removed_is l n e h = grind (arith, map-append, take-map, drop-map, alone_full)
 
 set_is : (l : List Fact) (n : ℕ) (x : Fact) → n < length l → facts_of (set l n x) ≡ take n (facts_of l) ++ (fact_of x ∷ drop (suc n) (facts_of l))
 set_is [] n x h = absurd (omega (arith, h))
@@ -437,10 +398,7 @@ stored_is l n x h u = set_is l n x h ∙ ap (λ (r : Known). take n (facts_of l)
 
 pub inserted_is : (l : List Fact) (n : ℕ) (x : Fact) → is_full (set_of x.values) ≡ false
     → facts_of (take n l ++ x ∷ drop n l) ≡ take n (facts_of l) ++ (fact_alone (fact_of x) ++ drop n (facts_of l))
-inserted_is l n x u =
-    map-append fact_of (take n l) (x ∷ drop n l) ∙ ap (λ (r : Known). r ++ (fact_of x ∷ facts_of (drop n l))) (sym (take-map fact_of n l))
-    ∙ ap (λ (r : Known). take n (facts_of l) ++ (fact_of x ∷ r)) (sym (drop-map fact_of n l))
-    ∙ ap (λ (r : Known). take n (facts_of l) ++ (r ++ drop n (facts_of l))) (sym (alone_one (fact_of x) u))
+inserted_is l n x u = grind (arith, map-append, take-map, drop-map, alone_one)
 
 -- nothing is put in for a fact that says nothing
 pub left_out : (f : Known) (n : ℕ) (e : ℕ × Set) → is_full e.1 ≡ true → f ≡ take n f ++ (fact_alone e ++ drop n f)
@@ -450,9 +408,7 @@ left_out f n e h = sym (take-append-drop n f) ∙ ap (λ (r : Known). take n f +
 
 pub part_is : (l : List Fact) (from to m n : ℕ) → m ≤ n → AreSparse 0 (facts_of l) → AreBelow from (take m (facts_of l)) → AreSparse from (drop m (facts_of l))
     → AreBelow to (take n (facts_of l)) → AreSparse to (drop n (facts_of l)) → facts_of (take (n - m) (drop m l)) ≡ within from to (facts_of l)
-part_is l from to m n h s a b c d =
-    sym (take-map fact_of (n - m) (drop m l)) ∙ ap (λ (r : Known). take (n - m) r) (sym (drop-map fact_of m l))
-    ∙ sym (inside_is from to m n (facts_of l) h a (sparse_from from (drop m (facts_of l)) b) c (sparse_from to (drop n (facts_of l)) d))
+part_is l from to m n h s a b c d = grind (arith, take-map, drop-map, inside_is, sparse_from)
 
 pub part_none : (l : List Fact) (from to m n : ℕ) → n ≤ m → AreBelow from (take m (facts_of l)) → AreSparse to (drop n (facts_of l)) → [] ≡ within from to (facts_of l)
 part_none l from to m n h a d = sym (inside_none from to m n (facts_of l) h a (sparse_from to (drop n (facts_of l)) d))
@@ -470,9 +426,7 @@ in_order l from to m n d h k b c =
     omega (arith, t.0, u)
 
 around_split : (l new : List Fact) (m n : ℕ) → new ≡ take m l ++ drop n l → facts_of new ≡ take m (facts_of l) ++ drop n (facts_of l)
-around_split l new m n i =
-    ap (λ (r : List Fact). facts_of r) i ∙ map-append fact_of (take m l) (drop n l) ∙ ap (λ (r : Known). r ++ facts_of (drop n l)) (sym (take-map fact_of m l))
-    ∙ ap (λ (r : Known). take m (facts_of l) ++ r) (sym (drop-map fact_of n l))
+around_split l new m n i = grind (arith, map-append, take-map, drop-map)
 
 -- the facts before one address and from another on
 pub around_is : (l new : List Fact) (from to m n : ℕ) → m < n → n ≤ length l → AreSparse 0 (facts_of l) → AreBelow from (take m (facts_of l))
@@ -507,14 +461,7 @@ around_all l from to m n h a b d =
 pub extended_is : (l more : List Fact) (new part : List Fact) (from to m : ℕ) → AreSparse 0 (facts_of l) → AreSparse 0 (facts_of more) → AreBelow from (take m (facts_of l))
     → AreSparse from (drop m (facts_of l)) → facts_of part ≡ within from to (facts_of more) → new ≡ take m l ++ part
     → (facts_of new ≡ within 0 from (facts_of l) ++ within from to (facts_of more)) × AreSparse 0 (facts_of new)
-extended_is l more new part from to m s t a b p i =
-    let f = facts_of l in
-    let r : facts_of new ≡ take m f ++ within from to (facts_of more) =
-    ap (λ (x : List Fact). facts_of x) i ∙ map-append fact_of (take m l) part ∙ ap (λ (x : Known). x ++ facts_of part) (sym (take-map fact_of m l)) ∙ ap (λ (x : Known). take m f ++ x) p in
-    let low : within 0 from f ≡ take m f = before_is from m f s a b in (
-      r ∙ ap (λ (x : Known). x ++ within from to (facts_of more)) (sym low),
-      subst (λ (x : Known). AreSparse 0 x) (sym r) (sparse_append 0 from (take m f) (within from to (facts_of more)) (sparse_take 0 m f s) a (omega arith) (sparse_within from to (facts_of more) 0 t)),
-    )
+extended_is l more new part from to m s t a b p i = grind (arith, map-append, take-map, before_is, sparse_append, sparse_take, sparse_within)
 
 -- the values of another byte
 pub other_at : (e : ℕ × Set) (a : ℕ) → (e.0 ≡ a → ⊥) → values_at (e ∷ []) a ≡ all_bytes
@@ -543,18 +490,6 @@ joined_other e d f n = sym (ap (λ (b : Bool). f ++ joined_fact e (cond b (Some 
 
 joined_by : (b : Bool) (e : ℕ × Set) (s : Set) (f new : Known) → is_full s ≡ b → new ≡ f ++ cond b [] ((e.0, s) ∷ []) → new ≡ f ++ cond (is_full s) [] ((e.0, s) ∷ [])
 joined_by b e s f new h i = i ∙ ap (λ (c : Bool). f ++ cond c [] ((e.0, s) ∷ [])) (sym h)
-
-joined_there : (e d : ℕ × Set) (f : Known) → d.0 ≡ e.0 → f ++ joined_fact e (fact_at (d ∷ []) e.0) [] ≡ f ++ cond (is_full (union e.1 d.1)) [] ((e.0, union e.1 d.1) ∷ [])
-joined_there e d f i = ap (λ (b : Bool). f ++ joined_fact e (cond b (Some d.1) None) []) (eq-eqb d.0 e.0 i)
-
-pub joined_full : (e d : ℕ × Set) (u : Set) (f : Known) → d.0 ≡ e.0 → u ≡ union e.1 d.1 → is_full u ≡ true → f ≡ f ++ joined_fact e (fact_at (d ∷ []) e.0) []
-joined_full e d u f i h full =
-    joined_by true e (union e.1 d.1) f f (sym (ap is_full h) ∙ full) (sym (append-nil f)) ∙ sym (joined_there e d f i)
-
-pub joined_both : (e d : ℕ × Set) (u : Set) (f new : Known) → d.0 ≡ e.0 → u ≡ union e.1 d.1 → is_full u ≡ false → new ≡ f ++ (e.0, u) ∷ []
-    → new ≡ f ++ joined_fact e (fact_at (d ∷ []) e.0) []
-joined_both e d u f new i h full n =
-    joined_by false e (union e.1 d.1) f new (sym (ap is_full h) ∙ full) (n ∙ ap (λ (s : Set). f ++ (e.0, s) ∷ []) h) ∙ sym (joined_there e d f i)
 
 -- only the first of some facts is joined
 pub joined_first : (e d : ℕ × Set) (more : Known) (f new : Known) → AreSparse e.0 (d ∷ more) → new ≡ f ++ joined_fact e (fact_at (d ∷ []) e.0) []

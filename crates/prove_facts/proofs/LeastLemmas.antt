@@ -1,5 +1,5 @@
 -- The least value of four words.
-use Rattle.std.specs.Prelude.{◌≡◌, ℕ, zero, suc, ◌+◌, ◌*◌, ◌/◌, ◌%◌, ◌^◌, ◌<◌, ◌==◌, List, [], ◌∷◌, get_or, Option, Some, None, refl}
+use Rattle.std.specs.Prelude.{◌≡◌, ℕ, zero, suc, ◌+◌, ◌*◌, ◌/◌, ◌%◌, ◌^◌, ◌<◌, ◌==◌, List, [], ◌∷◌, get_or, Some, None, refl}
 use Rattle.std.specs.Int.{bit_at, trailing_zeros, w64}
 use Rattle.std.proofs.Common.{arith, ap, sym, ◌∙◌}
 use Rattle.std.proofs.lemmas.Nat.Bits.{bit_at-trailing_zeros}
@@ -40,12 +40,7 @@ first_word P a zero h = a
 first_word P a (suc j) h = absurd (omega (arith, h))
 
 pub first_two : (P : ℕ → Type 0) → P 0 → P 1 → (j : ℕ) → j < 2 → P j
-first_two P a b zero h = a
-first_two P a b (suc zero) h = b
-first_two P a b (suc (suc j)) h = absurd (omega (arith, h))
+first_two h a b j h4 = grind arith
 
 pub first_three : (P : ℕ → Type 0) → P 0 → P 1 → P 2 → (j : ℕ) → j < 3 → P j
-first_three P a b c zero h = a
-first_three P a b c (suc zero) h = b
-first_three P a b c (suc (suc zero)) h = c
-first_three P a b c (suc (suc (suc j))) h = absurd (omega (arith, h))
+first_three h a b c j h5 = grind arith

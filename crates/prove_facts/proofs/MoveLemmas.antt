@@ -1,5 +1,5 @@
 -- Bits of words that are moved up over four words.
-use Rattle.std.specs.Prelude.{◌≡◌, ℕ, zero, suc, ◌+◌, ◌-◌, ◌*◌, ◌/◌, ◌%◌, ◌^◌, ◌<◌, ◌≤◌, Bool, true, false, cond, ◌||◌, nat_le, ◌==◌, List, [], ◌∷◌, get_or, bit_or, refl}
+use Rattle.std.specs.Prelude.{◌≡◌, ℕ, ◌+◌, ◌-◌, ◌*◌, ◌/◌, ◌%◌, ◌^◌, ◌<◌, ◌≤◌, Bool, true, false, cond, ◌||◌, nat_le, ◌==◌, List, [], ◌∷◌, get_or, bit_or, refl}
 use Rattle.std.specs.Int.{bit_at}
 use Rattle.std.proofs.Common.{arith, ap, sym, ◌∙◌, inl, inr}
 use Rattle.std.proofs.lemmas.Bool.{le-leb, lt-leb, cases_lt}
@@ -55,10 +55,7 @@ joined_bit w l by i k h n =
     ]
 
 pub kept_bit : (w l by i : ℕ) → by ≡ 0 → (bit_at w i == 1) ≡ cond (nat_le by i) (bit_at w (i - by) == 1) (bit_at l (i + 64 - by) == 1)
-kept_bit w l by i e =
-    let s : i ≡ i - by = omega arith in
-    ap (λ (m : ℕ). bit_at w m == 1) s
-    ∙ sym (ap (λ (b : Bool). cond b (bit_at w (i - by) == 1) (bit_at l (i + 64 - by) == 1)) (le-leb by i (omega arith)))
+kept_bit w l by i e = grind (arith, le-leb)
 
 -- ---- four words
 
@@ -72,16 +69,7 @@ at_word xs u k i e h = sym (ap (λ (n : ℕ). bit_at (get_or xs n 0) (u % 64) ==
 
 word_moved : (xs : List ℕ) (by v k j r : ℕ) → by < 64 → v < 256 → v / 64 ≡ k → (k + 3) % 4 ≡ j → IsJoined by r (get_or xs k 0) (get_or xs j 0)
     → (bit_at r (v % 64) == 1) ≡ has_bit xs ((v + 256 - by) % 256)
-word_moved xs by v k j r h n e f q =
-    q (v % 64) (omega arith)
-    ∙ elim (cases_lt (v % 64) by) [
-      | inl t ↦
-          ap (λ (b : Bool). cond b (bit_at (get_or xs k 0) (v % 64 - by) == 1) (bit_at (get_or xs j 0) (v % 64 + 64 - by) == 1)) (lt-leb by (v % 64) t)
-          ∙ at_word xs ((v + 256 - by) % 256) j (v % 64 + 64 - by) (omega arith) (omega arith)
-      | inr t ↦
-          ap (λ (b : Bool). cond b (bit_at (get_or xs k 0) (v % 64 - by) == 1) (bit_at (get_or xs j 0) (v % 64 + 64 - by) == 1)) (le-leb by (v % 64) t)
-          ∙ at_word xs ((v + 256 - by) % 256) k (v % 64 - by) (omega arith) (omega arith)
-    ]
+word_moved xs by v k j r h n e f q = grind (arith, cases_lt, lt-leb, at_word, le-leb)
 
 pub words_moved : (a b c d by p q r s v : ℕ) → IsJoined by p a d → IsJoined by q b a → IsJoined by r c b → IsJoined by s d c → by < 64 → v < 256
     → has_bit (p ∷ q ∷ r ∷ s ∷ []) v ≡ has_bit (a ∷ b ∷ c ∷ d ∷ []) ((v + 256 - by) % 256)
@@ -109,10 +97,6 @@ moved_by xs ys s v by d h n e =
 -- four words that are read from another place on
 abbrev pub turned : List ℕ → ℕ → ℕ → ℕ → ℕ → List ℕ
 turned xs i j k l = get_or xs i 0 ∷ get_or xs j 0 ∷ get_or xs k 0 ∷ get_or xs l 0 ∷ []
-
-pub moved_none : (xs : List ℕ) (v by : ℕ) → by / 64 ≡ 0 → by < 256 → v < 256 → has_bit (turned xs 0 1 2 3) ((v + 256 - by % 64) % 256) ≡ has_bit xs ((v + 256 - by) % 256)
-moved_none xs v by d h n =
-    moved_by xs (turned xs 0 1 2 3) 0 v by d h n (λ k l. each_word (λ (w : ℕ). get_or (turned xs 0 1 2 3) w 0 ≡ get_or xs ((w + 4 - 0) % 4) 0) refl refl refl refl k l)
 
 pub moved_one : (xs : List ℕ) (v by : ℕ) → by / 64 ≡ 1 → by < 256 → v < 256 → has_bit (turned xs 3 0 1 2) ((v + 256 - by % 64) % 256) ≡ has_bit xs ((v + 256 - by) % 256)
 moved_one xs v by d h n =

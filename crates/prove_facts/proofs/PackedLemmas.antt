@@ -1,8 +1,8 @@
 -- Facts of one value apart from the others: put among them again, they are all facts.
-use Rattle.std.specs.Prelude.{◌≡◌, ◌⊎◌, ℕ, zero, suc, ◌+◌, ◌-◌, ◌<◌, ◌≤◌, Bool, true, false, cond, not, ◌&&◌, nat_lt, ◌==◌, List, [], ◌∷◌, ◌++◌, length, take, drop, get_or, map, Option, Some, None, ⊤, refl}
+use Rattle.std.specs.Prelude.{◌≡◌, ◌⊎◌, ℕ, suc, ◌+◌, ◌<◌, ◌≤◌, Bool, true, false, cond, ◌&&◌, nat_lt, ◌==◌, List, [], ◌∷◌, ◌++◌, length, take, drop, get_or, Option, Some, None, refl}
 use Rattle.std.proofs.Common.{arith, ap, sym, subst, ◌∙◌, inl, inr}
-use Rattle.std.proofs.lemmas.Bool.{eqb-true, eqb-false, ne_eqb, eq-eqb, ltb-true, ltb-false, cases_lt, cases_Bool, cases_eq}
-use Rattle.std.proofs.lemmas.List.{append_assoc, append-nil, take-append-drop, take_more, drop_more, take-map, drop-map, take_all, drop_all, map-append, length-map}
+use Rattle.std.proofs.lemmas.Bool.{eqb-false, ne_eqb, ltb-true, ltb-false, cases_lt}
+use Rattle.std.proofs.lemmas.List.{append_assoc, append-nil, take-append-drop, take_more, drop_more, take-map, drop-map, take_all, map-append}
 use Rattle.model_prove.specs.Sets.{Set, is_full, only_value}
 use Rattle.model_prove.specs.Facts.{fact_at, fact_before, with_fact, fact_follows, follow}
 use Rattle.prove_facts.specs.declared.facts.Fact.{Fact}
@@ -10,7 +10,7 @@ use Rattle.prove_facts.specs.declared.packed.One.{One}
 use Rattle.prove_facts.specs.Facts.{fact_of, facts_of, AreSparse, AreBelow, AreFrom}
 use Rattle.prove_facts.specs.Packed.{one_of, ones_of, among, AreApart}
 use Rattle.prove_facts.specs.Packing.{AreBefore, Packs}
-use Rattle.prove_facts.proofs.FactLemmas.{sparse_lower, from_lower, below_higher, sparse_append, sparse_from, at_after, at_none, at_rest, with_below, with_above, follow_with, drop_fact}
+use Rattle.prove_facts.proofs.FactLemmas.{sparse_lower, from_lower, below_higher, sparse_append, sparse_from, at_after, at_none, with_below, with_above, follow_with, drop_fact}
 use Rattle.prove_facts.proofs.CoverLemmas.{rest_sparse}
 
 abbrev Known : Type 0
@@ -71,26 +71,10 @@ before_added e [] f s b = tt
 before_added e (d ∷ more) f s b = below_push f e d.0 (below_higher e.0 d.0 f (omega (arith, s.2.0)) b) (omega (arith, s.2.0))
 
 pub packs_one : (first more os ss : Known) (e : ℕ × Set) → AreSparse e.0 (e ∷ more) → Packs first (e ∷ more) os ss → Packs (first ++ e ∷ []) more (os ++ e ∷ []) ss
-packs_one first more os ss e s p =
-    record {
-      ones_sparse = sparse_push os e p.ones_sparse p.ones_before s.1;
-      sets_sparse = p.sets_sparse;
-      apart = apart_one os ss e p.apart (at_below ss e.0 p.sets_before);
-      ones_before = before_added e more os s p.ones_before;
-      sets_before = before_next e more ss s p.sets_before;
-      same = among_one os ss e p.ones_before p.sets_before ∙ ap (λ (f : Known). f ++ e ∷ []) p.same;
-    }
+packs_one first more os ss e s p = grind (arith, sparse_push, apart_one, at_below, before_added, before_next, among_one)
 
 pub packs_set : (first more os ss : Known) (e : ℕ × Set) → AreSparse e.0 (e ∷ more) → Packs first (e ∷ more) os ss → Packs (first ++ e ∷ []) more os (ss ++ e ∷ [])
-packs_set first more os ss e s p =
-    record {
-      ones_sparse = p.ones_sparse;
-      sets_sparse = sparse_push ss e p.sets_sparse p.sets_before s.1;
-      apart = apart_set os ss e p.apart p.ones_before;
-      ones_before = before_next e more os s p.ones_before;
-      sets_before = before_added e more ss s p.sets_before;
-      same = among_set os ss e p.ones_before ∙ ap (λ (f : Known). f ++ e ∷ []) p.same;
-    }
+packs_set first more os ss e s p = grind (arith, sparse_push, apart_set, before_next, before_added, among_set)
 
 pub packs_none : (more : Known) → Packs [] more [] []
 packs_none [] = record { ones_sparse = tt; sets_sparse = tt; apart = tt; ones_before = tt; sets_before = tt; same = refl }
@@ -147,10 +131,7 @@ rest_none false d r h = h
 
 sparse_before : (b : Bool) (k : ℕ) (e d : ℕ × Set) (f r : Known) → nat_lt e.0 d.0 ≡ b → (d.0 == e.0) ≡ false → k ≤ e.0 → is_full e.1 ≡ false → AreSparse k (d ∷ f)
     → (suc d.0 ≤ e.0 → AreSparse (suc d.0) r) → AreSparse k (fact_before b e d f r)
-sparse_before true k e d f r i n h u s t = let l = ltb-true e.0 d.0 i in (h, u, (omega (arith, l), s.1, s.2))
-sparse_before false k e d f r i n h u s t =
-    let l = ltb-false e.0 d.0 i in
-    (s.0, s.1, t (elim (cases_lt d.0 e.0) [ inl m ↦ omega (arith, m) | inr m ↦ absurd (eqb-false d.0 e.0 n (omega (arith, m, l))) ]))
+sparse_before b k e d f r i n h u s t = grind (arith, ltb-true, ltb-false, cases_lt, eqb-false)
 
 sparse_with : (k : ℕ) (e : ℕ × Set) (f : Known) → k ≤ e.0 → is_full e.1 ≡ false → AreSparse k f → fact_at f e.0 ≡ None → AreSparse k (with_fact e f)
 sparse_with k e [] h u s n = (h, u, tt)
@@ -179,9 +160,7 @@ follow_among g (o ∷ os) ss =
 
 -- a set of one value
 pub only_of : (s : Set) (v : ℕ) → only_value s ≡ Some v → s ≡ v ∷ []
-only_of [] v h = absurd (cc h)
-only_of (x ∷ []) v h = ap (λ (w : ℕ). w ∷ []) (cc h)
-only_of (x ∷ y ∷ s) v h = absurd (cc h)
+only_of s v h = grind arith
 
 pub drop_one : (l : List One) (i : ℕ) (d : One) → i < length l → drop i (ones_of l) ≡ one_of (get_or l i d) ∷ drop (i + 1) (ones_of l)
 drop_one l i d h =
@@ -255,10 +234,7 @@ merge_turn f more rest list new whole o n e s a b c m w =
 
 merged_items : (old rs mid new : List Fact) (x : Fact) (n : ℕ) (o : ℕ × Set) → mid ≡ old ++ take n rs → new ≡ mid ++ x ∷ [] → fact_of x ≡ o
     → facts_of new ≡ (facts_of old ++ take n (facts_of rs)) ++ o ∷ []
-merged_items old rs mid new x n o m k i =
-    ap (λ (l : List Fact). facts_of l) (k ∙ ap (λ (l : List Fact). l ++ x ∷ []) m) ∙ map-append fact_of (old ++ take n rs) (x ∷ [])
-    ∙ ap (λ (r : Known). r ++ fact_of x ∷ []) (map-append fact_of old (take n rs) ∙ ap (λ (r : Known). facts_of old ++ r) (sym (take-map fact_of n rs)))
-    ∙ ap (λ (y : ℕ × Set). (facts_of old ++ take n (facts_of rs)) ++ y ∷ []) i
+merged_items old rs mid new x n o m k i = grind (arith, map-append, take-map)
 
 -- a turn over the lists themselves
 pub merge_step : (f more next whole : Known) (rs old mid new : List Fact) (x : Fact) (o : ℕ × Set) (n : ℕ) → f ≡ o ∷ more → AreSparse o.0 (o ∷ more) → AreApart f (facts_of rs)

@@ -1,7 +1,7 @@
 -- Sets as ascending lists: two that have the same values are the same list.
-use Rattle.std.specs.Prelude.{◌≡◌, ◌≢◌, ◌⊎◌, ℕ, zero, suc, ◌+◌, ◌-◌, ◌^◌, ◌<◌, ◌≤◌, Bool, true, false, cond, not, ◌&&◌, ◌||◌, nat_lt, nat_le, ◌==◌, List, [], ◌∷◌, filter, length, Option, Some, None, ⊤, refl}
+use Rattle.std.specs.Prelude.{◌≡◌, ℕ, zero, suc, ◌+◌, ◌-◌, ◌^◌, ◌<◌, ◌≤◌, Bool, true, false, cond, not, ◌&&◌, ◌||◌, nat_lt, ◌==◌, List, [], ◌∷◌, filter, length, Some, None, ⊤, refl}
 use Rattle.std.proofs.Common.{arith, ap, sym, subst, ◌∙◌, inl, inr}
-use Rattle.std.proofs.lemmas.Bool.{and_parts, and_from, or_from, or_left, or_right, eq-eqb, ne_eqb, eqb-true, eqb-false, ltb-true, ltb-false, lt-leb, le-leb, leb-true, cases_lt, cases_eq, cases_Bool, both_ways}
+use Rattle.std.proofs.lemmas.Bool.{and_from, or_from, or_left, or_right, eq-eqb, ne_eqb, eqb-true, eqb-false, ltb-true, ltb-false, leb-true, cases_lt, cases_eq, cases_Bool, both_ways}
 use Rattle.model_prove.specs.Sets.{Set, is_in, numbers_from, all_bytes, put_before, with_value, union, common, is_subset, is_empty, is_full, only_value}
 use Rattle.model_prove.proofs.SetLemmas.{is_first, is_byte, in_larger}
 use Rattle.prove_facts.specs.Sets.{has_bit, values_of, least_value}
@@ -35,13 +35,7 @@ first_same x y s t r q h =
     ]
 
 tail_same : (x : ℕ) (s t : Set) → Rises (suc x) s → Rises (suc x) t → ((v : ℕ) → is_in v (x ∷ s) ≡ is_in v (x ∷ t)) → (v : ℕ) → is_in v s ≡ is_in v t
-tail_same x s t r q h v =
-    elim (cases_lt x v) [
-      | inl l ↦
-          let n : (x == v) ≡ false = ne_eqb x v (λ e. omega (arith, l, e)) in
-          sym (ap (λ (c : Bool). c || is_in v s) n) ∙ h v ∙ ap (λ (c : Bool). c || is_in v t) n
-      | inr n ↦ lower_not_in v (suc x) s r (omega (arith, n)) ∙ sym (lower_not_in v (suc x) t q (omega (arith, n)))
-    ]
+tail_same x s t r q h v = grind (arith, cases_lt, ne_eqb, lower_not_in)
 
 pub same_values : (j k : ℕ) (s t : Set) → Rises j s → Rises k t → ((v : ℕ) → is_in v s ≡ is_in v t) → s ≡ t
 same_values j k [] [] r q h = refl
@@ -68,13 +62,7 @@ in_kept true v x s = refl
 in_kept false v x s = refl
 
 one_kept : (q r e b : Bool) → (e ≡ true → q ≡ r) → ((q && e) || (b && r)) ≡ ((e || b) && r)
-one_kept true r false b h = refl
-one_kept false r false b h = refl
-one_kept true true true b h = refl
-one_kept false false true true h = refl
-one_kept false false true false h = refl
-one_kept true false true b h = absurd (cc (h refl))
-one_kept false true true b h = absurd (cc (h refl))
+one_kept q r e b h = grind arith
 
 pub in_filter : (p : ℕ → Bool) (v : ℕ) (s : Set) → is_in v (filter p s) ≡ (is_in v s && p v)
 in_filter p v [] = refl
@@ -117,21 +105,14 @@ values_are ws s r h o =
 -- ---- unions
 
 again : (p q i : Bool) → p ≡ q → (q || i) ≡ (p || (q || i))
-again true true i e = refl
-again false q i e = refl
-again true false i e = absurd (cc e)
+again p q i e = grind arith
 
 exchanged : (p q i : Bool) → (p || (q || i)) ≡ (q || (p || i))
-exchanged true true i = refl
-exchanged true false i = refl
-exchanged false true i = refl
-exchanged false false i = refl
+exchanged p q i = grind arith
 
 in_put : (b c : Bool) (w v x : ℕ) (xs rest : Set) → (v == x) ≡ c → is_in w rest ≡ ((v == w) || is_in w xs)
     → is_in w (put_before b c v x xs rest) ≡ ((v == w) || ((x == w) || is_in w xs))
-in_put true c w v x xs rest e h = refl
-in_put false true w v x xs rest e h = again (v == w) (x == w) (is_in w xs) (ap (λ (n : ℕ). n == w) (eqb-true v x e))
-in_put false false w v x xs rest e h = ap (λ (b : Bool). (x == w) || b) h ∙ exchanged (x == w) (v == w) (is_in w xs)
+in_put b c w v x xs rest e h = grind (arith, again, eqb-true, exchanged)
 
 pub in_with : (w v : ℕ) (s : Set) → is_in w (with_value v s) ≡ ((v == w) || is_in w s)
 in_with w v [] = refl
@@ -139,11 +120,7 @@ in_with w v (x ∷ xs) = in_put (nat_lt v x) (v == x) w v x xs (with_value v xs)
 
 rises_put : (b c : Bool) (k v x : ℕ) (xs rest : Set) → nat_lt v x ≡ b → (v == x) ≡ c → k ≤ v → k ≤ x → Rises (suc x) xs → (suc x ≤ v → Rises (suc x) rest)
     → Rises k (put_before b c v x xs rest)
-rises_put true c k v x xs rest e f h i r q = let l = ltb-true v x e in (h, (omega (arith, l), r))
-rises_put false true k v x xs rest e f h i r q = (i, r)
-rises_put false false k v x xs rest e f h i r q =
-    let g = ltb-false v x e in
-    (i, q (elim (cases_lt x v) [ inl l ↦ omega (arith, l) | inr n ↦ absurd (eqb-false v x f (omega (arith, g, n))) ]))
+rises_put b c k v x xs rest e f h i r q = grind (arith, ltb-true, ltb-false, cases_lt, eqb-false)
 
 pub rises_with : (k v : ℕ) (s : Set) → k ≤ v → Rises k s → Rises k (with_value v s)
 rises_with k v [] h r = (h, tt)
@@ -274,14 +251,10 @@ least_is ws m l i h =
     least_of 0 m (values_of ws) (rises_values ws) (in_values ws m l ∙ i) (λ v k. in_values ws v (omega (arith, k, l)) ∙ h v k)
 
 pub only_is : (s : Set) → length s ≡ 1 → least_value s ≡ only_value s
-only_is [] h = absurd (omega (arith, h))
-only_is (x ∷ []) h = refl
-only_is (x ∷ y ∷ s) h = absurd (omega (arith, h))
+only_is s h = grind arith
 
 pub only_none : (s : Set) → (length s ≡ 1 → ⊥) → only_value s ≡ None
-only_none [] h = refl
-only_none (x ∷ []) h = absurd (h refl)
-only_none (x ∷ y ∷ s) h = refl
+only_none s h = grind arith
 
 pub full_is : values_of ((2 ^ 64 - 1) ∷ (2 ^ 64 - 1) ∷ (2 ^ 64 - 1) ∷ (2 ^ 64 - 1) ∷ []) ≡ all_bytes
 full_is = all_are ((2 ^ 64 - 1) ∷ (2 ^ 64 - 1) ∷ (2 ^ 64 - 1) ∷ (2 ^ 64 - 1) ∷ []) (λ v l. full_words v l)
@@ -289,28 +262,18 @@ full_is = all_are ((2 ^ 64 - 1) ∷ (2 ^ 64 - 1) ∷ (2 ^ 64 - 1) ∷ (2 ^ 64 - 
 -- ---- tests by what is left out
 
 either_way : (b c : Bool) → (b ≡ true → c ≡ true) → (c ≡ true → b ≡ true) → b ≡ c
-either_way true true f g = refl
-either_way false false f g = refl
-either_way true false f g = sym (f refl)
-either_way false true f g = g refl
+either_way b c f g = grind arith
 
 not_left : (x y : Bool) → (x && not y) ≡ false → x ≡ true → y ≡ true
-not_left true true h i = refl
-not_left true false h i = absurd (cc h)
-not_left false y h i = absurd (cc i)
+not_left x y h i = grind arith
 
 left_none : (x y : Bool) → (x ≡ true → y ≡ true) → (x && not y) ≡ false
-left_none true true f = refl
-left_none true false f = absurd (cc (f refl))
-left_none false y f = refl
+left_none x y f = grind arith
 
 -- a set is within another if no value of it is left out
 pub within_is : (ws xs ys : List ℕ) → ((v : ℕ) → v < 256 → has_bit ws v ≡ has_bit xs v && not (has_bit ys v))
     → is_empty (values_of ws) ≡ is_subset (values_of xs) (values_of ys)
-within_is ws xs ys h =
-    either_way (is_empty (values_of ws)) (is_subset (values_of xs) (values_of ys))
-    (λ e. subset_from xs ys (λ v l i. not_left (has_bit xs v) (has_bit ys v) (sym (h v l) ∙ empty_bits ws v e l) i))
-    (λ e. ap is_empty (none_is ws (λ v l. h v l ∙ left_none (has_bit xs v) (has_bit ys v) (λ i. subset_bits xs ys v e l i))))
+within_is ws xs ys h = grind (arith, either_way, subset_from, not_left, empty_bits, none_is, left_none, subset_bits)
 
 not_none : (b : Bool) → not b ≡ false → b ≡ true
 not_none true h = refl
@@ -318,10 +281,7 @@ not_none false h = absurd (cc h)
 
 -- a set is full if no value is left out
 pub full_if : (ws xs : List ℕ) → ((v : ℕ) → v < 256 → has_bit ws v ≡ not (has_bit xs v)) → is_empty (values_of ws) ≡ is_full (values_of xs)
-full_if ws xs h =
-    either_way (is_empty (values_of ws)) (is_full (values_of xs))
-    (λ e. ap is_full (all_are xs (λ v l. not_none (has_bit xs v) (sym (h v l) ∙ empty_bits ws v e l))))
-    (λ e. ap is_empty (none_is ws (λ v l. h v l ∙ ap not (full_bits xs v e l))))
+full_if ws xs h = grind (arith, either_way, all_are, not_none, empty_bits, none_is, full_bits)
 
 -- words that are zero, and only they, have no value
 pub empty_if : (ws : List ℕ) (n : ℕ) → (n ≡ 0 → (v : ℕ) → v < 256 → has_bit ws v ≡ false) → (((v : ℕ) → v < 256 → has_bit ws v ≡ false) → n ≡ 0)

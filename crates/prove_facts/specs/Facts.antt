@@ -1,5 +1,5 @@
 -- Facts as the definition has them: addresses and sets. A byte without a fact has any value.
-use Rattle.std.specs.Prelude.{◌≡◌, ℕ, suc, ◌<◌, ◌≤◌, Bool, true, false, cond, ◌==◌, List, [], ◌∷◌, map, ⊤}
+use Rattle.std.specs.Prelude.{◌≡◌, ℕ, suc, ◌<◌, ◌≤◌, Bool, false, cond, ◌==◌, List, [], ◌∷◌, map, ⊤}
 use Rattle.model_prove.specs.Sets.{Set, is_full}
 use Rattle.model_prove.specs.Facts as known
 use Rattle.prove_facts.specs.declared.facts.Fact.{Fact}

@@ -1,5 +1,5 @@
 -- Facts of one value apart from the others.
-use Rattle.std.specs.Prelude.{◌≡◌, ℕ, List, [], ◌∷◌, map, Option, None, ⊤}
+use Rattle.std.specs.Prelude.{◌≡◌, ℕ, List, [], ◌∷◌, map, None, ⊤}
 use Rattle.model_prove.specs.Sets.{Set}
 use Rattle.model_prove.specs.Facts as known
 use Rattle.prove_facts.specs.declared.packed.One.{One}

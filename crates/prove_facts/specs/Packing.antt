@@ -1,5 +1,5 @@
 -- What a packing of the first facts of a list keeps.
-use Rattle.std.specs.Prelude.{◌≡◌, ℕ, List, [], ◌∷◌, ⊤}
+use Rattle.std.specs.Prelude.{◌≡◌, [], ◌∷◌, ⊤}
 use Rattle.model_prove.specs.Facts as known
 use Rattle.prove_facts.specs.Facts.{AreSparse, AreBelow}
 use Rattle.prove_facts.specs.Packed.{among, AreApart}

@@ -1,4 +1,3 @@
-use Rattle.std.proofs.Common.{arith}
 use Rattle.std.proofs.lemmas.Result.{on_ok_weaker}
 use Rattle.prove_facts.specs.Facts.{fact_of, facts_of}
 use Rattle.prove_facts.proofs.CoverLemmas.{first_joined}

@@ -1,4 +1,4 @@
-use Rattle.std.proofs.Common.{◌∙◌, ℕ, sym, ap, subst, take}
+use Rattle.std.proofs.Common.{◌∙◌, sym, ap, subst, take}
 use Rattle.model_prove.specs.Facts as known
 use Rattle.prove_facts.specs.Facts.{facts_of, AreSparse}
 use Rattle.prove_facts.proofs.FactLemmas.{at_rest, below_higher, slice_rest}

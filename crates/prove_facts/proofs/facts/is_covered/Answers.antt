@@ -1,4 +1,4 @@
-use Rattle.std.proofs.Common.{◌∙◌, sym, ap, arith, List}
+use Rattle.std.proofs.Common.{arith}
 use Rattle.prove_facts.specs.Sets.{set_of}
 use Rattle.prove_facts.proofs.SetLemmas.{not_full}
 use Rattle.prove_facts.proofs.CoverLemmas.{none_within, first_within}

@@ -1,4 +1,4 @@
-use Rattle.std.proofs.Common.{◌∙◌, sym, arith}
+use Rattle.std.proofs.Common.{arith}
 use Rattle.prove_facts.specs.Facts.{facts_of}
 use Rattle.model_prove.specs.Facts.{join}
 use Rattle.prove_facts.proofs.FactLemmas.{drop_fact}

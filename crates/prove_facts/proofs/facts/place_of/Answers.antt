@@ -1,5 +1,4 @@
-use Rattle.std.proofs.Common.{◌≤◌, ◌+◌, arith}
-use Rattle.prove_facts.specs.Facts.{facts_of}
+use Rattle.std.proofs.Common.{arith}
 use Rattle.prove_facts.proofs.FactLemmas.{below_next, sparse_from_here}
 use Rattle.prove_facts.proofs.facts.place_of.Goals as goal
 

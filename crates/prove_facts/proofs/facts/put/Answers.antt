@@ -1,4 +1,4 @@
-use Rattle.std.proofs.Common.{◌∙◌, ◌≡◌, sym, subst, arith, List}
+use Rattle.std.proofs.Common.{◌∙◌, sym, subst, List}
 use Rattle.std.proofs.lemmas.Result.{on_ok_weaker}
 use Rattle.prove_facts.specs.Facts.{fact_of, facts_of, AreSparse}
 use Rattle.prove_facts.proofs.FactLemmas.{put_there, put_new, starts_within, by_result}

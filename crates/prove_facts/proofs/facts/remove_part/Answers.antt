@@ -1,4 +1,4 @@
-use Rattle.std.proofs.Common.{◌∙◌, ◌≡◌, ◌++◌, ◌-◌, sym, ap, arith, List, length, take, drop}
+use Rattle.std.proofs.Common.{◌∙◌, ◌≡◌, ◌++◌, ◌-◌, ap, arith, List, length, take, drop}
 use Rattle.std.proofs.lemmas.List.{take_rest}
 use Rattle.prove_facts.specs.declared.facts.Fact.{Fact}
 use Rattle.prove_facts.proofs.FactLemmas.{around_is, around_all}

@@ -1,4 +1,4 @@
-use Rattle.std.proofs.Common.{◌∙◌, sym, arith, length}
+use Rattle.std.proofs.Common.{◌∙◌, sym, arith}
 use Rattle.std.proofs.lemmas.List.{length-map}
 use Rattle.prove_facts.specs.Facts.{fact_of, facts_of}
 use Rattle.prove_facts.proofs.SetLemmas.{full_is}

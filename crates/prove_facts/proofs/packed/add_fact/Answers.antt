@@ -1,4 +1,4 @@
-use Rattle.std.proofs.Common.{◌∙◌, ◌++◌, ℕ, sym, ap, refl, inl, inr, List, [], ◌∷◌}
+use Rattle.std.proofs.Common.{◌∙◌, ◌++◌, sym, ap, refl, inl, inr, List, [], ◌∷◌}
 use Rattle.std.proofs.lemmas.Result.{on_ok_weaker}
 use Rattle.std.proofs.lemmas.List.{map-append}
 use Rattle.model_prove.specs.Sets as sets

@@ -1,4 +1,4 @@
-use Rattle.std.proofs.Common.{◌∙◌, ◌++◌, ◌≡◌, ℕ, sym, ap, arith, List, [], drop}
+use Rattle.std.proofs.Common.{◌∙◌, ◌++◌, ◌≡◌, sym, ap, arith, List, [], drop}
 use Rattle.std.proofs.lemmas.List.{map-append, drop_all, length-map}
 use Rattle.model_prove.specs.Facts as known
 use Rattle.prove_facts.specs.declared.facts.Fact.{Fact}

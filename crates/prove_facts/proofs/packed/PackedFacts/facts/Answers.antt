@@ -1,4 +1,4 @@
-use Rattle.std.proofs.Common.{◌∙◌, ℕ, sym, ap, subst, List}
+use Rattle.std.proofs.Common.{◌∙◌, sym, ap, subst, List}
 use Rattle.model_prove.specs.Facts as known
 use Rattle.prove_facts.specs.declared.facts.Fact.{Fact}
 use Rattle.prove_facts.specs.declared.packed.One.{One}

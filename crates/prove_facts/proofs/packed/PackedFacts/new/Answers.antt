@@ -1,11 +1,11 @@
-use Rattle.std.proofs.Common.{◌∙◌, ℕ, sym, ap, subst, arith, List, []}
+use Rattle.std.proofs.Common.{sym, subst, arith, List, []}
 use Rattle.model_prove.specs.Facts as known
 use Rattle.prove_facts.specs.declared.facts.Fact.{Fact}
 use Rattle.prove_facts.specs.declared.packed.One.{One}
 use Rattle.prove_facts.specs.Facts.{facts_of, AreSparse}
-use Rattle.prove_facts.specs.Packed.{ones_of, among, AreApart}
+use Rattle.prove_facts.specs.Packed.{ones_of}
 use Rattle.prove_facts.specs.Packing.{Packs}
-use Rattle.prove_facts.proofs.PackedLemmas.{packs_none, packs_turn, packs_all}
+use Rattle.prove_facts.proofs.PackedLemmas.{packs_none, packs_turn}
 use Rattle.prove_facts.proofs.packed.PackedFacts.new.Goals as goal
 
 pub loop-fact-init : goal.loop-fact-init

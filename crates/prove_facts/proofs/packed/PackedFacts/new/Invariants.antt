@@ -1,5 +1,5 @@
-use Rattle.std.proofs.Common.{◌≡◌, take, drop}
-use Rattle.prove_facts.specs.Facts.{facts_of, AreSparse}
+use Rattle.std.proofs.Common.{take, drop}
+use Rattle.prove_facts.specs.Facts.{facts_of}
 use Rattle.prove_facts.specs.Packed.{ones_of}
 use Rattle.prove_facts.specs.Packing.{Packs}
 use Rattle.prove_facts.proofs.packed.PackedFacts.new.Given as goal

@@ -1,5 +1,5 @@
-use Rattle.std.proofs.Common.{◌∙◌, sym, ap, Bool, ℕ, ◌<◌, ◌≡◌}
-use Rattle.std.specs.Prelude.{not, ◌&&◌}
+use Rattle.std.proofs.Common.{◌∙◌, sym, ap, Bool}
+use Rattle.std.specs.Prelude.{◌&&◌}
 use Rattle.prove_facts.specs.Sets.{has_bit}
 use Rattle.prove_facts.proofs.SetLemmas.{within_is, subset_bits}
 use Rattle.prove_facts.proofs.values.Values.is_within.Goals as goal

@@ -1,4 +1,4 @@
-use Rattle.std.proofs.Common.{◌∙◌, ℕ, sym, ap, List}
+use Rattle.std.proofs.Common.{◌∙◌, sym, ap}
 use Rattle.prove_facts.specs.Sets.{least_value}
 use Rattle.model_prove.specs.Sets as sets
 use Rattle.prove_facts.proofs.LeastLemmas.{four_values}
