@@ -1,17 +1,15 @@
 -- A card after the atomic writes of a chain.
-use Rattle.std.proofs.Common.{◌≡◌, ℕ, true, false, List, length, Option, Some, None, Ok, refl, sym, ◌∙◌, subst}
-use Rattle.std.specs.Prelude.{option_map}
+use Rattle.std.proofs.Common.{arith, ◌≡◌, ℕ, true, false, List, length, Option, Some, Ok, ◌∙◌, subst}
 use Rattle.mc_bank.specs.model_card.specs.declared.card.Part.{Part}
 use Rattle.mc_base.specs.model_device.specs.Orders.{Answer, InOrder}
 use Rattle.mc_base.specs.model_device.specs.Device.{DeviceState, Wrote as DeviceWrote}
 use Rattle.mc_base.specs.model_device.specs.Card.{Card as ModelCard, means}
 use Rattle.mc_bank.specs.model_card.specs.Items.{Site, BankItem, card_done, write_items}
-use Rattle.mc_bank.specs.model_card.specs.Manager.{Selected, SessionState}
 use Rattle.mc_apdu.specs.model_machine.specs.Chain.{Write}
 use Rattle.mc_bank.specs.Bank.{BankState, app_of}
 use Rattle.mc_bank.proofs.Commits.{slots_in_order, sites_in_order}
 use Rattle.mc_store.specs.declared.store.Store.{Store}
-use Rattle.mc_store.specs.Store.{is_going, store_state, store_named, store_room, store_site_bytes}
+use Rattle.mc_store.specs.Store.{store_state, store_named, store_room, store_site_bytes}
 use Rattle.mc_store.specs.StoreItems.{store_did}
 use Rattle.mc_store.specs.GoingLaws.{going_is}
 use Rattle.mc_store.specs.Laws.{store_keeps, store_spares, store_leaves}
@@ -30,13 +28,7 @@ use Rattle.mc_card.proofs.StoreBank.{store_bank}
 
 -- a session state with other session bytes
 session_state_with : (site_bytes : Site → Part → List ℕ) (old new : List ℕ) (m : ManagerState) → session_state_of site_bytes new m ≡ with_session new (session_state_of site_bytes old m)
-session_state_with site_bytes old new m = by_selected m.selected
-  where
-    by_selected : (o : Option Selection)
-        → ◌≡◌ {A = SessionState} (record { selected = option_map {T = Selection} (λ s. record { name = s.aid; session = new }) o; load = (session_state_of site_bytes old m).load })
-        (record { selected = option_map {T = Selected} (λ s. record s { session = new }) (option_map {T = Selection} (λ s. record { name = s.aid; session = old }) o); load = (session_state_of site_bytes old m).load })
-    by_selected None = refl
-    by_selected (Some s) = refl
+session_state_with site_bytes old new m = grind arith
 
 module _ {N : Type 0} (state : N → DeviceState) (wrote : N → ℕ → List ℕ → Answer → N → Type 0)
     (obeys : (d : N) (at : ℕ) (w : List ℕ) (a : Answer) (e : N) → (state d).on ≡ true → wrote d at w a e → DeviceWrote (state d) at w a (state e)) where
@@ -79,11 +71,7 @@ module _ {N : Type 0} (state : N → DeviceState) (wrote : N → ℕ → List �
       pub still_up : (session : List ℕ) (chain : Option Chained) → (bank_state e).stopped ≡ false
           → ((s : Selection) → c.manager.selected ≡ Some s → length session ≡ (app_of (card_in state c).apps (Some s.aid)).session)
           → IsUp state (record { store = e; manager = c.manager; session = session; chain = chain })
-      still_up session chain on size = record {
-        going = not-false (is_going (state e.device) e.count) on;
-        fits = fits_kept (view_at c.store) (view_at e) c.manager (view_stays ws c.store e (Ok tt) h) up.fits;
-        session = λ s is. size s is ∙ sym (sizes_after.session s.aid);
-      }
+      still_up session chain on size = grind (arith, not-false, fits_kept, view_stays, sizes_after)
 
       -- its session state, with unchanged session bytes
       pub same_session_state : session_state_of (store_site_bytes (state e.device)) c.session c.manager ≡ session_state_in state c

@@ -1,6 +1,6 @@
 -- A command on a card: one that the manager answers, and one that the selected application runs.
 use Rattle.std.proofs.Common.{◌≡◌, ℕ, ◌+◌, ◌≤◌, Bool, true, false, cond, List, length, Option, Some, None, Result, Ok, Err, refl, sym, ◌∙◌, ap, subst, arith}
-use Rattle.std.specs.Prelude.{◌==◌, ◌&&◌, is_some, option_map, IsSome, IfOk, OnOk, OnErr}
+use Rattle.std.specs.Prelude.{◌==◌, ◌&&◌, option_map, IfOk, OnOk, OnErr}
 use Rattle.mc_base.specs.model_device.specs.declared.device.Stop.{Stop}
 use Rattle.mc_base.specs.model_device.specs.Orders.{Answer, InOrder, answer_of}
 use Rattle.mc_apdu.specs.model_machine.specs.Apdu.{ApduParts, apdu_read}
@@ -8,8 +8,8 @@ use Rattle.mc_base.specs.model_device.specs.Device.{DeviceState, IsSized, Wrote 
 use Rattle.mc_base.specs.model_device.specs.Card.{App, Card as ModelCard}
 use Rattle.mc_bank.specs.model_card.specs.Items.{BankItem, write_items}
 use Rattle.mc_apdu.specs.model_machine.specs.Chain.{Chain, Ran, start, run}
-use Rattle.mc_bank.specs.model_card.specs.Manager.{Selected, SessionState, Route, WrongClass, ToSelect, ToManager, ToApplication, route_of_parts, route}
-use Rattle.mc_bank.specs.model_card.specs.Commands.{Command, command, status, ran_command, application_command, by_route}
+use Rattle.mc_bank.specs.model_card.specs.Manager.{Selected, SessionState, Route, ToApplication, route_of_parts, route}
+use Rattle.mc_bank.specs.model_card.specs.Commands.{Command, command, status, ran_command, by_route}
 use Rattle.mc_apdu.specs.declared.reply.Reply.{Reply}
 use Rattle.mc_bank.specs.Bank.{BankState, app_of, name_or}
 use Rattle.mc_manager.specs.declared.selection.Selection.{Selection}
@@ -25,7 +25,7 @@ use Rattle.mc_store.specs.StoreItems.{store_did}
 use Rattle.mc_store.specs.GoingLaws.{going_is}
 use Rattle.mc_card.specs.declared.card.Card.{Card}
 use Rattle.mc_card.specs.Parts.{device_in, card_in, session_state_in, view_in, due, IsReadyCard}
-use Rattle.mc_card.specs.Ends.{RunSteps, PassedSteps, RouteSteps, is_passed, most_weight, outcome_or_stop, Commanded, PassedToChain, Answered}
+use Rattle.mc_card.specs.Ends.{RunSteps, RouteSteps, is_passed, most_weight, outcome_or_stop, Commanded, PassedToChain, Answered}
 use Rattle.mc_card.specs.ItemWrites.{ItemsMade, MadeWithin}
 use Rattle.mc_card.specs.Managing.{IsAnswered, IsPassed}
 use Rattle.mc_card.proofs.StaticLemmas.{going_apps}
@@ -47,13 +47,7 @@ no_more old new n none low high = omega (arith, none, low, high)
 
 -- a command for an application makes no steps in the manager
 pub passed_quiet : (a : ApduParts) (old new n : ℕ) → route_of_parts (Some a) ≡ ToApplication a → old ≤ new → new ≤ old + most_ticks a n → new ≡ old
-passed_quiet a old new n is low high = by_tests (a.cla == 0xFF) (a.cla == 0 && a.ins == 0xA4 && a.p1 == 4) (a.cla == 0xBE) refl is
-  where
-    by_tests : (p q r : Bool) → (a.cla == 0xBE) ≡ r → cond p WrongClass (cond q (ToSelect a) (cond r (ToManager a) (ToApplication a))) ≡ ToApplication a → new ≡ old
-    by_tests true q r h e = absurd (cc e)
-    by_tests false true r h e = absurd (cc e)
-    by_tests false false true h e = absurd (cc e)
-    by_tests false false false h e = no_more old new (most_ticks a n) (quiet_ticks a n h) low high
+passed_quiet a old new n is low high = grind (arith, no_more, quiet_ticks)
 
 -- ---- a command by its bytes
 
@@ -75,9 +69,7 @@ module _ {N : Type 0} (state : N → DeviceState) (wrote : N → ℕ → List �
 
   -- a command of a wrong length
   pub wrong_done : (c : Card N) (bytes : List ℕ) (budget : ℕ) (o : Outcome) → IsReadyCard state c → apdu_read bytes ≡ None → outcome_value o ≡ status 0x6700 → Commanded state wrote c (due state c bytes budget) (Ok o) c
-  wrong_done c bytes budget o ready wrong is =
-      subst (λ (r : Command). Commanded state wrote c r (Ok o) c) (sym (due_route (card_in state c) (session_state_in state c) bytes budget None wrong))
-      (record { made = made_none state wrote obeys (card_in state c) c.store.device (going_base (state c.store.device) c.store.count ready.up.going); outcome = is; session_state = refl; ready = ready })
+  wrong_done c bytes budget o ready wrong is = grind (arith, due_route, made_none, going_base)
 
   pub wrong_begun : (c : Card N) (bytes : List ℕ) (budget : ℕ) (o : Outcome) → IsReadyCard state c → apdu_read bytes ≡ None → outcome_value o ≡ status 0x6700 → Answered state wrote c bytes budget (Ok o) c
   wrong_begun c bytes budget o ready wrong is =
@@ -133,12 +125,7 @@ module _ {N : Type 0} (state : N → DeviceState) (wrote : N → ℕ → List �
 
     -- there are as many session bytes as the application in the slot of the selection has
     pub slot_session : (slot : ℕ) → t.slot ≡ slot → length c.session ≡ (app_of (apps_in (state c.store.device).words) (store_named (state c.store.device) slot)).session
-    slot_session slot at =
-        ready.up.session t is ∙ ap (λ (es : List (List ℕ × App)). (app_of es (Some t.aid)).session) (sym apps_own)
-        ∙ ap (λ (o : Option (List ℕ)). (app_of (apps_in (state c.store.device).words) o).session) (sym named_own ∙ ap (λ (k : ℕ). store_named (state c.store.device) k) at)
-
-    pub slot_there : (slot : ℕ) → t.slot ≡ slot → IsSome (store_named (state c.store.device) slot)
-    slot_there slot at = ap is_some (ap (λ (k : ℕ). store_named (state c.store.device) k) (sym at) ∙ named_own)
+    slot_session slot at = grind (arith, apps_own, named_own)
 
     name_own : (slot : ℕ) → t.slot ≡ slot → name_or (store_named (state c.store.device) slot) ≡ t.aid
     name_own slot at = ap name_or (ap (λ (k : ℕ). store_named (state c.store.device) k) (sym at) ∙ named_own)
@@ -167,8 +154,7 @@ module _ {N : Type 0} (state : N → DeviceState) (wrote : N → ℕ → List �
         record {
           made = card_made state wrote obeys c ready.up r.writes ws e (Ok tt) h.writes;
           outcome = h.outcome;
-          session_state = session_state_after state wrote obeys c ready.up r.writes ws e h.writes session
-              ∙ ap (λ (x : Option Selected). record (session_state_in state c) { selected = x }) (session_state_with (session_state_in state c).selected session session_state_own ∙ ap (λ (s : List ℕ). Some (record { name = t.aid; session = s })) h.session);
+          session_state = grind (arith, session_state_after, session, session_state_with, session_state_own);
           ready = record {
             up = still_up state wrote obeys c ready.up r.writes ws e h.writes session c.chain h.going (λ s own.
                 let same : t ≡ s = cc (is, own) in
@@ -179,14 +165,10 @@ module _ {N : Type 0} (state : N → DeviceState) (wrote : N → ℕ → List �
 
     due_ran : (a : ApduParts) (budget : ℕ) (bytes : List ℕ) → apdu_read bytes ≡ Some a → route_of_parts (Some a) ≡ ToApplication a
         → due state c bytes budget ≡ ran_command (session_state_in state c) t.aid (run (card_in state c).apps t.aid c.session a budget)
-    due_ran a budget bytes read to =
-        due_route (card_in state c) (session_state_in state c) bytes budget (Some a) read ∙ ap (λ (r : Route). by_route (card_in state c) (session_state_in state c) budget r) to
-        ∙ ap (λ (x : Option Selected). application_command (card_in state c) (session_state_in state c) x a budget) session_state_own
+    due_ran a budget bytes read to = grind (arith, due_route, session_state_own)
 
     run_same : (a : ApduParts) (budget slot : ℕ) → t.slot ≡ slot → run_of c slot a budget ≡ run (card_in state c).apps t.aid c.session a budget
-    run_same a budget slot at =
-        ap (λ (es : List (List ℕ × App)). run es (name_or (store_named (state c.store.device) slot)) c.session a budget) apps_own
-        ∙ ap (λ (n : List ℕ). run (card_in state c).apps n c.session a budget) (name_own slot at)
+    run_same a budget slot at = grind (arith, apps_own, name_own)
 
     pub ran_done : (a : ApduParts) (budget slot : ℕ) (bytes : List ℕ) (result : Result Outcome Stop) (e : Store N) (session : List ℕ) → t.slot ≡ slot → apdu_read bytes ≡ Some a → route_of_parts (Some a) ≡ ToApplication a
         → RunDid c (run_of c slot a budget) result e session
@@ -215,11 +197,7 @@ module _ {N : Type 0} (state : N → DeviceState) (wrote : N → ℕ → List �
         → OnOk result (new ≡ old + (run_of c slot a budget).count)
         → OnErr result (new ≤ old + (run_of c slot a budget).count)
         → RouteSteps (card_in state c) (session_state_in state c).selected budget (route bytes) (answer_of result) old new
-    ran_steps a budget slot bytes result old new at read to done most =
-        subst (λ (r : Route). RouteSteps (card_in state c) (session_state_in state c).selected budget r (answer_of result) old new) (sym (ap (λ (o : Option ApduParts). route_of_parts o) read ∙ to))
-        (subst (λ (x : Option Selected). PassedSteps (card_in state c) x a budget (answer_of result) old new) (sym session_state_own)
-        (subst (λ (r : Ran). RunSteps r (answer_of result) old new) (run_same a budget slot at)
-        (steps_by (run_of c slot a budget) result old new done most)))
+    ran_steps a budget slot bytes result old new at read to done most = grind (arith, session_state_own, run_same, steps_by)
 
     -- ---- the beginning of a command that an application runs
 

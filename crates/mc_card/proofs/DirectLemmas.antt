@@ -1,6 +1,6 @@
 -- A command that the manager of a card handles: its items, its answer, and that the card is ready again.
-use Rattle.std.proofs.Common.{◌≡◌, ℕ, Bool, true, false, cond, List, [], length, Option, Some, None, Ok, Err, refl, sym, ◌∙◌, ap, subst}
-use Rattle.std.specs.Prelude.{◌==◌, ◌&&◌, Result, bytes_eq, is_some, option_map, unwrap_or, IsSome}
+use Rattle.std.proofs.Common.{arith, ◌≡◌, ℕ, Bool, true, false, List, [], length, Option, Some, None, Ok, Err, refl, sym, ◌∙◌, ap, subst}
+use Rattle.std.specs.Prelude.{Result, bytes_eq, is_some, option_map, IsSome}
 use Rattle.std.proofs.lemmas.List.{length-replicate}
 use Rattle.mc_bank.specs.model_card.specs.declared.card.Sizes.{Sizes}
 use Rattle.mc_base.specs.model_device.specs.declared.device.Stop.{Stop}
@@ -10,14 +10,13 @@ use Rattle.mc_base.specs.model_device.specs.Bytes.{zeros, lookup, insert}
 use Rattle.mc_base.specs.model_device.specs.Device.{DeviceState, Wrote}
 use Rattle.mc_base.specs.model_device.specs.Card.{App, Card as ModelCard}
 use Rattle.mc_bank.specs.model_card.specs.Items.{BankItem}
-use Rattle.mc_bank.specs.model_card.specs.Manager.{Selected, SessionState, Managed, Declines, Accepts, Accepted, Route, WrongLength, WrongClass, ToSelect, ToManager, ToApplication, route_of_parts, fresh, first_status, answer_unless, select_refusals, select_done, select, is_selected, manage, room_on}
+use Rattle.mc_bank.specs.model_card.specs.Manager.{Selected, SessionState, Managed, Declines, Accepts, Accepted, Route, WrongLength, WrongClass, ToSelect, ToManager, ToApplication, route_of_parts, select, is_selected, manage, room_on}
 use Rattle.mc_apdu.specs.model_machine.specs.Chain.{Reply}
 use Rattle.mc_bank.specs.model_card.specs.Commands.{Command, manager_command, application_command, by_route}
 use Rattle.mc_manager.specs.law_manager.specs.Orders.{Order, order_of}
 use Rattle.mc_manager.specs.law_manager.specs.Answers.{IsAnswer}
-use Rattle.mc_manager.specs.law_manager.specs.Answers as answer
 use Rattle.mc_manager.specs.law_manager.proofs.Orders.{answer_made}
-use Rattle.mc_bank.specs.Bank.{no_app, app_of}
+use Rattle.mc_bank.specs.Bank.{app_of}
 use Rattle.mc_bank.specs.Slots.{slot_place}
 use Rattle.mc_bank.specs.SlotLaws.{has_sizes}
 use Rattle.mc_apdu.specs.declared.reply.Reply.{Reply as CardReply}
@@ -64,15 +63,7 @@ application_matches c session_state (Some s) a budget = tt
 
 -- a command that is not passed to the application has another verdict
 pub passed_not : (v : BankView) (session_state : SessionState) (r : Route) → (due_on v session_state r ≡ Passes → ⊥) → is_passed r session_state.selected ≡ false
-passed_not v session_state WrongLength h = refl
-passed_not v session_state WrongClass h = refl
-passed_not v session_state (ToSelect a) h = refl
-passed_not v session_state (ToManager a) h = refl
-passed_not v session_state (ToApplication a) h = by_selected session_state.selected h
-  where
-    by_selected : (x : Option Selected) → (due_application x ≡ Passes → ⊥) → is_passed (ToApplication a) x ≡ false
-    by_selected None h = refl
-    by_selected (Some s) h = absurd (h refl)
+passed_not v session_state r h = grind arith
 
 -- ---- the selected application is unchanged
 
@@ -90,11 +81,7 @@ module _ (apps : List (List ℕ × App)) (n : List ℕ) (there : is_some (lookup
 
   made_spares : (room : Sizes → Option ℕ) (session_state : SessionState) (a : ApduParts) (o : Order) (m : Managed) → (is_selected session_state.selected a.body ≡ false → bytes_eq a.body n ≡ false)
       → IsAnswer room apps session_state a o m → CommandSpares (due_manager m)
-  made_spares room session_state a _ _ other (answer.refused o sw h) = refl
-  made_spares room session_state a _ _ other (answer.quiet o body load h) = refl
-  made_spares room session_state a _ _ other (answer.loaded p l h) = refl
-  made_spares room session_state a _ _ other (answer.created l k h) = inserted_spares k (fresh l) h.free
-  made_spares room session_state a _ _ other (answer.deleted h) = lookup_left apps a.body n (other h.other)
+  made_spares room session_state a o m other h = grind (arith, inserted_spares, lookup_left)
 
   manage_spares : (room : Sizes → Option ℕ) (session_state : SessionState) (a : ApduParts) → (is_selected session_state.selected a.body ≡ false → bytes_eq a.body n ≡ false) → CommandSpares (due_manager (manage room apps session_state a))
   manage_spares room session_state a other = made_spares room session_state a (order_of a.ins) (manage room apps session_state a) other (answer_made room apps session_state a)
@@ -102,91 +89,30 @@ module _ (apps : List (List ℕ × App)) (n : List ℕ) (there : is_some (lookup
 -- the selected application is unchanged by a command
 due_spares : (v : BankView) (s : List ℕ) (m : ManagerState) (t : Selection) (r : Route) → m.selected ≡ Some t → is_some (lookup v.state.apps t.aid) ≡ true
     → lookup (apps_after (due_on v (session_state_of v.site_bytes s m) r) v.state.apps) t.aid ≡ lookup v.state.apps t.aid
-due_spares v s m t WrongLength is there = refl
-due_spares v s m t WrongClass is there = refl
-due_spares v s m t (ToSelect a) is there = by_refusal_select (first_status (select_refusals v.state.apps a)) (lookup v.state.apps a.body)
-  where
-    by_refusal_select : (o : Option ℕ) (x : Option App) → lookup (apps_after (due_select (answer_unless o (select_done (session_state_of v.site_bytes s m) a x))) v.state.apps) t.aid ≡ lookup v.state.apps t.aid
-    by_refusal_select (Some sw) x = refl
-    by_refusal_select None None = refl
-    by_refusal_select None (Some app) = refl
-due_spares v s m t (ToManager a) is there =
-    manage_spares v.state.apps t.aid there v.room (session_state_of v.site_bytes s m) a (by_selected m.selected is)
-  where
-    by_selected : (x : Option Selection) → x ≡ Some t → is_selected (option_map {T = Selection} {U = Selected} (λ u. record { name = u.aid; session = s }) x) a.body ≡ false → bytes_eq a.body t.aid ≡ false
-    by_selected None e h = absurd (cc e)
-    by_selected (Some u) e h = let same : u ≡ t = cc e in other_way t.aid a.body (sym (ap (λ (y : Selection). bytes_eq y.aid a.body) same) ∙ h)
-due_spares v s m t (ToApplication a) is there = by_selected m.selected
-  where
-    by_selected : (x : Option Selection) → lookup (apps_after (due_application (option_map {T = Selection} {U = Selected} (λ u. record { name = u.aid; session = s }) x)) v.state.apps) t.aid ≡ lookup v.state.apps t.aid
-    by_selected None = refl
-    by_selected (Some u) = refl
+due_spares v s m t r is there = grind (arith, manage_spares, other_way)
 
 -- ---- the answer
 
 outcome_of : (x : CommandDue) (session_state : SessionState) (r : Command) (reply : CardReply) (s : List ℕ) (v w : BankView) (m n : ManagerState) → Matches x session_state r → CommandLeaves x s v m (Answers reply) w n → outcome_value (outcome.Reply reply) ≡ r.outcome
-outcome_of (Refuses sw) session_state r reply s v w m n match leaves = ap (λ (b : List ℕ). Reply b reply.sw) leaves.reply.body ∙ ap (λ (k : ℕ). Reply [] k) leaves.reply.sw ∙ sym match.0
-outcome_of (Selects d) session_state r reply s v w m n match leaves = absurd leaves
-outcome_of (Does d) session_state r reply s v w m n match leaves = ap (λ (b : List ℕ). Reply b reply.sw) leaves.reply.body ∙ ap (λ (k : ℕ). Reply d.body k) leaves.reply.sw ∙ sym match.0
-outcome_of Passes session_state r reply s v w m n match leaves = absurd leaves
+outcome_of x session_state r reply s v w m n match leaves = grind arith
 
 selected_of : (x : CommandDue) (reply : CardReply) (s : List ℕ) (v w : BankView) (m n : ManagerState) → CommandLeaves x s v m (Answers reply) w n → n.selected ≡ m.selected
-selected_of (Refuses sw) reply s v w m n leaves = ap (λ (h : ManagerState). h.selected) leaves.unchanged
-selected_of (Selects d) reply s v w m n leaves = absurd leaves
-selected_of (Does d) reply s v w m n leaves = leaves.selected
-selected_of Passes reply s v w m n leaves = absurd leaves
+selected_of x reply s v w m n leaves = grind arith
 
 -- only a SELECT makes a new selection, and it makes no items
 quiet_select : (v : BankView) (session_state : SessionState) (r : Route) (d : Accepted) → due_on v session_state r ≡ Selects d → d.items ≡ []
-quiet_select v session_state WrongLength d h = absurd (cc h)
-quiet_select v session_state WrongClass d h = absurd (cc h)
-quiet_select v session_state (ToSelect a) d h = by_refusal_select (first_status (select_refusals v.state.apps a)) (lookup v.state.apps a.body) h
-  where
-    by_refusal_select : (o : Option ℕ) (x : Option App) → due_select (answer_unless o (select_done session_state a x)) ≡ Selects d → d.items ≡ []
-    by_refusal_select (Some sw) x e = absurd (cc e)
-    by_refusal_select None None e = let same : select_done session_state a None ≡ d = cc e in sym (ap (λ (k : Accepted). k.items) same)
-    by_refusal_select None (Some app) e = let same : select_done session_state a (Some app) ≡ d = cc e in sym (ap (λ (k : Accepted). k.items) same)
-quiet_select v session_state (ToManager a) d h = by_answer (manage v.room v.state.apps session_state a) h
-  where
-    by_answer : (x : Managed) → due_manager x ≡ Selects d → d.items ≡ []
-    by_answer (Declines sw) e = absurd (cc e)
-    by_answer (Accepts k) e = absurd (cc e)
-quiet_select v session_state (ToApplication a) d h = by_selected session_state.selected h
-  where
-    by_selected : (x : Option Selected) → due_application x ≡ Selects d → d.items ≡ []
-    by_selected None e = absurd (cc e)
-    by_selected (Some s) e = absurd (cc e)
+quiet_select v session_state r d h = grind arith
 
 -- ---- the route of a command that is passed to the application
 
 routed_apdu : (a x : ApduParts) → route_of_parts (Some a) ≡ ToApplication x → x ≡ a
-routed_apdu a x h = by_tests (a.cla == 0xFF) (a.cla == 0 && a.ins == 0xA4 && a.p1 == 4) (a.cla == 0xBE) h
-  where
-    by_tests : (p q r : Bool) → cond p WrongClass (cond q (ToSelect a) (cond r (ToManager a) (ToApplication a))) ≡ ToApplication x → x ≡ a
-    by_tests true q r e = absurd (cc e)
-    by_tests false true r e = absurd (cc e)
-    by_tests false false true e = absurd (cc e)
-    by_tests false false false e = sym (cc e)
+routed_apdu a x h = grind arith
 
 passed_route : (v w : BankView) (session_state : SessionState) (r : Route) (s : List ℕ) (k : ℕ) (m n : ManagerState) → CommandLeaves (due_on v session_state r) s v m (Pass k) w n → (x : ApduParts) × (r ≡ ToApplication x)
-passed_route v w session_state WrongLength s k m n h = absurd h
-passed_route v w session_state WrongClass s k m n h = absurd h
-passed_route v w session_state (ToSelect a) s k m n h = by_answer (select v.state.apps session_state a) h
-  where
-    by_answer : (y : Managed) → CommandLeaves (due_select y) s v m (Pass k) w n → (x : ApduParts) × (ToSelect a ≡ ToApplication x)
-    by_answer (Declines sw) e = absurd e
-    by_answer (Accepts d) e = absurd e
-passed_route v w session_state (ToManager a) s k m n h = by_answer (manage v.room v.state.apps session_state a) h
-  where
-    by_answer : (y : Managed) → CommandLeaves (due_manager y) s v m (Pass k) w n → (x : ApduParts) × (ToManager a ≡ ToApplication x)
-    by_answer (Declines sw) e = absurd e
-    by_answer (Accepts d) e = absurd e
-passed_route v w session_state (ToApplication a) s k m n h = (a, refl)
+passed_route v w session_state r s k m n h = grind arith
 
 card_same : {N : Type 0} (c d : Card N) → d.store ≡ c.store → d.manager ≡ c.manager → d.session ≡ c.session → d.chain ≡ c.chain → d ≡ c
-card_same c d store manager session chain =
-    ap (λ (x : Store _). record d { store = x }) store ∙ ap (λ (x : ManagerState). record d { store = c.store; manager = x }) manager
-    ∙ ap (λ (x : List ℕ). record c { session = x; chain = d.chain }) session ∙ ap (λ (x : Option _). record c { chain = x }) chain
+card_same c d store manager session chain = grind arith
 
 -- ---- the clauses
 
@@ -212,21 +138,12 @@ module _ {N : Type 0} (state : N → DeviceState) (wrote : N → ℕ → List �
   -- the session state after an answer
   session_state_of_answer : (x : CommandDue) (c d : Card N) (r : Command) (reply : CardReply) → d.session ≡ c.session → Matches x (session_state_in state c) r → InOrder (store_did state wrote) c.store (items_of x) (Ok tt) d.store
       → CommandLeaves x c.session (view_in state c) c.manager (Answers reply) (view_in state d) d.manager → session_state_in state d ≡ r.session_state
-  session_state_of_answer (Refuses sw) c d r reply session match items leaves =
-      ap (λ (s : Store N). session_state_of (store_site_bytes (state s.device)) d.session d.manager) items
-      ∙ ap (λ (m : ManagerState). session_state_of (store_site_bytes (state c.store.device)) d.session m) leaves.unchanged
-      ∙ ap (λ (s : List ℕ). session_state_of (store_site_bytes (state c.store.device)) s c.manager) session ∙ sym match.1
-  session_state_of_answer (Selects q) c d r reply session match items leaves = absurd leaves
-  session_state_of_answer (Does q) c d r reply session match items leaves = ap (λ (s : List ℕ). session_state_of (store_site_bytes (state d.store.device)) s d.manager) session ∙ leaves.session_state ∙ sym match.1
-  session_state_of_answer Passes c d r reply session match items leaves = absurd leaves
+  session_state_of_answer x c d r reply session match items leaves = grind arith
 
   -- the number of session bytes of the selected application is unchanged
   session_stays : (c d : Card N) (t : Selection) (after : List (List ℕ × App)) → is_going (state c.store.device) c.store.count ≡ true → is_going (state d.store.device) d.store.count ≡ true → apps_in (state d.store.device).words ≡ after
       → lookup after t.aid ≡ lookup (apps_in (state c.store.device).words) t.aid → (app_of (card_in state d).apps (Some t.aid)).session ≡ (app_of (card_in state c).apps (Some t.aid)).session
-  session_stays c d t after before now apps same =
-      ap (λ (es : List (List ℕ × App)). (app_of es (Some t.aid)).session) (sym (going_apps (state d.store.device) d.store.count now) ∙ apps)
-      ∙ ap (λ (o : Option App). (unwrap_or o no_app).session) same
-      ∙ ap (λ (es : List (List ℕ × App)). (app_of es (Some t.aid)).session) (going_apps (state c.store.device) c.store.count before)
+  session_stays c d t after before now apps same = grind (arith, going_apps)
 
   -- the selected application is on the card
   selected_there : (c : Card N) (t : Selection) → ManagerFits (view_in state c) c.manager → c.manager.selected ≡ Some t → is_some (lookup (apps_in (state c.store.device).words) t.aid) ≡ true

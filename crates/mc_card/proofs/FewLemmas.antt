@@ -71,15 +71,7 @@ module _ {D : Type 0} (state : D → DeviceState) (wrote : D → ℕ → List �
 
   -- items that stopped, before other items
   within_stopped : (most : ℕ) (is js : List Item) (d e : D) (s : Stop) → MadeWithin wrote most is d (Err s) e → MadeWithin wrote most (is ++ js) d (Err s) e
-  within_stopped most is js d e s m =
-      let few : length m.writes ≤ moves is = m.number in
-      let all : moves (is ++ js) ≡ moves is + moves js = moves_append is js in
-      record {
-        writes = m.writes;
-        makes = m.makes;
-        number = omega (arith, few, all);
-        few = subst (λ (l : List Item). AllWithin most l) (sym (begun_front (length m.writes) is js few)) m.few;
-      }
+  within_stopped most is js d e s m = grind (arith, moves_append, begun_front)
 
   all_append : (is js : List Item) (n k : ℕ) (a : Answer) → n ≡ moves is → CountsWrites js a k → CountsWrites (is ++ js) a (n + k)
   all_append is js n k (Ok u) first second = let all = moves_append is js in omega (arith, first, second, all)

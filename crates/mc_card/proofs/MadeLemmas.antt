@@ -4,17 +4,16 @@ use Rattle.std.specs.Prelude.{nat_le, unwrap_or}
 use Rattle.std.specs.List.{AllByRecursion}
 use Rattle.std.proofs.lemmas.List.{length-map}
 use Rattle.std.proofs.lemmas.Bool.{cases_lt, le-leb}
-use Rattle.mc_base.specs.model_device.specs.declared.cause.Cause.{Cause}
 use Rattle.mc_base.specs.model_device.specs.declared.device.Stop.{Stop}
 use Rattle.mc_base.specs.model_device.specs.Orders.{Answer, InOrder}
 use Rattle.mc_base.specs.model_device.specs.Bytes.{lookup}
-use Rattle.mc_base.specs.model_device.specs.Image.{Two, look, Closed, debt}
+use Rattle.mc_base.specs.model_device.specs.Image.{Two, look, Closed}
 use Rattle.mc_base.specs.model_device.specs.Device.{DeviceState, IsSized, Wrote, Makes}
 use Rattle.mc_base.specs.model_device.specs.Stopped.{cost, stands, owes, image_after_stop, writes, IsAtomic}
 use Rattle.mc_base.specs.model_device.specs.Card.{App, Card, card_of, means}
-use Rattle.mc_base.specs.model_device.specs.Layout.{words_fault, fault, step_of, IsWellLaid}
-use Rattle.mc_bank.specs.model_card.specs.Items.{Change, Item, Plain, Atomic, Stopped, with_item, in_flight, weight, moves, apps_after_change, apps_after_items, card_done, at_stop, BankItem, Piece, Blank, Note, Commit, Enter, Remove}
-use Rattle.mc_base.specs.model_device.specs.PowerUp.{OnCard, base_of}
+use Rattle.mc_base.specs.model_device.specs.Layout.{words_fault, step_of, IsWellLaid}
+use Rattle.mc_bank.specs.model_card.specs.Items.{Change, Item, Plain, Atomic, Stopped, with_item, in_flight, weight, moves, apps_after_change, card_done, at_stop, BankItem, Piece, Blank, Note, Commit, Enter, Remove}
+use Rattle.mc_base.specs.model_device.specs.PowerUp.{OnCard}
 use Rattle.mc_base.specs.model_device.proofs.OrdersLemmas.{in_order_append}
 use Rattle.mc_base.specs.model_device.proofs.DeviceLemmas.{DoneAll, makes_done}
 use Rattle.mc_base.specs.model_device.proofs.StoppedLemmas.{torn_within, torn_past}
@@ -37,19 +36,10 @@ use Rattle.mc_base.specs.model_device.proofs.BoolLemmas.{some_is}
 -- ---- words that are a card
 
 pub card_found : (c : Card) (n : ℕ) (m : List (List ℕ)) → HoldsBase (OnCard c) n Two m → c ≡ means m
-card_found c n m b = by_fault (fault m) b.base
-  where
-    by_fault : (f : Option (Cause × ℕ)) → base_of f m ≡ OnCard c → c ≡ means m
-    by_fault None e = cc (sym e)
-    by_fault (Some f) e = absurd (cc e)
+card_found c n m b = grind arith
 
 pub closed_base : (m : List (List ℕ)) (c : Card) → look m ≡ Closed → words_fault m ≡ None → card_of m ≡ c → HoldsBase (OnCard c) 0 Two m
-closed_base m c closed good is =
-    record {
-      base = ap (λ (f : Option (Cause × ℕ)). base_of f m) (closed_fault m closed ∙ good) ∙ ap (λ (k : Card). OnCard k) (closed_means m closed ∙ is);
-      owed = ap debt closed;
-      by = λ ne. absurd (ne refl);
-    }
+closed_base m c closed good is = grind (arith, closed_fault, closed_means)
 
 -- ---- items in sequence
 
@@ -176,9 +166,7 @@ record OneIs (m : List (List ℕ)) (i : BankItem) (j : Item) : Type 0 where
   stops : (k : ℕ) (x : List ℕ) (n : List (List ℕ)) → 1 ≤ k → k ≤ length (item_writes m i) → IsStoppedAt m i k x n → IsCardAfterStop (means m) (at_stop (j ∷ []) k x) n
 
 plain_one : (m : List (List ℕ)) (i : BankItem) (j : Item) (n : List (List ℕ)) (k : ℕ) (x : List ℕ) → j ≡ Plain → 1 ≤ k → k ≤ 1 → HoldsBase (OnCard (means m)) 0 Two n → IsCardAfterStop (means m) (at_stop (j ∷ []) k x) n
-plain_one m i j n k x is low high h =
-    let one : k ≡ 1 = omega (arith, low, high) in
-    subst (λ (t : Item). IsCardAfterStop (means m) (at_stop (t ∷ []) k x) n) (sym is) (subst (λ (t : ℕ). IsCardAfterStop (means m) (at_stop (Plain ∷ []) t x) n) (sym one) h)
+plain_one m i j n k x is low high h = grind arith
 
 card_chosen : (b : Bool) (c : Card) (w : ℕ) (ch : Change) → card_done c (cond b (Atomic w ch ∷ []) []) ≡ cond b (card_done c (Atomic w ch ∷ [])) c
 card_chosen true c w ch = refl

@@ -1,5 +1,5 @@
 -- The card in the words of a device after the items of a manager's command.
-use Rattle.std.proofs.Common.{◌≡◌, ◌⊎◌, ℕ, true, List, [], ◌∷◌, ◌++◌, length, map, Option, Some, None, Ok, Err, refl, sym, ◌∙◌, ap, subst, inl, inr}
+use Rattle.std.proofs.Common.{arith, ◌≡◌, ◌⊎◌, ℕ, true, List, [], ◌∷◌, ◌++◌, length, map, Option, Some, None, Ok, Err, refl, sym, ◌∙◌, ap, subst, inl, inr}
 use Rattle.std.specs.Prelude.{option_map}
 use Rattle.std.specs.List.{AllByRecursion}
 use Rattle.std.proofs.lemmas.List.{map-append}
@@ -8,12 +8,11 @@ use Rattle.mc_bank.specs.model_card.specs.declared.card.Sizes.{Sizes}
 use Rattle.mc_base.specs.model_device.specs.declared.device.Stop.{Stop}
 use Rattle.mc_base.specs.model_device.specs.Orders.{Answer, InOrder}
 use Rattle.mc_apdu.specs.model_machine.specs.Apdu.{ApduParts}
-use Rattle.mc_base.specs.model_device.specs.Bytes.{lookup, insert}
+use Rattle.mc_base.specs.model_device.specs.Bytes.{lookup}
 use Rattle.mc_base.specs.model_device.specs.Image.{Two}
 use Rattle.mc_base.specs.model_device.specs.Device.{DeviceState, Wrote}
 use Rattle.mc_base.specs.model_device.specs.Card.{App, Card, means}
-use Rattle.mc_base.specs.model_device.specs.Layout.{step_of}
-use Rattle.mc_bank.specs.model_card.specs.Items.{Created, Deleted, Item, Plain, Atomic, card_done, Site, BankItem, Piece, Blank, Note, Commit, Enter, Remove}
+use Rattle.mc_bank.specs.model_card.specs.Items.{Created, Deleted, Item, Plain, card_done, Site, BankItem, Piece, Enter, Remove}
 use Rattle.mc_bank.specs.model_card.specs.Manager.{SessionState, Open, got_of, select_body, Managed, Declines, Accepts, Route, WrongLength, WrongClass, ToSelect, ToManager, ToApplication, is_complete, first_status, answer_unless, select_refusals, select_done, select, create_done, create_items, fresh, manage, word_parts, room_on}
 use Rattle.mc_base.specs.model_device.specs.PowerUp.{OnCard}
 use Rattle.mc_bank.specs.model_card.specs.Commands.{item_of, atomic_of, manager_command, application_command, by_route}
@@ -61,21 +60,12 @@ module _ {D I : Type 0} (one : D → I → Answer → D → Type 0) where
 
   -- a list of one step
   pub in_order_one : (x : I) (d e : D) (a : Answer) → InOrder one d (x ∷ []) a e → one d x a e
-  in_order_one x d e a h =
-      elim h [
-        | inl done ↦ last_done x d done.0 e a done.1 done.2
-        | inr stop ↦ subst (λ (b : Answer). one d x b e) (sym stop.2) stop.1
-      ]
+  in_order_one x d e a h = grind (arith, last_done)
 
 -- ---- items that leave the card
 
 plain_as : (m : List (List ℕ)) (i : BankItem) (whole : Item) → IsPlain i → IsAs m i (item_of whole i)
-plain_as m (Piece s p at b) whole h = refl
-plain_as m (Blank s at n) whole h = refl
-plain_as m (Note s n i) whole h = refl
-plain_as m (Commit n ws) whole h = absurd h
-plain_as m (Enter s n) whole h = absurd h
-plain_as m (Remove n) whole h = absurd h
+plain_as m i whole h = grind arith
 
 all_plain : (t : Site) (is : List BankItem) → AllByRecursion (IsQuiet t) is → AllByRecursion IsPlain is
 all_plain t [] h = tt
@@ -116,15 +106,7 @@ module _ {N : Type 0} (state : N → DeviceState) (wrote : N → ℕ → List �
   -- the creation of an application from the bytes at a site, as an item of the definition
   enter_as : (s m : Store N) (t : Site) (n : List ℕ) (o : Open) → means (state m.device).words ≡ means (state s.device).words → app_of_site t (part_in (state m.device).words t) ≡ fresh o
       → IsAs (state m.device).words (Enter t n) (atomic_of (card_of_store s) (Some (Created n (fresh o))))
-  enter_as s m t n o card app =
-      let c = card_of_store s in
-      let w = (state m.device).words in
-      record {
-        change = Created n (fresh o);
-        is = ap (λ (k : Card). Atomic (length (step_of k (record k { apps = insert k.apps n (fresh o) }))) (Created n (fresh o))) (sym card)
-            ∙ ap (λ (x : App). Atomic (length (step_of (means w) (record (means w) { apps = insert (means w).apps n x }))) (Created n (fresh o))) (sym app);
-        apps = ap (λ (x : App). insert (means w).apps n x) (sym app);
-      }
+  enter_as s m t n o card app = grind arith
 
   pub create_made : (s e : Store N) (a : Answer) (t : Site) (n : List ℕ) (o : Open) → is_going (state s.device) s.count ≡ true → app_of_site t (store_site_bytes (state s.device) t) ≡ fresh o → InOrder (store_did state wrote) s (create_items t n) a e
       → ItemsMade state wrote (card_of_store s) (map (item_of (atomic_of (card_of_store s) (Some (Created n (fresh o))))) (create_items t n)) s.device a e.device

@@ -1,11 +1,10 @@
 -- A session state that was saved fits the words of its card, and a card with it is ready.
-use Rattle.std.proofs.Common.{◌≡◌, ℕ, List, length, Option, Some, None, refl, sym, ap, subst}
+use Rattle.std.proofs.Common.{◌≡◌, ℕ, List, Option, sym, subst}
 use Rattle.std.specs.Option.{ForSome}
 use Rattle.mc_base.specs.model_device.specs.Device.{DeviceState}
-use Rattle.mc_store.specs.Power.{count_of}
-use Rattle.mc_manager.specs.ManagerState.{BankView, ManagerState, Loaded, ManagerFits, FitsLoad}
+use Rattle.mc_manager.specs.ManagerState.{ManagerState, Loaded, FitsLoad}
 use Rattle.mc_card.specs.declared.card.Card.{Card}
-use Rattle.mc_card.specs.Parts.{words_in, view_in, device_in, IsUp, IsReadyCard}
+use Rattle.mc_card.specs.Parts.{words_in, view_in, IsReadyCard}
 use Rattle.mc_card.specs.Saved.{SavedState, saved_of, view_of_words, FitsWords}
 
 module _ {N : Type 0} (state : N → DeviceState) where

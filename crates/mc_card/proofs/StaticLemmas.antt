@@ -1,5 +1,5 @@
 -- The static segment of an application of a card, in its bank.
-use Rattle.std.proofs.Common.{◌≡◌, ℕ, true, false, List, length, Option, Some, None, refl, sym, ◌∙◌, ap}
+use Rattle.std.proofs.Common.{arith, ◌≡◌, ℕ, true, false, List, length, Option, Some, None, sym, ◌∙◌, ap}
 use Rattle.std.specs.Prelude.{is_some, option_map, unwrap_or, IsSome}
 use Rattle.mc_base.specs.model_device.specs.Bytes.{lookup}
 use Rattle.mc_base.specs.model_device.specs.Device.{DeviceState}
@@ -34,6 +34,4 @@ found_is es n (Some a) is h = ap (λ (x : Option App). Some (length (unwrap_or x
 -- the length of the static segment of a name that the bank finds
 pub found_length : (d : DeviceState) (c k : ℕ) (n : List ℕ) (sizes : Sizes) → is_going d c ≡ true → is_some (lookup (apps_in d.words) n) ≡ true → store_named d k ≡ Some n → sizes ≡ sizes_of (app_of (apps_in d.words) (store_named d k))
     → Some sizes.fixed ≡ option_map (λ (a : App). length a.fixed) (lookup (means d.words).apps n)
-found_length d c k n sizes going there named is =
-    ap (λ (z : Sizes). Some z.fixed) is ∙ ap (λ (a : App). Some (length a.fixed)) (slot_app d c k n going named)
-    ∙ found_is (means d.words).apps n (lookup (means d.words).apps n) refl (ap (λ (es : List (List ℕ × App)). is_some (lookup es n)) (sym (going_apps d c going)) ∙ there)
+found_length d c k n sizes going there named is = grind (arith, slot_app, found_is, going_apps)

@@ -37,9 +37,7 @@ card_of store manager session chain = record { store = store; manager = manager;
 -- the card whose chain has ended, by the place of the chain and the session bytes that are written
 pub end_card : {N : Type 0} (store : Store N) (manager : ManagerState) (o : Option Chained) (d : Chained) (p : Option Chained) (session : List ℕ) → o ≡ Some d → p ≡ None → Runs o (λ k. session ≡ session_in k)
     → card_of store manager session p ≡ card_of store manager (session_in d) None
-end_card store manager o d p session is none ends =
-    let same : session ≡ session_in d = subst (λ (x : Option Chained). Runs x (λ k. session ≡ session_in k)) is ends in
-    ap (λ (x : Option Chained). card_of store manager session x) none ∙ ap (λ (s : List ℕ). card_of store manager s None) same
+end_card store manager o d p session is none ends = grind arith
 
 module _ {N : Type 0} (state : N → DeviceState) (wrote : N → ℕ → List ℕ → Answer → N → Type 0)
     (obeys : (d : N) (at : ℕ) (w : List ℕ) (a : Answer) (e : N) → (state d).on ≡ true → wrote d at w a e → DeviceWrote (state d) at w a (state e)) where
@@ -75,9 +73,7 @@ module _ {N : Type 0} (state : N → DeviceState) (wrote : N → ℕ → List �
 
     -- the first frame has as many session bytes as the selected application
     first_size : (s : Selection) → c.manager.selected ≡ Some s → length (chain_session ch) ≡ (app_of apps (Some s.aid)).session
-    first_size s is =
-        let name : s.aid ≡ (first_in ch).name = same_Some s.aid (first_in ch).name (sym (ap (λ (o : Option Selection). option_map (λ s. s.aid) o) is) ∙ r.own) in
-        session_size ch r.sound ∙ ap (λ (m : List (List ℕ × App)). (app_of m (Some (first_in ch).name)).session) own_map ∙ ap (λ (n : List ℕ). (app_of apps (Some n)).session) (sym name)
+    first_size s is = grind (arith, first_in, same_Some, session_size, own_map)
 
     module _ (e : Store N) (d : Chained) (acts : TurnActs (store_bank state wrote) c.store e r.chained d ch t) where
       -- the chain continues

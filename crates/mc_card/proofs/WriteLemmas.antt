@@ -1,16 +1,15 @@
 -- The atomic writes of a chain on a store, as items of the definition and as commits of a bank.
-use Rattle.std.proofs.Common.{◌≡◌, ℕ, ◌+◌, ◌≤◌, true, List, [], ◌∷◌, length, Option, Some, Ok, Err, refl, sym, ◌∙◌, ap, subst, inl, inr, arith}
-use Rattle.std.specs.Prelude.{unwrap_or}
+use Rattle.std.proofs.Common.{◌≡◌, ℕ, ◌+◌, ◌≤◌, true, List, [], ◌∷◌, length, Some, Ok, Err, refl, sym, ◌∙◌, ap, subst, inl, inr, arith}
 use Rattle.std.proofs.lemmas.List.{length-map}
 use Rattle.mc_base.specs.model_device.specs.Orders.{Answer, InOrder}
-use Rattle.mc_base.specs.model_device.specs.Bytes.{lookup, insert, splice}
+use Rattle.mc_base.specs.model_device.specs.Bytes.{lookup, splice}
 use Rattle.mc_base.specs.model_device.specs.Pieces.{laid_pieces, laid_words, with_words, with_touched, touched_words, HoldPieces, LieIn}
 use Rattle.mc_base.specs.model_device.specs.Device.{DeviceState, Wrote as DeviceWrote}
 use Rattle.mc_base.specs.model_device.specs.Card.{App, Card, means}
-use Rattle.mc_apdu.specs.model_machine.specs.Chain.{Write, changed_app, map_changed}
+use Rattle.mc_apdu.specs.model_machine.specs.Chain.{Write, map_changed}
 use Rattle.mc_bank.specs.model_card.specs.Items.{Fixed, Item, Atomic, card_done, BankItem, Commit, write_items}
 use Rattle.mc_trans.proofs.Holding.{words_laid}
-use Rattle.mc_bank.specs.Bank.{BankState, no_app, app_of, with_words as app_with, apps_after_commit, item_done, Changes}
+use Rattle.mc_bank.specs.Bank.{BankState, app_of, apps_after_commit, item_done, Changes}
 use Rattle.mc_bank.proofs.Commits.{Words, commits}
 use Rattle.mc_store.specs.declared.store.Store.{Store}
 use Rattle.mc_store.specs.Store.{apps_in, is_going, store_state, store_site_bytes}
@@ -79,12 +78,7 @@ as_many l ps ws held = sym (length-map ws (λ w. w.0)) ∙ ap length held.touche
 
 -- a commit of words that hold pieces changes the applications as the pieces do
 committed_is : (apps : List (List ℕ × App)) (n : List ℕ) (ps ws : List (ℕ × List ℕ)) (a : App) → lookup apps n ≡ Some a → PiecesWithin (length (app_of apps (Some n)).fixed) ps → HoldPieces (app_of apps (Some n)).fixed ps ws → map_changed apps n (Some ps) ≡ apps_after_commit apps n ws
-committed_is apps n ps ws a there within held =
-    let own : app_of apps (Some n) ≡ a = ap (λ (o : Option App). unwrap_or o no_app) there in
-    let laid : laid_words a.fixed ws ≡ laid_pieces a.fixed ps = subst (λ (x : App). laid_words x.fixed ws ≡ laid_pieces x.fixed ps) own (laid_held (app_of apps (Some n)).fixed ps ws within held) in
-    ap (λ (o : Option App). changed_app apps n ps o) there
-    ∙ ap (λ (l : List ℕ). insert apps n (record a { fixed = l })) (sym laid)
-    ∙ ap (λ (x : App). insert apps n (app_with ws x)) (sym own)
+committed_is apps n ps ws a there within held = grind (arith, laid_held)
 
 -- ---- writes as commits
 

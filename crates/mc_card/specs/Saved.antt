@@ -1,5 +1,5 @@
 -- The session state of a card that was saved, and the words that it fits.
-use Rattle.std.specs.Prelude.{◌≡◌, ℕ, true, List, length, Option, Some, None}
+use Rattle.std.specs.Prelude.{◌≡◌, ℕ, true, List, length, Some, None}
 use Rattle.std.specs.Option.{ForSome}
 use Rattle.mc_base.specs.model_device.specs.Card.{means}
 use Rattle.mc_base.specs.model_device.specs.Device.{DeviceState}
