@@ -1,9 +1,9 @@
 -- Bits: parts of a set by what one value of the second byte makes of it, and turns that keep the carry.
 use Rattle.std.specs.Prelude.{◌≡◌, ◌⊎◌, ℕ, ◌+◌, ◌<◌, Bool, true, false, cond, not, ◌&&◌, ◌==◌, [], ◌∷◌, Some, refl}
-use Rattle.std.proofs.Common.{arith, ap, sym, subst, ◌∙◌, inl, inr}
+use Rattle.std.proofs.Common.{arith, ap, sym, ◌∙◌, inl, inr}
 use Rattle.std.proofs.lemmas.Bool.{and_parts, and_from, both_ways, cases_lt, eqb-true}
 use Rattle.prove_facts.specs.model_prove.specs.Sets.{Set, is_in, union}
-use Rattle.prove_facts.specs.model_prove.specs.Digits.{Operation, Plus, Minus, And, Or, Xor, digit, same, Digits}
+use Rattle.prove_facts.specs.model_prove.specs.Digits.{Operation, Plus, Minus, digit, same, Digits}
 use Rattle.prove_facts.specs.model_prove.proofs.SetLemmas.{is_first}
 use Rattle.prove_facts.specs.Sets.{set_of}
 use Rattle.prove_facts.specs.declared.values.Values.{Values}
@@ -22,37 +22,17 @@ use Rattle.prove_digits.proofs.TurnLemmas.{zero_test, same_zero, zeros_made}
 
 -- before the first value each part is empty
 pub no_parts : (make : ℕ → ℕ) (xs : Set) (p : Parts) → set_of p.other ≡ [] → set_of p.zero ≡ [] → set_of p.results ≡ [] → AreParts 0 make xs p
-no_parts make xs p a b c =
-    record {
-      other_to = λ v h. absurd (cc (sym (ap (λ (s : Set). is_in v s) a) ∙ h));
-      other_from = λ v l. absurd (omega (arith, l));
-      zero_to = λ v h. absurd (cc (sym (ap (λ (s : Set). is_in v s) b) ∙ h));
-      zero_from = λ v l. absurd (omega (arith, l));
-      results_to = λ v h. absurd (cc (sym (ap (λ (s : Set). is_in v s) c) ∙ h));
-      results_from = λ v h. absurd (cc (sym (ap (λ (s : Set). is_in v s) a) ∙ h));
-    }
+no_parts make xs p a b c = grind arith
 
 below_or : (v n : ℕ) (xs : Set) → is_in n xs ≡ false → v < n + 1 → is_in v xs ≡ true → v < n
-below_or v n xs h l i =
-    elim (cases_lt v n) [
-      | inl k ↦ k
-      | inr k ↦ let e : v ≡ n = omega (arith, l, k) in absurd (both_ways (is_in n xs) h (subst (λ (w : ℕ). is_in w xs ≡ true) e i))
-    ]
+below_or v n xs h l i = grind (arith, cases_lt, both_ways)
 
 wider : (v n : ℕ) (A B : Type 0) → (v < n) × A × B → (v < n + 1) × A × B
 wider v n A B h = let l = h.0 in (omega (arith, l), h.1, h.2)
 
 -- a value that is not in the set leaves the parts of those below it
 pub parts_skip : (n : ℕ) (make : ℕ → ℕ) (xs : Set) (p : Parts) → is_in n xs ≡ false → AreParts n make xs p → AreParts (n + 1) make xs p
-parts_skip n make xs p h a =
-    record {
-      other_to = λ v i. wider v n (is_in v xs ≡ true) ((make v == 0) ≡ false) (a.other_to v i);
-      other_from = λ v l i z. a.other_from v (below_or v n xs h l i) i z;
-      zero_to = λ v i. wider v n (is_in v xs ≡ true) ((make v == 0) ≡ true) (a.zero_to v i);
-      zero_from = λ v l i z. a.zero_from v (below_or v n xs h l i) i z;
-      results_to = a.results_to;
-      results_from = a.results_from;
-    }
+parts_skip n make xs p h a = grind (arith, wider, below_or)
 
 at_or_below : (v n : ℕ) → v < n + 1 → (v < n) ⊎ (v ≡ n)
 at_or_below v n l = elim (cases_lt v n) [ inl k ↦ inl k | inr k ↦ inr (omega (arith, l, k)) ]
@@ -62,29 +42,7 @@ self_in n = is_first n []
 
 grown_zero : (n r : ℕ) (make : ℕ → ℕ) (xs : Set) (p q : Parts) → is_in n xs ≡ true → r ≡ make n → (r == 0) ≡ true → set_of q.other ≡ set_of p.other
     → set_of q.zero ≡ union (set_of p.zero) (n ∷ []) → set_of q.results ≡ set_of p.results → AreParts n make xs p → AreParts (n + 1) make xs q
-grown_zero n r make xs p q h e z eo ez er a =
-    let zn : (make n == 0) ≡ true = ap (λ (m : ℕ). m == 0) (sym e) ∙ z in
-    record {
-      other_to = λ v i. wider v n (is_in v xs ≡ true) ((make v == 0) ≡ false) (a.other_to v (sym (ap (λ (s : Set). is_in v s) eo) ∙ i));
-      other_from = λ v l i k. elim (at_or_below v n l) [
-        | inl j ↦ ap (λ (s : Set). is_in v s) eo ∙ a.other_from v j i k
-        | inr j ↦ absurd (both_ways (make n == 0) (subst (λ (w : ℕ). (make w == 0) ≡ false) j k) zn)
-      ];
-      zero_to = λ v i. elim (in_either v (set_of p.zero) (n ∷ []) (sym (ap (λ (s : Set). is_in v s) ez) ∙ i)) [
-        | inl j ↦ wider v n (is_in v xs ≡ true) ((make v == 0) ≡ true) (a.zero_to v j)
-        | inr j ↦
-            let f = only_in v n j in
-            (omega (arith, f), subst (λ (w : ℕ). is_in w xs ≡ true) (sym f) h, subst (λ (w : ℕ). (make w == 0) ≡ true) (sym f) zn)
-      ];
-      zero_from = λ v l i k. ap (λ (s : Set). is_in v s) ez ∙ elim (at_or_below v n l) [
-        | inl j ↦ in_left v (set_of p.zero) (n ∷ []) (a.zero_from v j i k)
-        | inr j ↦ in_right v (set_of p.zero) (n ∷ []) (subst (λ (w : ℕ). is_in w (n ∷ []) ≡ true) (sym j) (self_in n))
-      ];
-      results_to = λ s i.
-          let k = a.results_to s (sym (ap (λ (t : Set). is_in s t) er) ∙ i) in
-          (k.0, ap (λ (t : Set). is_in k.0 t) eo ∙ k.1, k.2);
-      results_from = λ x i. ap (λ (t : Set). is_in (make x) t) er ∙ a.results_from x (sym (ap (λ (t : Set). is_in x t) eo) ∙ i);
-    }
+grown_zero n r make xs p q h e z eo ez er a = grind (arith, wider, at_or_below, both_ways, in_either, only_in, in_left, in_right, self_in)
 
 grown_other : (n r : ℕ) (make : ℕ → ℕ) (xs : Set) (p q : Parts) → is_in n xs ≡ true → r ≡ make n → (r == 0) ≡ false
     → set_of q.other ≡ union (set_of p.other) (n ∷ []) → set_of q.zero ≡ set_of p.zero → set_of q.results ≡ union (set_of p.results) (r ∷ [])
@@ -92,32 +50,15 @@ grown_other : (n r : ℕ) (make : ℕ → ℕ) (xs : Set) (p q : Parts) → is_i
 grown_other n r make xs p q h e z eo ez er a =
     let zn : (make n == 0) ≡ false = ap (λ (m : ℕ). m == 0) (sym e) ∙ z in
     record {
-      other_to = λ v i. elim (in_either v (set_of p.other) (n ∷ []) (sym (ap (λ (s : Set). is_in v s) eo) ∙ i)) [
-        | inl j ↦ wider v n (is_in v xs ≡ true) ((make v == 0) ≡ false) (a.other_to v j)
-        | inr j ↦
-            let f = only_in v n j in
-            (omega (arith, f), subst (λ (w : ℕ). is_in w xs ≡ true) (sym f) h, subst (λ (w : ℕ). (make w == 0) ≡ false) (sym f) zn)
-      ];
-      other_from = λ v l i k. ap (λ (s : Set). is_in v s) eo ∙ elim (at_or_below v n l) [
-        | inl j ↦ in_left v (set_of p.other) (n ∷ []) (a.other_from v j i k)
-        | inr j ↦ in_right v (set_of p.other) (n ∷ []) (subst (λ (w : ℕ). is_in w (n ∷ []) ≡ true) (sym j) (self_in n))
-      ];
+      other_to = grind (arith, in_either, wider, only_in);
+      other_from = grind (arith, at_or_below, in_left, in_right, self_in);
       zero_to = λ v i. wider v n (is_in v xs ≡ true) ((make v == 0) ≡ true) (a.zero_to v (sym (ap (λ (s : Set). is_in v s) ez) ∙ i));
-      zero_from = λ v l i k. elim (at_or_below v n l) [
-        | inl j ↦ ap (λ (s : Set). is_in v s) ez ∙ a.zero_from v j i k
-        | inr j ↦ absurd (both_ways (make n == 0) zn (subst (λ (w : ℕ). (make w == 0) ≡ true) j k))
-      ];
+      zero_from = grind (arith, at_or_below, both_ways);
       results_to = λ s i. elim (in_either s (set_of p.results) (r ∷ []) (sym (ap (λ (t : Set). is_in s t) er) ∙ i)) [
         | inl j ↦ let k = a.results_to s j in (k.0, ap (λ (t : Set). is_in k.0 t) eo ∙ in_left k.0 (set_of p.other) (n ∷ []) k.1, k.2)
         | inr j ↦ (n, ap (λ (t : Set). is_in n t) eo ∙ in_right n (set_of p.other) (n ∷ []) (self_in n), sym e ∙ sym (only_in s r j))
       ];
-      results_from = λ x i. ap (λ (t : Set). is_in (make x) t) er
-          ∙ elim (in_either x (set_of p.other) (n ∷ []) (sym (ap (λ (t : Set). is_in x t) eo) ∙ i)) [
-            | inl j ↦ in_left (make x) (set_of p.results) (r ∷ []) (a.results_from x j)
-            | inr j ↦
-                let f : make x ≡ r = ap make (only_in x n j) ∙ sym e in
-                in_right (make x) (set_of p.results) (r ∷ []) (subst (λ (w : ℕ). is_in w (r ∷ []) ≡ true) (sym f) (self_in r))
-          ];
+      results_from = grind (arith, in_either, in_left, only_in, in_right, self_in);
     }
 
 -- a value more
@@ -140,26 +81,12 @@ by_not false h = refl
 -- the part of the values that make no zero, and their results, are made of the whole set
 pub others_made : (xs : Values) (make : ℕ → ℕ) (p : Parts) → AreParts 256 make (set_of xs) p
     → AreMade (λ x. is_in x (set_of xs) && not (make x == 0)) make (set_of p.other) (set_of p.results)
-others_made xs make p a =
-    record {
-      test_is = λ x. same_tests (is_in x (set_of p.other)) (is_in x (set_of xs) && not (make x == 0))
-          (λ i. let k = a.other_to x i in and_from (is_in x (set_of xs)) (not (make x == 0)) k.1 (not_by (make x == 0) k.2))
-          (λ i.
-          let k = and_parts (is_in x (set_of xs)) (not (make x == 0)) i in
-          a.other_from x (byte_of xs x k.0) k.0 (by_not (make x == 0) k.1));
-      made = a.results_from;
-      from = λ r i s. a.results_to r i;
-    }
+others_made xs make p a = grind (arith, same_tests, and_from, not_by, and_parts, byte_of, by_not)
 
 -- the part of the values that make a zero, with the result zero, is made of the whole set
 pub zeros_of : (xs : Values) (make : ℕ → ℕ) (p : Parts) (rs : Set) → AreParts 256 make (set_of xs) p → rs ≡ 0 ∷ []
     → AreMade (λ x. is_in x (set_of xs) && (make x == 0)) make (set_of p.zero) rs
-zeros_of xs make p rs a e =
-    zeros_made (λ x. is_in x (set_of xs) && (make x == 0)) make (set_of p.zero) rs
-    (λ x. same_tests (is_in x (set_of p.zero)) (is_in x (set_of xs) && (make x == 0))
-    (λ i. let k = a.zero_to x i in and_from (is_in x (set_of xs)) (make x == 0) k.1 k.2)
-    (λ i. let k = and_parts (is_in x (set_of xs)) (make x == 0) i in a.zero_from x (byte_of xs x k.0) k.0 k.1))
-    (λ x i. eqb-true (make x) 0 (a.zero_to x i).2) e
+zeros_of xs make p rs a e = grind (arith, zeros_made, same_tests, and_from, and_parts, byte_of, eqb-true)
 
 -- ---- the carry is kept
 
@@ -168,43 +95,20 @@ same_self true = refl
 same_self false = refl
 
 not_plus : (d : Digit) → bitwise_of d ≡ Some Plus → ⊥
-not_plus code.Add h = cc h
-not_plus code.Sub h = cc h
-not_plus code.And h = cc h
-not_plus code.Or h = cc h
-not_plus code.Xor h = cc h
-not_plus code.Not h = cc h
-not_plus code.First h = cc h
-not_plus code.Zero h = cc h
+not_plus d h = grind arith
 
 not_minus : (d : Digit) → bitwise_of d ≡ Some Minus → ⊥
-not_minus code.Add h = cc h
-not_minus code.Sub h = cc h
-not_minus code.And h = cc h
-not_minus code.Or h = cc h
-not_minus code.Xor h = cc h
-not_minus code.Not h = cc h
-not_minus code.First h = cc h
-not_minus code.Zero h = cc h
+not_minus d h = grind arith
 
 -- a bitwise operation keeps the carry
 pub keeps_carry : (d : Digit) (op : Operation) (x y : ℕ) (c : Bool) → bitwise_of d ≡ Some op → (digit op x y c).1 ≡ c
-keeps_carry d Plus x y c h = absurd (not_plus d h)
-keeps_carry d Minus x y c h = absurd (not_minus d h)
-keeps_carry d And x y c h = refl
-keeps_carry d Or x y c h = refl
-keeps_carry d Xor x y c h = refl
+keeps_carry d op x y c h = grind (arith, not_plus, not_minus)
 
 -- under a bitwise operation digits grow by the values that lead from flags to flags
 pub bits_grow : (dg : Digit) (op : Operation) (c z : Bool) (xs : Set) (y : ℕ) (d e : Digits) → bitwise_of dg ≡ Some op
     → IsGrown d e (λ x. is_in x xs && zero_test z ((digit op x y c).0 == 0)) y (λ x. (digit op x y c).0)
     → IsGrown d e (λ x. is_in x xs && leads_on op c c z x y) y (λ x. (digit op x y c).0)
-bits_grow dg op c z xs y d e h g =
-    grown_alike d e y (λ x. is_in x xs && zero_test z ((digit op x y c).0 == 0)) (λ x. is_in x xs && leads_on op c c z x y) (λ x. (digit op x y c).0) (λ x. (digit op x y c).0)
-    (λ x. ap (λ (b : Bool). is_in x xs && b)
-    (sym (same_zero z ((digit op x y c).0 == 0))
-    ∙ ap (λ (b : Bool). b && same ((digit op x y c).0 == 0) z) (sym (ap (λ (b : Bool). same b c) (keeps_carry dg op x y c h) ∙ same_self c))))
-    (λ x t. refl) g
+bits_grow dg op c z xs y d e h g = grind (arith, grown_alike, zero_test, same_zero, keeps_carry, same_self)
 
 -- under a bitwise operation both parts of a split grow by one value of the second byte
 pub split_grow : (dg : Digit) (op : Operation) (c : Bool) (xs : Set) (y : ℕ) (old new : Split) → bitwise_of dg ≡ Some op
@@ -224,11 +128,4 @@ sub_is d op e h = cc (sym (ap operation_of e) ∙ h)
 
 -- operations bit by bit are those of digits that are neither a sum nor a difference
 pub bitwise_else : (d : Digit) (op : Operation) → (d ≡ code.Add → ⊥) → (d ≡ code.Sub → ⊥) → operation_of d ≡ Some op → bitwise_of d ≡ Some op
-bitwise_else code.Add op n m h = absurd (n refl)
-bitwise_else code.Sub op n m h = absurd (m refl)
-bitwise_else code.And op n m h = h
-bitwise_else code.Or op n m h = h
-bitwise_else code.Xor op n m h = h
-bitwise_else code.Not op n m h = h
-bitwise_else code.First op n m h = h
-bitwise_else code.Zero op n m h = h
+bitwise_else d op n m h = grind arith

@@ -1,6 +1,6 @@
 -- What leads from flags to flags is what leads there if all was zero so far, or none of it, or all of it.
 use Rattle.std.specs.Prelude.{◌≡◌, ◌⊎◌, ℕ, Bool, true, false, cond, ◌&&◌, ◌||◌, ◌==◌, refl}
-use Rattle.std.proofs.Common.{ap, sym, subst, ◌∙◌, inl, inr}
+use Rattle.std.proofs.Common.{arith, ap, sym, subst, ◌∙◌, inl, inr}
 use Rattle.std.proofs.lemmas.Bool.{and_parts, both_ways, or_left, or_right}
 use Rattle.prove_facts.specs.model_prove.specs.Sets.{is_in, union}
 use Rattle.prove_facts.specs.model_prove.specs.Digits.{Operation, Flags, digit, same, Digits, digits_from, join_digit}
@@ -110,10 +110,7 @@ edge_is op xs ys c false turn h carry false =
 -- a carry that no values make
 pub other_carry : (op : Operation) (xs ys : Values) (c z carry zero : Bool) → ((x y : ℕ) → (digit op x y c).1 ≡ c) → same c carry ≡ false
     → no_digits ≡ digits_from op (set_of xs) (set_of ys) (record { c = c; z = z }) (record { c = carry; z = zero })
-other_carry op xs ys c z carry zero k h =
-    leads_nowhere op xs ys (record { c = c; z = z }) (record { c = carry; z = zero })
-    (λ x y l. both_ways (same (digit op x y c).1 carry) (ap (λ (b : Bool). same b carry) (k x y) ∙ h)
-    (and_parts (same (digit op x y c).1 carry) (same (z && ((digit op x y c).0 == 0)) zero) l.flags).0)
+other_carry op xs ys c z carry h k h8 = grind (arith, leads_nowhere, both_ways, and_parts)
 
 -- ---- steps
 
@@ -121,10 +118,7 @@ other_carry op xs ys c z carry zero k h =
 pub is_step : (op : Operation) (xs ys : Values) (s : Step) (b d : Bool) → b ≡ (s.before.other || s.before.zero) → d ≡ (s.before.carry || s.before.both)
     → (b ≡ true → IsTurn op (set_of xs) (set_of ys) false s.plain) → (d ≡ true → IsTurn op (set_of xs) (set_of ys) true s.carried)
     → IsStep op (set_of xs) (set_of ys) s
-is_step op xs ys s b d e h p q false false i carry zero = edge_is op xs ys false false s.plain (p (e ∙ or_left s.before.other s.before.zero i)) carry zero
-is_step op xs ys s b d e h p q false true i carry zero = edge_is op xs ys false true s.plain (p (e ∙ or_right s.before.other s.before.zero i)) carry zero
-is_step op xs ys s b d e h p q true false i carry zero = edge_is op xs ys true false s.carried (q (h ∙ or_left s.before.carry s.before.both i)) carry zero
-is_step op xs ys s b d e h p q true true i carry zero = edge_is op xs ys true true s.carried (q (h ∙ or_right s.before.carry s.before.both i)) carry zero
+is_step op xs ys s b d e h p q h10 h11 i carry h14 = grind (arith, edge_is, or_left, or_right)
 
 -- ---- turns that keep the carry
 

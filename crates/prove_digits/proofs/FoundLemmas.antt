@@ -1,6 +1,6 @@
 -- What a step finds, forward and backward, by the arcs of the definition.
 use Rattle.std.specs.Prelude.{◌≡◌, ℕ, Bool, true, false, cond, not, ◌&&◌, ◌||◌, refl}
-use Rattle.std.proofs.Common.{ap, ◌∙◌}
+use Rattle.std.proofs.Common.{arith, ap, ◌∙◌}
 use Rattle.std.proofs.lemmas.Bool.{or_left, or_right}
 use Rattle.prove_facts.specs.model_prove.specs.Sets.{Set, is_in, is_empty}
 use Rattle.prove_facts.specs.model_prove.specs.Digits.{Operation, Digits, join_digit, digits_from}
@@ -12,7 +12,7 @@ use Rattle.prove_digits.specs.declared.turns.Turn.{Turn}
 use Rattle.prove_digits.specs.Trios.{no_digits, trio_value, trio_at, edge_of}
 use Rattle.prove_digits.specs.States.{has_state, turn_under, leads_from, any_pair, leads_to, states_after, goes_from, states_before, with_edge, with_edges, found_digits, IsStep}
 use Rattle.prove_digits.proofs.MemberLemmas.{AreRising}
-use Rattle.prove_digits.proofs.ShapeLemmas.{Part, First, Second, Result, part_of, joined_part, joined_rising}
+use Rattle.prove_digits.proofs.ShapeLemmas.{Part, part_of, joined_part, joined_rising}
 use Rattle.prove_digits.proofs.WayLemmas.{is_arc, pair_alike}
 
 -- ---- tests
@@ -28,15 +28,7 @@ and_grouped true b c = refl
 and_grouped false b c = refl
 
 or_and : (a b m : Bool) → ((a || b) && m) ≡ ((a && m) || (b && m))
-or_and true true true = refl
-or_and true true false = refl
-or_and true false true = refl
-or_and true false false = refl
-or_and false b m = refl
-
-and_or : (m a b : Bool) → ((m && a) || (m && b)) ≡ (m && (a || b))
-and_or true a b = refl
-and_or false a b = refl
+or_and a b m = grind arith
 
 -- a condition that no flag decides may be taken out of a test of all flags
 pub pair_and : (m : Bool) (h : Bool → Bool → Bool) → any_pair (λ c z. m && h c z) ≡ (m && any_pair h)
@@ -44,48 +36,22 @@ pair_and true h = refl
 pair_and false h = refl
 
 and_pair : (m : Bool) (h : Bool → Bool → Bool) → (any_pair h && m) ≡ any_pair (λ c z. h c z && m)
-and_pair m h =
-    or_and ((h false false || h false true) || h true false) (h true true) m
-    ∙ ap (λ (b : Bool). b || (h true true && m))
-    (or_and (h false false || h false true) (h true false) m ∙ ap (λ (b : Bool). b || (h true false && m)) (or_and (h false false) (h false true) m))
+and_pair m h = grind (arith, or_and)
 
 -- two pairs in the other order
 crossed : (a b c d : Bool) → ((a || b) || (c || d)) ≡ ((a || c) || (b || d))
-crossed true b c d = refl
-crossed false true true d = refl
-crossed false true false true = refl
-crossed false true false false = refl
-crossed false false c d = refl
+crossed a b c d = grind arith
 
 pair_or : (h k : Bool → Bool → Bool) → (any_pair h || any_pair k) ≡ any_pair (λ c z. h c z || k c z)
-pair_or h k =
-    crossed ((h false false || h false true) || h true false) (h true true) ((k false false || k false true) || k true false) (k true true)
-    ∙ ap (λ (b : Bool). b || (h true true || k true true))
-    (crossed (h false false || h false true) (h true false) (k false false || k false true) (k true false)
-    ∙ ap (λ (b : Bool). b || (h true false || k true false)) (crossed (h false false) (h false true) (k false false) (k false true)))
+pair_or h k = grind (arith, crossed)
 
 -- some pair after some pair
 pub pair_turned : (h : Bool → Bool → Bool → Bool → Bool) → any_pair (λ c z. any_pair (λ d y. h c z d y)) ≡ any_pair (λ d y. any_pair (λ c z. h c z d y))
-pair_turned h =
-    let a = λ (d y : Bool). h false false d y in
-    let b = λ (d y : Bool). h false true d y in
-    let c = λ (d y : Bool). h true false d y in
-    let e = λ (d y : Bool). h true true d y in
-    ap (λ (t : Bool). (t || any_pair (λ d y. h true false d y)) || any_pair (λ d y. h true true d y)) (pair_or a b)
-    ∙ ap (λ (t : Bool). t || any_pair (λ d y. h true true d y)) (pair_or (λ d y. h false false d y || h false true d y) c)
-    ∙ pair_or (λ d y. (h false false d y || h false true d y) || h true false d y) e
+pair_turned h = grind (arith, pair_or)
 
 -- one pair among four
 pub pair_from : (h : Bool → Bool → Bool) (c z : Bool) → h c z ≡ true → any_pair h ≡ true
-pair_from h false false e =
-    or_left ((h false false || h false true) || h true false) (h true true)
-    (or_left (h false false || h false true) (h true false) (or_left (h false false) (h false true) e))
-pair_from h false true e =
-    or_left ((h false false || h false true) || h true false) (h true true)
-    (or_left (h false false || h false true) (h true false) (or_right (h false false) (h false true) e))
-pair_from h true false e =
-    or_left ((h false false || h false true) || h true false) (h true true) (or_right (h false false || h false true) (h true false) e)
-pair_from h true true e = or_right ((h false false || h false true) || h true false) (h true true) e
+pair_from h c z e = grind (arith, or_left, or_right)
 
 -- ---- forward
 
@@ -102,10 +68,7 @@ unfolding leads_to
 leads_opened s carry zero = refl
 
 after_is : (s : Step) (carry zero : Bool) → has_state (states_after s) carry zero ≡ leads_to s carry zero
-after_is s false false = refl
-after_is s false true = refl
-after_is s true false = refl
-after_is s true true = refl
+after_is s carry h = grind arith
 
 -- what holds of some flags after a step, by the flags before it
 pub forward : (op : Operation) (p : Set × Set) (s : Step) (m : Bool → Bool → Bool) → IsStep op p.0 p.1 s
@@ -129,12 +92,7 @@ forward op p s m h =
 -- ---- backward
 
 dropped : (a w l : Bool) → (l ≡ true → a ≡ true) → ((a && w) && l) ≡ (l && w)
-dropped true true true h = refl
-dropped true true false h = refl
-dropped true false true h = refl
-dropped true false false h = refl
-dropped false w false h = refl
-dropped false w true h = absurd (cc (h refl))
+dropped a w l h = grind arith
 
 -- flags among those after a step from which a way goes on, where some values lead to them
 pub on_way : (op : Operation) (p : Set × Set) (s : Step) (after : States) (w : Bool → Bool → Bool) → IsStep op p.0 p.1 s
@@ -153,10 +111,7 @@ unfolding goes_from
 goes_opened s after c z = refl
 
 before_is : (s : Step) (after : States) (c z : Bool) → has_state (states_before s after) c z ≡ goes_from s after c z
-before_is s after false false = refl
-before_is s after false true = refl
-before_is s after true false = refl
-before_is s after true true = refl
+before_is s after c z = grind arith
 
 -- flags lead on before a step if an arc of it leads to some that do
 pub backward : (op : Operation) (p : Set × Set) (s : Step) (after : States) (w : Bool → Bool → Bool) → IsStep op p.0 p.1 s
@@ -208,9 +163,7 @@ in_edges s after k v c z d =
     ∙ four (is_in v (part_of k d)) (has_edge s after k v c z false false) (has_edge s after k v c z false true) (has_edge s after k v c z true false) (has_edge s after k v c z true true)
 
 in_none : (k : Part) (v : ℕ) → is_in v (part_of k no_digits) ≡ false
-in_none First v = refl
-in_none Second v = refl
-in_none Result v = refl
+in_none k v = grind arith
 
 in_found : (s : Step) (after : States) (k : Part) (v : ℕ)
     → is_in v (part_of k (found_digits s after)) ≡ any_pair (λ c z. any_pair (λ carry zero. has_edge s after k v c z carry zero))

@@ -1,6 +1,6 @@
 -- Digits that grow by one value of the second byte after another are those of the definition in the end.
 use Rattle.std.specs.Prelude.{◌≡◌, ◌⊎◌, ℕ, ◌+◌, ◌<◌, ◌≤◌, Bool, true, false, cond, ◌&&◌, List, [], ◌∷◌, get_or, ◌/◌, refl}
-use Rattle.std.proofs.Common.{arith, ap, sym, subst, ◌∙◌, inl, inr}
+use Rattle.std.proofs.Common.{arith, ap, sym, subst, inl, inr}
 use Rattle.std.proofs.lemmas.Bool.{and_parts, and_from, both_ways, cases_lt}
 use Rattle.prove_facts.specs.model_prove.specs.Sets.{Set, is_in, is_empty, union}
 use Rattle.prove_facts.specs.model_prove.specs.Digits.{Operation, Flags, digit, flags_after, same_flags, Digits, digits_from}
@@ -63,11 +63,6 @@ grown_from_b false d (x ∷ xs) y rs v h e =
       | inr k ↦ inr (only_in v y k, (x, is_first x xs))
     ]
 
-grown_from_r : (b : Bool) (d : Digits) (xs ys rs : Set) (v : ℕ)
-    → is_in v (let e : Digits = cond b d (record { a = union d.a xs; b = union d.b ys; r = union d.r rs }) in e.r) ≡ true → (is_in v d.r ≡ true) ⊎ (is_in v rs ≡ true)
-grown_from_r true d xs ys rs v h = inl h
-grown_from_r false d xs ys rs v h = in_either v d.r rs h
-
 -- a set has the values that pass a test, and another what a function makes of them
 pub record AreMade (test : ℕ → Bool) (result : ℕ → ℕ) (xs rs : Set) : Type 0 where
   pub test_is : (x : ℕ) → is_in x xs ≡ test x
@@ -77,52 +72,17 @@ pub record AreMade (test : ℕ → Bool) (result : ℕ → ℕ) (xs rs : Set) : 
 grown_from_made : (b : Bool) (test : ℕ → Bool) (result : ℕ → ℕ) (d : Digits) (xs ys rs : Set) (v : ℕ) → AreMade test result xs rs → is_empty xs ≡ b
     → is_in v (let e : Digits = cond b d (record { a = union d.a xs; b = union d.b ys; r = union d.r rs }) in e.r) ≡ true
     → (is_in v d.r ≡ true) ⊎ ((x : ℕ) × (test x ≡ true) × (result x ≡ v))
-grown_from_made true test result d xs ys rs v m e h = inl h
-grown_from_made false test result d xs ys rs v m e h =
-    elim (in_either v d.r rs h) [
-      | inl k ↦ inl k
-      | inr k ↦ let q = m.from v k e in inr (q.0, sym (m.test_is q.0) ∙ q.1, q.2)
-    ]
+grown_from_made b test result d xs ys rs v m e h = grind (arith, in_either)
 
 -- digits that were grown by the values of a test, and their results, have grown so
 pub is_grown : (d e : Digits) (xs : Set) (y : ℕ) (rs : Set) (test : ℕ → Bool) (result : ℕ → ℕ) → e ≡ grown d xs y rs → AreMade test result xs rs → IsGrown d e test y result
 is_grown d e xs y rs test result h m =
-    let b = is_empty xs in
-    let full : (x : ℕ) → test x ≡ true → e ≡ (let k : Digits = record { a = union d.a xs; b = union d.b (y ∷ []); r = union d.r rs } in k)
-    = λ x t. h ∙ grown_is (is_empty xs) d xs (y ∷ []) rs (not_none x xs (m.test_is x ∙ t)) in
-    record {
-      keeps_a = λ v k. ap (λ (c : Digits). is_in v c.a) h ∙ grown_keeps_a (is_empty xs) d xs (y ∷ []) rs v k;
-      keeps_b = λ v k. ap (λ (c : Digits). is_in v c.b) h ∙ grown_keeps_b (is_empty xs) d xs (y ∷ []) rs v k;
-      keeps_r = λ v k. ap (λ (c : Digits). is_in v c.r) h ∙ grown_keeps_r (is_empty xs) d xs (y ∷ []) rs v k;
-      adds_a = λ x t. ap (λ (c : Digits). is_in x c.a) (full x t) ∙ in_right x d.a xs (m.test_is x ∙ t);
-      adds_b = λ x t. ap (λ (c : Digits). is_in y c.b) (full x t) ∙ in_right y d.b (y ∷ []) (is_first y []);
-      adds_r = λ x t. ap (λ (c : Digits). is_in (result x) c.r) (full x t) ∙ in_right (result x) d.r rs (m.made x (m.test_is x ∙ t));
-      from_a = λ v k. elim (grown_from_a (is_empty xs) d xs (y ∷ []) rs v (sym (ap (λ (c : Digits). is_in v c.a) h) ∙ k)) [
-        | inl i ↦ inl i
-        | inr i ↦ inr (sym (m.test_is v) ∙ i)
-      ];
-      from_b = λ v k. elim (grown_from_b (is_empty xs) d xs y rs v (sym (ap (λ (c : Digits). is_in v c.b) h) ∙ k) refl) [
-        | inl i ↦ inl i
-        | inr i ↦ inr (i.0, (i.1.0, sym (m.test_is i.1.0) ∙ i.1.1))
-      ];
-      from_r = λ v k. grown_from_made (is_empty xs) test result d xs (y ∷ []) rs v m refl (sym (ap (λ (c : Digits). is_in v c.r) h) ∙ k);
-    }
+    grind (arith, grown_is, not_none, grown_keeps_a, grown_keeps_b, grown_keeps_r, in_right, is_first, grown_from_a, grown_from_b, grown_from_made)
 
 -- a test and a result by those that are equal
 pub grown_alike : (d e : Digits) (y : ℕ) (test other : ℕ → Bool) (result made : ℕ → ℕ) → ((x : ℕ) → test x ≡ other x) → ((x : ℕ) → test x ≡ true → result x ≡ made x)
     → IsGrown d e test y result → IsGrown d e other y made
-grown_alike d e y test other result made h k g =
-    record {
-      keeps_a = g.keeps_a;
-      keeps_b = g.keeps_b;
-      keeps_r = g.keeps_r;
-      adds_a = λ x t. g.adds_a x (h x ∙ t);
-      adds_b = λ x t. g.adds_b x (h x ∙ t);
-      adds_r = λ x t. subst (λ (r : ℕ). is_in r e.r ≡ true) (k x (h x ∙ t)) (g.adds_r x (h x ∙ t));
-      from_a = λ v i. elim (g.from_a v i) [ inl q ↦ inl q | inr q ↦ inr (sym (h v) ∙ q) ];
-      from_b = λ v i. elim (g.from_b v i) [ inl q ↦ inl q | inr q ↦ inr (q.0, (q.1.0, sym (h q.1.0) ∙ q.1.1)) ];
-      from_r = λ v i. elim (g.from_r v i) [ inl q ↦ inl q | inr q ↦ inr (q.0, sym (h q.0) ∙ q.1, sym (k q.0 q.1) ∙ q.2) ];
-    }
+grown_alike d e y test other result made h k g = grind arith
 
 -- ---- all values below a number
 
@@ -196,10 +156,7 @@ turn_below op s t f g true z = split_below op s t f g z
 
 -- each part of a turn without values is no digits
 pub none_at : (c z : Bool) → trio_value (trio_at none_turn c z) ≡ no_digits
-none_at false false = none_value
-none_at false true = none_value
-none_at true false = none_value
-none_at true true = none_value
+none_at c z = grind (arith, none_value)
 
 -- each part of a split without values is no digits
 pub none_in : (z : Bool) → trio_value (trio_in none_split z) ≡ no_digits
@@ -208,9 +165,7 @@ none_in true = none_value
 
 -- a turn has no digits to a zero if there was none so far
 pub edge_none : (t : Turn) (so_far c z : Bool) → so_far ≡ false → z ≡ true → no_digits ≡ edge_of t so_far c z
-edge_none t false c true e h = refl
-edge_none t true c z e h = absurd (cc e)
-edge_none t false c false e h = absurd (cc h)
+edge_none t so_far c z e h = grind arith
 
 -- a value that is not in the second set leads nowhere
 pub skip_below : (op : Operation) (s t : Set) (f g : Flags) (n : ℕ) (d : Digits) → is_in n t ≡ false → AreBelow op s t f g n d → AreBelow op s t f g (n + 1) d
@@ -231,17 +186,13 @@ skip_below op s t f g n d h p =
     }
 
 leads_by : (op : Operation) (s t : Set) (f g : Flags) (x y : ℕ) → is_in y t ≡ true → (is_in x s && same_flags (flags_after op x y f) g) ≡ true → Leads op s t f g x y
-leads_by op s t f g x y h k =
-    let p = and_parts (is_in x s) (same_flags (flags_after op x y f) g) k in
-    record { first = p.0; second = h; flags = p.1 }
+leads_by op s t f g x y h k = grind (arith, and_parts)
 
 leads_test : (op : Operation) (s t : Set) (f g : Flags) (x y : ℕ) → Leads op s t f g x y → (is_in x s && same_flags (flags_after op x y f) g) ≡ true
 leads_test op s t f g x y l = and_from (is_in x s) (same_flags (flags_after op x y f) g) l.first l.flags
 
 at_value : (op : Operation) (s t : Set) (f g : Flags) (x y n : ℕ) → y < n + 1 → n ≤ y → Leads op s t f g x y → Leads op s t f g x n
-at_value op s t f g x y n l k q =
-    let e : y ≡ n = omega (arith, l, k) in
-    subst (λ (w : ℕ). Leads op s t f g x w) e q
+at_value op s t f g x y n l k q = grind (arith, Leads)
 
 -- digits that grew by one value have what the values below the next one lead to
 pub more_below : (op : Operation) (s t : Set) (f g : Flags) (n : ℕ) (d e : Digits) → is_in n t ≡ true

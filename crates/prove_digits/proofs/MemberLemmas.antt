@@ -11,9 +11,7 @@ use Rattle.prove_facts.proofs.SetLemmas.{Rises, rises_filter, rises_with, in_fil
 
 -- two tests that imply each other
 pub same_tests : (a b : Bool) → (a ≡ true → b ≡ true) → (b ≡ true → a ≡ true) → a ≡ b
-same_tests true b f g = sym (f refl)
-same_tests false true f g = g refl
-same_tests false false f g = refl
+same_tests a b f g = grind arith
 
 -- a disjunction with false is its first part
 pub or_none : (b : Bool) → (b || false) ≡ b
@@ -149,9 +147,7 @@ first_to op v s t f g h =
 
 -- a first byte that leads on is in the first set of the digits
 pub first_from : (op : Operation) (x y : ℕ) (s t : Set) (f g : Flags) → Leads op s t f g x y → is_in x (digits_from op s t f g).a ≡ true
-first_from op x y s t f g l =
-    let test = λ (x : ℕ). some (λ y. same_flags (flags_after op x y f) g) t in
-    in_filter test x s ∙ and_from (is_in x s) (test x) l.first (some_from (λ y. same_flags (flags_after op x y f) g) y t l.second l.flags)
+first_from op x y s t f g l = grind (arith, in_filter, and_from, some_from)
 
 -- a byte in the second set of the digits leads on with some first one
 pub second_to : (op : Operation) (v : ℕ) (s t : Set) (f g : Flags) → is_in v (digits_from op s t f g).b ≡ true → (x : ℕ) × Leads op s t f g x v
@@ -163,9 +159,7 @@ second_to op v s t f g h =
 
 -- a second byte that leads on is in the second set of the digits
 pub second_from : (op : Operation) (x y : ℕ) (s t : Set) (f g : Flags) → Leads op s t f g x y → is_in y (digits_from op s t f g).b ≡ true
-second_from op x y s t f g l =
-    let test = λ (y : ℕ). some (λ x. same_flags (flags_after op x y f) g) s in
-    in_filter test y t ∙ and_from (is_in y t) (test y) l.second (some_from (λ x. same_flags (flags_after op x y f) g) x s l.first l.flags)
+second_from op x y s t f g l = grind (arith, in_filter, and_from, some_from)
 
 -- ---- ascending digits
 

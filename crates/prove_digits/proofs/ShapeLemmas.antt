@@ -1,7 +1,7 @@
 -- Lists of digits: what each part has at each place, and that lists of ascending digits that have the same are the
 -- same.
 use Rattle.std.specs.Prelude.{◌≡◌, ℕ, zero, suc, Bool, true, false, cond, ◌||◌, List, [], ◌∷◌, map, ◌++◌, length, flat_map, Option, Some, None, ⊤, refl}
-use Rattle.std.proofs.Common.{ap, ◌∙◌}
+use Rattle.std.proofs.Common.{arith, ap, ◌∙◌}
 use Rattle.prove_facts.specs.model_prove.specs.Sets.{Set, is_in, is_empty}
 use Rattle.prove_facts.specs.model_prove.specs.Digits.{Operation, Flags, all_flags, Digits, Arc, Way, digits_from, arc_if, arcs, join_digit, join_digits, with_way, arc_before, ways_along, ways, way_from, same_flags}
 use Rattle.prove_facts.proofs.SetLemmas.{Rises, rises_union, in_union}
@@ -52,9 +52,7 @@ same_lists (suc n) (d ∷ ds) (e ∷ es) p q h =
 
 -- a value is in a part of joined digits if it is in that of either
 pub joined_part : (k : Part) (v : ℕ) (d e : Digits) → is_in v (part_of k (join_digit d e)) ≡ (is_in v (part_of k d) || is_in v (part_of k e))
-joined_part First v d e = in_union v d.a e.a
-joined_part Second v d e = in_union v d.b e.b
-joined_part Result v d e = in_union v d.r e.r
+joined_part k v d e = grind (arith, in_union)
 
 or_false : (b : Bool) → b ≡ (b || false)
 or_false true = refl

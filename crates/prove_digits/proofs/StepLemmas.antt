@@ -1,5 +1,5 @@
 -- Steps through all bytes: the final flags and the digits that they find are those of the ways of the definition.
-use Rattle.std.specs.Prelude.{◌≡◌, ℕ, zero, suc, ◌+◌, ◌<◌, ◌≤◌, Bool, true, false, cond, ◌&&◌, ◌||◌, List, [], ◌∷◌, ◌++◌, length, reverse, map, drop, get_or, min, Option, Some, None, refl}
+use Rattle.std.specs.Prelude.{◌≡◌, ℕ, zero, suc, ◌<◌, ◌≤◌, Bool, true, false, cond, ◌&&◌, ◌||◌, List, [], ◌∷◌, ◌++◌, length, reverse, map, drop, get_or, min, Option, Some, None, refl}
 use Rattle.std.proofs.Common.{arith, ap, sym, subst, ◌∙◌}
 use Rattle.std.proofs.lemmas.List.{reverse-append, append_assoc, length-append}
 use Rattle.prove_facts.specs.model_prove.specs.Sets.{Set, is_in}
@@ -58,52 +58,27 @@ no_pair : (h : Bool → Bool → Bool) → ((c z : Bool) → h c z ≡ false) �
 no_pair h e = pair_alike h (λ c z. false) e
 
 rest_none : (c d : Bool) → false ≡ ((false || (c && false)) || (d && false))
-rest_none true true = refl
-rest_none true false = refl
-rest_none false true = refl
-rest_none false false = refl
+rest_none c d = grind arith
 
 one_of : (a b c d : Bool) → a ≡ ((((a && true) || (b && false)) || (c && false)) || (d && false))
-one_of true b c d = refl
-one_of false true c d = rest_none c d
-one_of false false c d = rest_none c d
+one_of a b c d = grind (arith, rest_none)
 
 two_of : (a b c d : Bool) → b ≡ ((((a && false) || (b && true)) || (c && false)) || (d && false))
-two_of true true c d = refl
-two_of true false c d = rest_none c d
-two_of false true c d = refl
-two_of false false c d = rest_none c d
+two_of a b c d = grind (arith, rest_none)
 
 three_of : (a b c d : Bool) → c ≡ ((((a && false) || (b && false)) || (c && true)) || (d && false))
-three_of true true true d = refl
-three_of true true false d = sym (none_and d)
-three_of true false true d = refl
-three_of true false false d = sym (none_and d)
-three_of false true true d = refl
-three_of false true false d = sym (none_and d)
-three_of false false true d = refl
-three_of false false false d = sym (none_and d)
+three_of a b c d = grind (arith, none_and)
 
 and_true : (b : Bool) → b ≡ (b && true)
 and_true true = refl
 and_true false = refl
 
 four_of : (a b c d : Bool) → d ≡ ((((a && false) || (b && false)) || (c && false)) || (d && true))
-four_of true true true d = and_true d
-four_of true true false d = and_true d
-four_of true false true d = and_true d
-four_of true false false d = and_true d
-four_of false true true d = and_true d
-four_of false true false d = and_true d
-four_of false false true d = and_true d
-four_of false false false d = and_true d
+four_of a b c d = grind (arith, and_true)
 
 end_way : (s : States) (fc fz : Bool) → has_state s fc fz
     ≡ any_pair (λ c z. has_state s c z && is_way (cond (same_flags (record { c = fc; z = fz }) (record { c = c; z = z })) (Some []) None))
-end_way s false false = one_of s.other s.zero s.carry s.both
-end_way s false true = two_of s.other s.zero s.carry s.both
-end_way s true false = three_of s.other s.zero s.carry s.both
-end_way s true true = four_of s.other s.zero s.carry s.both
+end_way s fc fz = grind (arith, one_of, two_of, three_of, four_of)
 
 end_has : (s : States) (k : Part) (i v : ℕ) (fc fz : Bool) → false
     ≡ any_pair (λ c z. has_state s c z && may_have k i v (cond (same_flags (record { c = fc; z = fz }) (record { c = c; z = z })) (Some []) None))
@@ -112,22 +87,7 @@ end_has s k i v fc fz = sym (no_pair (λ c z. has_state s c z && may_have k i v 
 
 end_back : (s : States) (fc fz c z : Bool) → has_state s fc fz ≡ true
     → has_state (states_one fc fz) c z ≡ (has_state s c z && is_way (cond (same_flags (record { c = fc; z = fz }) (record { c = c; z = z })) (Some []) None))
-end_back s false false false false h = sym (ap (λ (b : Bool). b && true) h)
-end_back s false false false true h = sym (none_and s.zero)
-end_back s false false true false h = sym (none_and s.carry)
-end_back s false false true true h = sym (none_and s.both)
-end_back s false true false false h = sym (none_and s.other)
-end_back s false true false true h = sym (ap (λ (b : Bool). b && true) h)
-end_back s false true true false h = sym (none_and s.carry)
-end_back s false true true true h = sym (none_and s.both)
-end_back s true false false false h = sym (none_and s.other)
-end_back s true false false true h = sym (none_and s.zero)
-end_back s true false true false h = sym (ap (λ (b : Bool). b && true) h)
-end_back s true false true true h = sym (none_and s.both)
-end_back s true true false false h = sym (none_and s.other)
-end_back s true true false true h = sym (none_and s.zero)
-end_back s true true true false h = sym (none_and s.carry)
-end_back s true true true true h = sym (ap (λ (b : Bool). b && true) h)
+end_back s fc fz c z h = grind (arith, none_and)
 
 -- ---- all bytes
 
@@ -198,10 +158,7 @@ from_first h = sym (or_false (h false true) ∙ or_false (h false true || false)
 way_of : (fc fz : Bool) (o : Option (List Digits)) (b : Bool) (n : ℕ) (ds : List Digits) → b ≡ is_way o → MayBeShaped n o → AreShaped n ds
     → (b ≡ true → (k : Part) (i v : ℕ) → has_at k i v ds ≡ may_have k i v o)
     → cond b ((record { c = fc; z = fz }, reverse ds) ∷ []) [] ≡ way_if (record { c = fc; z = fz }) o
-way_of fc fz None b n ds e p q h = ap (λ (t : Bool). cond t ((record { c = fc; z = fz }, reverse ds) ∷ []) []) e
-way_of fc fz (Some es) b n ds e p q h =
-    ap (λ (t : Bool). cond t ((record { c = fc; z = fz }, reverse ds) ∷ []) []) e
-    ∙ ap (λ (cs : List Digits). (record { c = fc; z = fz }, reverse cs) ∷ []) (same_lists n ds es q p (h e))
+way_of fc fz o b n ds e p q h = grind (arith, same_lists)
 
 -- the way that steps find is that of the definition
 pub way_is : (op : Operation) (fc fz : Bool) (end : States) (ps : List (Set × Set)) (ss : List Step) → AreSteps op (states_one false true) ps ss end → PairsRise ps
@@ -292,21 +249,12 @@ reverse_digits d ds = reverse-append (d ∷ []) ds
 pub back_more : (f : States) (ss : List Step) (n : ℕ) (s : Step) (after : States) (d : Digits) → drop n ss ≡ s ∷ drop (suc n) ss → after ≡ back_states f (drop (suc n) ss)
     → d ≡ found_digits s after
     → (states_before s after ≡ back_states f (drop n ss)) × (reverse (back_digits f (drop (suc n) ss)) ++ d ∷ [] ≡ reverse (back_digits f (drop n ss)))
-back_more f ss n s after d e a g = (
-  ap (λ (t : States). states_before s t) a ∙ sym (ap (λ (rs : List Step). back_states f rs) e),
-  sym (ap (λ (rs : List Step). reverse (back_digits f rs)) e ∙ reverse_digits (found_digits s (back_states f (drop (suc n) ss))) (back_digits f (drop (suc n) ss))
-      ∙ ap (λ (c : Digits). reverse (back_digits f (drop (suc n) ss)) ++ c ∷ []) (sym (g ∙ ap (λ (t : States). found_digits s t) a))),
-)
+back_more f ss n s after d e a g = grind (arith, reverse_digits)
 
 -- digits with one more trio are those of the lists with one more byte
 pub bytes_more : (xs ys rs us vs ws : List Values) (t : Trio) → length ys ≡ length xs → length rs ≡ length xs → us ≡ xs ++ t.x ∷ [] → vs ≡ ys ++ t.y ∷ []
     → ws ≡ rs ++ t.r ∷ [] → (digits_of us vs ws ≡ digits_of xs ys rs ++ trio_value t ∷ []) × (length vs ≡ length us) × (length ws ≡ length us)
-bytes_more xs ys rs us vs ws t h k e f g = (
-  ap (λ (l : List Values). digits_of l vs ws) e ∙ ap (λ (l : List Values). digits_of (xs ++ t.x ∷ []) l ws) f
-      ∙ ap (λ (l : List Values). digits_of (xs ++ t.x ∷ []) (ys ++ t.y ∷ []) l) g ∙ digits_more xs ys rs t.x t.y t.r h k,
-  ap length f ∙ length-append ys (t.y ∷ []) ∙ ap (λ (n : ℕ). n + 1) h ∙ sym (ap length e ∙ length-append xs (t.x ∷ [])),
-  ap length g ∙ length-append rs (t.r ∷ []) ∙ ap (λ (n : ℕ). n + 1) k ∙ sym (ap length e ∙ length-append xs (t.x ∷ [])),
-)
+bytes_more xs ys rs us vs ws t h k e f g = grind (arith, digits_more, length-append)
 
 -- what an index past the end reads
 abbrev pub blank_values : Values

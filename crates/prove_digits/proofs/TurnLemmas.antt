@@ -1,6 +1,6 @@
 -- Sums and differences: the values below a number make one carry, the others the other one, and all move alike.
 use Rattle.std.specs.Prelude.{◌≡◌, ℕ, ◌+◌, ◌-◌, ◌%◌, ◌<◌, ◌≤◌, Bool, true, false, cond, not, ◌&&◌, ◌||◌, nat_lt, nat_le, ◌==◌, [], ◌∷◌, refl}
-use Rattle.std.proofs.Common.{arith, ap, sym, ◌∙◌, inl, inr}
+use Rattle.std.proofs.Common.{arith, ap, sym, ◌∙◌}
 use Rattle.std.proofs.lemmas.Bool.{and_parts, and_left, cases_lt, cases_eq, eq-eqb, ne_eqb, lt-ltb, le-ltb, le-leb, lt-leb, eqb-true}
 use Rattle.prove_facts.specs.model_prove.specs.Sets.{Set, is_in, is_empty, common}
 use Rattle.prove_facts.specs.model_prove.specs.Digits.{Operation, Plus, Minus, carried, digit, same, Digits}
@@ -19,10 +19,7 @@ zero_test false b = not b
 
 -- flags agree on a zero if the test for it passes
 pub same_zero : (z b : Bool) → same b z ≡ zero_test z b
-same_zero true true = refl
-same_zero true false = refl
-same_zero false true = refl
-same_zero false false = refl
+same_zero z b = grind arith
 
 -- ---- what two sets have in common
 
@@ -32,23 +29,12 @@ in_common v s t = in_filter (λ w. is_in w t) v s
 -- a set is what another has of the values that pass a test
 pub common_by : (set part mask : Values) (test : ℕ → Bool) → set_of set ≡ common (set_of part) (set_of mask) → ((v : ℕ) → v < 256 → has_value mask v ≡ test v)
     → (v : ℕ) → is_in v (set_of set) ≡ (is_in v (set_of part) && test v)
-common_by set part mask test e h v =
-    ap (λ (s : Set). is_in v s) e ∙ in_common v (set_of part) (set_of mask)
-    ∙ elim (cases_lt v 256) [
-      | inl l ↦ ap (λ (b : Bool). is_in v (set_of part) && b) (in_values mask.words v l ∙ h v l)
-      | inr g ↦
-          let n = out_values part.words v g in
-          and_left (is_in v (set_of part)) (is_in v (set_of mask)) n ∙ sym (and_left (is_in v (set_of part)) (test v) n)
-    ]
+common_by set part mask test e h v = grind (arith, in_common, cases_lt, in_values, out_values, and_left)
 
 -- ---- one part
 
 zero_at : (x e by : ℕ) → x < 256 → e < 256 → by < 256 → (e + by) % 256 ≡ 0 → (x == e) ≡ ((x + by) % 256 == 0)
-zero_at x e by l k n h =
-    elim (cases_eq x e) [
-      | inl q ↦ let z : (x + by) % 256 ≡ 0 = omega (arith, q, h) in eq-eqb x e q ∙ sym (eq-eqb ((x + by) % 256) 0 z)
-      | inr q ↦ ne_eqb x e q ∙ sym (ne_eqb ((x + by) % 256) 0 (λ z. q (omega (arith, z, h, l, k, n))))
-    ]
+zero_at x e by l k n h = grind (arith, cases_eq, eq-eqb, ne_eqb)
 
 -- the values that do not become zero
 pub other_made : (part rest end others moved : Values) (by e : ℕ) → by < 256 → e < 256 → (e + by) % 256 ≡ 0
@@ -58,11 +44,7 @@ pub other_made : (part rest end others moved : Values) (by e : ℕ) → by < 256
 other_made part rest end others moved by e l k n h o c m =
     record {
       test_is = common_by rest part others (λ x. not ((x + by) % 256 == 0)) c (λ v q. o v q ∙ ap not (h v q ∙ zero_at v e by q k l n));
-      made = λ x i.
-          let q = byte_of rest x i in
-          let back : ((x + by) % 256 + 256 - by) % 256 ≡ x = omega (arith, q, l) in
-          let r : (x + by) % 256 < 256 = omega arith in
-          in_values moved.words ((x + by) % 256) r ∙ m ((x + by) % 256) r ∙ ap (λ (w : ℕ). has_value rest w) back ∙ sym (in_values rest.words x q) ∙ i;
+      made = grind (arith, byte_of, in_values);
       from = λ r i s.
           let q = byte_of moved r i in
           let w : (r + 256 - by) % 256 < 256 = omega arith in
@@ -84,12 +66,7 @@ zero_only r rs e h = sym (eqb-true 0 r (or_only (0 == r) (sym (ap (λ (s : Set).
 -- values that become zero
 pub zeros_made : (test : ℕ → Bool) (make : ℕ → ℕ) (xs rs : Set) → ((x : ℕ) → is_in x xs ≡ test x) → ((x : ℕ) → is_in x xs ≡ true → make x ≡ 0) → rs ≡ 0 ∷ []
     → AreMade test make xs rs
-zeros_made test make xs rs h z e =
-    record {
-      test_is = h;
-      made = λ x i. ap (λ (s : Set). is_in (make x) s) e ∙ ap (λ (w : ℕ). is_in w (0 ∷ [])) (z x i);
-      from = λ r i s. let q = first_in xs s in (q.0, q.1, z q.0 q.1 ∙ sym (zero_only r rs e i));
-    }
+zeros_made test make xs rs h z e = grind (arith, first_in, zero_only)
 
 -- of a part only the value that a number takes to zero makes a zero
 pub zero_made : (part zero end : Values) (rs : Set) (by e : ℕ) → by < 256 → e < 256 → (e + by) % 256 ≡ 0
@@ -110,14 +87,7 @@ part_grows : (op : Operation) (carry c z : Bool) (xs part : Set) (y by : ℕ) (i
     → ((x : ℕ) → in_part x ≡ same (digit op x y carry).1 c) → ((x : ℕ) → (x + by) % 256 ≡ (digit op x y carry).0)
     → IsGrown d e (λ x. is_in x part && zero_test z ((x + by) % 256 == 0)) y (λ x. (x + by) % 256)
     → IsGrown d e (λ x. is_in x xs && leads_on op carry c z x y) y (λ x. (digit op x y carry).0)
-part_grows op carry c z xs part y by in_part d e p q r g =
-    grown_alike d e y (λ x. is_in x part && zero_test z ((x + by) % 256 == 0)) (λ x. is_in x xs && leads_on op carry c z x y) (λ x. (x + by) % 256)
-    (λ x. (digit op x y carry).0)
-    (λ x.
-    ap (λ (b : Bool). b && zero_test z ((x + by) % 256 == 0)) (p x)
-    ∙ regrouped (is_in x xs) (in_part x) (same (digit op x y carry).1 c) (same ((digit op x y carry).0 == 0) z) (zero_test z ((x + by) % 256 == 0)) (q x)
-    (same_zero z ((digit op x y carry).0 == 0) ∙ ap (λ (n : ℕ). zero_test z (n == 0)) (sym (r x))))
-    (λ x t. r x) g
+part_grows op carry c z xs part y by in_part d e p q r g = grind (arith, grown_alike, regrouped, same_zero)
 
 -- the part that makes a carry
 abbrev pub part_with : Bool → Bool → Set → Set → Set
@@ -135,11 +105,7 @@ same_false true = refl
 same_false false = refl
 
 plus_below : (x k : ℕ) → k ≤ 256 → nat_lt x (256 - k) ≡ not (nat_le 256 (x + k))
-plus_below x k h =
-    elim (cases_lt x (256 - k)) [
-      | inl l ↦ lt-ltb x (256 - k) l ∙ sym (ap not (lt-leb 256 (x + k) (omega (arith, l, h))))
-      | inr l ↦ le-ltb x (256 - k) l ∙ sym (ap not (le-leb 256 (x + k) (omega (arith, l, h))))
-    ]
+plus_below x k h = grind (arith, cases_lt, lt-ltb, lt-leb, le-ltb, le-leb)
 
 not_not : (b : Bool) → not (not b) ≡ b
 not_not true = refl
@@ -187,13 +153,6 @@ moves_grow false carry xs below above y by split d e l s m p q g true z =
     ∙ ap (λ (n : ℕ). nat_le 256 n) (together x y (carried carry)) ∙ sym (same_true (nat_le 256 (x + y + carried carry))))
     (λ x. added x y (carried carry) by m) (g true z)
 
--- flags one by one
-pub each_pair : (P : Bool → Bool → Type 0) → P false false → P false true → P true false → P true true → (c z : Bool) → P c z
-each_pair P a b c d false false = a
-each_pair P a b c d false true = b
-each_pair P a b c d true false = c
-each_pair P a b c d true true = d
-
 -- the parts that a byte's turn grows by
 pub parts_true : (s : Bool) (below above : Set) (y by : ℕ) (d e : Bool → Bool → Digits) → s ≡ true
     → IsGrown (d false false) (e false false) (λ x. is_in x above && not ((x + by) % 256 == 0)) y (λ x. (x + by) % 256)
@@ -201,11 +160,7 @@ pub parts_true : (s : Bool) (below above : Set) (y by : ℕ) (d e : Bool → Boo
     → IsGrown (d true false) (e true false) (λ x. is_in x below && not ((x + by) % 256 == 0)) y (λ x. (x + by) % 256)
     → IsGrown (d true true) (e true true) (λ x. is_in x below && ((x + by) % 256 == 0)) y (λ x. (x + by) % 256)
     → (c z : Bool) → IsGrown (d c z) (e c z) (λ x. is_in x (part_with s c below above) && zero_test z ((x + by) % 256 == 0)) y (λ x. (x + by) % 256)
-parts_true false below above y by d e h p q r t c z = absurd (cc h)
-parts_true true below above y by d e h p q r t false false = p
-parts_true true below above y by d e h p q r t false true = q
-parts_true true below above y by d e h p q r t true false = r
-parts_true true below above y by d e h p q r t true true = t
+parts_true s below above y by d e h p q r t c z = grind arith
 
 -- if the values below the split make no carry, the digits of each carry grow by its own part
 pub parts_false : (s : Bool) (below above : Set) (y by : ℕ) (d e : Bool → Bool → Digits) → s ≡ false
@@ -214,8 +169,4 @@ pub parts_false : (s : Bool) (below above : Set) (y by : ℕ) (d e : Bool → Bo
     → IsGrown (d true false) (e true false) (λ x. is_in x above && not ((x + by) % 256 == 0)) y (λ x. (x + by) % 256)
     → IsGrown (d true true) (e true true) (λ x. is_in x above && ((x + by) % 256 == 0)) y (λ x. (x + by) % 256)
     → (c z : Bool) → IsGrown (d c z) (e c z) (λ x. is_in x (part_with s c below above) && zero_test z ((x + by) % 256 == 0)) y (λ x. (x + by) % 256)
-parts_false true below above y by d e h p q r t c z = absurd (cc h)
-parts_false false below above y by d e h p q r t false false = p
-parts_false false below above y by d e h p q r t false true = q
-parts_false false below above y by d e h p q r t true false = r
-parts_false false below above y by d e h p q r t true true = t
+parts_false s below above y by d e h p q r t c z = grind arith

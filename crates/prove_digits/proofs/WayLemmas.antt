@@ -1,6 +1,6 @@
 -- The ways of the definition from flags: whether one begins there, and what its digits have, by those of the next byte.
 use Rattle.std.specs.Prelude.{◌≡◌, ℕ, zero, suc, Bool, true, false, cond, not, ◌&&◌, ◌||◌, List, [], ◌∷◌, ◌++◌, map, flat_map, Option, Some, None, refl}
-use Rattle.std.proofs.Common.{ap, sym, ◌∙◌}
+use Rattle.std.proofs.Common.{arith, ap, sym, ◌∙◌}
 use Rattle.prove_facts.specs.model_prove.specs.Sets.{Set, is_in, is_empty}
 use Rattle.prove_facts.specs.model_prove.specs.Digits.{Operation, Flags, all_flags, same, same_flags, Digits, Arc, Way, digits_from, arc_if, arcs, join_digits, with_way, arc_before, ways_along, ways, way_from}
 use Rattle.prove_facts.specs.model_prove.proofs.DigitLemmas.{flags_are}
@@ -24,10 +24,7 @@ pub record IsJoint (q : Option (List Digits) → Bool) : Type 0 where
   pub join : (ds es : List Digits) → q (Some (join_digits ds es)) ≡ (q (Some ds) || q (Some es))
 
 same_turned : (b c : Bool) → same b c ≡ same c b
-same_turned true true = refl
-same_turned true false = refl
-same_turned false true = refl
-same_turned false false = refl
+same_turned b c = grind arith
 
 flags_turned : (f g : Flags) → same_flags f g ≡ same_flags g f
 flags_turned f g = ap (λ (b : Bool). b && same f.z g.z) (same_turned f.c g.c) ∙ ap (λ (b : Bool). same g.c f.c && b) (same_turned f.z g.z)
@@ -54,12 +51,7 @@ with_by : (b : Bool) (q : Option (List Digits) → Bool) (w v : Way) (vs : List 
     → q (way_from (with_way w vs) f) ≡ ((same_flags w.from f && q (Some w.digits)) || q (way_from vs f))
     → q (way_from (cond b (record { from = v.from; digits = join_digits w.digits v.digits } ∷ vs) (v ∷ with_way w vs)) f)
     ≡ ((same_flags w.from f && q (Some w.digits)) || q (cond (same_flags v.from f) (Some v.digits) (way_from vs f)))
-with_by true q w v vs f j e h =
-    joined_by (same_flags v.from f) q w.digits v.digits (way_from vs f) j
-    ∙ ap (λ (g : Flags). (same_flags g f && q (Some w.digits)) || q (cond (same_flags v.from f) (Some v.digits) (way_from vs f))) (flags_are v.from w.from e)
-with_by false q w v vs f j e h =
-    next_by (same_flags v.from f) (same_flags w.from f) q w.digits v.digits (way_from (with_way w vs) f) (way_from vs f)
-    (λ i. ap (λ (g : Flags). same_flags w.from g) (sym (flags_are v.from f i)) ∙ flags_turned w.from v.from ∙ e) h
+with_by b q w v vs f j e h = grind (arith, joined_by, flags_are, next_by, flags_turned)
 
 -- a way more
 with_passes : (q : Option (List Digits) → Bool) (w : Way) (ws : List Way) (f : Flags) → IsJoint q
@@ -123,16 +115,10 @@ common_test false n t [] = refl
 common_test false n t (g ∷ fs) = ap (λ (b : Bool). b || any_of (λ g. n g && false) fs) (none_and (n g) false refl) ∙ common_test false n t fs
 
 from_one : (c z : Bool) (h : Flags → Bool) → any_of (λ e. same_flags e (record { c = c; z = z }) && h e) all_flags ≡ h (record { c = c; z = z })
-from_one false false h = sym (or_false (h (record { c = false; z = false })))
-from_one false true h = sym (or_false (h (record { c = false; z = true })))
-from_one true false h = sym (or_false (h (record { c = true; z = false })))
-from_one true true h = sym (or_false (h (record { c = true; z = true })))
+from_one c z h = grind (arith, or_false)
 
 regroup : (a b c d : Bool) → (a || (b || (c || (d || false)))) ≡ (((a || b) || c) || d)
-regroup true b c d = refl
-regroup false true c d = refl
-regroup false false true d = refl
-regroup false false false d = sym (or_false d)
+regroup a b c d = grind (arith, or_false)
 
 pairwise : (h : Flags → Bool) → any_of h all_flags ≡ any_pair (λ c z. h (record { c = c; z = z }))
 pairwise h = regroup (h (record { c = false; z = false })) (h (record { c = false; z = true })) (h (record { c = true; z = false })) (h (record { c = true; z = true }))
@@ -203,11 +189,7 @@ later_before k i v d (Some ds) = refl
 
 -- two tests that agree on all flags pass alike for some
 pub pair_alike : (h k : Bool → Bool → Bool) → ((c z : Bool) → h c z ≡ k c z) → any_pair h ≡ any_pair k
-pair_alike h k e =
-    ap (λ (b : Bool). ((b || h false true) || h true false) || h true true) (e false false)
-    ∙ ap (λ (b : Bool). ((k false false || b) || h true false) || h true true) (e false true)
-    ∙ ap (λ (b : Bool). ((k false false || k false true) || b) || h true true) (e true false)
-    ∙ ap (λ (b : Bool). ((k false false || k false true) || k true false) || b) (e true true)
+pair_alike h k e = grind arith
 
 -- whether a way begins at flags
 pub way_begins : (op : Operation) (final : Flags) (p : Set × Set) (ps : List (Set × Set)) (c z : Bool)
