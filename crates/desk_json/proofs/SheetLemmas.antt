@@ -1,13 +1,13 @@
 -- How a sheet holds more of a text.
-use Rattle.std.proofs.Common.{◌≡◌, ℕ, false, is_none, List, [], ◌∷◌, ◌++◌, Option, Some, None, Result, Ok, Err, ◌≤◌, ◌+◌, drop, length, get_or, ◌<◌, refl, ap, sym, subst, ◌∙◌, append_assoc, append-nil}
+use Rattle.std.proofs.Common.{◌≡◌, ℕ, false, is_none, List, [], ◌∷◌, ◌++◌, Option, Some, None, ◌≤◌, drop, length, ap, sym, subst, ◌∙◌, append_assoc, append-nil}
 use Rattle.std.proofs.Math.ListN.{drop_of_length-le}
 use Rattle.mc_streams.specs.declared.refusals.WriteFault.{WriteFault}
 use Rattle.mc_text.specs.Texts.{sunk, Sunk, Writes, Fails, Puts}
-use Rattle.mc_text.proofs.TextLemmas.{writes_none, writes_then, fails_then, fails_before}
+use Rattle.mc_text.proofs.TextLemmas.{writes_none, fails_before}
 use Rattle.mc_streams.specs.declared.sink.Sink.{Ghosts}
 use Rattle.desk_json.specs.Json.{character, characters}
 use Rattle.desk_json.specs.declared.sheet.Sheet.{Sheet}
-use Rattle.desk_json.specs.Sheets.{adds_as, adds_none, adds_on, fault_in, written_by, Adds, HoldsBy, PutsOn}
+use Rattle.desk_json.specs.Sheets.{adds_as, adds_none, adds_on, written_by, Adds, HoldsBy, PutsOn}
 
 -- nothing yet
 pub holds_none : (f : Option WriteFault) (a b : Sunk) (g : List ℕ) → f ≡ None → g ≡ [] → b ≡ a → HoldsBy f a [] g b
@@ -18,12 +18,6 @@ holds_none (Some f) a b g none empty same = absurd (cc none)
 pub holds_more : (f : Option WriteFault) (a b : Sunk) (whole g piece : List ℕ) → HoldsBy f a whole g b → HoldsBy f a (whole ++ piece) (g ++ piece) b
 holds_more None a b whole g piece h = (h.0, ap (λ (t : List ℕ). t ++ piece) h.1 ∙ append_assoc h.0 g piece, h.2)
 holds_more (Some f) a b whole g piece h = fails_before piece h
-
--- what was gathered is written, by the result of the sink
-pub holds_put : (f : Option WriteFault) (a b c : Sunk) (whole g : List ℕ) (r : Result (Unit {0}) WriteFault) → f ≡ None → HoldsBy f a whole g b → Puts b g r c → HoldsBy (fault_in r) a (whole ++ []) [] c
-holds_put None a b c whole g (Ok u) none h put = (whole, refl, subst (λ (t : List ℕ). Writes a t c) (sym h.1) (writes_then h.2 put))
-holds_put None a b c whole g (Err w) none h put = subst (λ (t : List ℕ). Fails a t c) (sym h.1 ∙ sym (append-nil whole)) (fails_then h.2 put)
-holds_put (Some f) a b c whole g r none h put = absurd (cc none)
 
 -- after a fault nothing is written
 pub holds_still : (f : Option WriteFault) (a b : Sunk) (whole g k : List ℕ) → is_none f ≡ false → HoldsBy f a whole g b → HoldsBy f a (whole ++ []) k b

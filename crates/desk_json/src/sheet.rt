@@ -2,7 +2,6 @@
 ghost use Rattle.std.specs.Prelude.{◌≡◌, ◌+◌, ◌≤◌, ◌++◌, [], ◌∷◌, codes, decimal, length, None};
 ghost use Rattle.arrayvec.specs.ArrayVec.{array_vec_len};
 ghost use Rattle.mc_text.specs.model_text.specs.Listing.{hex_text};
-ghost use Rattle.mc_text.specs.Texts.{sunk};
 ghost use Rattle.desk_json.specs.Json.{character, characters};
 ghost use Rattle.desk_json.specs.Sheets.{fault_in, written_by, Adds};
 
