@@ -1,5 +1,5 @@
 // Facts in little room: most are of one value.
-ghost use Rattle.std.specs.Prelude.{◌≡◌, ◌⊎◌, ℕ, ◌≤◌, List, [], ◌∷◌, ◌++◌, length, OnOk, IfOk};
+ghost use Rattle.std.specs.Prelude.{◌≡◌, ◌⊎◌, ℕ, List, [], ◌∷◌, ◌++◌, OnOk, IfOk};
 ghost use Rattle.model_prove.specs.Sets.{is_subset};
 ghost use Rattle.model_prove.specs.Facts.{values_at, follow};
 ghost use Rattle.prove_facts.specs.Facts.{fact_of, facts_of, AreSparse};

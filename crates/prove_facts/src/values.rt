@@ -1,5 +1,5 @@
 // Sets of byte values.
-ghost use Rattle.std.specs.Prelude.{◌≡◌, ◌<◌, ◌≤◌, ◌↔◌, ℕ, ◌+◌, ◌-◌, ◌%◌, ◌^◌, min, Bool, true, false, not, ◌&&◌, ◌||◌, ◌==◌, nat_lt, nat_le, [], ◌∷◌, cond, length, ◌*◌, bit_or, count_ones};
+ghost use Rattle.std.specs.Prelude.{◌≡◌, ◌<◌, ℕ, ◌+◌, ◌-◌, ◌%◌, ◌^◌, min, true, false, not, ◌&&◌, ◌||◌, ◌==◌, nat_lt, nat_le, [], ◌∷◌, cond, length, ◌*◌, bit_or, count_ones};
 ghost use Rattle.std.specs.Int.{bit_at, trailing_zeros, w64};
 ghost use Rattle.model_prove.specs.Sets.{union, common, is_subset, is_empty, is_full, only_value};
 ghost use Rattle.prove_facts.specs.Sets.{has_bit, has_value, set_of, values_of, least_value};
@@ -143,7 +143,8 @@ impl Values {
 
     /// Returns whether each value is in another set.
     pub fn is_within(&self, other: &Values) -> bool
-        ensures values { result ≡ true → (v : ℕ) → v < 256 → has_value self.now v ≡ true → has_value other.now v ≡ true }
+        ensures values { result ≡ true → (v : ℕ) → v < 256 → has_value self.now v ≡ true
+            → has_value other.now v ≡ true }
         ensures set { result ≡ is_subset (set_of self.now) (set_of other.now) }
     {
         self.and(&other.not()).is_empty()
