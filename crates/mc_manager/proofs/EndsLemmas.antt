@@ -240,13 +240,6 @@ pub record CanEnter (v : BankView) (m : ManagerState) (l : Loaded) (n : List ℕ
   pub name : name_of l.dir ≡ Ok n
   pub clear : first_status (create_refusals v.state.apps (Some (open_of v.site_bytes l)) a) ≡ None
 
-pub create_refused : (v : BankView) (m : ManagerState) (x : Option Loaded) (a : ApduParts) (sw : ℕ) → x ≡ m.load → first_status (create_refusals v.state.apps (option_map (open_of v.site_bytes) x) a) ≡ Some sw
-    → (s : List ℕ) → due_manager (create v.state.apps (session_state_of v.site_bytes s m) a) ≡ Refuses sw
-create_refused v m x a sw is h s =
-    let session_state = session_state_of v.site_bytes s m in
-    refused_due (first_status (create_refusals v.state.apps session_state.load a)) (create_done session_state session_state.load (name_of (dir_in session_state.load))) sw
-    (ap (λ (y : Option Loaded). first_status (create_refusals v.state.apps (option_map (open_of v.site_bytes) y) a)) (sym is) ∙ h)
-
 pub can_enter : (v : BankView) (m : ManagerState) (x : Option Loaded) (l : Loaded) (n : List ℕ) (a : ApduParts) → x ≡ m.load → x ≡ Some l → ManagerFits v m → CanCreate v x a n → CanEnter v m l n a
 can_enter v m x l n a load is fits can =
     let same : can.loaded ≡ l = cc (can.is, is) in
@@ -297,13 +290,6 @@ module _ {B : Type 0} (did : B → BankItem → Answer → B → Type 0) where
 
 -- ---- DELETE
 
-pub delete_refused : (v : BankView) (m : ManagerState) (x : Option Selection) (a : ApduParts) (sw : ℕ) → x ≡ m.selected → first_status (delete_causes v.state.apps x a) ≡ Some sw
-    → (s : List ℕ) → due_manager (delete v.state.apps (session_state_of v.site_bytes s m) a) ≡ Refuses sw
-delete_refused v m x a sw is h s =
-    let session_state = session_state_of v.site_bytes s m in
-    refused_due (first_status (delete_refusals v.state.apps session_state a)) (delete_done session_state a) sw
-    (same_causes v m s a ∙ ap (λ (y : Option Selection). first_status (delete_causes v.state.apps y a)) (sym is) ∙ h)
-
 pub delete_is_due : (v : BankView) (m : ManagerState) (x : Option Selection) (a : ApduParts) (k : ℕ) → x ≡ m.selected → CanDelete v.state.apps v.named x a k
     → (s : List ℕ) → due_manager (delete v.state.apps (session_state_of v.site_bytes s m) a) ≡ Does (delete_done (session_state_of v.site_bytes s m) a)
 delete_is_due v m x a k is can s =
@@ -335,16 +321,6 @@ module _ {B : Type 0} (did : B → BankItem → Answer → B → Type 0) where
             slots c.slot c.aid (fits.selected c here) (λ q. not_selected c a.body (ap (λ (y : Option Selection). has_selected y a.body) (sym (sel ∙ here)) ∙ can.other) (q ∙ name));
         load = λ y is. absurd (cc (load, is));
       })
-
-  pub ends_delete_stopped : (v : BankView) (m : ManagerState) (x : Option Selection) (a : ApduParts) (k : ℕ) (b : B) (t : Stop) (w : BankView) (m' : ManagerState) (e : B) → x ≡ m.selected → CanDelete v.state.apps v.named x a k
-      → InOrder did b (Remove (name_or (v.named k)) ∷ []) (Err t) e
-      → Changes v.state (remove v.state.apps (name_or (v.named k))) (Err t) w.state
-      → CommandEnds did (λ s. due_manager (delete v.state.apps (session_state_of v.site_bytes s m) a)) v m b (Err t) w m' e
-  ends_delete_stopped v m x a k b t w m' e sel can items apps =
-      let name : name_or (v.named k) ≡ a.body = ap name_or can.slot in
-      ends_stopped did (λ s. due_manager (delete v.state.apps (session_state_of v.site_bytes s m) a)) (λ s. delete_done (session_state_of v.site_bytes s m) a) v m b t w m' e (delete_is_due v m x a k sel can)
-      (λ s. subst (λ (n : List ℕ). InOrder did b (Remove n ∷ []) (Err t) e) name items)
-      (λ s. subst (λ (n : List ℕ). Changes v.state (remove v.state.apps n) (Err t) w.state) name apps)
 
 -- ---- the table
 

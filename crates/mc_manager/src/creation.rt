@@ -1,8 +1,6 @@
-ghost use Rattle.std.specs.Prelude.{◌≡◌, ◌==◌, ◌&&◌, false, length, option_map, Some, None, Ok, IfOk, IfErr};
+ghost use Rattle.std.specs.Prelude.{◌≡◌, ◌==◌, ◌&&◌, false, option_map, Some, Ok, IfOk, IfErr};
 ghost use Rattle.std.specs.Option.{ForSome};
-ghost use Rattle.model_card.specs.model_device.specs.Bytes.{lookup};
-ghost use Rattle.model_card.specs.Manager.{create_refusals, dir_in, first_status};
-ghost use Rattle.model_card.specs.Units.{name_of};
+ghost use Rattle.model_card.specs.Manager.{create_refusals, first_status};
 ghost use Rattle.mc_apdu.specs.Command.{parts_of};
 ghost use Rattle.mc_bank.specs.Bank.{part_len};
 ghost use Rattle.mc_manager.specs.ManagerState.{view_of, got_len, open_of, FitsLoad};

@@ -1,7 +1,6 @@
-ghost use Rattle.std.specs.Prelude.{◌≡◌, false, bytes_eq, Some, IfOk, IfErr};
-ghost use Rattle.model_card.specs.Manager.{first_status, delete_refusals};
+ghost use Rattle.std.specs.Prelude.{◌≡◌, false, Some, IfOk, IfErr};
+ghost use Rattle.model_card.specs.Manager.{first_status};
 ghost use Rattle.mc_apdu.specs.Command.{parts_of};
-ghost use Rattle.mc_manager.specs.ManagerState.{session_state_of, ManagerState};
 ghost use Rattle.mc_manager.specs.Calls.{CanDelete, delete_causes, has_selected};
 ghost use Rattle.mc_manager.specs.Status.{word_of};
 

@@ -6,7 +6,6 @@ ghost use Rattle.model_card.specs.Manager.{first_status, load_refusals, with_got
 ghost use Rattle.mc_apdu.specs.Command.{parts_of};
 ghost use Rattle.mc_bank.specs.Bank.{Changes, part_len};
 ghost use Rattle.mc_manager.specs.ManagerState.{BankView, view_of, got_len, open_of, FitsLoad};
-ghost use Rattle.mc_manager.specs.Load.{with_more};
 ghost use Rattle.mc_manager.specs.Status.{word_of};
 
 use crate::header::parameters;

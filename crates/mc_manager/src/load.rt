@@ -1,4 +1,4 @@
-ghost use Rattle.std.specs.Prelude.{◌≡◌, ◌+◌, ◌≤◌, length, []};
+ghost use Rattle.std.specs.Prelude.{◌≡◌, ◌+◌, ◌≤◌, length};
 ghost use Rattle.mc_bank.specs.Bank.{part_len, FitsLimits};
 ghost use Rattle.mc_manager.specs.ManagerState.{Loaded, got_len};
 ghost use Rattle.mc_manager.specs.Load.{empty_load, with_more};

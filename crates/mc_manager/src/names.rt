@@ -1,4 +1,4 @@
-ghost use Rattle.std.specs.Prelude.{◌≡◌, false, IsSome, IfSome, IfNone, Some, None};
+ghost use Rattle.std.specs.Prelude.{◌≡◌, false, IfSome, IfNone, Some, None};
 ghost use Rattle.model_card.specs.model_device.specs.Bytes.{lookup};
 ghost use Rattle.mc_manager.specs.ManagerState.{NamedBy};
 

@@ -3,7 +3,6 @@ ghost use Rattle.model_card.specs.Manager.{first_status, select_refusals, select
 ghost use Rattle.mc_apdu.specs.Command.{parts_of};
 ghost use Rattle.mc_bank.specs.Bank.{app_of};
 ghost use Rattle.mc_manager.specs.CommandDue.{RepliesWith};
-ghost use Rattle.mc_manager.specs.ManagerState.{NamedBy};
 ghost use Rattle.mc_manager.specs.Calls.{CanSelect};
 ghost use Rattle.mc_manager.specs.Status.{word_of};
 
