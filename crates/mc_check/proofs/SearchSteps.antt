@@ -1,6 +1,6 @@
 -- One step of the search: the routine that was entered last is left with its base, or an unseen caller of it is
 -- entered.
-use Rattle.std.proofs.Common.{◌≡◌, ℕ, ◌+◌, ◌-◌, ◌*◌, ◌<◌, ◌≤◌, ◌^◌, cond, List, [], ◌∷◌, ◌++◌, length, get_or, set, take, Some, refl, sym, ap, subst, inl, inr, ◌∙◌, arith}
+use Rattle.std.proofs.Common.{◌≡◌, ℕ, ◌+◌, ◌-◌, ◌*◌, ◌<◌, ◌≤◌, cond, List, [], ◌∷◌, ◌++◌, length, get_or, set, take, Some, refl, sym, ap, subst, inl, inr, ◌∙◌, arith}
 use Rattle.std.specs.Prelude.{slice_get}
 use Rattle.std.proofs.lemmas.Bool.{cases_eq}
 use Rattle.std.proofs.lemmas.List.{length-set, length-append, length-take}
@@ -16,11 +16,10 @@ use Rattle.mc_check.specs.declared.bases.Progress.TheVariants as progress
 use Rattle.mc_check.specs.declared.bases.Answer.TheVariants as answer
 use Rattle.mc_check.specs.CallList.{ListsCall, IsCalled, AreClosed, EntersIn, IsBaseIn, ClosesRing}
 use Rattle.mc_check.specs.CallList as list
-use Rattle.mc_check.specs.Searching.{CallReports, Answers, is_unseen, count_of_unseen, AreBelow, StaySeen, Searches, remaining_work}
+use Rattle.mc_check.specs.Searching.{CallReports, Answers, is_unseen, count_of_unseen, StaySeen, Searches, remaining_work}
 use Rattle.mc_check.proofs.ListPlaces.{get_set_same, get_set_other, get_push_before, get_push_last, get_push, before, last, get_take, take_get}
 use Rattle.mc_check.proofs.CallReporting.{called_is_inside, caller_is_inside}
 use Rattle.mc_check.proofs.ReportedBases.{reported_unseen, reported_open, reported_bound, base_found}
-use Rattle.law_family.specs.model_device.specs.Limits.{most_code}
 
 -- ---- one change of a state
 
@@ -87,13 +86,6 @@ module _ (states : List Progress) (l : List Call) (stack : List ℕ) (q : ℕ) (
 
   some_open : 0 < length stack
   some_open = let inside = slice_get_within stack (length stack - 1) q top in omega arith
-
-  pub bases_below : length states ≤ most_code → AreBelow (2 ^ 31) states
-  bases_below short r b there =
-      let low = so.bound r b there in
-      let most : length states - count_of_unseen states - length stack ≤ most_code = omega arith in
-      let product : 65539 * (length states - count_of_unseen states - length stack) ≤ 65539 * most_code = omega arith in
-      omega arith
 
   -- an unseen caller
   module _ (p : ℕ) (reports : CallReports states l q (answer.Unseen p)) where

@@ -1,6 +1,5 @@
 // The addresses at which instructions write, and those that are plain: they touch no byte of an open call.
 ghost use Rattle.std.specs.Prelude.{◌≡◌, ◌<◌};
-ghost use Rattle.law_family.specs.model_machine.specs.Primitives as model;
 ghost use Rattle.model_stack.specs.StackRows as shape;
 ghost use Rattle.mc_check.specs.Seen.{writing_of};
 
