@@ -74,17 +74,6 @@ fn row_uses(ins: Ins) -> Uses
     ensures { uses_of result ≡ shape.row_uses ins }
 {
     match ins {
-        Ins::Nop
-        | Ins::Setsw { .. }
-        | Ins::Setla { .. }
-        | Ins::Setswla { .. }
-        | Ins::Exit
-        | Ins::Exitsw { .. }
-        | Ins::Exitla { .. }
-        | Ins::Exitswla { .. }
-        | Ins::Branch { .. }
-        | Ins::Ret
-        | Ins::Reti { .. } => Uses::new(0, 0, 0),
         Ins::Jump { cond, .. } | Ins::Call { cond, .. } => Uses::new(on_stack(cond, 2, 0), 0, 0),
         Ins::Pushz { n } => Uses::new(0, 0, u16::from(n)),
         Ins::Pushb { .. } => Uses::new(0, 0, 1),
@@ -122,6 +111,7 @@ fn row_uses(ins: Ins) -> Uses
         | Ins::Andn { tag, n, .. }
         | Ins::Orn { tag, n, .. }
         | Ins::Xorn { tag, n, .. } => Uses::new(pair_needs(tag, n), 0, 0),
+        _ => Uses::new(0, 0, 0),
     }
 }
 
