@@ -1,5 +1,5 @@
 // Addresses of operands, places to go to, and the bounds of the stack.
-ghost use Rattle.std.specs.Prelude.{◌≡◌, ◌≤◌, Some, option_map};
+ghost use Rattle.std.specs.Prelude.{◌≡◌, Some};
 ghost use Rattle.model_machine.specs.Frame as model;
 ghost use Rattle.model_machine.specs.Primitives.{in_range};
 ghost use Rattle.model_machine.specs.Row as row;

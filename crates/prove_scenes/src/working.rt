@@ -83,48 +83,11 @@ pub fn work_of(ins: &Ins, scene: &Scene) -> Work
         Ins::Cmpw { tag, off, w } => with_word(scene, Operation::Minus, tag, off, w, false),
         Ins::Addw { tag, off, w } => with_word(scene, Operation::Plus, tag, off, w, true),
         Ins::Subw { tag, off, w } => with_word(scene, Operation::Minus, tag, off, w, true),
-        Ins::Clearn { tag, off, n } => {
-            with_bytes(
-                scene,
-                Operation::And,
-                tag,
-                off,
-                n,
-                same_bytes(n, 0),
-                true,
-                false,
-            )
-        }
-        Ins::Testn { tag, off, n } => {
-            with_bytes(
-                scene,
-                Operation::Or,
-                tag,
-                off,
-                n,
-                same_bytes(n, 0),
-                false,
-                false,
-            )
-        }
-        Ins::Incn { tag, off, n } => {
-            with_bytes(scene, Operation::Plus, tag, off, n, one_in(n), true, true)
-        }
-        Ins::Decn { tag, off, n } => {
-            with_bytes(scene, Operation::Minus, tag, off, n, one_in(n), true, true)
-        }
-        Ins::Notn { tag, off, n } => {
-            with_bytes(
-                scene,
-                Operation::Xor,
-                tag,
-                off,
-                n,
-                same_bytes(n, 255),
-                true,
-                false,
-            )
-        }
+        Ins::Clearn { tag, off, n } => with_same(scene, Operation::And, tag, off, n, 0, true),
+        Ins::Testn { tag, off, n } => with_same(scene, Operation::Or, tag, off, n, 0, false),
+        Ins::Incn { tag, off, n } => with_one(scene, Operation::Plus, tag, off, n),
+        Ins::Decn { tag, off, n } => with_one(scene, Operation::Minus, tag, off, n),
+        Ins::Notn { tag, off, n } => with_same(scene, Operation::Xor, tag, off, n, 255, true),
         Ins::Cmpn { tag, off, n } => with_top(scene, Operation::Minus, tag, off, n, false, true),
         Ins::Addn { tag, off, n } => with_top(scene, Operation::Plus, tag, off, n, true, true),
         Ins::Subn { tag, off, n } => with_top(scene, Operation::Minus, tag, off, n, true, true),
@@ -193,6 +156,30 @@ fn with_bytes(
         written,
         carries,
     })
+}
+
+// An operation on n bytes at a place and a byte n times, which sets Z alone.
+fn with_same(
+    scene: &Scene,
+    op: Operation,
+    tag: u8,
+    off: i16,
+    n: u8,
+    value: u8,
+    written: bool,
+) -> Work
+    ensures { work_value result ≡ work.works (operation_value op) (row.place_of scene.now.frame tag off n) n
+        (work.These (replicate n value)) written false }
+{
+    with_bytes(scene, op, tag, off, n, same_bytes(n, value), written, false)
+}
+
+// An operation on n bytes at a place and the number 1, whose result is written and sets C and Z.
+fn with_one(scene: &Scene, op: Operation, tag: u8, off: i16, n: u8) -> Work
+    ensures { work_value result ≡ work.works (operation_value op) (row.place_of scene.now.frame tag off n) n
+        (work.These (bytes n 1)) true true }
+{
+    with_bytes(scene, op, tag, off, n, one_in(n), true, true)
 }
 
 // An operation on n bytes at a place and the top n bytes of the stack.
