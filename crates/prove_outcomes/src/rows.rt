@@ -679,6 +679,7 @@ pub fn row(
     }
 }
 
+// The outcomes of an instruction with an operand at a place.
 fn operand_row(
     alloc: Global,
     sizes: &Sizes<'_>,
@@ -701,6 +702,19 @@ fn operand_row(
         Ins::Cmpw { tag, off, w } => one(alloc, sizes, s, tag, off, 2, compares(w as u128), out),
         Ins::Addw { tag, off, w } => one(alloc, sizes, s, tag, off, 2, adds(w as u128), out),
         Ins::Subw { tag, off, w } => one(alloc, sizes, s, tag, off, 2, subtracts(w as u128), out),
+        _ => number_row(alloc, sizes, ins, s, out),
+    }
+}
+
+// The outcomes of an instruction on n bytes at a place.
+fn number_row(
+    alloc: Global,
+    sizes: &Sizes<'_>,
+    ins: &Ins,
+    s: &State,
+    out: &mut Vec<Step>,
+) -> Grown {
+    match *ins {
         Ins::Clearn { tag, off, n } => one(
             alloc,
             sizes,
