@@ -9,4 +9,4 @@ mod turns;
 
 pub use amounts::after_session;
 pub use commands::{abend_results, after_answer, after_command};
-pub use turns::after_turn;
+pub use turns::{after_turn, whole_line, without_mark};

@@ -1,6 +1,5 @@
 // What an instruction that was done does to the allowances.
 ghost use Rattle.std.specs.Prelude.{◌≡◌, ◌+◌, ◌≤◌, ◌∷◌, [], ℕ, List, length, IfOk, IfSome};
-ghost use Rattle.arrayvec.specs.ArrayVec.{array_vec_len};
 ghost use Rattle.model_text.specs.model_machine.specs.declared.instruction.Ins.{Ins};
 ghost use Rattle.model_text.specs.Listing.{text_of};
 ghost use Rattle.model_text.specs.TurnText.{bit_text};
@@ -28,9 +27,10 @@ fn bit(flag: bool) -> u8
     if flag { b'1' } else { b'0' }
 }
 
-// The line of an instruction that was done as a trace has it, with its mark and its line feed, at most 59 characters.
+/// Returns the line of an instruction that was done as a trace has it, with its mark and its line feed, at most 59
+/// characters.
 #[tactic(auto, unfolding(model_text::specs::TurnText::turn_line))]
-fn whole_line(turn: &TurnEvent<'_>) -> ArrayVec<u8, 64>
+pub fn whole_line(turn: &TurnEvent<'_>) -> ArrayVec<u8, 64>
     requires depth { turn.now.depth ≤ 4 }
     requires short { length turn.now.ins.now ≤ 40 }
     ensures { (i : Ins) → turn.now.ins.now ≡ text_of i → result.items ≡ whole_line turn.now i }
@@ -46,8 +46,8 @@ fn whole_line(turn: &TurnEvent<'_>) -> ArrayVec<u8, 64>
     line
 }
 
-// The line without its mark and its line feed.
-fn without_mark(line: &[u8]) -> &[u8]
+/// Returns a line without its mark and its line feed.
+pub fn without_mark(line: &[u8]) -> &[u8]
     ensures { (t : TurnEvent) (i : Ins) → line.now ≡ whole_line t i → result.now ≡ line_of_turn t i }
 {
     match cut(line, b'\n').0 {

@@ -18,11 +18,11 @@ ghost use Rattle.prove_sum_steps.specs.Walks.{IsTurn, PassesAt, PassesWith, even
 ghost use Rattle.prove_sums.specs.Values.{SumsAre};
 
 use crate::goals::Goal;
-use crate::turns::{Turn, whole_line, without_mark};
+use crate::turns::Turn;
 use mc_base::NoMemory;
 use mc_isa::text_of;
 use prove_events::TurnEvent;
-use prove_occasions::after_turn;
+use prove_occasions::{after_turn, whole_line, without_mark};
 use prove_scenes::Next;
 use prove_sums::{Sums, asks, counted, drops, mode_of};
 use std::alloc::Global;
