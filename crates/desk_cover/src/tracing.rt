@@ -31,7 +31,7 @@ use mc_card::{BriefTurn, Card};
 use mc_deck::Deck;
 use mc_machine::Outcome;
 use mc_nvm::{Bench, Nvm};
-use mc_script::{Answer, Player, Reporter, Runner, Text, gather_result, play_lines};
+use mc_script::{Answer, Player, Reporter, Runner, Text, gather_result, play_lines, write_result};
 use mc_streams::{Sink, WriteFault};
 use mc_text::{add, add_decimal, add_hex, put};
 use mc_trace::line_of_brief;
@@ -190,16 +190,6 @@ impl<'s, 'o, T: Sink> Tracer<'s, 'o, T> {
             self.write_gathered();
         }
     }
-
-    // Returns `Ok` if all was written, or else the fault of the sink.
-    fn written(&self) -> Result<(), WriteFault>
-        ensures { result ≡ write_result self.now.fault }
-    {
-        match self.fault {
-            None => Ok(()),
-            Some(fault) => Err(fault),
-        }
-    }
 }
 
 impl<'s, 'o, T: Sink> Follower for Tracer<'s, 'o, T> {
@@ -279,7 +269,7 @@ impl<'s, 'o, T: Sink> Reporter for Tracer<'s, 'o, T> {
     }
 
     fn ended(&self) -> Result<(), WriteFault> {
-        self.written()
+        write_result(self.fault)
     }
 }
 

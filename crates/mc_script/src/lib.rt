@@ -35,4 +35,4 @@ pub use reporter::Reporter;
 pub use runner::{Runner, Silent};
 pub use text::{Text, add_result, gather_result};
 pub use watching::{Watcher, run_watched};
-pub use writer::{Reporting, Writer};
+pub use writer::{Reporting, Writer, write_result};

@@ -44,6 +44,16 @@ pub struct Writer<'a, T: Sink> {
     pub(crate) reporting: Reporting,
 }
 
+/// Returns `Ok` if all was written, or else the fault of the sink.
+pub fn write_result(fault: Option<WriteFault>) -> Result<(), WriteFault>
+    ensures { result ≡ write_result fault }
+{
+    match fault {
+        None => Ok(()),
+        Some(fault) => Err(fault),
+    }
+}
+
 impl<'a, T: Sink> Writer<'a, T> {
     /// Returns a writer that has written nothing.
     pub fn new(out: &'a mut T, reporting: Reporting) -> Writer<'a, T>
@@ -73,16 +83,6 @@ impl<'a, T: Sink> Writer<'a, T> {
     {
         if self.fault.is_none() {
             self.fault = put_answer(self.out, &mut self.line, number, player, answer).err();
-        }
-    }
-
-    // Returns `Ok` if all was written, or else the fault of the sink.
-    fn written(&self) -> Result<(), WriteFault>
-        ensures { result ≡ write_result self.now.fault }
-    {
-        match self.fault {
-            None => Ok(()),
-            Some(fault) => Err(fault),
         }
     }
 
@@ -180,6 +180,6 @@ impl<'a, T: Sink> Reporter for Writer<'a, T> {
     }
 
     fn ended(&self) -> Result<(), WriteFault> {
-        self.written()
+        write_result(self.fault)
     }
 }
