@@ -20,8 +20,8 @@ fn on_blank<S: Source, T: Sink, L: Ledger>(
     out: &mut T,
     steps: &mut Steps<L>,
 ) -> u8
-    ensures { IsNumberOf (λ s. DoesCardJob words.now (outside S.Source T.Sink input.old input.new out.old out.new) steps.old s
-        ⊎ IsShort (outside S.Source T.Sink input.old input.new out.old out.new) s) result }
+    ensures { let io = outside S.Source T.Sink input.old input.new out.old out.new in
+        IsNumberOf (λ s. DoesCardJob words.now io steps.old s ⊎ IsShort io s) result }
 {
     match blank_device(alloc) {
         Ok(mut device) => melcard(alloc, words, input, out, &mut device, steps),
