@@ -1,5 +1,5 @@
 // What stands between brackets, and the ends of ranges.
-ghost use Rattle.std.specs.Prelude.{◌≡◌, ◌==◌, Ok, Err, codes, option_map, MatchOption};
+ghost use Rattle.std.specs.Prelude.{◌≡◌, ◌==◌, Ok, Err, option_map, MatchOption};
 ghost use Rattle.mc_text.specs.model_text.specs.Text.{pieces};
 ghost use Rattle.lab_match.specs.model_play.specs.declared.deck.DeckCause.TheVariants.{BadLine};
 ghost use Rattle.prove_facts.specs.model_rules.specs.Reading.{ends_of, register_field, static_field, Deck};
@@ -47,7 +47,8 @@ pub fn static_field(text: &[u8]) -> Option<&[u8]>
 
 /// Returns the two ends of a range `P..Q`, or `P` twice if it has no full stop; `None` if it has another form.
 pub fn range_ends(text: &[u8]) -> Option<(&[u8], &[u8])>
-    ensures { MatchOption result (ends_of text.now ≡ Err (Deck BadLine)) (λ p. ends_of text.now ≡ Ok (p.0.now, p.1.now)) }
+    ensures { MatchOption result (ends_of text.now ≡ Err (Deck BadLine))
+        (λ p. ends_of text.now ≡ Ok (p.0.now, p.1.now)) }
 {
     let (from, rest) = cut(text, b'.');
     let Some(rest) = rest else {
