@@ -1,5 +1,4 @@
 // All lines of a deck, of which nothing is written.
-ghost use Rattle.std.specs.Prelude.{◌≡◌};
 ghost use Rattle.model_play.specs.Play.{State};
 ghost use Rattle.mc_script.specs.Players.{device_of};
 ghost use Rattle.mc_script.specs.Benches.{CountsPlayed, DeckPlayed, IsPlayerAt, IsPlaying};

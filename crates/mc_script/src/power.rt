@@ -1,5 +1,5 @@
 // Power lines, card lines, and how a stop ends them.
-ghost use Rattle.std.specs.Prelude.{◌≡◌, ◌≤◌, Some, None};
+ghost use Rattle.std.specs.Prelude.{◌≡◌, ◌≤◌, Some};
 ghost use Rattle.model_play.specs.DeckGrammar as line;
 ghost use Rattle.mc_deck.specs.Lines.{GoodLine};
 ghost use Rattle.mc_card.specs.Parts.{device_in, with_device, IsReadyCard};

@@ -1,5 +1,5 @@
 // Runners, which run the commands of a play, and may record their turns.
-ghost use Rattle.std.specs.Prelude.{◌≡◌, ◌≤◌, List, [], is_err};
+ghost use Rattle.std.specs.Prelude.{◌≤◌, List, [], is_err};
 ghost use Rattle.model_play.specs.model_machine.specs.Chain.{Turn as ModelTurn};
 ghost use Rattle.mc_card.specs.Parts.{device_in, card_in, due, IsReadyCard};
 ghost use Rattle.mc_script.specs.Runs.{RanAndReported, SentCommand, sent_to};

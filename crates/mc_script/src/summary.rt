@@ -1,5 +1,5 @@
 // The counts of a summary, and its text.
-ghost use Rattle.std.specs.Prelude.{◌≡◌, ◌+◌, ◌<◌, ◌≤◌, ◌++◌, [], ℕ, List, length, codes, decimal, cond, option_map};
+ghost use Rattle.std.specs.Prelude.{◌≡◌, ◌+◌, ◌<◌, ◌≤◌, ◌++◌, [], List, length, decimal, cond, option_map};
 ghost use Rattle.arrayvec.specs.ArrayVec.{array_vec_len};
 ghost use Rattle.model_play.specs.Play.{LineResult};
 ghost use Rattle.model_play.specs.Generator.{count_line, is_reply, is_abend, is_cut, is_off, is_ready};

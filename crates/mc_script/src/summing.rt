@@ -1,5 +1,5 @@
 // A deck that is played and counted, and the results of its dump lines.
-ghost use Rattle.std.specs.Prelude.{◌≡◌, ◌++◌, List, None};
+ghost use Rattle.std.specs.Prelude.{◌≡◌, ◌++◌, List};
 ghost use Rattle.std.specs.List.{AllByRecursion};
 ghost use Rattle.model_play.specs.model_device.specs.Device.{IsImage};
 ghost use Rattle.model_play.specs.Play.{start, State, LineResult};

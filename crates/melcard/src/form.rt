@@ -1,5 +1,5 @@
 // The texts that are made from an input.
-ghost use Rattle.std.specs.Prelude.{◌≡◌, ◌≤◌, length, Ok, IfErr, IfOk, MatchResult};
+ghost use Rattle.std.specs.Prelude.{◌≡◌, ◌≤◌, length, Ok, MatchResult};
 ghost use Rattle.mc_base.specs.model_device.specs.Limits.{most_code};
 ghost use Rattle.mc_text.specs.model_text.specs.Assembly.{assembly_of};
 ghost use Rattle.mc_deck.specs.model_play.specs.DeckGrammar.{deck_read};

@@ -4,7 +4,6 @@ ghost use Rattle.prove_facts.specs.model_prove.specs.Arrivals.{Setting};
 ghost use Rattle.prove_facts.specs.model_prove.specs.Between as between;
 ghost use Rattle.prove_facts.specs.model_prove.specs.Tables.{includes};
 ghost use Rattle.prove_keys.specs.Keys.{amounts_of, place_of, start_of};
-ghost use Rattle.prove_scenes.specs.Scenes.{IsSized};
 ghost use Rattle.prove_arrivals.specs.Subjects.{IsOver, start_in, tables_in};
 
 use mc_base::NoMemory;

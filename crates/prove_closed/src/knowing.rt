@@ -1,5 +1,5 @@
 // What is known of bytes as a moment ends.
-ghost use Rattle.std.specs.Prelude.{◌≡◌, ◌+◌, ◌-◌, true, [], ◌∷◌, ℕ, map, IfOk, IfSome};
+ghost use Rattle.std.specs.Prelude.{◌≡◌, ◌+◌, ◌-◌, true, [], ◌∷◌, map, IfOk, IfSome};
 ghost use Rattle.mc_base.specs.model_device.specs.Bytes.{zeros};
 ghost use Rattle.prove_facts.specs.model_prove.specs.Arrivals.{Setting};
 ghost use Rattle.prove_facts.specs.model_prove.specs.Between as between;

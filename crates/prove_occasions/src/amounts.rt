@@ -1,5 +1,5 @@
 // What lines do to the amounts of the allowances.
-ghost use Rattle.std.specs.Prelude.{◌≡◌, ◌&&◌, ℕ, List, true, length, drop, IfOk, IfSome, Some};
+ghost use Rattle.std.specs.Prelude.{◌≡◌, ◌&&◌, ℕ, List, true, IfOk, IfSome, Some};
 ghost use Rattle.prove_facts.specs.model_rules.specs.Rules.{OnLine};
 ghost use Rattle.prove_facts.specs.model_rules.specs.Keeping.{after_occasion, OnSession};
 ghost use Rattle.prove_keys.specs.Keys.{amounts_of};

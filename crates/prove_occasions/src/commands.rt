@@ -1,5 +1,5 @@
 // What a command and its answer do to the allowances.
-ghost use Rattle.std.specs.Prelude.{◌≡◌, ◌&&◌, ◌++◌, ℕ, List, Bool, map, IfOk, IfSome, OnOk};
+ghost use Rattle.std.specs.Prelude.{◌≡◌, ◌&&◌, ◌++◌, ℕ, List, map, IfOk, IfSome, OnOk};
 ghost use Rattle.lab_match.specs.law_explore.specs.Matching.{fits};
 ghost use Rattle.model_text.specs.model_machine.specs.Chain.{Abended};
 ghost use Rattle.lab_match.specs.model_play.specs.Transcript.{outcome_text};

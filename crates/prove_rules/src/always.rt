@@ -1,5 +1,5 @@
 // `always` lines.
-ghost use Rattle.std.specs.Prelude.{◌≡◌, ◌≤◌, ◌&&◌, nat_le, ◌∷◌, [], ℕ, List, false, map, codes, not, Err, IfErr, IfOk, MatchOption, Ok, OnOk, true};
+ghost use Rattle.std.specs.Prelude.{◌≡◌, ◌≤◌, ◌&&◌, nat_le, ◌∷◌, ℕ, List, false, map, codes, not, Err, IfErr, IfOk, MatchOption, Ok, OnOk, true};
 ghost use Rattle.mc_text.specs.model_text.specs.Text.{fields};
 ghost use Rattle.lab_match.specs.law_explore.specs.Rules.{begins_with};
 ghost use Rattle.prove_facts.specs.model_rules.specs.Rules.{AppRules};

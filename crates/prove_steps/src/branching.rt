@@ -1,5 +1,5 @@
 // The outcomes of an instruction by all choices of the bytes that decide it.
-ghost use Rattle.std.specs.Prelude.{◌≡◌, ◌<◌, ◌≤◌, ◌+◌, ◌-◌, ◌*◌, ℕ, suc, true, cond, List, [], ◌∷◌, ◌++◌, length, filter, flat_map, IfOk, None};
+ghost use Rattle.std.specs.Prelude.{◌≡◌, ◌<◌, ◌≤◌, ◌+◌, ◌-◌, ◌*◌, suc, true, cond, [], ◌∷◌, ◌++◌, length, filter, flat_map, IfOk, None};
 ghost use Rattle.mc_isa.specs.model_machine.specs.Code.{Shaped};
 ghost use Rattle.prove_facts.specs.model_prove.specs.Facts.{values_at};
 ghost use Rattle.prove_facts.specs.model_prove.specs.Reach.{greatest_value, target_choices};

@@ -1,5 +1,5 @@
 // Rows whose deciding bytes have too many combinations.
-ghost use Rattle.std.specs.Prelude.{◌≡◌, ℕ, Bool, true, List, None, IfOk, IfSome};
+ghost use Rattle.std.specs.Prelude.{◌≡◌, ℕ, Bool, true, List, None, IfOk};
 ghost use Rattle.mc_isa.specs.model_machine.specs.Code.{Shaped};
 ghost use Rattle.prove_facts.specs.law_rows.specs.Shapes.{shape};
 ghost use Rattle.prove_steps.specs.Steps.{fails_when};

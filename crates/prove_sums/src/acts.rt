@@ -9,7 +9,7 @@ ghost use Rattle.prove_forms.specs.model_sums.specs.Sums as sums;
 ghost use Rattle.prove_forms.specs.model_sums.specs.Writes as writes;
 ghost use Rattle.prove_forms.specs.Origins.{origin_values, origins_value};
 ghost use Rattle.prove_rules.specs.Sums.{AreTotals};
-ghost use Rattle.prove_scenes.specs.ShapeValues.{act_value, shape_value};
+ghost use Rattle.prove_scenes.specs.ShapeValues.{act_value};
 ghost use Rattle.prove_sums.specs.Values.{IsBefore, SumsAre};
 
 use crate::modes::is_commit;

@@ -10,7 +10,7 @@ ghost use Rattle.prove_forms.specs.model_sums.specs.Sums as sums;
 ghost use Rattle.prove_forms.specs.model_sums.specs.Writes as writes;
 ghost use Rattle.prove_forms.specs.Forms.{OptionalIs, OptionalsAre};
 ghost use Rattle.prove_forms.specs.Origins.{listed_values, origins_value};
-ghost use Rattle.prove_rules.specs.Sums.{AreTotals, IsTotal};
+ghost use Rattle.prove_rules.specs.Sums.{AreTotals};
 ghost use Rattle.prove_scenes.specs.Coarse.{coarse_value};
 ghost use Rattle.prove_scenes.specs.Scenes.{frame_to};
 ghost use Rattle.prove_sums.specs.Values.{SumsAre};

@@ -1,5 +1,5 @@
 // How the event of an instruction counts.
-ghost use Rattle.std.specs.Prelude.{◌≡◌, ◌&&◌, ℕ, Bool, List, Option, Some, slice_get, map, bytes_eq, IfOk};
+ghost use Rattle.std.specs.Prelude.{◌≡◌, ℕ, Bool, List, Option, Some, slice_get, map, bytes_eq, IfOk};
 ghost use Rattle.prove_facts.specs.model_rules.specs.Rules.{AppRules, SumLine, Total};
 ghost use Rattle.prove_forms.specs.model_sums.specs.Events as events;
 ghost use Rattle.prove_forms.specs.model_sums.specs.Forms as forms;

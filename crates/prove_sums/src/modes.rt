@@ -1,5 +1,5 @@
 // What instructions do to the protection, and when totals are asked.
-ghost use Rattle.std.specs.Prelude.{◌≡◌, option_map};
+ghost use Rattle.std.specs.Prelude.{◌≡◌};
 ghost use Rattle.prove_facts.specs.model_rules.specs.Keeping as keeping;
 ghost use Rattle.prove_forms.specs.model_sums.specs.Events as events;
 

@@ -1,5 +1,5 @@
 // What is known for sums after a row.
-ghost use Rattle.std.specs.Prelude.{◌≡◌, ℕ, List, IfOk, IfSome};
+ghost use Rattle.std.specs.Prelude.{ℕ, List, IfOk, IfSome};
 ghost use Rattle.prove_facts.specs.model_prove.specs.Keys.{PlaceKey};
 ghost use Rattle.prove_facts.specs.model_rules.specs.Rules.{Total};
 ghost use Rattle.prove_facts.specs.model_prove.specs.Work as work;

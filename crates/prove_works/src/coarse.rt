@@ -9,7 +9,6 @@ ghost use Rattle.prove_keys.specs.Keys.{calls_of};
 ghost use Rattle.prove_scenes.specs.Coarse.{coarse_value};
 ghost use Rattle.prove_scenes.specs.Scenes.{frame_to};
 ghost use Rattle.prove_spots.specs.Grounds.{spot_of};
-ghost use Rattle.prove_works.specs.Numbers.{flags_of};
 ghost use Rattle.prove_works.specs.Reaches.{reach_value};
 
 use crate::hits::{calls_hit, facts_not_reached, last_not_reached};

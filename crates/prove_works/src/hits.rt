@@ -4,7 +4,7 @@ ghost use Rattle.prove_facts.specs.model_prove.specs.Facts.{without_byte};
 ghost use Rattle.prove_facts.specs.model_prove.specs.Reach as known;
 ghost use Rattle.prove_facts.specs.model_prove.specs.Sets.{all_bytes};
 ghost use Rattle.prove_facts.specs.Sets.{set_of};
-ghost use Rattle.prove_keys.specs.Compares.{said, compare_of};
+ghost use Rattle.prove_keys.specs.Compares.{said};
 ghost use Rattle.prove_keys.specs.Keys.{calls_of, call_of};
 ghost use Rattle.prove_scenes.specs.Scenes.{frame_to};
 ghost use Rattle.prove_works.specs.Reaches.{reach_value, without_reached, calls_from};

@@ -1,5 +1,5 @@
 // The second operand of an operation, and what the last compare has to do with it.
-ghost use Rattle.std.specs.Prelude.{◌≡◌, ◌||◌, not, cond, Some, IfSome, IfOk};
+ghost use Rattle.std.specs.Prelude.{◌≡◌, ◌||◌, not, Some, IfSome, IfOk};
 ghost use Rattle.mc_base.specs.model_device.specs.Bytes.{num};
 ghost use Rattle.prove_facts.specs.model_prove.specs.Compares as compares;
 ghost use Rattle.prove_facts.specs.model_prove.specs.Steps as steps;

@@ -1,5 +1,5 @@
 // The places after a search of a table.
-ghost use Rattle.std.specs.Prelude.{◌≡◌, ◌++◌, [], ◌∷◌, ◌≤◌, true, false, Bool, cond, map, length, IfSome, IfOk, OnOk};
+ghost use Rattle.std.specs.Prelude.{◌≡◌, ◌++◌, [], ◌∷◌, ◌≤◌, true, false, cond, map, length, IfSome, IfOk};
 ghost use Rattle.prove_facts.specs.model_rules.specs.Keeping.{Amounts};
 ghost use Rattle.prove_facts.specs.model_prove.specs.Facts as known;
 ghost use Rattle.prove_facts.specs.model_prove.specs.Keys.{Start};

@@ -1,6 +1,5 @@
 // Searches of a table for a byte: at which indices it may be found first, and whether it may not be found.
 ghost use Rattle.std.specs.Prelude.{◌≡◌, ℕ, ◌<◌, ◌≤◌, ◌&&◌, ◌||◌, ◌==◌, length};
-ghost use Rattle.prove_facts.specs.model_prove.specs.Sets.{is_in};
 ghost use Rattle.prove_facts.specs.model_prove.specs.Arrivals.{some_value};
 ghost use Rattle.prove_facts.specs.model_prove.specs.Steps as steps;
 ghost use Rattle.prove_facts.specs.Sets.{set_of, has_value};
