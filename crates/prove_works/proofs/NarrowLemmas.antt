@@ -1,7 +1,6 @@
 -- Narrowing, step by step of a loop.
-use Rattle.std.specs.Prelude.{◌≡◌, ℕ, suc, Bool, true, false, ◌+◌, ◌<◌, ◌≤◌, List, length, drop, get_or, Option, Some, None}
+use Rattle.std.specs.Prelude.{◌≡◌, ℕ, suc, Bool, true, false, ◌+◌, ◌<◌, List, length, drop, get_or, Option, Some, None}
 use Rattle.std.proofs.Common.{arith, ap, sym, ◌∙◌}
-use Rattle.std.proofs.lemmas.List.{drop_all, length-map}
 use Rattle.prove_facts.specs.model_prove.specs.Sets.{Set}
 use Rattle.prove_facts.specs.model_prove.specs.Facts as known
 use Rattle.prove_facts.specs.declared.values.Values.{Values}
@@ -39,10 +38,3 @@ pub narrow_stop : (l : List Values) (a i : ℕ) (d : Values) (f g : known.Facts)
     → None ≡ all
 narrow_stop l a i d f g false all h t n e = step l a i d f None all h n e
 narrow_stop l a i d f g true all h t n e = absurd (cc t)
-
--- all bytes are narrowed
-pub narrow_end : (l : List Values) (a i : ℕ) (f : known.Facts) (all : Option known.Facts) → length l ≤ i
-    → known.narrow_all (a + i) (drop i (sets_of l)) (Some f) ≡ all → Some f ≡ all
-narrow_end l a i f all h e =
-    let n : length (sets_of l) ≤ i = omega (arith, h, length-map l set_of) in
-    ap (λ (ss : List Set). known.narrow_all (a + i) ss (Some f)) (sym (drop_all i (sets_of l) n)) ∙ e

@@ -125,12 +125,6 @@ reached_here f r a d l h =
     sym (reached_is f r a)
     ∙ more_below f (reach_value r) a (suc d) 255 (omega (arith, l)) (or_first (reaches f (reach_value r) a d) (reaches_below f (reach_value r) a d) h)
 
--- and not, if it is from none
-pub not_from : (f : Frame) (r : reach.Reach) (a d : ℕ) → reaches f r a d ≡ false → reaches_below f r a d ≡ false → reaches_below f r a (d + 1) ≡ false
-not_from f r a d h i =
-    let e : d + 1 ≡ suc d = omega arith in
-    ap (λ (k : ℕ). reaches_below f r a k) e ∙ ap (λ (b : Bool). b || reaches_below f r a d) h ∙ i
-
 -- ---- lengths
 
 guarded : (b c d : Bool) → (b ≡ true → c ≡ d) → (b && c) ≡ (b && d)
@@ -162,15 +156,6 @@ some_next f r a n i b c l h e k =
     let u : a + (i + 1) ≡ suc (a + i) = omega arith in
     ap (λ (t : ℕ). reach.some_reached f r t (n - (i + 1))) u
     ∙ ap (λ (d : Bool). d || reach.some_reached f r (suc (a + i)) (n - (i + 1))) (sym e ∙ h)
-    ∙ ap (λ (t : ℕ). reach.some_reached f r (a + i) t) (sym m)
-    ∙ k
-
--- a byte that is reached
-pub some_here : (f : Frame) (r : reach.Reach) (a n i : ℕ) (b c : Bool) → i < n → b ≡ reach.is_reached f r (a + i) → b ≡ true
-    → reach.some_reached f r (a + i) (n - i) ≡ c → true ≡ c
-some_here f r a n i b c l h e k =
-    let m : n - i ≡ suc (n - (i + 1)) = omega (arith, l) in
-    ap (λ (d : Bool). d || reach.some_reached f r (suc (a + i)) (n - (i + 1))) (sym e ∙ h)
     ∙ ap (λ (t : ℕ). reach.some_reached f r (a + i) t) (sym m)
     ∙ k
 

@@ -116,11 +116,6 @@ pub pass_next : (l : List Values) (i : ℕ) (d : Values) (v : ℕ) (b c : Bool) 
 pass_next l i d v false c h e t k = pass_left l i d v false c h e k
 pass_next l i d v true c h e t k = absurd (cc t)
 
-pub pass_end : (l : List Values) (i v : ℕ) (c : Bool) → length l ≤ i → steps.may_pass v (drop i (sets_of l)) ≡ c → true ≡ c
-pass_end l i v c h k =
-    let n : length (sets_of l) ≤ i = omega (arith, h, length-map l set_of) in
-    ap (λ (t : List Set). steps.may_pass v t) (sym (drop_all i (sets_of l) n)) ∙ k
-
 -- ---- the indices of some values
 
 -- before the first turn there are none

@@ -1,7 +1,7 @@
 -- Operations digit by digit: ways of the code and of the definition.
-use Rattle.std.specs.Prelude.{◌≡◌, ℕ, ◌+◌, ◌<◌, ◌≤◌, Bool, true, false, cond, not, ◌&&◌, List, [], ◌∷◌, ◌++◌, length, drop, get_or, map, flat_map, reverse, Option, Some, None, refl}
+use Rattle.std.specs.Prelude.{◌≡◌, ℕ, ◌+◌, ◌<◌, Bool, true, false, cond, not, ◌&&◌, List, [], ◌∷◌, ◌++◌, length, drop, get_or, map, flat_map, reverse, Option, Some, None, refl}
 use Rattle.std.proofs.Common.{arith, ap, sym, ◌∙◌, append_assoc}
-use Rattle.std.proofs.lemmas.List.{append-nil, drop_more, drop_all, map-append}
+use Rattle.std.proofs.lemmas.List.{append-nil, drop_more, map-append}
 use Rattle.std.proofs.lemmas.Grind.{flat_map-append}
 use Rattle.prove_facts.specs.model_prove.specs.Sets.{Set}
 use Rattle.prove_facts.specs.model_prove.specs.Facts.{Facts, values_from}
@@ -15,7 +15,7 @@ use Rattle.prove_facts.specs.Sets.{set_of}
 use Rattle.prove_works.specs.Numbers.{flags_of}
 use Rattle.prove_works.specs.Searches.{sets_of}
 use Rattle.prove_works.specs.Narrowing.{sets_narrowed}
-use Rattle.prove_works.specs.Rows.{IsEven, narrowed_spot, worked_spot, worked_if, sets_worked, way_spots}
+use Rattle.prove_works.specs.Rows.{IsEven, narrowed_spot, worked_if, sets_worked, way_spots}
 
 abbrev Spots : Type 0
 Spots = List steps.Spot
@@ -70,23 +70,6 @@ pub when_false : (b : Bool) (r p q : steps.Spot) → b ≡ false → r ≡ q →
 when_false false r p q h e = e
 when_false true r p q h e = absurd (cc h)
 
-skip_if : (b c : Bool) (old : Spots) (n : Spots) → (b && c) ≡ true → old ≡ old ++ cond (b && c) [] n
-skip_if b c old n h = sym (ap (λ (k : Bool). old ++ cond k [] n) h ∙ append-nil old)
-
--- a way with a carry of a row without one
-pub way_skipped : (d : Digitwise) (dt : ℕ) (p : steps.Spot) (w : Way) (old : Spots) → (not d.carries && w.c) ≡ true → old ≡ old ++ way_spots d dt p (way_value w)
-way_skipped d dt p w old h = skip_if (not d.carries) w.c old _ h
-
-refused_if : (b c : Bool) (old n : Spots) → c ≡ false → old ≡ old ++ cond b [] (cond c n [])
-refused_if true c old n h = sym (append-nil old)
-refused_if false true old n h = absurd (cc h)
-refused_if false false old n h = sym (append-nil old)
-
--- the flags of a way that are not allowed
-pub way_refused : (d : Digitwise) (dt : ℕ) (p : steps.Spot) (w : Way) (old : Spots) → false ≡ steps.allows p.known.compare d d.operand (flags_of w.c w.z)
-    → old ≡ old ++ way_spots d dt p (way_value w)
-way_refused d dt p w old h = refused_if (not d.carries && w.c) (steps.allows p.known.compare d d.operand (flags_of w.c w.z)) old _ (sym h)
-
 allowed_if : (b c : Bool) (n : Spots) → b ≡ false → c ≡ true → n ≡ cond b [] (cond c n [])
 allowed_if false true n h i = refl
 allowed_if true c n h i = absurd (cc h)
@@ -102,27 +85,6 @@ way_allowed d dt p w old new even carry h n =
     ∙ ap (λ (t : Spots). old ++ map (steps.lowered dt) (map (steps.flagged d.carries (flags_of w.c w.z)) t)) (way_worked d (flags_of w.c w.z) w p even)
     ∙ ap (λ (t : Spots). old ++ t) (allowed_if (not d.carries && w.c) (steps.allows p.known.compare d d.operand (flags_of w.c w.z)) _ carry (sym h))
 
-left_worked : (d : Digitwise) (f : Flags) (rs : List Set) (o : Option Facts) (p : steps.Spot) (facts : Facts) → Some facts ≡ o → worked_spot d f rs facts p ∷ [] ≡ worked_if d f rs o p
-left_worked d f rs o p facts h = ap (λ (q : Option Facts). worked_if d f rs q p) h
-
-none_worked : (d : Digitwise) (f : Flags) (rs : List Set) (o : Option Facts) (p : steps.Spot) → None ≡ o → [] ≡ worked_if d f rs o p
-none_worked d f rs o p h = ap (λ (q : Option Facts). worked_if d f rs q p) h
-
--- values are left of the operands
-pub narrowed_on : (d : Digitwise) (dt : ℕ) (f : Flags) (xs ys rs : List Set) (p : steps.Spot) (facts : Facts) (old new : Spots)
-    → Some facts ≡ sets_narrowed d xs ys p.known.bytes
-    → new ≡ old ++ steps.lowered dt (steps.flagged d.carries f (worked_spot d f rs facts p)) ∷ []
-    → new ≡ old ++ map (steps.lowered dt) (map (steps.flagged d.carries f) (sets_worked d f xs ys rs p))
-narrowed_on d dt f xs ys rs p facts old new h n =
-    n ∙ ap (λ (t : Spots). old ++ map (steps.lowered dt) (map (steps.flagged d.carries f) t)) (left_worked d f rs (sets_narrowed d xs ys p.known.bytes) p facts h)
-
--- none is left
-pub narrowed_off : (d : Digitwise) (dt : ℕ) (f : Flags) (xs ys rs : List Set) (p : steps.Spot) (old : Spots)
-    → None ≡ sets_narrowed d xs ys p.known.bytes
-    → old ≡ old ++ map (steps.lowered dt) (map (steps.flagged d.carries f) (sets_worked d f xs ys rs p))
-narrowed_off d dt f xs ys rs p old h =
-    sym (append-nil old) ∙ ap (λ (t : Spots). old ++ map (steps.lowered dt) (map (steps.flagged d.carries f) t)) (none_worked d f rs (sets_narrowed d xs ys p.known.bytes) p h)
-
 -- ---- all ways
 
 -- one more way
@@ -135,12 +97,6 @@ along_next f l i d old new all h n e =
     ∙ append_assoc old (f (way_value (get_or l i d))) (flat_map f (map way_value (drop (i + 1) l)))
     ∙ ap (λ (t : List Way). old ++ flat_map f (map way_value t)) (sym (drop_more l i d h))
     ∙ e
-
--- after the last way
-pub along_last : (f : Flags × List Digits → Spots) (l : List Way) (i : ℕ) (old all : Spots) → length l ≤ i
-    → old ++ flat_map f (map way_value (drop i l)) ≡ all → old ≡ all
-along_last f l i old all h e =
-    sym (append-nil old) ∙ ap (λ (t : List Way). old ++ flat_map f (map way_value t)) (sym (drop_all i l h)) ∙ e
 
 no_way : (b c : Bool) (dt : ℕ) (k : Bool) (f : Flags) → [] ≡ cond b [] (map (steps.lowered dt) (cond c (map (steps.flagged k f) []) []))
 no_way true c dt k f = refl
