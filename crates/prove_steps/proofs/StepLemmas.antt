@@ -4,14 +4,12 @@ use Rattle.std.proofs.Common.{ap, sym, subst, ◌∙◌, arith}
 use Rattle.std.proofs.lemmas.List.{append-nil, drop_more, drop_all}
 use Rattle.prove_facts.specs.law_rows.specs.Shapes.{Shape}
 use Rattle.mc_isa.specs.model_machine.specs.declared.instruction.Ins.{Ins}
-use Rattle.mc_isa.specs.model_machine.specs.declared.machine.Abend.{Abend}
 use Rattle.mc_isa.specs.model_machine.specs.Primitives.{Around}
 use Rattle.prove_facts.specs.model_prove.specs.Arrivals.{Setting, Arrival}
 use Rattle.prove_facts.specs.model_prove.specs.Facts.{Facts, know}
 use Rattle.prove_facts.specs.model_prove.specs.Keys.{Tables}
-use Rattle.prove_facts.specs.model_prove.specs.Reach.{target_choices}
 use Rattle.prove_facts.specs.model_prove.specs.Splits.{Scene, Choice, combinations, deciders, few_combinations, later_deciders}
-use Rattle.prove_facts.specs.model_prove.specs.Steps.{Spot, by_choices, caused, chosen, coarse_around, coarse_arrivals, inside, spots, with_facts, with_choice, with_first_choice}
+use Rattle.prove_facts.specs.model_prove.specs.Steps.{Spot, by_choices, caused, chosen, coarse_around, coarse_arrivals, inside, spots, with_facts, with_first_choice}
 use Rattle.prove_facts.specs.model_prove.specs.Tables.{includes_all}
 use Rattle.prove_facts.specs.model_prove.specs.Work.{Work}
 use Rattle.prove_scenes.specs.Outlines.{OutlineLaw, outlined}
@@ -37,11 +35,6 @@ pub outline_included : (t : Tables) (law : OutlineLaw) (s : Setting) (i : Ins) (
 outline_included t law s i h g w p q e so =
     subst (λ (l : List Arrival). includes_all t l ≡ true) (law None s i h w p q)
     (subst (λ (g : Shape). includes_all t (caused None s i g w p q) ≡ true) e so)
-
--- a row by its first cause
-pub cause_included : (t : Tables) (k r : Option Abend) (s : Setting) (i : Ins) (h : Shape) (w : Work) (p q : Spot) → k ≡ r
-    → includes_all t (caused k s i h w p q) ≡ true → includes_all t (caused r s i h w p q) ≡ true
-cause_included t k r s i h w p q e so = subst (λ (r : Option Abend). includes_all t (caused r s i h w p q) ≡ true) e so
 
 -- the places after a row, by what it works on
 pub spots_of_work : (s : Setting) (h : Shape) (v w : Work) (q : Spot) (l : List Spot) → v ≡ w → l ≡ spots s h v q → spots s h w q ≡ l
@@ -79,11 +72,6 @@ module _ {X Y : Type 0} (t : Tables) (f : Y → List Arrival) (g : X → Y) (xs 
 
 -- the outcomes by the combinations of the bytes that decide: those of too many
 module _ (t : Tables) (jump : Bool) (s : Setting) (i : Ins) (e g : Scene) (p q : Spot) where
-  pub jump_included : jump ≡ true
-      → includes_all t (flat_map (with_choice s i g p q) (target_choices p.known.bytes (p.key.dt - 2) (length s.app.code))) ≡ true
-      → includes_all t (by_choices None jump s i g p q) ≡ true
-  jump_included j so = subst (λ (j : Bool). includes_all t (by_choices None j s i g p q) ≡ true) (sym j) so
-
   pub coarsely_included : jump ≡ false → e ≡ g → includes_all t (coarse_arrivals s i e p q (coarse_around p.key.start)) ≡ true
       → includes_all t (by_choices None jump s i g p q) ≡ true
   coarsely_included j same so =

@@ -50,15 +50,6 @@ module _ (t : Tables) (f : ℕ → List Arrival) (p : ℕ → Bool) where
   pub numbers_end : (v n : ℕ) → n ≤ v → includes_all t (flat_map f (filter p (numbers_from v (n - v)))) ≡ true
   numbers_end v n end = subst (λ (l : List ℕ). includes_all t (flat_map f (filter p l)) ≡ true) (sym (numbers_none v n end)) refl
 
--- a number that passes a test, or not
-pub passing_included : (t : Tables) (f : ℕ → List Arrival) (p : ℕ → Bool) (v : ℕ) → p v ≡ true → includes_all t (f v) ≡ true
-    → includes_all t (flat_map f (filter p (v ∷ []))) ≡ true
-passing_included t f p v e so =
-    subst (λ (b : Bool). includes_all t (flat_map f (cond b (v ∷ []) [])) ≡ true) (sym e) (both_included t (f v) [] so refl)
-
-pub failing_included : (t : Tables) (f : ℕ → List Arrival) (p : ℕ → Bool) (v : ℕ) → p v ≡ false → includes_all t (flat_map f (filter p (v ∷ []))) ≡ true
-failing_included t f p v e = subst (λ (b : Bool). includes_all t (flat_map f (cond b (v ∷ []) [])) ≡ true) (sym e) refl
-
 -- the last place, if it is not below a limit
 last_of : (t : Tables) (f : Choice → List Arrival) (g : ℕ → Choice) (b : Bool) (v : ℕ) → includes_all t (flat_map (λ v. f (g v)) (cond b (v ∷ []) [])) ≡ true
     → includes_all t (flat_map f (cond b (g v ∷ []) [])) ≡ true
@@ -140,16 +131,6 @@ greatest_first s = zero_least (nat_lt (greatest_value (set_of s)) 0) (greatest_v
 -- a test of two bytes, the second of which is known to decide
 pub both_are : (x y b c : Bool) → b ≡ x → c ≡ y → b ≡ true → c ≡ (x && y)
 both_are x y b c e f t = f ∙ sym (ap (λ (x : Bool). x && y) (sym e ∙ t))
-
--- the last place leads to what is included
-pub last_included : (t : Tables) (f : ℕ → List Arrival) (k : Facts) (a n m : ℕ)
-    → m ≡ greatest_value (values_at k a) * 256 + greatest_value (values_at k (suc a)) → includes_all t (f m) ≡ true
-    → includes_all t (flat_map f (last_targets k a n)) ≡ true
-last_included t f k a n m e so = subst (λ (m : ℕ). includes_all t (flat_map f (cond (nat_le n m) (m ∷ []) [])) ≡ true) e (by_test (nat_le n m))
-  where
-    by_test : (b : Bool) → includes_all t (flat_map f (cond b (m ∷ []) [])) ≡ true
-    by_test true = both_included t (f m) [] so refl
-    by_test false = refl
 
 -- there is no last place if it is below the limit
 pub last_below : (t : Tables) (f : ℕ → List Arrival) (k : Facts) (a n m : ℕ)
