@@ -43,10 +43,6 @@ distinct_next c ds other h zero (suc j) p q e = absurd (both_ways (is_among c ds
 distinct_next c ds other h (suc i) zero p q e = absurd (both_ways (is_among c ds) other (among_at c ds i (omega arith) (sym e)))
 distinct_next c ds other h (suc i) (suc j) p q e = ap (λ (n : ℕ). suc n) (h i j (omega arith) (omega arith) e)
 
--- no class is among none
-pub none_distinct : AreDistinct []
-none_distinct i j p q e = absurd (omega arith)
-
 -- the classes from a place on
 pub rest_is : (cs : List (Vec Bool Global)) (i : ℕ) → take (length cs - i) (drop i cs) ≡ drop i cs
 rest_is cs i =

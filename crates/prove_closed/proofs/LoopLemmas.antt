@@ -11,16 +11,6 @@ pub loop_next : {X : Type 0} (Q : List X → Type 0) (xs : List X) (i : ℕ) (x 
     → (Q (drop (i + 1) xs) → Q (x ∷ drop (i + 1) xs)) → (Q (drop i xs) → Q xs) → Q (drop (i + 1) xs) → Q xs
 loop_next Q xs i x low is step before rest = before (subst Q (sym (rest_at xs i x low is)) (step rest))
 
--- after one element more of both, it holds of two whole lists if it holds of their rests
-pub pairs_next : {X Y : Type 0} (Q : List X → List Y → Type 0) (xs : List X) (ys : List Y) (i : ℕ) (x : X) (y : Y)
-    → i < length xs → x ≡ get_or xs i x → i < length ys → y ≡ get_or ys i y
-    → (Q (drop (i + 1) xs) (drop (i + 1) ys) → Q (x ∷ drop (i + 1) xs) (y ∷ drop (i + 1) ys)) → (Q (drop i xs) (drop i ys) → Q xs ys)
-    → Q (drop (i + 1) xs) (drop (i + 1) ys) → Q xs ys
-pairs_next {X} {Y} Q xs ys i x y low is bound are step before rest =
-    before
-    (subst (λ (s : List X). Q s (drop i ys)) (sym (rest_at xs i x low is))
-    (subst (λ (s : List Y). Q (x ∷ drop (i + 1) xs) s) (sym (rest_at ys i y bound are)) (step rest)))
-
 pub if_ok : {A E : Type 0} (P Q : A → Type 0) (r : Result A E) → IfOk r P → ((x : A) → P x → Q x) → IfOk r Q
 if_ok P Q (Err e) h f = h
 if_ok P Q (Ok x) h f = f x h
