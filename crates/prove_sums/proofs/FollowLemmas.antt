@@ -27,11 +27,6 @@ pub record Even (names : List (List ℕ)) (ts : List Total) (fs : Offs) (bs : Li
   pub rests : OptionalsAre rest gs
   pub same : sums.are_even left gs ≡ true → sums.are_even ts fs ≡ true
 
--- before the first total the totals that are left are all of them
-pub even_start : (names : List (List ℕ)) (ts : List Total) (fs : Offs) (bs : List Balance) (rest : List (Option Form)) → AreTotals names ts bs → OptionalsAre rest fs
-    → Even names ts fs bs rest
-even_start names ts fs bs rest are rests = record { left = ts; are = are; gs = fs; rests = rests; same = λ h. h }
-
 -- if a total is even, those after it decide whether all are
 pub even_next : (names : List (List ℕ)) (ts : List Total) (fs : Offs) (bs : List Balance) (i : ℕ) (b : Balance) (rest more : List (Option Form)) (p : Option Form) → b ≡ get_or bs i b
     → i < length bs → rest ≡ p ∷ more → ((t : Total) (f : Off) → IsTotal names t b → OptionalIs p f → sums.is_even t f ≡ true)
@@ -74,10 +69,6 @@ pub record Has (rs : Mores) (q : sums.More) (ps : List More) : Type 0 where
   pub are : MoresAre ps left
   pub same : sums.has_more left q ≡ true → sums.has_more rs q ≡ true
 
--- before the first loaded block the blocks that are left are all of them
-pub has_start : (rs : Mores) (q : sums.More) (ps : List More) → MoresAre ps rs → Has rs q ps
-has_start rs q ps are = record { left = rs; are = are; same = λ h. h }
-
 -- the blocks after one that is not the other decide whether one of all is
 pub has_next : (rs : Mores) (q : sums.More) (ps : List More) (i : ℕ) (p : More) → p ≡ get_or ps i p → i < length ps → Has rs q (drop i ps) → Has rs q (drop (i + 1) ps)
 has_next rs q ps i p e l w =
@@ -100,10 +91,6 @@ pub record Follow (rs qs : Mores) (ps : List More) : Type 0 where
   pub left : Mores
   pub are : MoresAre ps left
   pub same : sums.mores_follow rs left ≡ true → sums.mores_follow rs qs ≡ true
-
--- before the first loaded block the blocks that are left are all of them
-pub follow_start : (rs qs : Mores) (ps : List More) → MoresAre ps qs → Follow rs qs ps
-follow_start rs qs ps are = record { left = qs; are = are; same = λ h. h }
 
 -- if a block is in the list, those after it decide whether all are
 pub follow_next : (rs qs : Mores) (ps : List More) (i : ℕ) (p : More) → p ≡ get_or ps i p → i < length ps → ((q : sums.More) → MoreIs p q → sums.has_more rs q ≡ true)
@@ -132,12 +119,6 @@ pub record Paired (names : List (List ℕ)) (ts : List Total) (fs gs : Offs) (bs
   pub second : Offs
   pub seconds : OptionalsAre others second
   pub same : sums.offs_follow left first second ≡ true → sums.offs_follow ts fs gs ≡ true
-
--- before the first total by how much those that are left are off is all of it
-pub offs_start : (names : List (List ℕ)) (ts : List Total) (fs gs : Offs) (bs : List Balance) (rest others : List (Option Form)) → AreTotals names ts bs → OptionalsAre rest fs
-    → OptionalsAre others gs → Paired names ts fs gs bs rest others
-offs_start names ts fs gs bs rest others are firsts seconds =
-    record { left = ts; are = are; first = fs; firsts = firsts; second = gs; seconds = seconds; same = λ h. h }
 
 -- if by how much a total is off follows, the totals after it decide for all
 pub offs_next : (names : List (List ℕ)) (ts : List Total) (fs gs : Offs) (bs : List Balance) (i : ℕ) (b : Balance) (rest others more most : List (Option Form)) (p q : Option Form)

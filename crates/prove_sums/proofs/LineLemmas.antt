@@ -46,11 +46,6 @@ pub record Fold (names : List (List ℕ)) (n : ℕ) (l : SumLine) (g : Off) (ts 
   pub is : OptionalIs p off
   pub same : off_after_line n l g left off ≡ off_after_line n l g ts f
 
--- before the first term the terms that are left are all of them
-pub fold_start : (names : List (List ℕ)) (n : ℕ) (l : SumLine) (g : Off) (ts : Terms) (f : Off) (ss : List SignedSum) (p : Option Form) → AreTerms names ts ss → OptionalIs p f
-    → Fold names n l g ts f ss p
-fold_start names n l g ts f ss p are is = record { left = ts; are = are; off = f; is = is; same = refl }
-
 -- a term that moves a total leaves those after it to move it further
 pub fold_next : (names : List (List ℕ)) (n : ℕ) (l : SumLine) (g : Off) (ts : Terms) (f : Off) (ss : List SignedSum) (i : ℕ) (s : SignedSum) (p q : Option Form) → s ≡ get_or ss i s
     → i < length ss → ((t : Bool × List ℕ) (o : Off) → IsTerm names t s → OptionalIs p o → OptionalIs q (off_by n l g t o))
@@ -106,11 +101,6 @@ pub record Lines (names : List (List ℕ)) (ts : List Total) (ls : List SumLine)
   pub offs : Offs
   pub is : OptionalsAre ps offs
   pub same : offs_after_event ts left text o offs ≡ offs_after_event ts ls text o fs
-
--- before the first line the lines that are left are all of them
-pub lines_start : (names : List (List ℕ)) (ts : List Total) (ls : List SumLine) (text : List ℕ) (o : Origins) (fs : Offs) (ons : List On) (ps : List (Option Form)) → AreSumLines names ls ons
-    → OptionalsAre ps fs → Lines names ts ls text o fs ons ps
-lines_start names ts ls text o fs ons ps are is = record { left = ls; are = are; offs = fs; is = is; same = refl }
 
 -- a line that moves the totals leaves those after it to move them further
 pub lines_next : (names : List (List ℕ)) (ts : List Total) (ls : List SumLine) (text : List ℕ) (o : Origins) (fs : Offs) (ons : List On) (i : ℕ) (on : On) (ps qs : List (Option Form))

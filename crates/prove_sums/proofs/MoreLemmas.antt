@@ -68,11 +68,6 @@ pub record Flat (R : sums.More → Mores) (rs : Mores) (ps mores : List More) : 
   pub made : MoresAre mores done
   pub same : flat_map R rs ≡ done ++ flat_map R left
 
--- before the first block nothing is made yet
-pub flat_start : (R : sums.More → Mores) (rs : Mores) (ps mores : List More) → MoresAre ps rs → mores ≡ [] → Flat R rs ps mores
-flat_start R rs ps mores are e =
-    record { left = rs; are = are; done = []; made = subst (λ (x : List More). MoresAre x []) (sym e) tt; same = refl }
-
 -- what a function makes of a block comes after what it made of those before
 pub flat_next : (R : sums.More → Mores) (rs : Mores) (ps : List More) (i : ℕ) (p : More) (old new : List More) → p ≡ get_or ps i p → i < length ps
     → ((r : sums.More) (qs : Mores) → MoreIs p r → MoresAre old qs → MoresAre new (qs ++ R r))
@@ -100,7 +95,3 @@ pub record Of (a b n : ℕ) (rs : Mores) (ps : List More) : Type 0 where
   pub left : Mores
   pub are : MoresAre ps left
   pub same : more_of left a b n ≡ more_of rs a b n
-
--- before the first block the blocks that are left are all of them
-pub of_start : (a b n : ℕ) (rs : Mores) (ps : List More) → MoresAre ps rs → Of a b n rs ps
-of_start a b n rs ps are = record { left = rs; are = are; same = refl }

@@ -38,11 +38,6 @@ pub record Copied (fs : Offs) (ps copies : List (Option Form)) : Type 0 where
   pub made : OptionalsAre copies done
   pub same : fs ≡ done ++ left
 
--- before the first total nothing is copied yet
-pub copied_start : (fs : Offs) (ps copies : List (Option Form)) → OptionalsAre ps fs → copies ≡ [] → Copied fs ps copies
-copied_start fs ps copies are e =
-    record { left = fs; are = are; done = []; made = subst (λ (x : List (Option Form)). OptionalsAre x []) (sym e) tt; same = refl }
-
 -- a copy of by how much a total is off comes after those of the totals before
 pub copied_next : (fs : Offs) (ps : List (Option Form)) (i : ℕ) (p : Option Form) (old new : List (Option Form)) (q : Option Form) → p ≡ get_or ps i p
     → i < length ps → ((f : Off) → OptionalIs p f → OptionalIs q f)

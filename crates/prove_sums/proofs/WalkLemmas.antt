@@ -68,11 +68,6 @@ pub record Evens (names : List (List ℕ)) (ts : List Total) (bs : List Balance)
   pub made : OptionalsAre offs done
   pub same : evens ts ≡ done ++ evens left
 
--- before the first total none is taken as even yet
-pub evens_start : (names : List (List ℕ)) (ts : List Total) (bs : List Balance) (offs : List (Option Form)) → AreTotals names ts bs → offs ≡ [] → Evens names ts bs offs
-evens_start names ts bs offs are e =
-    record { left = ts; are = are; done = []; made = subst (λ (x : List (Option Form)). OptionalsAre x []) (sym e) tt; same = refl }
-
 -- a list is one longer
 abbrev pub Grows : List (Option Form) → List (Option Form) → Off → Type 0
 Grows old new f = (fs : Offs) → OptionalsAre old fs → OptionalsAre new (fs ++ f ∷ [])
@@ -114,12 +109,6 @@ pub record Walk (F : Total → Off → Off) (names : List (List ℕ)) (ts : List
   pub done : Offs
   pub made : OptionalsAre offs done
   pub same : each F ts fs ≡ done ++ each F left gs
-
--- before the first total the walk has all of them before it
-pub walk_start : (F : Total → Off → Off) (names : List (List ℕ)) (ts : List Total) (fs : Offs) (bs : List Balance) (rest offs : List (Option Form))
-    → AreTotals names ts bs → OptionalsAre rest fs → offs ≡ [] → Walk F names ts fs bs rest offs
-walk_start F names ts fs bs rest offs are rests e =
-    record { left = ts; are = are; gs = fs; rests = rests; done = []; made = subst (λ (x : List (Option Form)). OptionalsAre x []) (sym e) tt; same = refl }
 
 -- by how much the first total is off, and what is left
 pub record FirstOff (gs : Offs) (p : Option Form) (ps : List (Option Form)) : Type 0 where
@@ -185,10 +174,6 @@ pub record Blocks (a n : ℕ) (names : List (List ℕ)) (ts : List Total) (bs : 
   pub left : List Total
   pub are : AreTotals names left bs
   pub same : is_total_block left a n ≡ is_total_block ts a n
-
--- before the first total the totals that are left are all of them
-pub blocks_start : (a n : ℕ) (names : List (List ℕ)) (ts : List Total) (bs : List Balance) → AreTotals names ts bs → Blocks a n names ts bs
-blocks_start a n names ts bs are = record { left = ts; are = are; same = refl }
 
 same_block : (a n : ℕ) (names : List (List ℕ)) (t : Total) (b : Balance) → IsTotal names t b → is_block a n t.at t.n ≡ is_block a n b.at b.n
 same_block a n names t b i = ap (λ (x : ℕ). is_block a n x t.n) i.at ∙ ap (λ (x : ℕ). is_block a n b.at x) i.n
