@@ -8,7 +8,7 @@ use Rattle.prove_facts.specs.model_rules.specs.Rules.{AppRules, OnLine, Total}
 use Rattle.prove_occasions.specs.Amounts.{AreAfter}
 use Rattle.prove_facts.specs.model_prove.specs.Keys.{same_amounts}
 use Rattle.prove_sums.specs.model_sums.specs.Closed.{event_leads_to, has_sums}
-use Rattle.prove_sums.specs.model_sums.specs.Events.{asks, counted, drops}
+use Rattle.prove_sums.specs.model_sums.specs.Events.{counted, drops}
 use Rattle.prove_sums.specs.model_sums.specs.Moves.{after_next}
 use Rattle.prove_sums.specs.model_sums.specs.Origins.{Origins}
 use Rattle.prove_sums.specs.model_sums.specs.Sums.{Sums, sums_follow}
@@ -29,11 +29,6 @@ pub counted_is : (a : AppRules) (p q : Bool) (m k : Option ℕ) (d : Bool) (line
 counted_is a p q m k d line o v after e f g so =
     subst (λ (d : Bool). SumsAre after (counted d a.totals a.moves line o v))
     (e ∙ ap (λ (p : Bool). drops p m) f ∙ ap (λ (m : Option ℕ). drops q m) g) so
-
--- totals that are not asked, or are not off
-pub unasked : (p q : Bool) (m k : Option ℕ) (even : Bool) → asks p m ≡ false → p ≡ q → m ≡ k → (not (asks q k) || even) ≡ true
-unasked p q m k even e f g =
-    subst (λ (b : Bool). (not b || even) ≡ true) (sym e ∙ ap (λ (p : Bool). asks p m) f ∙ ap (λ (m : Option ℕ). asks q m) g) refl
 
 pub evened : (b even : Bool) → even ≡ true → (not b || even) ≡ true
 evened true even e = e

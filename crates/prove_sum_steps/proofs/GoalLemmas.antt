@@ -1,7 +1,7 @@
 -- Where the code finds a place, the table of sums has it.
-use Rattle.std.proofs.Common.{◌≡◌, ℕ, zero, suc, ◌+◌, ◌<◌, ◌≤◌, Bool, true, false, cond, List, [], ◌∷◌, ◌++◌, length, get_or, drop, map, Some, refl, sym, ap, subst, ◌∙◌, arith}
+use Rattle.std.proofs.Common.{◌≡◌, ℕ, zero, suc, ◌+◌, ◌<◌, Bool, true, false, cond, List, [], ◌∷◌, ◌++◌, length, get_or, drop, map, Some, refl, sym, ap, ◌∙◌, arith}
 use Rattle.std.specs.List.{AllByRecursion, position}
-use Rattle.std.proofs.lemmas.List.{append_assoc, append-nil, drop_more, drop_all}
+use Rattle.std.proofs.lemmas.List.{append_assoc, drop_more}
 use Rattle.std.proofs.lemmas.List.Quantifiers.{position-Some}
 use Rattle.prove_facts.specs.model_prove.specs.Keys.{same_places}
 use Rattle.prove_sums.specs.model_sums.specs.Sums.{sums_at}
@@ -55,14 +55,6 @@ module _ (names : List (List ℕ)) (classes : List (List Bool)) where
 
 -- ---- lists of goals
 
--- one element more
-pub all_and : {X : Type 0} (P : X → Type 0) (xs ys : List X) (x : X) → ys ≡ xs ++ x ∷ [] → AllByRecursion P xs → P x → AllByRecursion P ys
-all_and {X} P xs ys x e all one = subst (AllByRecursion P) (sym e) (longer xs all)
-  where
-    longer : (xs : List X) → AllByRecursion P xs → AllByRecursion P (xs ++ x ∷ [])
-    longer [] all = (one, tt)
-    longer (y ∷ ys) all = (all.0, longer ys all.1)
-
 -- the values of one element more, and of those that are left
 pub values_next : {X Y : Type 0} (f : X → Y) (old new : List X) (x : X) (ys : List Y) (i : ℕ) (y : Y) → new ≡ old ++ x ∷ [] → f x ≡ y → i < length ys → y ≡ get_or ys i y
     → map f old ++ drop i ys ≡ ys → map f new ++ drop (i + 1) ys ≡ ys
@@ -77,8 +69,3 @@ values_next {X} {Y} f old new x ys i y e same below is so =
     longer : (l : List X) → map f (l ++ x ∷ []) ≡ map f l ++ f x ∷ []
     longer [] = refl
     longer (z ∷ l) = ap (λ (r : List Y). f z ∷ r) (longer l)
-
--- none are left
-pub values_end : {X Y : Type 0} (f : X → Y) (list : List X) (ys : List Y) (i : ℕ) → length ys ≤ i → map f list ++ drop i ys ≡ ys → map f list ≡ ys
-values_end {X} {Y} f list ys i end so =
-    sym (append-nil (map f list)) ∙ ap (λ (l : List Y). map f list ++ l) (sym (drop_all i ys end)) ∙ so

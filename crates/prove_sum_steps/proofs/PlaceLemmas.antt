@@ -1,24 +1,19 @@
 -- A place with what is known there, as the code has it and as the definition has it.
-use Rattle.std.proofs.Common.{◌≡◌, ℕ, Bool, true, List, length, Option, Some, sym, ap, subst, ◌∙◌}
+use Rattle.std.proofs.Common.{◌≡◌, ℕ, Bool, true, List, Option, Some, sym, ap, subst, ◌∙◌}
 use Rattle.std.specs.Prelude.{Ok}
 use Rattle.model_text.specs.model_machine.specs.Code.{instruction_at}
 use Rattle.prove_facts.specs.model_prove.specs.Arrivals.{Setting}
-use Rattle.prove_facts.specs.model_prove.specs.Between.{Class}
-use Rattle.prove_facts.specs.model_prove.specs.Facts.{Facts}
-use Rattle.prove_facts.specs.model_prove.specs.Keys as known
-use Rattle.prove_facts.specs.model_prove.specs.Keys.{MomentKey}
 use Rattle.prove_facts.specs.model_prove.specs.Steps.{Spot, place_arrivals}
-use Rattle.prove_facts.specs.model_prove.specs.Tables.{includes_all, moments_closed}
 use Rattle.prove_sums.specs.model_sums.specs.Closed.{all_pass, arrival_closed, fetched_closed, place_closed}
 use Rattle.prove_sums.specs.model_sums.specs.Sums.{Sums, SumsTable}
 use Rattle.prove_arrivals.specs.declared.subject.Subject.{Subject}
-use Rattle.prove_arrivals.specs.Subjects.{IsOver, IsSubject, classes_in, known_in, spot_in, tables_in}
+use Rattle.prove_arrivals.specs.Subjects.{IsOver, classes_in, known_in, spot_in, tables_in}
 use Rattle.prove_keys.specs.declared.keys.PlaceKey.{PlaceKey}
 use Rattle.prove_keys.specs.declared.known.PackedKnown.{PackedKnown}
 use Rattle.prove_keys.specs.declared.tables.Tables.{Tables}
 use Rattle.prove_keys.specs.Keys.{place_of}
 use Rattle.prove_keys.specs.Known.{known_of}
-use Rattle.prove_keys.specs.Tables.{AreWhole, tables_of}
+use Rattle.prove_keys.specs.Tables.{tables_of}
 use Rattle.prove_rules.specs.Sums.{AreSums}
 use Rattle.prove_scenes.specs.declared.scene.Sizes.{Sizes}
 use Rattle.prove_spots.specs.Grounds.{Ground}
@@ -65,36 +60,6 @@ module _ (names : List (List ℕ)) (u v : Subject) (near : Tables) (sizes : v.si
       ap (λ (c : List (List Bool)). tables_of names c v.sizes.fixed v.tables.now) classes
       ∙ ap (λ (z : Sizes). tables_of names (classes_in u) z.fixed v.tables.now) sizes
       ∙ ap (λ (x : Tables). tables_of names (classes_in u) u.sizes.fixed x) tables
-
-  -- what a place leads to is within them
-  pub within_near : (s : Setting) (k : PlaceKey) (p : PackedKnown)
-      → includes_all (tables_in names v) (place_arrivals s (place_of names (classes_in v) k) (known_of k.registers.protected v.sizes.fixed p)) ≡ true
-      → includes_all (near_in names u near) (place_arrivals s (spot_with names u k p).key (spot_with names u k p).known) ≡ true
-  within_near s k p h =
-      subst (λ (x : known.Tables). includes_all x (place_arrivals s (spot_with names u k p).key (spot_with names u k p).known) ≡ true) all_same
-      (subst (λ (c : List (List Bool)). includes_all (tables_in names v) (place_arrivals s (place_of names c k) (known_of k.registers.protected u.sizes.fixed p)) ≡ true) classes
-      (subst (λ (z : Sizes). includes_all (tables_in names v) (place_arrivals s (place_of names (classes_in v) k) (known_of k.registers.protected z.fixed p)) ≡ true) sizes h))
-
-  -- what may follow some moments is
-  pub moments_near : (s : Setting) (cs : List Class) (ms : List (MomentKey × Facts)) → moments_closed s cs (tables_in names v) ms ≡ true
-      → moments_closed s cs (near_in names u near) ms ≡ true
-  moments_near s cs ms h = subst (λ (x : known.Tables). moments_closed s cs x ms ≡ true) all_same h
-
--- a subject with other tables
-pub subject_with : (names : List (List ℕ)) (s : Setting) (u : Subject) (v : Subject) (n m : ℕ) → IsSubject names s u → length names ≡ n → m ≡ length (classes_in u)
-    → AreWhole n m v.tables.now → v ≡ record u { tables = v.tables } → IsSubject names s v
-subject_with names s u v n m is size count whole same =
-    subst (IsSubject names s) (sym same)
-    (record {
-      code = is.code;
-      sized = is.sized;
-      ons = is.ons;
-      never = is.never;
-      distinct = is.distinct;
-      whole = subst (λ (n : ℕ). AreWhole n (length (classes_in u)) v.tables.now) (sym size) (subst (λ (m : ℕ). AreWhole n m v.tables.now) count whole);
-      apart = is.apart;
-      prepared = is.prepared;
-    })
 
 -- an instruction that passes at the place
 pub fetched_with : (names : List (List ℕ)) (s : Setting) (u : SumsTable) (t : Turn) (p : Spot) → place_in names t ≡ p → IsOver names s t.subject.now t.key.now.amounts.items
