@@ -492,18 +492,6 @@ module _ (a : AppRules) (n : ℕ) (f : TotalForm) where
       → (nat_le h.starts.number h.stops.number && nat_lt h.stops.number (static_size a.target)) ≡ false → total_of ≡ Err (Deck OutOfRange)
   outside s p q k found are h l i out = summed s p q k found are h l ∙ ap (total_sums a (total_at p q k h) h.stops.number) i ∙ ap (total_in a (total_at p q k h)) out
 
-  pub end_outside : (s : Partial) (p q k : ℕ) (found : Found) → ArePart a s → AreTotalNumbers f p q k → s.load ≡ Some found → are_sums (map allowance_of s.sums.items) (map term_of f.names.items) ≡ true → found.load.fixed < 65536 → found.load.fixed ≤ q
-      → total_of ≡ Err (Deck OutOfRange)
-  end_outside s p q k found are h l i small out =
-      let more : found.load.fixed ≤ h.stops.number = upper found.load.fixed q (natural f.to.now) h.stops small out in
-      outside s p q k found are h l i (last_of (nat_le h.starts.number h.stops.number) (nat_lt h.stops.number (static_size a.target)) (ap (nat_lt h.stops.number) (size_is a.target s.load found are.target l) ∙ not_below h.stops.number found.load.fixed more))
-
-  pub ends_outside : (s : Partial) (p q k : ℕ) (found : Found) → ArePart a s → AreTotalNumbers f p q k → s.load ≡ Some found → are_sums (map allowance_of s.sums.items) (map term_of f.names.items) ≡ true → q < p → p ≤ 4294967296
-      → total_of ≡ Err (Deck OutOfRange)
-  ends_outside s p q k found are h l i out most =
-      let more : h.stops.number < h.starts.number = later p q (natural f.from.now) (natural f.to.now) h.starts h.stops out most in
-      outside s p q k found are h l i (front_of (nat_le h.starts.number h.stops.number) (nat_lt h.stops.number (static_size a.target)) (not_at_most h.starts.number h.stops.number more))
-
 -- ---- refused lines
 
 -- a line without a block of static bytes

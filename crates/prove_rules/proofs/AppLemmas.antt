@@ -336,10 +336,6 @@ abbrev pub first_never : ℕ → Option ℕ → Option ℕ
 first_never n None = Some n
 first_never n (Some m) = Some m
 
-never_by : (a : AppRules) (n : ℕ) (o : Option ℕ) → a.abends ≡ o → (with_never a n o).abends ≡ first_never n o
-never_by a n None e = refl
-never_by a n (Some m) e = e
-
 never_lists : (a : AppRules) (p : Partial) (n : ℕ) (o never : Option ℕ) → ArePart a p → a.abends ≡ o → never ≡ first_never n o → AreLists (with_never a n o) p.load p.allowances.items p.sums.items p.ons.items p.always.items p.balances.items never
 never_lists a p n None never are e h = record {
   target = are.target;

@@ -88,9 +88,6 @@ none_after : (w q : List ℕ) → (length q == 0) ≡ true → bracketed (w ∷ 
 none_after w [] n = refl
 none_after w (c ∷ q) n = absurd (cc (zero_of (length (c ∷ q)) n))
 
-pub no_register : (t : List ℕ) → None ≡ two_of (pieces (λ c. c == 91) t) → register_field t ≡ Err (Deck BadLine)
-no_register t e = not_opened (pieces (λ c. c == 91) t) e
-
 with_register : (t r u : List ℕ) (x : Result (List ℕ) RuleCause) → Some (r, u) ≡ two_of (pieces (λ c. c == 91) t) → bracketed (pieces (λ c. c == 93) u) ≡ x → register_field t ≡ ok_as (λ w. (r, w)) x
 with_register t r u x e h = ap register_and_text (two_are (pieces (λ c. c == 91) t) r u e) ∙ ap (ok_as (λ w. (r, w))) h
 
@@ -106,12 +103,6 @@ register_is t r u w q e h n = with_register t r u (Ok w) e (ap bracketed (two_ar
 -- static bytes
 static_by : (t : List ℕ) (x : Result (List ℕ × List ℕ) RuleCause) → register_field t ≡ x → static_field t ≡ (x >>= λ p. unless (bytes_eq p.0 (codes "SB")) BadLine p.1)
 static_by t x e = ap (λ r. r >>= λ p. unless (bytes_eq p.0 (codes "SB")) BadLine p.1) e
-
-pub no_static : (t : List ℕ) → register_field t ≡ Err (Deck BadLine) → static_field t ≡ Err (Deck BadLine)
-no_static t e = static_by t (Err (Deck BadLine)) e
-
-pub other_register : (t r w : List ℕ) → register_field t ≡ Ok (r, w) → bytes_eq r (codes "SB") ≡ false → static_field t ≡ Err (Deck BadLine)
-other_register t r w e h = static_by t (Ok (r, w)) e ∙ ap (λ b. unless b BadLine w) h
 
 pub static_is : (t r w : List ℕ) → register_field t ≡ Ok (r, w) → bytes_eq r (codes "SB") ≡ true → static_field t ≡ Ok w
 static_is t r w e h = static_by t (Ok (r, w)) e ∙ ap (λ b. unless b BadLine w) h

@@ -164,9 +164,6 @@ load_found text name d n found e h = found_by text name d n found (loaded_at n d
 
 -- ---- a name without a line
 
-no_second : (fs : List (List ℕ)) (name : List ℕ) (l : LoadLine) (ls : List (List ℕ × LoadLine)) → is_second fs name ≡ false → lookup ls name ≡ None → lookup (load_under (Some fs) l ++ ls) name ≡ None
-no_second fs name l ls e h = under_skip name fs l ls e ∙ h
-
 absent_by : (b : Bool) (k : ℕ) (o : Option ℕ) → cond b (Some k) o ≡ None → (b ≡ false) × (o ≡ None)
 absent_by true k o e = absurd (cc e)
 absent_by false k o e = (refl, e)
@@ -269,12 +266,6 @@ first_none inside n t name whole e g = sym (ap (λ ls. first_named (load_names i
 -- what a `load` line loads
 pub load_is : (d : List (ℕ × DeckLine)) (i n : ℕ) (x : DeckLine) (l : LoadLine) (found : Found) → slice_get d i ≡ Some (n, x) → loaded x ≡ Some l → IsLoad l found → IsLoadOf (loaded_line (slice_get d i)) found
 load_is d i n x l found e h g = subst (λ (o : Option LoadLine). IsLoadOf o found) (sym (ap loaded_line e ∙ h)) g
-
-pub no_load : (d : List (ℕ × DeckLine)) (i n : ℕ) (x : DeckLine) → slice_get d i ≡ Some (n, x) → loaded x ≡ None → loaded_line (slice_get d i) ≡ None
-no_load d i n x e h = ap loaded_line e ∙ h
-
-pub load_at_line : (o u : Option LoadLine) (found : Found) → o ≡ u → IsLoadOf u found → IsLoadOf o found
-load_at_line o u found e h = subst (λ (x : Option LoadLine). IsLoadOf x found) (sym e) h
 
 no_none : {A : Type 0} (o : Option A) → o ≡ None → is_some o ≡ true → ⊥
 no_none None e h = absurd (cc h)

@@ -1,6 +1,6 @@
 -- The lines of a text, read rule by rule.
 use Rattle.std.proofs.Common.{◌≡◌, ◌+◌, ℕ, List, [], ◌∷◌, Bool, true, false, not, cond, length, map, Some, None, Result, Ok, Err, arith, refl, sym, ap, subst, ◌∙◌}
-use Rattle.std.specs.Prelude.{◌&&◌, bytes_eq, codes, is_some, ok_or, IfErr, IfOk}
+use Rattle.std.specs.Prelude.{◌&&◌, codes, is_some, ok_or, IfErr, IfOk}
 use Rattle.mc_base.specs.model_device.specs.Bytes.{lookup}
 use Rattle.mc_text.specs.model_text.specs.Text.{◌>>=◌, err_as, fields, lines, only_if, with_numbers}
 use Rattle.lab_match.specs.model_play.specs.declared.deck.DeckCause.TheVariants.{BadLine}
@@ -90,9 +90,6 @@ line_is loads a n inside l e m =
 
 pub longer_mark : (loads : Loads) (a : AppRules) (n : ℕ) (inside : Bool) (l : List ℕ) → inside ≡ false → is_marked (fields l) ≡ true → is_plain_mark (fields l) ≡ false → rules_with loads inside (n, l) a ≡ Err (Deck BadLine)
 longer_mark loads a n inside l e m h = line_is loads a n inside l e m ∙ longer_by loads a n (fields l) h
-
-pub other_mark : (fs rest : List (List ℕ)) (mark : List ℕ) → fs ≡ mark ∷ rest → bytes_eq mark (codes "#@") ≡ false → is_plain_mark fs ≡ false
-other_mark fs rest mark e h = ap is_plain_mark e ∙ h
 
 -- a rule without a word, or with another
 pub no_word : (loads : Loads) (a : AppRules) (n : ℕ) (fs : List (List ℕ)) → fs ≡ [] → rule_of loads a n fs ≡ Err (Deck BadLine)

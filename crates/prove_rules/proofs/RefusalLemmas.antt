@@ -8,7 +8,7 @@ use Rattle.prove_rules.specs.declared.fault.Fault.{Fault}
 use Rattle.prove_rules.specs.declared.fault.Fault.TheVariants as fault
 use Rattle.prove_rules.specs.declared.fault.RuleCause.{RuleCause}
 use Rattle.prove_rules.specs.declared.fault.RuleCause.TheVariants as cause
-use Rattle.prove_rules.specs.Refused.{cause_value, Faulty}
+use Rattle.prove_rules.specs.Refused.{Faulty}
 
 -- a refused step refuses what follows it
 pub then_faulty : {A B : Type 0} (r : Result A reading.RuleCause) (k : A → Result B reading.RuleCause) (e : Fault) → Faulty r e → Faulty (r >>= k) e
@@ -20,14 +20,6 @@ pub same_faulty : {A : Type 0} (r s : Result A reading.RuleCause) (e : Fault) �
 same_faulty r s (fault.Cause c) e h = e ∙ h
 same_faulty r s fault.NoMemory e h = tt
 
--- a fault that is a cause
-pub is_faulty : {A : Type 0} (r : Result A reading.RuleCause) (e : Fault) (c : RuleCause) → e ≡ fault.Cause c → r ≡ Err (cause_value c) → Faulty r e
-is_faulty r e c i h = subst (Faulty r) (sym i) h
-
 -- a fault that is a cause of decks
 pub deck_faulty : {A : Type 0} (r : Result A reading.RuleCause) (e : Fault) (c : DeckCause) → e ≡ fault.Cause (cause.Deck c) → r ≡ Err (reading.Deck c) → Faulty r e
 deck_faulty r e c i h = subst (Faulty r) (sym i) h
-
--- out of memory is always allowed
-pub memory_faulty : {A : Type 0} (r : Result A reading.RuleCause) (e : Fault) → e ≡ fault.NoMemory → Faulty r e
-memory_faulty r e i = subst (Faulty r) (sym i) tt
