@@ -4,9 +4,7 @@ use Rattle.std.proofs.Common.{◌≡◌, ℕ, List, [], ◌∷◌, ◌++◌, len
 use Rattle.model_play.specs.model_device.specs.Device.{DeviceState, BenchState}
 use Rattle.model_play.specs.model_machine.specs.Chain.{Turn}
 use Rattle.model_play.specs.DeckGrammar.{DeckLine}
-use Rattle.model_play.specs.Laws.{HoldsOf}
-use Rattle.model_play.specs.Play.{State, FailedWrite, Step, step, plays, start, last_state, StandsForState}
-use Rattle.mc_deck.specs.law_family.proofs.PlayLaw.{play_law}
+use Rattle.model_play.specs.Play.{State, FailedWrite, Step, step, plays, last_state, StandsForState}
 use Rattle.mc_script.specs.declared.answer.Answer.{Answer}
 use Rattle.mc_script.specs.declared.player.Player.{Player}
 use Rattle.mc_script.specs.Players.{IsUnfused, IsPlayerAt}
@@ -64,35 +62,11 @@ leads_on s ls ws a u b l w c h line =
           (subst (λ (v : List (Option FailedWrite)). Played s (ls ++ l ∷ ks) v a d) (sym (append_assoc ws (w ∷ []) vs)) (h.rest (l ∷ ks) (w ∷ vs) d (played_on u l w ks vs b c d line played)));
     }
 
--- lines were played after lines
-pub leads_then : (s : State) (ls : List (ℕ × DeckLine)) (ws : List (Option FailedWrite)) (a : Bench) (u : State) (b : Bench) (ks : List (ℕ × DeckLine)) (vs : List (Option FailedWrite)) (t : State) (c : Bench)
-    → LeadsTo s ls ws a u b → LeadsTo u ks vs b t c → LeadsTo s (ls ++ ks) (ws ++ vs) a t c
-leads_then s ls ws a u b ks vs t c h k =
-    let x = length-append ws vs in
-    let y = length-append ls ks in
-    let z = h.many in
-    let q = k.many in
-    record {
-      many = omega (arith, x, y, z, q);
-      last =
-          k.last
-          ∙ sym (ap (λ (ts : List Step). last_state s ts) (plays_append s ls ks ws vs h.many)
-          ∙ last_append s (plays s ls ws) (plays (last_state s (plays s ls ws)) ks vs)
-          ∙ ap (λ (v : State). last_state v (plays v ks vs)) (sym h.last));
-      rest = λ js us d played.
-          subst (λ (i : List (ℕ × DeckLine)). Played s i ((ws ++ vs) ++ us) a d) (sym (append_assoc ls ks js))
-          (subst (λ (i : List (Option FailedWrite)). Played s (ls ++ (ks ++ js)) i a d) (sym (append_assoc ws vs us)) (h.rest (ks ++ js) (vs ++ us) d (k.rest js us d played)));
-    }
-
 -- the lines that were played so far are a play, with its words, its counts and its tape
 pub leads_played : (s : State) (ls : List (ℕ × DeckLine)) (ws : List (Option FailedWrite)) (a : Bench) (u : State) (b : Bench) → LeadsTo s ls ws a u b → StandsForState b.device.words u → IsUnfused b.bench → Played s ls ws a b
 leads_played s ls ws a u b h stands unfused =
     subst (λ (k : List (ℕ × DeckLine)). Played s k ws a b) (append-nil ls)
     (subst (λ (v : List (Option FailedWrite)). Played s (ls ++ []) v a b) (append-nil ws) (h.rest [] [] b (played_none u b stands unfused)))
-
--- the laws of a play that begins on the words of a device
-pub played_laws : (m : List (List ℕ)) (ls : List (ℕ × DeckLine)) (ws : List (Option FailedWrite)) (a b : Bench) → Played (start m) ls ws a b → HoldsOf m (plays (start m) ls ws)
-played_laws m ls ws a b h = play_law ls m ws h.possible
 
 module _ {N : Type 0} (state : N → DeviceState) (bench : N → BenchState) where
   -- the lines that were played so far are a play, if the player is at the state that was reached

@@ -1,9 +1,9 @@
 -- One line of a player as one line of a play.
 use Rattle.std.specs.Prelude.{option_map}
-use Rattle.std.proofs.Common.{◌≡◌, ℕ, List, Option, Some, None, refl, sym, subst, ◌∙◌, ap}
+use Rattle.std.proofs.Common.{◌≡◌, ℕ, List, Option, Some, None, refl, sym, subst, ◌∙◌}
 use Rattle.model_play.specs.model_device.specs.Device.{DeviceState, BenchState}
 use Rattle.model_play.specs.model_device.specs.Card.{App}
-use Rattle.model_play.specs.Play.{State, BeforePower, AfterPower, static_of, Static}
+use Rattle.model_play.specs.Play.{State, BeforePower, AfterPower}
 use Rattle.mc_script.specs.declared.player.Player.{Player}
 use Rattle.mc_card.specs.Parts.{card_in, IsReadyCard}
 use Rattle.mc_script.specs.declared.player.Power.{Power}
@@ -11,7 +11,7 @@ use Rattle.mc_script.specs.declared.player.Power.TheVariants as power
 use Rattle.model_play.specs.model_device.specs.Bytes.{lookup}
 use Rattle.mc_card.specs.declared.card.Card.{Card}
 use Rattle.mc_script.specs.declared.answer.Answer.TheVariants as answer
-use Rattle.mc_script.specs.Players.{answer_value, dump_value, statics_by, statics_in, LiveIs, IsPlayerAt}
+use Rattle.mc_script.specs.Players.{statics_by, LiveIs, IsPlayerAt}
 
 -- the card of a player whose card runs
 pub player_ready : {N : Type 0} (state : N → DeviceState) (bench : N → BenchState) (p : Player N) (s : State) → IsPlayerAt state bench p s → p.power ≡ power.On → IsReadyCard state p.card
@@ -29,9 +29,3 @@ statics_on state power.On c aid fixed h = let f = found (lookup (card_in state c
     found : (o : Option App) → option_map {T = App} (λ a. a.fixed) o ≡ Some fixed → (a : App) × (o ≡ Some a) × (a.fixed ≡ fixed)
     found None h = absurd (cc h)
     found (Some a) h = (a, refl, cc)
-
--- the result of a `dump` line for static bytes that are shown
-pub statics_reported : {N : Type 0} (state : N → DeviceState) (p : Player N) (aid fixed : List ℕ) → statics_in state p aid ≡ Some fixed → answer_value state p (answer.Dump aid) ≡ Static fixed
-statics_reported state p aid fixed h =
-    let on = statics_on state p.power p.card aid fixed h in
-    ap (λ (w : Power). dump_value state w p.card aid) on.0 ∙ ap static_of on.2 ∙ ap Static on.3

@@ -12,7 +12,7 @@ use Rattle.mc_text.proofs.LogLemmas.{logged_none}
 use Rattle.mc_script.specs.declared.writer.Reporting.{Reporting}
 use Rattle.mc_script.specs.declared.writer.Reporting.TheVariants.{Results, Turns}
 use Rattle.mc_script.specs.declared.writer.Writer.{Writer}
-use Rattle.mc_script.specs.Writers.{write_result, reported_turns, turns_text, log_in, WriterKeeps}
+use Rattle.mc_script.specs.Writers.{write_result, reported_turns, log_in, WriterKeeps}
 
 -- no line is written of turns if only results are written
 none_reported : (t : Reporting) (ts : List Turn) → t ≡ Results → [] ≡ reported_turns t ts
@@ -28,10 +28,6 @@ keeps_untold sink w ts is =
 pub line_behind : (f g : Option WriteFault) (a b c : Sunk) (ts : List Turn) (line : List ℕ) (r : Result (Unit {0}) WriteFault) → f ≡ None → g ≡ None → LoggedBy f a ts (record { out = b; fault = g }) → Puts b line r c → Puts a (turn_lines ts ++ line) r c
 line_behind f g a b c ts line r before after logged puts =
     puts_then c line r (subst (λ (h : Option WriteFault). LoggedBy None a ts (record { out = b; fault = h })) after (subst (λ (h : Option WriteFault). LoggedBy h a ts (record { out = b; fault = g })) before logged)) puts
-
--- the text of turns, for two writers that write the same of turns
-pub reported_as : (t u : Reporting) (ts : List Turn) (a : Sunk) (line : List ℕ) (r : Result (Unit {0}) WriteFault) (b : Sunk) → t ≡ u → Puts a (turns_text t ts ++ line) r b → Puts a (turns_text u ts ++ line) r b
-reported_as t u ts a line r b same h = subst (λ (v : Reporting). Puts a (turns_text v ts ++ line) r b) same h
 
 -- the fault of a result, as the result
 pub ended_err : (r : Result (Unit {0}) WriteFault) → write_result (result_err r) ≡ r

@@ -1,5 +1,5 @@
 -- Words that are poked in order.
-use Rattle.std.proofs.Common.{◌≡◌, ℕ, zero, suc, ◌+◌, ◌<◌, List, [], ◌∷◌, length, drop, drop-cons, refl, sym, ◌∙◌, ap, subst, arith}
+use Rattle.std.proofs.Common.{◌≡◌, ℕ, zero, suc, ◌+◌, ◌<◌, List, ◌∷◌, length, drop, drop-cons, refl, sym, ◌∙◌, ap, subst, arith}
 use Rattle.std.specs.Prelude.{slice_set, slice_index_or}
 use Rattle.std.specs.List.{AllByRecursion}
 use Rattle.std.proofs.lemmas.List.{length-set}
@@ -27,9 +27,6 @@ pub record Pokes (d : DeviceState) (b : BenchState) (list : List (ℕ × List �
   pub calls : bench_after_pokes (length left) c ≡ bench_after_pokes (length list) b
   pub places : AllByRecursion (λ p. p.0 < length e.words) left
 
-pub pokes_start : (d : DeviceState) (b : BenchState) (list : List (ℕ × List ℕ)) → AllByRecursion (λ p. p.0 < length d.words) list → Pokes d b list d b list
-pokes_start d b list all = record { device = refl; calls = refl; places = all }
-
 same_places : (m n : ℕ) (list : List (ℕ × List ℕ)) → n ≡ m → AllByRecursion (λ p. p.0 < m) list → AllByRecursion (λ p. p.0 < n) list
 same_places m n list e h = subst (λ (k : ℕ). AllByRecursion (λ p. p.0 < k) list) (sym e) h
 
@@ -43,9 +40,6 @@ pokes_next d b list e f c g p left r hf hg =
       calls = ap (λ (x : BenchState). bench_after_pokes (length left) x) hg ∙ r.calls;
       places = same_places (length e.words) (length f.words) left (ap (λ (x : DeviceState). length x.words) hf ∙ length-set e.words p.0 p.1) r.places.1;
     }
-
-pub pokes_end : (d : DeviceState) (b : BenchState) (list : List (ℕ × List ℕ)) (e : DeviceState) (c : BenchState) → Pokes d b list e c [] → (e ≡ record d { words = image_with d.words list }) × (c ≡ bench_after_pokes (length list) b)
-pokes_end d b list e c r = (r.device, r.calls)
 
 -- the one with this number is poked
 pub pokes_on : (d : DeviceState) (b : BenchState) (list : List (ℕ × List ℕ)) (e f : DeviceState) (c g : BenchState) (i : ℕ) (x : ℕ × List ℕ) → i < length list

@@ -6,7 +6,7 @@ use Rattle.model_play.specs.model_device.specs.declared.device.Stop.{Stop}
 use Rattle.model_play.specs.model_device.specs.Orders.{Answer, answer_of}
 use Rattle.model_play.specs.model_device.specs.Device.{DeviceState, Wrote, Makes}
 use Rattle.model_play.specs.model_device.specs.Bytes.{bytes2}
-use Rattle.model_play.specs.model_machine.specs.Apdu.{ApduParts, apdu_read, rest_read, Rest}
+use Rattle.model_play.specs.model_machine.specs.Apdu.{apdu_read, rest_read, Rest}
 use Rattle.model_play.specs.model_card.specs.Units.{UnitParts}
 use Rattle.model_play.specs.model_device.specs.Card as model
 use Rattle.model_play.specs.model_card.specs.Items.{card_done}
@@ -28,10 +28,6 @@ use Rattle.mc_script.proofs.CommandLemmas.{command_turns}
 use Rattle.mc_script.proofs.UpLemmas.{up_on, up_base}
 
 -- ---- commands of class BE have no turns
-
--- a command that was taken apart, by its class
-route_by : (a : ApduParts) (session_state : SessionState) → a.cla ≡ 0xBE → is_passed (route_of_parts (Some a)) session_state.selected ≡ false
-route_by a session_state e = rw e refl
 
 read_by : (ins p1 p2 : ℕ) (r : Option Rest) (session_state : SessionState) → is_passed (route_of_parts (option_map (λ r. record { cla = 0xBE; ins = ins; p1 = p1; p2 = p2; p3 = r.p3; body = r.body; le = r.le }) r)) session_state.selected ≡ false
 read_by ins p1 p2 None session_state = refl
@@ -128,9 +124,6 @@ module _ {N R : Type 0} (state : N → DeviceState) (wrote : N → ℕ → List 
     pub ready : IsReadyCard state m
     pub managed : AllByRecursion IsManaged left
     pub rest : (result : Result Outcome Stop) (d : Card N) (r : R) → RanAndReported state wrote reported m (send (card_in state m) (session_state_in state m) budget left) result d p r → RanAndReported state wrote reported c (send (card_in state c) (session_state_in state c) budget all) result d q r
-
-  pub sends_start : (c : Card N) (budget : ℕ) (all : List (List ℕ)) (q : R) → IsReadyCard state c → AllByRecursion IsManaged all → Sends c budget all q all c q
-  sends_start c budget all q ready managed = record { ready = ready; managed = managed; rest = λ result d r h. h }
 
   -- a command that was answered by 9000 alone
   pub sends_on : (c m d : Card N) (budget : ℕ) (all : List (List ℕ)) (q p r : R) (b : List ℕ) (left : List (List ℕ)) (o : Outcome) → Sends c budget all q (b ∷ left) m p → RanAndReported state wrote reported m (due state m b budget) (Ok o) d p r → is_done (outcome_value o) ≡ true → Sends c budget all q left d r

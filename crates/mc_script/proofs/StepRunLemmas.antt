@@ -73,9 +73,6 @@ pub record SearchesLeft (c : model.Card) (left : List (List ℕ)) (old now bound
   pub least : old ≤ now
   pub most : now + first_search c left ≤ bound
 
-pub left_start : (c : model.Card) (bs : List (List ℕ)) (old : ℕ) → OnlyFirstOpens bs → SearchesLeft c bs old old (old + first_search c bs)
-left_start c bs old h = record { opens = h; least = omega arith; most = omega arith }
-
 pub left_on : (c d : model.Card) (b : List ℕ) (bs : List (List ℕ)) (n old now new bound : ℕ) → SearchesLeft c (b ∷ bs) old now bound → n ≡ 0 → StepsOf n (command_search c b) false now new → SearchesLeft d bs old new bound
 left_on c d b bs n old now new bound h idle steps =
     let low = steps.least refl in
