@@ -1,5 +1,5 @@
 -- The entries of a line account for it: after each of them the words hold the state of the play that was stopped there.
-use Rattle.std.proofs.Common.{◌≡◌, ℕ, zero, suc, ◌+◌, ◌≤◌, List, [], ◌∷◌, length, Option, Some, None, refl, ◌∙◌, ap, subst, arith}
+use Rattle.std.proofs.Common.{◌≡◌, ℕ, zero, suc, ◌+◌, ◌≤◌, List, [], ◌∷◌, length, Option, Some, None, refl, ap, arith}
 use Rattle.std.specs.Prelude.{slice_set}
 use Rattle.std.specs.List.{AllByRecursion}
 use Rattle.model_play.specs.model_device.specs.declared.cause.Cause.{Cause}
@@ -21,11 +21,7 @@ base_card None m c h = (refl, cc)
 base_card (Some f) m c h = absurd (cc h)
 
 pub base_fault : (f : Option (Cause × ℕ)) (m : List (List ℕ)) (cause : Cause) (p : ℕ) → base_of f m ≡ AtFault cause p → f ≡ Some (cause, p)
-base_fault None m cause p h = absurd (cc h)
-base_fault (Some f) m cause p h =
-    let first : f.0 ≡ cause = cc in
-    let second : f.1 ≡ p = cc in
-    ap (λ (x : Cause). Some (x, f.1)) first ∙ ap (λ (x : ℕ). Some (cause, x)) second
+base_fault f m cause p h = grind arith
 
 base_stands : (b : Base) (m : List (List ℕ)) (w : Warm) → base_of_words m ≡ b → count_of_recovery_writes m ≡ w.owed → StandsForBase m b w
 base_stands (OnCard c) m w is n = let r = base_card (fault m) m c is in record { sound = r.0; meaning = r.1; owed = n }
@@ -43,10 +39,7 @@ StopsStand m s l j ws = (k : ℕ) (x : List ℕ) → 1 ≤ k → k ≤ length ws
 
 stands_behind : (m : List (List ℕ)) (s : State) (l : ℕ × DeckLine) (j : ℕ) (p : ℕ × List ℕ) (ws : List (ℕ × List ℕ)) → StopsStand m s l j (p ∷ ws) → StopsStand (slice_set m p.0 p.1) s l (j + 1) ws
 stands_behind m s l j p ws h zero x low high size = absurd (omega arith)
-stands_behind m s l j p ws h (suc k) x low high size =
-    let e : j + suc (suc k) ≡ j + 1 + suc k = omega arith in
-    let r : StandsForState (image_after_stop m (p ∷ ws) (suc (suc k)) x) (state_after_stop s l (j + suc (suc k)) x) = h (suc (suc k)) x (omega arith) (omega (arith, high)) size in
-    subst (λ (i : ℕ). StandsForState (image_after_stop (slice_set m p.0 p.1) ws (suc k) x) (state_after_stop s l i x)) e r
+stands_behind m s l j p ws h (suc k) x low high size = grind (arith, h (suc (suc k)) x (omega arith) (omega (arith, high)) size)
 
 first_stands : (m : List (List ℕ)) (s : State) (l : ℕ × DeckLine) (j : ℕ) (p : ℕ × List ℕ) (ws : List (ℕ × List ℕ)) (x : List ℕ) → StopsStand m s l j (p ∷ ws) → length x ≡ 8 → StandsForState (slice_set m p.0 x) (state_after_stop s l (j + 1) x)
 first_stands m s l j p ws x h size = h 1 x (omega arith) (omega arith) size

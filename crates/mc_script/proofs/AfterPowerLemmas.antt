@@ -48,8 +48,4 @@ PokesFirst t ts = (line_powers t.line ≡ 0) ⊎ (total (λ u. line_pokes u.befo
 
 -- in every play no word is poked after power came
 pub pokes_first : (s : State) (l : ℕ × DeckLine) (w : Option FailedWrite) (ls : List (ℕ × DeckLine)) (ws : List (Option FailedWrite)) → PokesFirst (step s l w) (plays (step s l w).after ls ws)
-pokes_first s l w ls ws =
-    elim (powers_first s l w) [
-      | inl none ↦ inl none
-      | inr past_power ↦ inr (none_poked (step s l w).after ls ws past_power)
-    ]
+pokes_first s l w ls ws = grind (arith, powers_first, none_poked)

@@ -1,5 +1,5 @@
 -- A watcher that sees the turn alone records the turns of a command.
-use Rattle.std.proofs.Common.{◌≡◌, ℕ, zero, suc, ◌-◌, Bool, true, false, cond, List, [], ◌∷◌, length, take, Option, Some, None, Result, Ok, Err, refl, sym, ap, subst}
+use Rattle.std.proofs.Common.{arith, ◌≡◌, ℕ, zero, suc, ◌-◌, Bool, true, false, cond, List, [], ◌∷◌, length, take, Option, Some, None, Result, Ok, Err, refl, ap, subst}
 use Rattle.std.proofs.Math.Seq.{take-length}
 use Rattle.std.specs.Prelude.{nat_le}
 use Rattle.model_play.specs.model_device.specs.declared.device.Stop.{Stop}
@@ -11,13 +11,13 @@ use Rattle.model_play.specs.model_device.specs.Stopped.{cost}
 use Rattle.model_play.specs.model_machine.specs.Apdu.{ApduParts}
 use Rattle.model_play.specs.model_machine.specs.Chain.{Acted, Chain, Follows, Continues, Ends, Turn, chain_session, run_after_turn, run_of_chain, start, turn_of_chain}
 use Rattle.model_play.specs.model_card.specs.Commands.{application_command, by_route, command}
-use Rattle.model_play.specs.model_card.specs.Manager.{Selected, SessionState, Route, WrongLength, WrongClass, ToSelect, ToManager, ToApplication, manage, room_on, route, select}
+use Rattle.model_play.specs.model_card.specs.Manager.{Selected, SessionState, Route, route}
 use Rattle.model_play.specs.TraceText.{before_stop, turns_to}
 use Rattle.mc_machine.specs.declared.outcome.Outcome.{Outcome}
 use Rattle.mc_card.specs.declared.card.Card.{Card}
 use Rattle.mc_card.specs.Parts.{card_in, session_state_in, due}
 use Rattle.mc_script.specs.Runs.{RanAndReported, ReportsTurns, sent_to}
-use Rattle.mc_script.specs.Watching.{Records, Watches, seen_of, seen_of_application, seen_of_route, seen_of_run, seen_on, turn_alone}
+use Rattle.mc_script.specs.Watching.{Records, Watches, seen_of_application, seen_of_route, seen_of_run, seen_on, turn_alone}
 use Rattle.mc_script.proofs.CommandLemmas.{managed_turns}
 
 -- ---- the turns of a command
@@ -36,11 +36,7 @@ alone_application c session_state None a budget = refl
 alone_application c session_state (Some s) a budget = alone_run budget (start c.apps s.name s.session a)
 
 alone_route : (c : model.Card) (session_state : SessionState) (budget : ℕ) (r : Route) → seen_of_route turn_alone c session_state budget r ≡ (by_route c session_state budget r).turns
-alone_route c session_state budget WrongLength = refl
-alone_route c session_state budget WrongClass = refl
-alone_route c session_state budget (ToSelect a) = sym (managed_turns c session_state (select c.apps session_state a))
-alone_route c session_state budget (ToManager a) = sym (managed_turns c session_state (manage (room_on c) c.apps session_state a))
-alone_route c session_state budget (ToApplication a) = alone_application c session_state session_state.selected a budget
+alone_route c session_state budget r = grind (arith, managed_turns, alone_application)
 
 alone_command : (c : model.Card) (session_state : SessionState) (bytes : List ℕ) (budget : ℕ) → seen_of_route turn_alone c session_state budget (route bytes) ≡ (command c session_state bytes budget).turns
 unfolding command

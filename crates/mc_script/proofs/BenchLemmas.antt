@@ -6,7 +6,7 @@ use Rattle.std.proofs.lemmas.List.{get_or-set_same, length-take-le}
 use Rattle.model_play.specs.model_device.specs.declared.device.Stop.{Stop}
 use Rattle.model_play.specs.model_device.specs.declared.device.Stop.TheVariants.{Off, Worn}
 use Rattle.model_play.specs.model_device.specs.Orders.{Answer}
-use Rattle.model_play.specs.model_device.specs.Device.{Entry, Grows, DeviceState, BenchState, fuse_after_write, next_fill, due, NextWriteEnds, Counts, Burns, BenchWrote, Wrote, WriteDone, WriteCut, WriteFailure, Makes, GrowsBy, done_entries, torn_entries, next_count}
+use Rattle.model_play.specs.model_device.specs.Device.{Entry, Grows, DeviceState, BenchState, fuse_after_write, next_fill, due, NextWriteEnds, Counts, Burns, BenchWrote, Wrote, WriteDone, Makes, GrowsBy, done_entries, torn_entries, next_count}
 use Rattle.model_play.specs.model_device.specs.Stopped.{image_after_stop}
 use Rattle.model_play.specs.model_device.proofs.DeviceLemmas.{DoneAll, makes_done}
 use Rattle.mc_script.specs.Counting.{on_after_stop}
@@ -135,12 +135,7 @@ same_word m at a b low h = sym (get_or-set_same m at a [] low) ∙ ap (λ (t : L
 
 fused : (s : Stop) (b c : BenchState) (n : ℕ) (d e : DeviceState) (at : ℕ) (x : List ℕ) → Burnt b n c → NextWriteEnds (due (next_fill c.cut) (next_fill c.worn)) c.steady d at (Err s) e
     → at < length d.words → e.words ≡ slice_set d.words at x → FusedAt s b (suc n) x
-fused Off b c n d e at x burnt ends low words =
-    let r = cut_due (next_fill c.cut) (next_fill c.worn) c.steady d at e ends in
-    let y : r.0 ≡ x = same_word d.words at r.0 x low (sym r.2 ∙ words) in
-    let f : next_fill (after_writes n b.cut) ≡ Some x = ap (λ (t : BenchState). next_fill t.cut) (sym burnt.is) ∙ r.1 ∙ ap (λ (z : List ℕ). Some z) y in
-    let one : n + 1 ≡ suc n = omega arith in
-    subst (λ (k : ℕ). b.cut ≡ Some (record { writes = k; fill = x })) one (falls_at n b.cut x f)
+fused Off b c n d e at x burnt ends low words = grind (arith, cut_due, same_word, after_writes, falls_at)
 fused Worn b c n d e at x burnt ends low words =
     let r = failure_due (next_fill c.cut) (next_fill c.worn) c.steady d at e ends in
     let one : n + 1 ≡ suc n = omega arith in
@@ -201,12 +196,8 @@ module _ {D : Type 0} (state : D → DeviceState) (bench : D → BenchState) (wr
       ]
 
   left_by : (s : Stop) (d e : D) (at : ℕ) (w : List ℕ) → (state d).on ≡ true → wrote d at w (Err s) e → LeftBy (state d) at s (state e)
-  left_by Off d e at w on h =
-      let r : WriteCut (state d) at (state e) = obeys d at w (Err Off) e on h in
-      record { left = r.left; size = r.size; words = r.words; on = r.power; tape = r.tape }
-  left_by Worn d e at w on h =
-      let r : WriteFailure (state d) at (state e) = obeys d at w (Err Worn) e on h in
-      record { left = r.left; size = r.size; words = r.words; on = r.power; tape = r.tape }
+  left_by Off d e at w on h = grind (arith, obeys d at w (Err Off) e on h)
+  left_by Worn d e at w on h = grind (arith, obeys d at w (Err Worn) e on h)
 
   halted_behind : (ws : List (ℕ × List ℕ)) (d e : D) (n : ℕ) (s : Stop) → (state d).on ≡ true → StoppedBehind wrote d ws n s e → (x : List ℕ) × HaltedList (state d) (bench d) ws (suc n) s x (state e) (bench e)
   halted_behind ws d e n s on r =

@@ -1,23 +1,19 @@
 -- A card over another device with the same state, and the words of a card that runs.
-use Rattle.std.proofs.Common.{◌≡◌, ℕ, true, ◌&&◌, Some, refl, sym, ◌∙◌, ap, subst}
-use Rattle.std.specs.Option.{ForSome}
+use Rattle.std.proofs.Common.{arith, ◌≡◌, ℕ, true, ◌&&◌, sym, ◌∙◌, ap, subst}
 use Rattle.std.specs.Prelude.{is_none, ◌==◌, length}
 use Rattle.std.proofs.lemmas.Bool.{and_parts}
 use Rattle.model_play.specs.model_device.specs.Device.{DeviceState}
-use Rattle.model_play.specs.model_device.specs.Image.{Look, Refused, Closed, Pending, look, count_of_recovery_writes, debt}
+use Rattle.model_play.specs.model_device.specs.Image.{Look, look, count_of_recovery_writes, debt}
 use Rattle.model_play.specs.model_device.specs.Layout.{words_fault}
 use Rattle.model_play.specs.model_device.specs.Card.{means}
-use Rattle.mc_store.specs.Store.{is_closed, is_going, store_state, store_named, store_room, store_site_bytes}
+use Rattle.mc_store.specs.Store.{is_closed, is_going, store_site_bytes}
 use Rattle.mc_store.specs.Power.{count_of}
 use Rattle.mc_card.specs.declared.card.Card.{Card}
 use Rattle.mc_card.specs.Parts.{device_in, session_state_in, with_device, IsReadyCard}
-use Rattle.mc_bank.specs.Bank.{app_of}
-use Rattle.mc_manager.specs.ManagerState.{ManagerFits, session_state_of}
+use Rattle.mc_manager.specs.ManagerState.{session_state_of}
 
 closed_owes_none : (l : Look) → is_closed l ≡ true → debt l ≡ 0
-closed_owes_none (Refused p) h = refl
-closed_owes_none Closed h = refl
-closed_owes_none (Pending j ps) h = absurd (cc h)
+closed_owes_none l h = grind arith
 
 pub going_parts : (d : DeviceState) (n : ℕ) → is_going d n ≡ true → (d.on ≡ true) × (is_closed (look d.words) ≡ true)
 unfolding is_going
@@ -42,16 +38,7 @@ module _ {N : Type 0} (state : N → DeviceState) where
   session_state_with c d same = ap (λ (x : DeviceState). session_state_of (store_site_bytes x) c.session c.manager) same
 
   ready_with : (c : Card N) (d : N) → state d ≡ state (device_in c) → IsReadyCard state c → IsReadyCard state (with_device c d)
-  ready_with c d same r =
-      let n = count_of c.store in
-      record {
-        up = record {
-          going = ap (λ (x : DeviceState). is_going x n) same ∙ r.up.going;
-          fits = subst (λ (x : DeviceState). ManagerFits (record { state = store_state x n; named = store_named x; room = store_room x; site_bytes = store_site_bytes x }) c.manager) (sym same) r.up.fits;
-          session = subst (λ (x : DeviceState). ForSome c.manager.selected (λ s. length c.session ≡ (app_of (means x.words).apps (Some s.aid)).session)) (sym same) r.up.session;
-        };
-        idle = r.idle;
-      }
+  ready_with c d same r = grind arith
 
   -- a card over another device with the same state has the same session state
   pub session_state_over : (c u : Card N) → u ≡ with_device c (device_in u) → state (device_in u) ≡ state (device_in c) → session_state_in state u ≡ session_state_in state c

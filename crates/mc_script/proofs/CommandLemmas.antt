@@ -1,5 +1,5 @@
 -- Commands on a card: answered, run with their turns recorded, and one after the other.
-use Rattle.std.proofs.Common.{◌≡◌, ℕ, suc, true, false, List, [], ◌++◌, Option, Some, None, Result, Ok, Err, refl, sym, ap, subst, ◌∙◌}
+use Rattle.std.proofs.Common.{arith, ◌≡◌, ℕ, suc, true, false, List, [], ◌++◌, Option, Some, None, Result, Ok, Err, refl, sym, ap, subst, ◌∙◌}
 use Rattle.std.specs.Prelude.{option_map, OnOk}
 use Rattle.model_play.specs.model_device.specs.declared.device.Stop.{Stop}
 use Rattle.model_play.specs.model_device.specs.Orders.{Answer, answer_of}
@@ -8,7 +8,7 @@ use Rattle.model_play.specs.model_machine.specs.Apdu.{ApduParts}
 use Rattle.model_play.specs.model_device.specs.Card as model
 use Rattle.model_play.specs.model_device.specs.Card.{means}
 use Rattle.model_play.specs.model_machine.specs.Chain.{Chain, Turn, Ran as ModelRan, run_of_chain, run, start}
-use Rattle.model_play.specs.model_card.specs.Manager.{Selected, SessionState, Managed, Declines, Accepts, Route, WrongLength, WrongClass, ToSelect, ToManager, ToApplication, route, select, manage, room_on}
+use Rattle.model_play.specs.model_card.specs.Manager.{Selected, SessionState, Managed, Declines, Accepts, Route, ToApplication, route}
 use Rattle.model_play.specs.model_card.specs.Commands.{Command, command, manager_command, application_command, by_route, ran_command}
 use Rattle.model_play.specs.model_card.specs.Items.{write_items}
 use Rattle.model_play.specs.TraceText.{before_stop}
@@ -33,11 +33,7 @@ passed_turns c session_state None a budget e = refl
 passed_turns c session_state (Some s) a budget e = absurd (cc e)
 
 route_turns : (c : model.Card) (session_state : SessionState) (budget : ℕ) (r : Route) → is_passed r session_state.selected ≡ false → (by_route c session_state budget r).turns ≡ []
-route_turns c session_state budget WrongLength e = refl
-route_turns c session_state budget WrongClass e = refl
-route_turns c session_state budget (ToSelect a) e = managed_turns c session_state (select c.apps session_state a)
-route_turns c session_state budget (ToManager a) e = managed_turns c session_state (manage (room_on c) c.apps session_state a)
-route_turns c session_state budget (ToApplication a) e = passed_turns c session_state session_state.selected a budget e
+route_turns c session_state budget r e = grind (arith, managed_turns, passed_turns)
 
 -- a command that is not passed on has no turns
 pub command_turns : (c : model.Card) (session_state : SessionState) (bytes : List ℕ) (budget : ℕ) → is_passed (route bytes) session_state.selected ≡ false → (command c session_state bytes budget).turns ≡ []
@@ -96,17 +92,9 @@ module _ {N R X : Type 0} (state : N → DeviceState) (wrote : N → ℕ → Lis
   begun_by : (result : Result Outcome Stop) (c m d : Card N) (s : Selected) (run : ModelRan) (all : List X) (q r : R) → device_in m ≡ device_in c → session_state_in state m ≡ session_state_in state c → (session_state_in state c).selected ≡ Some s
       → RunOf state wrote obeys seen watched onward run all m result d q r → RanAndReported state wrote (Records seen watched all) c (ran_command (session_state_in state c) s.name run) result d q r
   begun_by result c m d s run all q r device same is h =
-      let made : MadeBy state wrote obeys (card_in state c) (write_items run.writes) (device_in c) (answer_of result) (device_in d) h.writes =
-      subst (λ (x : N). MadeBy state wrote obeys (means (state x).words) (write_items run.writes) x (answer_of result) (device_in d) h.writes) device h.made
-      in
+      let made : MadeBy state wrote obeys (card_in state c) (write_items run.writes) (device_in c) (answer_of result) (device_in d) h.writes = grind (arith, MadeBy) in
       record {
-        commanded =
-            record {
-              made = record { writes = h.writes; makes = made.makes; number = made.number; stops = made.stops; done = made.done };
-              outcome = h.outcome;
-              session_state = session_state_stays result c m d s run same is h.session_state;
-              ready = h.ready;
-            };
+        commanded = grind (arith, session_state_stays);
         reports = reports_as state wrote (Records seen watched all) result c m d h.writes run.turns q r device h.reports;
       }
 

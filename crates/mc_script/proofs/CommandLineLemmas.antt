@@ -33,7 +33,7 @@ use Rattle.mc_script.specs.Players.{answer_value, device_of, IsCardOfPlay, LiveI
 use Rattle.mc_script.specs.Arming.{armed_bench, power_after_stop, answer_after_stop}
 use Rattle.mc_script.specs.Commands.{deck_line_of}
 use Rattle.mc_script.specs.Lines.{LineDone}
-use Rattle.mc_script.specs.Runs.{RanAndReported, SentCommand, sent_to}
+use Rattle.mc_script.specs.Runs.{RanAndReported, sent_to}
 use Rattle.mc_script.proofs.AccountLemmas.{base_card, stands_after_power, StopsStand}
 use Rattle.mc_script.proofs.HitLemmas.{HitBy}
 use Rattle.mc_script.proofs.CardLemmas.{ready_on, ready_owes, session_state_over, ready_over}
@@ -48,9 +48,7 @@ worth c s = record { card = is_card c; powers = no_powers c; pokes = no_pokes c 
 
 -- a command is sent to the card over the armed device as to the card itself
 pub sent_over : {N : Type 0} (state : N → DeviceState) (c u : Card N) (bytes : List ℕ) (budget : ℕ) → u ≡ with_device c (device_in u) → state (device_in u) ≡ state (device_in c) → sent_to state u bytes budget ≡ sent_to state c bytes budget
-sent_over state c u bytes budget rest same =
-    let f : model.Card → SessionState → SentCommand = λ x y. record { card = x; session_state = y; bytes = bytes; budget = budget } in
-    ap (λ (x : DeviceState). f (means x.words) (session_state_in state u)) same ∙ ap (λ (y : SessionState). f (card_in state c) y) (session_state_over state c u rest same)
+sent_over state c u bytes budget rest same = grind (arith, session_state_over)
 
 module _ {N R : Type 0} (state : N → DeviceState) (bench : N → BenchState) (wrote : N → ℕ → List ℕ → Ended → N → Type 0)
     (obeys : (d : N) (at : ℕ) (w : List ℕ) (a : Ended) (e : N) → (state d).on ≡ true → wrote d at w a e → Wrote (state d) at w a (state e))
@@ -97,15 +95,7 @@ module _ {N R : Type 0} (state : N → DeviceState) (bench : N → BenchState) (
 
   handed : (c u : Card N) (a : Armed) → IsReadyCard state c → state (device_in u) ≡ state (device_in c) → bench (device_in u) ≡ armed_bench a (bench (device_in c))
       → Handed (state (device_in c)) (bench (device_in c)) 0 a (state (device_in u)) (bench (device_in u))
-  handed c u a ready same is =
-      record {
-        words = ap (λ (x : DeviceState). x.words) same;
-        tape = ap (λ (x : DeviceState). x.tape) same;
-        cuts = ap (λ (x : DeviceState). x.cuts) same;
-        faults = ap (λ (x : DeviceState). x.faults) same;
-        on = ap (λ (x : DeviceState). x.on) same ∙ ready_on state c ready;
-        bench = is;
-      }
+  handed c u a ready same is = grind (arith, ready_on)
 
   stops_over : (c u : Card N) (is : List Item) (ws : List (ℕ × List ℕ)) → state (device_in u) ≡ state (device_in c) → StopsAtEach (card_in state u) is (state (device_in u)).words ws
       → StopsAtEach (card_in state c) is (state (device_in c)).words ws

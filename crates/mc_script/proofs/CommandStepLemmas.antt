@@ -37,35 +37,16 @@ moves_before_power (command.Apdu bytes) m b a n = refl
 moves_before_power (command.Load u fixed session) m b a n = refl
 
 pub is_card : (c : CardLine) → is_card_line (deck_line_of c) ≡ true
-is_card (command.Select aid) = refl
-is_card (command.Delete aid) = refl
-is_card (command.Apdu bytes) = refl
-is_card (command.Load u fixed session) = refl
+is_card c = grind arith
 
 pub no_powers : (c : CardLine) → line_powers (deck_line_of c) ≡ 0
-no_powers (command.Select aid) = refl
-no_powers (command.Delete aid) = refl
-no_powers (command.Apdu bytes) = refl
-no_powers (command.Load u fixed session) = refl
+no_powers c = grind arith
 
 pub no_pokes : (c : CardLine) (s : State) → line_pokes s (deck_line_of c) ≡ 0
-no_pokes (command.Select aid) (BeforePower m b a) = refl
-no_pokes (command.Select aid) (AfterPower w) = refl
-no_pokes (command.Delete aid) (BeforePower m b a) = refl
-no_pokes (command.Delete aid) (AfterPower w) = refl
-no_pokes (command.Apdu bytes) (BeforePower m b a) = refl
-no_pokes (command.Apdu bytes) (AfterPower w) = refl
-no_pokes (command.Load u fixed session) (BeforePower m b a) = refl
-no_pokes (command.Load u fixed session) (AfterPower w) = refl
+no_pokes c s = grind arith
 
 pub no_cuts : (c : CardLine) → line_cuts (deck_line_of c) ≡ 0
-no_cuts (command.Select aid) = refl
-no_cuts (command.Delete aid) = refl
-no_cuts (command.Apdu bytes) = refl
-no_cuts (command.Load u fixed session) = refl
+no_cuts c = grind arith
 
 pub no_fails : (c : CardLine) → line_fails (deck_line_of c) ≡ 0
-no_fails (command.Select aid) = refl
-no_fails (command.Delete aid) = refl
-no_fails (command.Apdu bytes) = refl
-no_fails (command.Load u fixed session) = refl
+no_fails c = grind arith

@@ -52,11 +52,7 @@ leads_on s ls ws a u b l w c h line =
     let z = h.many in
     record {
       many = omega (arith, x, y, z);
-      last =
-          sym (ap (λ (ts : List Step). last_state s ts) (plays_append s ls (l ∷ []) ws (w ∷ []) h.many)
-          ∙ last_append s (plays s ls ws) (plays (last_state s (plays s ls ws)) (l ∷ []) (w ∷ []))
-          ∙ ap (λ (v : State). last_state v (plays v (l ∷ []) (w ∷ []))) (sym h.last)
-          ∙ ap (λ (ts : List Step). last_state u ts) one);
+      last = grind (arith, plays_append, last_append);
       rest = λ ks vs d played.
           subst (λ (k : List (ℕ × DeckLine)). Played s k ((ws ++ w ∷ []) ++ vs) a d) (sym (append_assoc ls (l ∷ []) ks))
           (subst (λ (v : List (Option FailedWrite)). Played s (ls ++ l ∷ ks) v a d) (sym (append_assoc ws (w ∷ []) vs)) (h.rest (l ∷ ks) (w ∷ vs) d (played_on u l w ks vs b c d line played)));

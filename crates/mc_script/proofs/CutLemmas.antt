@@ -1,5 +1,5 @@
 -- What a line answers says whether a cut hit it.
-use Rattle.std.proofs.Common.{◌≡◌, ℕ, Bool, false, List, Option, Some, None, option_map, refl}
+use Rattle.std.proofs.Common.{arith, ◌≡◌, ℕ, false, List, Option, Some, None, option_map, refl}
 use Rattle.model_play.specs.model_device.specs.Card.{App}
 use Rattle.model_play.specs.model_device.specs.Device.{DeviceState}
 use Rattle.model_play.specs.Play.{static_of}
@@ -7,9 +7,7 @@ use Rattle.mc_card.specs.declared.card.Card.{Card}
 use Rattle.mc_script.specs.Cuts.{is_off, off_in}
 use Rattle.mc_script.specs.Players.{answer_value, dump_value}
 use Rattle.mc_script.specs.declared.answer.Answer.{Answer}
-use Rattle.mc_script.specs.declared.answer.Answer.TheVariants as answer
 use Rattle.mc_script.specs.declared.player.Power.{Power}
-use Rattle.mc_script.specs.declared.player.Power.TheVariants as power
 use Rattle.mc_script.specs.declared.player.Player.{Player}
 
 static_on : (o : Option App) → false ≡ is_off (Some (static_of o))
@@ -18,20 +16,8 @@ static_on (Some a) = refl
 
 module _ {N : Type 0} (state : N → DeviceState) where
   dump_on : (p : Power) (c : Card N) (aid : List ℕ) → false ≡ is_off (Some (dump_value state p c aid))
-  dump_on power.BeforePower c aid = refl
-  dump_on power.Off c aid = refl
-  dump_on power.Mute c aid = refl
-  dump_on power.On c aid = static_on _
+  dump_on p c aid = grind (arith, static_on)
 
   -- the result of a line is that of a cut if its answer is
   pub off_answer : (p : Player N) (a : Option Answer) → off_in a ≡ is_off (option_map (answer_value state p) a)
-  off_answer p None = refl
-  off_answer p (Some answer.Formatted) = refl
-  off_answer p (Some (answer.Ready n)) = refl
-  off_answer p (Some (answer.Unusable u)) = refl
-  off_answer p (Some (answer.OffAt k)) = refl
-  off_answer p (Some answer.Worn) = refl
-  off_answer p (Some answer.NoCard) = refl
-  off_answer p (Some answer.Mute) = refl
-  off_answer p (Some answer.Outcome) = refl
-  off_answer p (Some (answer.Dump aid)) = dump_on p.power p.card aid
+  off_answer p a = grind (arith, dump_on)

@@ -76,9 +76,7 @@ module _ {N : Type 0} (state : N → DeviceState) (bench : N → BenchState) whe
 pub next_line : (ls : List (ℕ × DeckLine)) (i n : ℕ) (l : DeckLine) → slice_get ls i ≡ Some (n, l) → drop i ls ≡ (n, l) ∷ drop (i + 1) ls
 next_line [] i n l e = absurd (cc e)
 next_line (k ∷ ls) zero n l e = let same : k ≡ (n, l) = cc e in ap (λ (k : ℕ × DeckLine). k ∷ ls) same
-next_line (k ∷ ls) (suc i) n l e =
-    let one : suc i + 1 ≡ suc (i + 1) = omega arith in
-    next_line ls i n l e ∙ ap (λ j. (n, l) ∷ drop j (k ∷ ls)) (sym one)
+next_line (k ∷ ls) (suc i) n l e = grind (arith, next_line ls i n l e)
 
 -- after the last line there is none
 pub no_line : (ls : List (ℕ × DeckLine)) (i : ℕ) → length ls ≤ i → drop i ls ≡ []

@@ -1,7 +1,7 @@
 -- The lines that poke words before the first power line.
-use Rattle.std.proofs.Common.{◌≡◌, ℕ, List, [], Option, Some, None, refl, sym, ◌∙◌, ap, subst, arith}
+use Rattle.std.proofs.Common.{◌≡◌, ℕ, List, Option, Some, None, refl, ◌∙◌, ap, subst, arith}
 use Rattle.std.specs.Prelude.{slice_set, option_map, cond, nat_lt, length, false}
-use Rattle.model_play.specs.model_device.specs.Device.{DeviceState, BenchState, GrowsBy, bench_after_pokes}
+use Rattle.model_play.specs.model_device.specs.Device.{DeviceState, BenchState, bench_after_pokes}
 use Rattle.model_play.specs.DeckGrammar.{DeckLine}
 use Rattle.model_play.specs.DeckGrammar as line
 use Rattle.model_play.specs.Play as play
@@ -14,7 +14,7 @@ use Rattle.mc_script.specs.declared.player.Player.{Player}
 use Rattle.mc_card.specs.declared.card.Card.{Card}
 use Rattle.mc_card.specs.Parts.{device_in}
 use Rattle.mc_script.specs.Players.{answer_value, device_of, IsUnfused, LiveIs, IsPlayerAt}
-use Rattle.mc_script.specs.Counting.{count_after_rises, when_poked, line_pokes, line_powers, line_cuts, line_fails, LineCounts}
+use Rattle.mc_script.specs.Counting.{count_after_rises, when_poked, line_pokes, line_powers, line_cuts, line_fails}
 use Rattle.mc_script.specs.Lines.{Stepped, SilentDone, IsFormatted, IsPoked}
 use Rattle.mc_script.proofs.PokeLemmas.{poked_are}
 use Rattle.mc_script.proofs.QuietLemmas.{steady_none, same_power, grows_none, still}
@@ -33,32 +33,7 @@ module _ {N : Type 0} (state : N → DeviceState) (bench : N → BenchState) whe
       → Poked (device_of p) new j (device_in e) → line_pokes (BeforePower m b r) l ≡ j → line_powers l ≡ 0 → line_cuts l ≡ 0 → line_fails l ≡ 0 → is_card_line l ≡ false
       → option_map (answer_value state (record p { card = e })) x ≡ result → IsPlayerAt state bench p (BeforePower m b r)
       → Stepped state bench p (BeforePower m b r) (n, l) None (quiet n l (BeforePower m b r) result (BeforePower new b r)) x (record p { card = e })
-  poked p e m b r n l result x new j did pokes powers cuts fails card answers at =
-      let t = quiet n l (BeforePower m b r) result (BeforePower new b r) in
-      let d = device_of p in
-      let c = bench d in
-      let f : BenchState → Type 0 = λ y. LineCounts c (state d) t y (record (state d) { words = new }) in
-      record {
-        at = record { stands = (at.stands.0, ap (λ (y : DeviceState). y.words) did.device); budget = at.budget; armed = at.armed; some = at.some; most = at.most; can_arm = at.can_arm; unfused = unfused d (device_in e) new j did at.unfused };
-        answers = answers;
-        played = record {
-          may = tt;
-          counts = subst (λ (y : DeviceState). LineCounts c (state d) t (bench (device_in e)) y) (sym did.device) (subst f (sym did.calls)
-              (record {
-                counts = record { powers = ap (λ (i : ℕ). count_after_rises c.powers i) (sym powers); pokes = ap (λ (i : ℕ). count_after_rises c.pokes i) (sym pokes); poked = ap (λ (i : ℕ). when_poked c i) (sym pokes); cuts = refl; faults = refl; steady = refl };
-                arms = record { arms = rw cuts (omega arith); wears = rw fails (omega arith) };
-              }));
-          power = ap (λ (y : DeviceState). y.on) did.device ∙ same_power l (state d).on powers;
-          steady = λ h. steady_none r l (moves_of (BeforePower m b r) (n, l)) card;
-          tape = record {
-            entries = [];
-            grows = subst (λ (y : DeviceState). GrowsBy (state d).tape [] y.tape) (sym did.device) (grows_none (state d).tape);
-            accounts = record { count = refl; each = tt; ends = refl };
-            worn = refl;
-            left = sym (ap (λ (y : DeviceState). y.words) did.device);
-          };
-        };
-      }
+  poked p e m b r n l result x new j did pokes powers cuts fails card answers at = grind (arith, unfused, same_power, steady_none, grows_none)
 
   -- a player before its first power line is at no state of a play after it
   begun : (p : Player N) (w : Warm) → p.power ≡ power.BeforePower → IsPlayerAt state bench p (AfterPower w) → ⊥

@@ -1,5 +1,5 @@
 -- How writes bring a fuse nearer, and the result of the next write under the fuses of a bench.
-use Rattle.std.proofs.Common.{◌≡◌, ℕ, zero, suc, ◌+◌, ◌<◌, ◌≤◌, Bool, true, false, List, Option, Some, None, Ok, Err, refl, ◌∙◌, ap, arith}
+use Rattle.std.proofs.Common.{◌≡◌, ℕ, zero, suc, ◌+◌, ◌<◌, ◌≤◌, Bool, true, List, Option, Some, None, Ok, Err, refl, arith}
 use Rattle.std.specs.Prelude.{slice_set}
 use Rattle.model_play.specs.model_device.specs.declared.device.Stop.TheVariants.{Off, Worn}
 use Rattle.model_play.specs.model_device.specs.Device.{DeviceState, Fuse, nearer, fuse_after_write, fill_at, next_fill, due, NextWriteEnds}
@@ -33,9 +33,7 @@ falls_here (suc n) (suc zero) x y h = absurd (none_falls n y h)
 falls_here (suc n) (suc (suc k)) x y h = let r = falls_here n (suc k) x y h in (omega (arith, r.0), r.1)
 
 fuse_falls : (n : ℕ) (f : Fuse) (y : List ℕ) → next_fill (after_writes n (Some f)) ≡ Some y → f ≡ record { writes = n + 1; fill = y }
-fuse_falls n f y h =
-    let r = falls_here n f.writes f.fill y h in
-    ap (λ (k : ℕ). record f { writes = k }) r.0 ∙ ap (λ (x : List ℕ). record f { writes = n + 1; fill = x }) r.1
+fuse_falls n f y h = grind (arith, falls_here)
 
 pub falls_at : (n : ℕ) (f : Option Fuse) (y : List ℕ) → next_fill (after_writes n f) ≡ Some y → f ≡ Some (record { writes = n + 1; fill = y })
 falls_at n None y h = absurd (none_falls n y h)
@@ -56,9 +54,7 @@ past_on n (Some f) h past = λ low. lies_on n f.writes f.fill h (past low)
 
 -- a fuse that is not due at the first of a list of writes
 past_next : (n k : ℕ) (x : List ℕ) → fill_at k x ≡ None → Past n (nearer k x) → 1 ≤ k → suc n < k
-past_next n zero x h past low = absurd (omega arith)
-past_next n (suc zero) x h past low = absurd (cc h)
-past_next n (suc (suc k)) x h past low = let r : n < suc k = past (omega arith) in omega (arith, r)
+past_next n k x h past low = grind arith
 
 pub past_first : (n : ℕ) (f : Option Fuse) → next_fill f ≡ None → Past n (fuse_after_write f) → Past (suc n) f
 past_first n None h past = tt
@@ -72,24 +68,13 @@ past_none (Some f) = λ low. omega (arith, low)
 
 -- a write that was done was due to no fuse
 pub none_due : (c w : Option (List ℕ)) (steady : Bool) (d : DeviceState) (at : ℕ) (e : DeviceState) → NextWriteEnds (due c w) steady d at (Ok tt) e → (c ≡ None) × (w ≡ None)
-none_due (Some x) w steady d at e h = absurd (cc h.0)
-none_due None (Some x) true d at e h = absurd (cc h.0)
-none_due None (Some x) false d at e h = absurd (cc h)
-none_due None None steady d at e h = (refl, refl)
+none_due c w steady d at e h = grind arith
 
 -- a write that was cut was due to the cut fuse
 pub cut_due : (c w : Option (List ℕ)) (steady : Bool) (d : DeviceState) (at : ℕ) (e : DeviceState) → NextWriteEnds (due c w) steady d at (Err Off) e → (x : List ℕ) × (c ≡ Some x) × (e.words ≡ slice_set d.words at x)
-cut_due (Some x) w steady d at e h = (x, refl, h.1)
-cut_due None (Some x) true d at e h = absurd (cc h.0)
-cut_due None (Some x) false d at e h = absurd (cc h)
-cut_due None None true d at e h = absurd (cc h)
-cut_due None None false d at e h = absurd (h refl)
+cut_due c w steady d at e h = grind arith
 
 -- a failed write was not due to the cut fuse, and on a steady bench it was due to the other
 pub failure_due : (c w : Option (List ℕ)) (steady : Bool) (d : DeviceState) (at : ℕ) (e : DeviceState) → NextWriteEnds (due c w) steady d at (Err Worn) e
     → (c ≡ None) × (steady ≡ true → (x : List ℕ) × (w ≡ Some x) × (e.words ≡ slice_set d.words at x))
-failure_due (Some x) w steady d at e h = absurd (cc h.0)
-failure_due None (Some x) true d at e h = (refl, λ s. (x, refl, h.1))
-failure_due None (Some x) false d at e h = (refl, λ s. absurd (cc s))
-failure_due None None true d at e h = absurd (cc h)
-failure_due None None false d at e h = (refl, λ s. absurd (cc s))
+failure_due c w steady d at e h = grind arith

@@ -53,30 +53,16 @@ uncut b f free h = none-some f (sym free.cut ∙ h)
 unworn : (b : BenchState) (f : Fuse) → IsUnfused b → b.worn ≡ Some f → ⊥
 unworn b f free h = none-some f (sym free.worn ∙ h)
 
-cut_hits : (k m : ℕ) (x : StopAt) → k ≤ m → cond (nat_le k m) (Some x) None ≡ Some x
-cut_hits k m x h = ap (λ (b : Bool). cond b (Some x) None) (le-leb k m h)
-
 failure_hits : (b c : Bool) (x : FailedWrite) → b ≡ true → c ≡ true → Some x ≡ cond (b && c) (Some x) None
-failure_hits true true x h g = refl
-failure_hits true false x h g = absurd (cc g)
-failure_hits false c x h g = absurd (cc h)
+failure_hits b c x h g = grind arith
 
 same_fuse : (k j : ℕ) (x y : List ℕ) → ◌≡◌ {A = Option Fuse} (Some (record { writes = j; fill = y })) (Some (record { writes = k; fill = x })) → (j ≡ k) × (y ≡ x)
-same_fuse k j x y h =
-    let e : ◌≡◌ {A = Fuse} (record { writes = j; fill = y }) (record { writes = k; fill = x }) = same_Some {A = Fuse} _ _ h in
-    (ap (λ (f : Fuse). f.writes) e, ap (λ (f : Fuse). f.fill) e)
+same_fuse k j x y h = grind (arith, same_Some)
 
 pub hit_by : (a : Armed) (b : BenchState) (m : ℕ) (s : Stop) (k : ℕ) (x : List ℕ) → CanArm a → IsUnfused b → FusedAt s (armed_bench a b) k x → k ≤ m
     → HitBy (armed_value a) m b.steady s k x (failure_entry k x (Some s))
 hit_by armed.Not b m Off k x can free fused high = absurd (uncut b (record { writes = k; fill = x }) free fused)
-hit_by (armed.Cut j fill) b m Off k x can free fused high =
-    let same = same_fuse k j x fill fused in
-    record {
-      hit = subst (λ (i : ℕ). hit_of (ArmedCut i fill) m None ≡ Some (record { kind = Off; at = k; left = x })) (sym same.0)
-          (subst (λ (y : List ℕ). hit_of (ArmedCut k y) m None ≡ Some (record { kind = Off; at = k; left = x })) (sym same.1) (cut_hits k m (record { kind = Off; at = k; left = x }) high));
-      first = λ e. absurd (cc e);
-      steady = λ l card steady. refl;
-    }
+hit_by (armed.Cut j fill) b m Off k x can free fused high = grind (arith, same_fuse k j x fill fused)
 hit_by (armed.Fail j) b m Off k x can free fused high = absurd (uncut b (record { writes = k; fill = x }) free fused)
 hit_by armed.Not b m Worn k x can free fused high =
     record { hit = refl; first = λ e. tt; steady = λ l card steady. absurd (unworn b (record { writes = k; fill = x }) free (fused.1 steady)) }
@@ -96,9 +82,7 @@ hit_by (armed.Fail j) b m Worn k x can free fused high =
 
 -- the answer after a cut at write k has the number k
 pub place_is : (a : Armed) (b : BenchState) (k : ℕ) (x : List ℕ) → IsUnfused b → (armed_bench a b).cut ≡ Some (record { writes = k; fill = x }) → cut_place a ≡ k
-place_is armed.Not b k x free h = absurd (uncut b (record { writes = k; fill = x }) free h)
-place_is (armed.Cut j fill) b k x free h = (same_fuse k j x fill h).0
-place_is (armed.Fail j) b k x free h = absurd (uncut b (record { writes = k; fill = x }) free h)
+place_is a b k x free h = grind (arith, uncut, same_fuse)
 
 -- ---- calls
 

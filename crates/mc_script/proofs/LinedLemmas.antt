@@ -1,5 +1,5 @@
 -- A line by the step that its play takes, with its recorded turns.
-use Rattle.std.proofs.Common.{◌≡◌, ℕ, List, [], Option, Some, refl, sym, subst}
+use Rattle.std.proofs.Common.{arith, ◌≡◌, ℕ, List, [], Option, Some, sym, subst}
 use Rattle.model_play.specs.model_device.specs.Device.{DeviceState, BenchState}
 use Rattle.model_play.specs.DeckGrammar.{DeckLine}
 use Rattle.model_play.specs.model_machine.specs.Chain.{Turn}
@@ -20,16 +20,11 @@ module _ {N R : Type 0} (state : N → DeviceState) (bench : N → BenchState) (
   -- a line by the step that its play takes
   pub lined : (p q : Player N) (s : State) (l : ℕ × DeckLine) (w : Option FailedWrite) (t : Step) (r : Option Answer) (before after : R) → step s l w ≡ t → Stepped state bench p s l w t r q
       → reported before (shown_turns t.turns t.stop) after → Lined state bench reported p s l w before after r q
-  lined p q s l w t r before after is stepped reports =
-      let h : Stepped state bench p s l w (step s l w) r q = subst (λ (u : Step). Stepped state bench p s l w u r q) (sym is) stepped in
-      record { stepped = h; reports = subst (λ (u : Step). reported before (shown_turns u.turns u.stop) after) (sym is) reports }
+  lined p q s l w t r before after is stepped reports = grind arith
 
   -- a line without turns, of which nothing is recorded
   pub silent_line : ((r : R) → reported r [] r) → (p q : Player N) (l : DeckLine) (x : Option Answer) (r : R) → SilentDone state bench p l x q → LineDone state bench reported p l r r x q
-  silent_line silent p q l x r done s n at =
-      let h = done s n at in
-      let t = step s (n, l) h.0 in
-      (h.0, lined p q s (n, l) h.0 t x r r refl (h.1).stepped (subst (λ (ts : List Turn). reported r ts r) (sym (h.1).silent) (silent r)))
+  silent_line silent p q l x r done s n at = grind (arith, done s n at, step s (n, l) (done s n at).0)
 
   -- the line that is played is the one that was given
   pub given_line : (p q : Player N) (l k : DeckLine) (x : Option Answer) (before after : R) → l ≡ k → LineDone state bench reported p k before after x q → LineDone state bench reported p l before after x q

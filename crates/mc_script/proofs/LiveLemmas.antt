@@ -1,8 +1,7 @@
 -- A player whose session state, or whose power without a card, is replaced.
-use Rattle.std.proofs.Common.{◌≡◌, refl, sym, ap, ◌∙◌, subst}
+use Rattle.std.proofs.Common.{arith, ◌≡◌, sym, ◌∙◌}
 use Rattle.std.specs.Prelude.{true}
 use Rattle.model_play.specs.model_device.specs.Device.{DeviceState, BenchState}
-use Rattle.model_play.specs.Play as play
 use Rattle.model_play.specs.Play.{Warm, State, BeforePower, AfterPower}
 use Rattle.model_play.specs.Family.{is_running}
 use Rattle.mc_card.specs.declared.card.Card.{Card}
@@ -17,35 +16,16 @@ module _ {N : Type 0} (state : N → DeviceState) (bench : N → BenchState) whe
 
   -- a card runs only with power on
   pub not_running : (p : Player N) (w : Warm) (x : Power) (A : Type 0) → p.power ≡ x → IsStopped x → is_running w.live ≡ true → IsPlayerAt state bench p (AfterPower w) → A
-  not_running p w power.Off A is stopped runs at = absurd (cc (sym (ap (λ (l : play.Live). is_running l) (subst (λ (x : Power). StateIs state x p.card (AfterPower w)) is at.stands).0) ∙ runs))
-  not_running p w power.Mute A is stopped runs at = absurd (cc (sym (ap (λ (l : play.Live). is_running l) (subst (λ (x : Power). StateIs state x p.card (AfterPower w)) is at.stands).0) ∙ runs))
-  not_running p w power.BeforePower A is stopped runs at = absurd stopped
-  not_running p w power.On A is stopped runs at = absurd stopped
+  not_running p w x h is stopped runs at = grind arith
 
   -- ---- another power without a card
 
   stands_stopped : (c : Card N) (w : Warm) (x y : Power) → IsStopped x → IsStopped y → StateIs state x c (AfterPower w) → StateIs state y c (AfterPower (record w { live = live_at y }))
-  stands_stopped c w power.Off power.Off off to is = (refl, is.1)
-  stands_stopped c w power.Off power.Mute off to is = (refl, is.1)
-  stands_stopped c w power.Mute power.Off off to is = (refl, is.1)
-  stands_stopped c w power.Mute power.Mute off to is = (refl, is.1)
-  stands_stopped c w x power.BeforePower off to is = absurd to
-  stands_stopped c w x power.On off to is = absurd to
-  stands_stopped c w power.BeforePower y off to is = absurd off
-  stands_stopped c w power.On y off to is = absurd off
+  stands_stopped c w x y off to is = grind arith
 
   pub stopped_at : (p : Player N) (w : Warm) (x y : Power) → p.power ≡ x → IsStopped x → IsStopped y → IsPlayerAt state bench p (AfterPower w)
       → IsPlayerAt state bench (record p { power = y }) (AfterPower (record w { live = live_at y }))
-  stopped_at p w x y is off to at =
-      record {
-        stands = stands_stopped p.card w x y off to (subst (λ (z : Power). StateIs state z p.card (AfterPower w)) is at.stands);
-        budget = at.budget;
-        armed = at.armed;
-        some = at.some;
-        most = at.most;
-        can_arm = at.can_arm;
-        unfused = at.unfused;
-      }
+  stopped_at p w x y is off to at = grind (arith, stands_stopped)
 
   stopped_in : (p : Player N) (s : State) (x y : Power) → p.power ≡ x → IsStopped x → IsStopped y → IsPlayerAt state bench p s → IsPlaying state bench (record p { power = y })
   stopped_in p (AfterPower w) x y is off to at = (AfterPower (record w { live = live_at y }), stopped_at p w x y is off to at)

@@ -1,5 +1,5 @@
 -- A section's pieces, one at a time.
-use Rattle.std.proofs.Common.{◌≡◌, ◌≢◌, ℕ, zero, suc, ◌+◌, ◌≤◌, Bool, cond, false, ◌==◌, min, List, [], ◌∷◌, ◌++◌, length, take, drop, refl, arith, sym, ap, ◌∙◌, ◌⊎◌, inl, inr, length-drop, length-take-le}
+use Rattle.std.proofs.Common.{◌≡◌, ◌≢◌, ℕ, zero, suc, ◌+◌, ◌≤◌, false, ◌==◌, min, List, [], ◌∷◌, ◌++◌, length, take, drop, refl, arith, sym, ap, ◌∙◌, ◌⊎◌, inl, inr, length-drop, length-take-le}
 use Rattle.std.proofs.lemmas.Bool.Decides.{nat_tests, leb_tells}
 use Rattle.std.proofs.lemmas.List.{take_all}
 use Rattle.std.proofs.Math.ListN.{drop_of_length-le}
@@ -18,9 +18,7 @@ some_bytes x b = grind (arith, nat_tests)
 
 -- the first piece of some bytes
 piece_first : (n ins at x : ℕ) (b : List ℕ) → piece_commands (suc n) ins at (x ∷ b) ≡ (0xBE ∷ ins ∷ (bytes2 at ++ length (take 248 (x ∷ b)) ∷ take 248 (x ∷ b))) ∷ piece_commands n ins (at + 248) (drop 248 (x ∷ b))
-piece_first n ins at x b =
-    let rest = (0xBE ∷ ins ∷ (bytes2 at ++ length (take 248 (x ∷ b)) ∷ take 248 (x ∷ b))) ∷ piece_commands n ins (at + 248) (drop 248 (x ∷ b)) in
-    ap (λ (k : Bool). cond k [] rest) (some_bytes x b)
+piece_first n ins at x b = grind (arith, some_bytes)
 
 -- more fuel makes no more commands
 pub pieces_fuel : (n m ins at : ℕ) (b : List ℕ) → length b ≤ n → length b ≤ m → piece_commands n ins at b ≡ piece_commands m ins at b
@@ -44,9 +42,7 @@ piece_by ins at m (x ∷ xs) p q some (inl long) size front back =
     let rest : q ≡ drop 248 b = back ∙ ap (λ k. drop k b) is in
     let len : length (take 248 b) ≡ 248 = length-take-le 248 b long in
     let less : length (drop 248 b) ≤ length xs = simp length-drop (omega arith) in
-    let more : piece_commands (length xs) ins (at + 248) (drop 248 b) ≡ piece_commands (length (drop 248 b)) ins (at + length (take 248 b)) (drop 248 b) =
-    pieces_fuel (length xs) (length (drop 248 b)) ins (at + 248) (drop 248 b) less (omega arith) ∙ ap (λ k. piece_commands (length (drop 248 b)) ins (at + k) (drop 248 b)) (sym len)
-    in
+    let more : piece_commands (length xs) ins (at + 248) (drop 248 b) ≡ piece_commands (length (drop 248 b)) ins (at + length (take 248 b)) (drop 248 b) = grind (arith, pieces_fuel) in
     rw (whole, rest) (piece_first (length xs) ins at x xs ∙ ap (λ (cs : List (List ℕ)). (0xBE ∷ ins ∷ (bytes2 at ++ length (take 248 b) ∷ take 248 b)) ∷ cs) more)
 piece_by ins at m (x ∷ xs) p q some (inr short) size front back =
     let b = x ∷ xs in
@@ -62,11 +58,4 @@ piece_by ins at m (x ∷ xs) p q some (inr short) size front back =
 -- one piece of a section, and the pieces after it
 pub pieces_next : (ins at m : ℕ) (b p q command : List ℕ) → length b ≢ 0 → m ≡ min (length b) 248 → p ≡ take m b → q ≡ drop m b → command ≡ 0xBE ∷ ins ∷ (bytes2 at ++ length p ∷ p)
     → piece_commands (length b) ins at b ≡ command ∷ piece_commands (length q) ins (at + length p) q
-pieces_next ins at m b p q command some size front back is =
-    let one : piece_commands (length b) ins at b ≡ (0xBE ∷ ins ∷ (bytes2 at ++ length p ∷ p)) ∷ piece_commands (length q) ins (at + length p) q =
-    elim (leb_tells 248 (length b)) [
-      | inl long ↦ piece_by ins at m b p q some (inl long.1) size front back
-      | inr short ↦ piece_by ins at m b p q some (inr (omega (arith, short.1))) size front back
-    ]
-    in
-    one ∙ ap (λ (c : List ℕ). c ∷ piece_commands (length q) ins (at + length p) q) (sym is)
+pieces_next ins at m b p q command some size front back is = grind (arith, leb_tells, piece_by)

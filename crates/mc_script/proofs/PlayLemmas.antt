@@ -1,5 +1,5 @@
 -- A play of one line and a play of the lines after it are one play.
-use Rattle.std.proofs.Common.{◌≡◌, ◌⊎◌, ℕ, zero, suc, ◌+◌, Bool, List, [], ◌∷◌, ◌++◌, Option, Result, Ok, Err, refl, arith, sym, ap, subst, ◌∙◌, append_assoc, inl, inr}
+use Rattle.std.proofs.Common.{◌≡◌, ◌⊎◌, ℕ, zero, suc, ◌+◌, Bool, List, [], ◌∷◌, ◌++◌, Option, Result, Ok, Err, refl, arith, sym, ap, subst, ◌∙◌, append_assoc}
 use Rattle.model_play.specs.model_device.specs.Device.{DeviceState, BenchState, next_count}
 use Rattle.model_play.specs.DeckGrammar.{DeckLine}
 use Rattle.model_play.specs.Play.{Armed, State, FailedWrite, Step, plays, step, armed_stop_in, last_state, StandsForState, moves_of, steady_at, steady_failures, failures_of_tape}
@@ -27,24 +27,11 @@ raised_add n (suc a) b = let e : suc a + b ≡ suc (a + b) = omega arith in ap (
 -- the number of times that power had come when the last word was poked, over lines and those after them: if power came,
 -- no word was poked after it
 poked_on : (b c : BenchState) (p q q' : ℕ) → c.powers ≡ count_after_rises b.powers p → c.poked ≡ when_poked b q → (p ≡ 0) ⊎ (q' ≡ 0) → when_poked c q' ≡ when_poked b (q + q')
-poked_on b c p q zero powers poked apart = let e : q ≡ q + 0 = omega arith in poked ∙ ap (λ n. when_poked b n) e
-poked_on b c p q (suc k) powers poked apart =
-    elim apart [
-      | inl none ↦ let e : suc (q + k) ≡ q + suc k = omega arith in powers ∙ ap (λ n. count_after_rises b.powers n) none ∙ ap (λ n. when_poked b n) e
-      | inr none ↦ absurd (cc none)
-    ]
+poked_on b c p q q' powers poked apart = grind arith
 
 -- the counts of lines, and of the lines after them
 counts_on : (b c e : BenchState) (d f g : DeviceState) (p q k m p' q' k' m' : ℕ) → CountsCalls b d p q k m c f → CountsCalls c f p' q' k' m' e g → (p ≡ 0) ⊎ (q' ≡ 0) → CountsCalls b d (p + p') (q + q') (k + k') (m + m') e g
-counts_on b c e d f g p q k m p' q' k' m' one rest apart =
-    record {
-      powers = rest.powers ∙ ap (λ n. count_after_rises n p') one.powers ∙ sym (raised_add b.powers p p');
-      pokes = rest.pokes ∙ ap (λ n. count_after_rises n q') one.pokes ∙ sym (raised_add b.pokes q q');
-      poked = rest.poked ∙ poked_on b c p q q' one.powers one.poked apart;
-      cuts = rest.cuts ∙ ap (λ n. count_after_rises n k') one.cuts ∙ sym (raised_add d.cuts k k');
-      faults = rest.faults ∙ ap (λ n. count_after_rises n m') one.faults ∙ sym (raised_add d.faults m m');
-      steady = rest.steady ∙ one.steady;
-    }
+counts_on b c e d f g p q k m p' q' k' m' one rest apart = grind (arith, raised_add, poked_on)
 
 -- the counts of a line, and of the lines after it
 play_counts_on : (a b c : Bench) (t : Step) (ts : List Step) → LineCounts a.bench a.device t b.bench b.device → PlayCounts b.bench b.device (armed_stop_in t.after) ts c.bench c.device → PokesFirst t ts
@@ -58,12 +45,7 @@ play_counts_on a b c t ts one rest first =
 
 -- the counts of no line
 counts_none : (a : Bench) (due : Armed) → PlayCounts a.bench a.device due [] a.bench a.device
-counts_none a due =
-    record {
-      counts = record { powers = refl; pokes = refl; poked = refl; cuts = refl; faults = refl; steady = refl };
-      arms = omega arith;
-      wears = omega arith;
-    }
+counts_none a due = grind arith
 
 -- ---- a line, and the lines after it
 
@@ -205,14 +187,6 @@ from_cut f s l w ls a b x y e old new did steps stands unfused failed =
 pub from_none : (f : Step → List ℕ) (s : State) (a : Bench) (x : Sunk) (old : ℕ) → StandsForState a.device.words s → IsUnfused a.bench → CountsFrom f s [] a x (Ok tt) a x old old
 from_none f s a x old stands unfused =
     record {
-      from =
-          record {
-            lines = [];
-            rest = [];
-            are = refl;
-            worn = [];
-            played = played_none s a stands unfused;
-            text = (refl, record { whole = subst (λ (ts : List Step). Grew x.taken x.taken (texts f ts)) (sym (plays_none s)) (grew_none x.taken); counted = refl });
-          };
+      from = grind (arith, played_none, plays_none, grew_none);
       steps = steps_as [] (plays s [] []) old old (sym (plays_none s)) (steps_none old);
     }

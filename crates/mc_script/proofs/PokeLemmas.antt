@@ -46,6 +46,4 @@ pub pokes_on : (d : DeviceState) (b : BenchState) (list : List (ℕ × List ℕ)
     → Pokes d b list e c (drop i list) → f ≡ record e { words = slice_set e.words (slice_index_or list i x).0 (slice_index_or list i x).1 } → g ≡ bench_after_poke c
     → Pokes d b list f g (drop (i + 1) list)
 pokes_on d b list e f c g i x low r hf hg =
-    let one : suc i ≡ i + 1 = omega arith in
-    let next : Pokes d b list f g (drop (suc i) list) = pokes_next d b list e f c g (slice_index_or list i x) (drop (suc i) list) (subst (λ (l : List (ℕ × List ℕ)). Pokes d b list e c l) (drop-cons list i x low) r) hf hg in
-    subst (λ (k : ℕ). Pokes d b list f g (drop k list)) one next
+    grind (arith, pokes_next d b list e f c g (slice_index_or list i x) (drop (suc i) list) (subst (λ (l : List (ℕ × List ℕ)). Pokes d b list e c l) (drop-cons list i x low) r) hf hg)

@@ -1,25 +1,21 @@
 -- The calls of `power` and the power of a line, by its answer.
-use Rattle.std.proofs.Common.{◌≡◌, ℕ, Bool, true, false, List, Option, Some, None, refl, sym, ap, ◌∙◌}
+use Rattle.std.proofs.Common.{arith, ◌≡◌, ℕ, Bool, true, false, List, Option, Some, None, refl, sym, ap, ◌∙◌}
 use Rattle.std.specs.Prelude.{option_map}
 use Rattle.model_play.specs.model_device.specs.declared.device.Stop.{Stop}
 use Rattle.model_play.specs.model_device.specs.declared.device.Stop.TheVariants.{Off, Worn}
 use Rattle.model_play.specs.model_device.specs.Device.{DeviceState, BenchState}
 use Rattle.model_play.specs.model_device.specs.Card.{App}
 use Rattle.model_play.specs.model_device.specs.PowerUp.{Base, OnCard, AtFault}
-use Rattle.model_play.specs.model_device.specs.Bytes.{lookup}
 use Rattle.model_play.specs.model_machine.specs.Chain.{Turn}
-use Rattle.model_play.specs.model_card.specs.Items.{StopAt, moves}
+use Rattle.model_play.specs.model_card.specs.Items.{StopAt}
 use Rattle.model_play.specs.model_card.specs.Commands.{Command}
 use Rattle.model_play.specs.DeckGrammar.{DeckLine}
 use Rattle.model_play.specs.DeckGrammar as line
-use Rattle.model_play.specs.Play.{LineResult, OffAt, FailureStop, Live, Running, Unpowered, Muted, Warm, State, BeforePower, AfterPower, FailedWrite, step, line_command, card_line, line_says, power_says, power_result, power_moves, play_at_power, hit_of, dump_result, static_of, result_of_stop}
+use Rattle.model_play.specs.Play.{LineResult, OffAt, FailureStop, Live, Warm, State, BeforePower, AfterPower, FailedWrite, step, card_line, line_says, power_says, power_result, power_moves, play_at_power, hit_of, dump_result, static_of, result_of_stop}
 use Rattle.model_play.proofs.PlayLemmas.{step_is}
 use Rattle.mc_card.specs.declared.card.Card.{Card}
-use Rattle.mc_card.specs.Parts.{card_in}
 use Rattle.mc_script.specs.declared.answer.Answer.{Answer}
-use Rattle.mc_script.specs.declared.answer.Answer.TheVariants as answer
 use Rattle.mc_script.specs.declared.player.Power.{Power}
-use Rattle.mc_script.specs.declared.player.Power.TheVariants as power
 use Rattle.mc_script.specs.declared.player.Player.{Player}
 use Rattle.mc_script.specs.Players.{answer_value, device_of, dump_value, IsPlaying}
 use Rattle.mc_script.specs.Counting.{count_after_rises, line_powers, on_after_stop, on_unstopped, on_after}
@@ -51,22 +47,14 @@ command_power r None on l = refl
 command_power r (Some t) on l = stop_power t t.kind on l
 
 card_power : (n : ℕ) (l : DeckLine) (s : Warm) (live : Live) (base : Base) (w : Option FailedWrite) (on : Bool) → on_after on l (card_line n l s live base w).stop ≡ on_after_result on l (card_line n l s live base w).result
-card_power n l s (Running session_state) (OnCard c) w on =
-    let r = line_command c session_state s.budget l in
-    command_power r (hit_of s.armed (moves r.items) w) on l
-card_power n l s (Running session_state) (AtFault cause p) w on = refl
-card_power n l s Unpowered base w on = refl
-card_power n l s Muted base w on = refl
+card_power n l s live base w on = grind (arith, command_power)
 
 static_power : (o : Option App) (on : Bool) (l : DeckLine) → on_unstopped on l ≡ on_after_result on l (Some (static_of o))
 static_power None on l = refl
 static_power (Some a) on l = refl
 
 dump_power : (live : Live) (base : Base) (x : List ℕ) (on : Bool) (l : DeckLine) → on_unstopped on l ≡ on_after_result on l (Some (dump_result live base x))
-dump_power (Running session_state) (OnCard c) x on l = static_power (lookup c.apps x) on l
-dump_power (Running session_state) (AtFault cause p) x on l = refl
-dump_power Unpowered base x on l = refl
-dump_power Muted base x on l = refl
+dump_power live base x on l = grind (arith, static_power)
 
 step_power : (s : State) (l : ℕ × DeckLine) (w : Option FailedWrite) (on : Bool) → on_after on l.1 (step s l w).stop ≡ on_after_result on l.1 (step s l w).result
 unfolding step
@@ -82,22 +70,10 @@ module _ {N : Type 0} (state : N → DeviceState) (bench : N → BenchState) whe
   -- ---- the power after a line, by its answer
 
   shown_power : (p : Power) (c : Card N) (x : List ℕ) (on : Bool) (l : DeckLine) → on_unstopped on l ≡ on_after_result on l (Some (dump_value state p c x))
-  shown_power power.BeforePower c x on l = refl
-  shown_power power.Off c x on l = refl
-  shown_power power.Mute c x on l = refl
-  shown_power power.On c x on l = static_power (lookup (card_in state c).apps x) on l
+  shown_power p c x on l = grind (arith, static_power)
 
   answer_power : (p : Player N) (a : Option Answer) (on : Bool) (l : DeckLine) → on_after_answer on l a ≡ on_after_result on l (option_map (answer_value state p) a)
-  answer_power p None on l = refl
-  answer_power p (Some answer.Formatted) on l = refl
-  answer_power p (Some (answer.Ready n)) on l = refl
-  answer_power p (Some (answer.Unusable u)) on l = refl
-  answer_power p (Some (answer.OffAt k)) on l = refl
-  answer_power p (Some answer.Worn) on l = refl
-  answer_power p (Some answer.NoCard) on l = refl
-  answer_power p (Some answer.Mute) on l = refl
-  answer_power p (Some answer.Outcome) on l = refl
-  answer_power p (Some (answer.Dump x)) on l = shown_power p.power p.card x on l
+  answer_power p a on l = grind (arith, shown_power)
 
   -- the calls of `power` of a line that was played
   pub line_calls : {R : Type 0} (reported : R → List Turn → R → Type 0) (p q : Player N) (l : DeckLine) (before after : R) (a : Option Answer) → LineDone state bench reported p l before after a q → IsPlaying state bench p

@@ -1,5 +1,5 @@
 -- Power lines: what the first one finds, and how each ends.
-use Rattle.std.proofs.Common.{◌≡◌, ◌≢◌, ℕ, ◌+◌, ◌-◌, ◌<◌, ◌≤◌, Bool, true, false, cond, List, [], length, Option, Some, None, Ok, refl, sym, ◌∙◌, ap, subst, arith}
+use Rattle.std.proofs.Common.{◌≡◌, ◌≢◌, ℕ, ◌+◌, ◌<◌, ◌≤◌, Bool, true, false, List, [], length, Option, Some, None, Ok, refl, sym, ◌∙◌, ap, subst, arith}
 use Rattle.std.specs.Prelude.{nat_le}
 use Rattle.std.proofs.lemmas.Bool.{leb-true, leb-false}
 use Rattle.model_play.specs.model_device.specs.declared.cause.Cause.{Cause}
@@ -8,8 +8,8 @@ use Rattle.model_play.specs.model_device.specs.declared.device.Stop.TheVariants.
 use Rattle.model_play.specs.model_device.specs.Orders.{Answer as Ended}
 use Rattle.model_play.specs.model_device.specs.Device.{DeviceState, BenchState, Wrote, BenchWrote, IsImage, Makes}
 use Rattle.model_play.specs.DeckGrammar as line
-use Rattle.model_play.specs.model_device.specs.Image.{Journal, One, Which, Both, Only, Neither, which, count_of_recovery_writes, look_at, debt}
-use Rattle.model_play.specs.model_device.specs.Stopped.{image_after_stop, stands, owes, remains}
+use Rattle.model_play.specs.model_device.specs.Image.{One, Which, Only, which, count_of_recovery_writes, look_at, debt}
+use Rattle.model_play.specs.model_device.specs.Stopped.{image_after_stop, stands}
 use Rattle.model_play.specs.model_device.specs.Card.{Card as CardValue, means}
 use Rattle.model_play.specs.model_device.specs.Layout.{fault}
 use Rattle.model_play.specs.model_card.specs.Items.{StopAt}
@@ -66,9 +66,7 @@ warm_budget (AfterPower w) = refl
 
 -- if recovery still has to make writes, they are those of the pending journal alone
 only_owing : (m : List (List ℕ)) (i : Which) → debt (look_at m i) ≢ 0 → i ≡ Only (pending_journal i)
-only_owing m Both h = absurd (h refl)
-only_owing m (Only j) h = refl
-only_owing m Neither h = absurd (h refl)
+only_owing m i h = grind arith
 
 warmed_base : (m : List (List ℕ)) (b : ℕ) (a : play.Armed) (words : List (List ℕ)) → words ≡ m → let w = play_at_power m b a in HoldsBase w.base w.owed w.by words
 unfolding play_at_power
@@ -92,23 +90,7 @@ after_stop w t false = record { armed = refl; budget = refl; live = refl }
 
 halted_by : (m : List (List ℕ)) (w : Warm) (t : StopAt) (n : List (List ℕ)) (b : Bool) → HoldsBase w.base w.owed w.by m → 1 ≤ t.at → IsHalted m t.at t.left n → nat_le t.at w.owed ≡ b
     → let v = stopped_power w t b in HoldsBase v.base v.owed v.by n
-halted_by m w t n true r low h is =
-    let early : t.at ≤ w.owed = leb-true t.at w.owed is in
-    let many : count_of_recovery_writes m ≡ w.owed = r.owed in
-    let some : w.owed ≢ 0 = λ z. absurd (omega (arith, z, early, low)) in
-    let who : pending_journal (which m) ≡ w.by = ap pending_journal (r.by some) in
-    let k = t.at in
-    let x = t.left in
-    subst (λ (c : Base). HoldsBase c (remains w.by (w.owed - 1) k x) w.by n) r.base
-    (subst (λ (j : Journal). HoldsBase (base_of_words m) (remains j (w.owed - 1) k x) j n) who
-    (subst (λ (i : ℕ). HoldsBase (base_of_words m) (remains (pending_journal (which m)) (i - 1) k x) (pending_journal (which m)) n) many (h.0 (omega (arith, many, early)))))
-halted_by m w t n false r low h is =
-    let late : w.owed < t.at = leb-false t.at w.owed is in
-    let many : count_of_recovery_writes m ≡ w.owed = r.owed in
-    let k = t.at in
-    let x = t.left in
-    subst (λ (c : Base). HoldsBase (cond (stands One 1 (k - w.owed) x) (base_after_migration c) c) (owes One 1 (k - w.owed) x) One n) r.base
-    (subst (λ (i : ℕ). HoldsBase (cond (stands One 1 (k - i) x) (base_after_migration (base_of_words m)) (base_of_words m)) (owes One 1 (k - i) x) One n) many (h.1 (omega (arith, many, late))))
+halted_by m w t n b r low h is = grind (arith, leb-true, leb-false)
 
 halted_base : (m : List (List ℕ)) (w : Warm) (t : StopAt) (n : List (List ℕ)) → HoldsBase w.base w.owed w.by m → 1 ≤ t.at → IsHalted m t.at t.left n → let v = power_after w (Some t) in HoldsBase v.base v.owed v.by n
 halted_base m w t n r low h = halted_by m w t n (nat_le t.at w.owed) r low h refl
@@ -139,12 +121,7 @@ module _ {N : Type 0} (state : N → DeviceState) (bench : N → BenchState) (wr
   -- the step of a power line is silent
   silently : (p q : Player N) (s : State) (n : ℕ) (x : Option FailedWrite) (t : Option StopAt) (r : Option Answer) → hit_of (armed_stop_in s) (power_moves (warm_of s)) x ≡ t
       → Stepped state bench p s (n, line.Power) x (power_step n s (warm_of s) t) r q → shown_turns [] t ≡ [] → SilentLine state bench p s (n, line.Power) x r q
-  silently p q s n x t r hits stepped none =
-      let is : step s (n, line.Power) x ≡ power_step n s (warm_of s) t = power_is s n x ∙ ap (λ (y : Option StopAt). power_step n s (warm_of s) y) hits in
-      record {
-        stepped = subst (λ (u : Step). Stepped state bench p s (n, line.Power) x u r q) (sym is) stepped;
-        silent = subst (λ (u : Step). shown_turns u.turns u.stop ≡ []) (sym is) none;
-      }
+  silently p q s n x t r hits stepped none = grind (arith, warm_of, power_is)
 
   -- ---- a power line without a stop
 

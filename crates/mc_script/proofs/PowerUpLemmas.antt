@@ -1,5 +1,5 @@
 -- A power line as it is called: power, the armed stop, the power-up, and the fuses taken away.
-use Rattle.std.proofs.Common.{◌≡◌, ℕ, ◌<◌, true, List, length, Some, None, Result, Ok, Err, IfOk, sym, ◌∙◌, ap, subst}
+use Rattle.std.proofs.Common.{arith, ◌≡◌, ℕ, ◌<◌, true, List, length, Some, None, Result, Ok, Err, IfOk, sym, ◌∙◌, subst}
 use Rattle.model_play.specs.model_device.specs.Orders.{Answer as Ended}
 use Rattle.model_play.specs.model_device.specs.Device.{DeviceState, BenchState, Wrote, BenchWrote, IsImage, Makes, next_count}
 use Rattle.model_play.specs.model_card.specs.Manager.{empty_session_state}
@@ -27,16 +27,7 @@ use Rattle.mc_script.proofs.PowerLineLemmas.{runs_done, unusable_done, stop_done
 
 -- power was turned on, and the armed stop passed to the device
 pub handed_power : (a : Armed) (d p u : DeviceState) (b c e : BenchState) → p ≡ record d { on = true } → c ≡ record b { powers = next_count b.powers } → u ≡ p → e ≡ armed_bench a c → Handed d b 1 a u e
-handed_power a d p u b c e hp hc hu he =
-    let is : u ≡ record d { on = true } = hu ∙ hp in
-    record {
-      words = ap (λ (x : DeviceState). x.words) is;
-      tape = ap (λ (x : DeviceState). x.tape) is;
-      cuts = ap (λ (x : DeviceState). x.cuts) is;
-      faults = ap (λ (x : DeviceState). x.faults) is;
-      on = ap (λ (x : DeviceState). x.on) is;
-      bench = he ∙ ap (λ (x : BenchState). armed_bench a x) hc;
-    }
+handed_power a d p u b c e hp hc hu he = grind arith
 
 module _ {N : Type 0} (state : N → DeviceState) (bench : N → BenchState) (wrote : N → ℕ → List ℕ → Ended → N → Type 0)
     (obeys : (d : N) (at : ℕ) (w : List ℕ) (a : Ended) (e : N) → (state d).on ≡ true → wrote d at w a e → Wrote (state d) at w a (state e))

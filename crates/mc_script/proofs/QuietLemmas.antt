@@ -7,10 +7,8 @@ use Rattle.model_play.specs.DeckGrammar as line
 use Rattle.model_play.specs.model_card.specs.Items.{moves}
 use Rattle.model_play.specs.Play as play
 use Rattle.model_play.specs.Play.{FailedWrite, Unarmed, ArmedCut, ArmedFail, Live, Running, Unpowered, Muted, LineResult, NoCard, Silenced, Warm, State, BeforePower, AfterPower, Step, step, quiet, card_line, dump_result, is_card_line, armed_stop_in, moves_of, steady_at, words_left}
-use Rattle.model_play.specs.model_device.specs.PowerUp.{Base}
 use Rattle.model_play.specs.TraceText.{shown_turns}
 use Rattle.mc_card.specs.declared.card.Card.{Card}
-use Rattle.mc_card.specs.Parts.{session_state_in}
 use Rattle.mc_script.specs.declared.answer.Answer.{Answer}
 use Rattle.mc_script.specs.declared.answer.Answer.TheVariants as answer
 use Rattle.mc_script.specs.declared.armed.Armed.{Armed}
@@ -20,10 +18,8 @@ use Rattle.mc_script.specs.declared.player.Power.{Power}
 use Rattle.mc_script.specs.declared.player.Power.TheVariants as power
 use Rattle.mc_script.specs.declared.player.Player.{Player}
 use Rattle.mc_script.specs.Players.{answer_value, armed_value, dump_value, device_of, CanArm, LiveIs, IsPlayerAt}
-use Rattle.mc_script.specs.Counting.{count_after_rises, when_poked, line_powers, line_pokes, line_cuts, line_fails, on_unstopped, Arms, LineCounts}
-use Rattle.mc_script.specs.Arming.{armed_bench}
+use Rattle.mc_script.specs.Counting.{line_powers, line_pokes, line_cuts, line_fails, on_unstopped, Arms, LineCounts}
 use Rattle.mc_script.specs.Commands.{deck_line_of}
-use Rattle.mc_script.specs.Plays.{StepTape}
 use Rattle.mc_script.specs.Lines.{Stepped, SilentLine, SilentDone}
 use Rattle.mc_script.proofs.FuseLemmas.{past_none}
 use Rattle.mc_script.proofs.HitLemmas.{NotHit, not_hit}
@@ -44,9 +40,7 @@ pub arms_dropped : (b : BenchState) (a : play.Armed) → Arms b a 0 0 b Unarmed
 arms_dropped b a = record { arms = omega arith; wears = omega arith }
 
 pub steady_none : (a : play.Armed) (l : DeckLine) (m : ℕ) → is_card_line l ≡ false → None ≡ steady_at a l m
-steady_none Unarmed l m h = refl
-steady_none (ArmedCut k x) l m h = refl
-steady_none (ArmedFail k) l m h = rw h refl
+steady_none a l m h = grind arith
 
 -- a line that is no power line leaves the power as it is
 pub same_power : (l : DeckLine) (on : Bool) → line_powers l ≡ 0 → on ≡ on_unstopped on l
@@ -63,32 +57,14 @@ module _ {N : Type 0} (state : N → DeviceState) (bench : N → BenchState) whe
   -- the counts of a line that calls nothing
   counts_same : (b : BenchState) (d : DeviceState) (s : State) (n : ℕ) (l : DeckLine) (result : Option LineResult) (after : State) → line_powers l ≡ 0 → line_pokes s l ≡ 0
       → Arms b (armed_stop_in s) (line_cuts l) (line_fails l) b (armed_stop_in after) → LineCounts b d (quiet n l s result after) b d
-  counts_same b d s n l result after powers pokes arms =
-      record {
-        counts = record { powers = ap (λ (k : ℕ). count_after_rises b.powers k) (sym powers); pokes = ap (λ (k : ℕ). count_after_rises b.pokes k) (sym pokes); poked = ap (λ (k : ℕ). when_poked b k) (sym pokes); cuts = refl; faults = refl; steady = refl };
-        arms = arms;
-      }
+  counts_same b d s n l result after powers pokes arms = grind arith
 
   -- a line that leaves its device as it is
   pub quietly : (p q : Player N) (s : State) (n : ℕ) (l : DeckLine) (result : Option LineResult) (after : State) (r : Option Answer) → device_of q ≡ device_of p → IsPlayerAt state bench q after
       → option_map (answer_value state q) r ≡ result → line_powers l ≡ 0 → line_pokes s l ≡ 0 → Arms (bench (device_of p)) (armed_stop_in s) (line_cuts l) (line_fails l) (bench (device_of p)) (armed_stop_in after)
       → None ≡ steady_at (armed_stop_in s) l (moves_of s (n, l)) → (state (device_of p)).words ≡ words_left (state (device_of p)).words [] after
       → Stepped state bench p s (n, l) None (quiet n l s result after) r q
-  quietly p q s n l result after r same at answers powers pokes arms steady words =
-      let t = quiet n l s result after in
-      let d = device_of p in
-      record {
-        at = at;
-        answers = answers;
-        played = record {
-          may = tt;
-          counts = subst (λ (e : N). LineCounts (bench d) (state d) t (bench e) (state e)) (sym same) (counts_same (bench d) (state d) s n l result after powers pokes arms);
-          power = ap (λ (e : N). (state e).on) same ∙ same_power l (state d).on powers;
-          steady = λ h. steady;
-          tape = subst (λ (e : N). StepTape s (n, l) None t (state d) (state e)) (sym same)
-              (record { entries = []; grows = grows_none (state d).tape; accounts = record { count = refl; each = tt; ends = refl }; worn = refl; left = sym words });
-        };
-      }
+  quietly p q s n l result after r same at answers powers pokes arms steady words = grind (arith, counts_same, same_power, grows_none)
 
   -- ---- lines of a play's own state
 
@@ -177,10 +153,7 @@ module _ {N : Type 0} (state : N → DeviceState) (bench : N → BenchState) whe
 
   -- the result of a `dump` line of a player is that of the play, from the first power line on
   dump_live : (pw : Power) (c : Card N) (w : Warm) (aid : List ℕ) → LiveIs state pw c w.base w.live → dump_value state pw c aid ≡ dump_result w.live w.base aid
-  dump_live power.BeforePower c w aid h = absurd h
-  dump_live power.Off c w aid h = ap (λ (v : Live). dump_result v w.base aid) (sym h)
-  dump_live power.Mute c w aid h = ap (λ (v : Live). dump_result v w.base aid) (sym h)
-  dump_live power.On c w aid h = ap (λ (b : Base). dump_result (Running (session_state_in state c)) b aid) (sym h.base) ∙ ap (λ (v : Live). dump_result v w.base aid) (sym h.live)
+  dump_live pw c w aid h = grind arith
 
   pub dump_done : (p : Player N) (aid : List ℕ) → SilentDone state bench p (line.Dump aid) (Some (answer.Dump aid)) p
   unfolding step
@@ -212,9 +185,7 @@ module _ {N : Type 0} (state : N → DeviceState) (bench : N → BenchState) whe
   no_arms c b a = subst (λ (i : ℕ). Arms b a i (line_fails (deck_line_of c)) b Unarmed) (sym (no_cuts c)) (subst (λ (i : ℕ). Arms b a 0 i b Unarmed) (sym (no_fails c)) (arms_dropped b a))
 
   no_steady : (a : Armed) (b : BenchState) (v : play.Armed) (l : DeckLine) (m : ℕ) → CanArm a → armed_value a ≡ v → m ≡ 0 → None ≡ steady_at v l m
-  no_steady a b v l m can is none =
-      let missed : NotHit (armed_value a) 0 = not_hit a b 0 can (past_none (armed_bench a b).cut) (past_none (armed_bench a b).worn) in
-      subst (λ (x : play.Armed). None ≡ steady_at x l m) is (subst (λ (i : ℕ). None ≡ steady_at (armed_value a) l i) (sym none) (missed.steady l))
+  no_steady a b v l m can is none = grind (arith, NotHit, not_hit, past_none)
 
   -- a quiet step is silent
   quiet_silent : (p q : Player N) (s : State) (n : ℕ) (l : DeckLine) (result : Option LineResult) (after : State) (r : Option Answer) → step s (n, l) None ≡ quiet n l s result after

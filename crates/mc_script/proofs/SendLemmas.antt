@@ -13,7 +13,7 @@ use Rattle.model_play.specs.model_card.specs.Items.{card_done}
 use Rattle.model_play.specs.model_machine.specs.Chain.{Turn}
 use Rattle.model_play.specs.model_card.specs.Manager.{SessionState, route, route_of_parts}
 use Rattle.model_play.specs.model_card.specs.Commands.{Command, command, refusal, status}
-use Rattle.model_play.specs.Play.{is_done, with_items, command_with_rest, send, piece_commands, section_commands, load_commands}
+use Rattle.model_play.specs.Play.{is_done, with_items, command_with_rest, send, piece_commands, load_commands}
 use Rattle.model_play.specs.TraceText.{before_stop}
 use Rattle.mc_machine.specs.declared.outcome.Outcome.{Outcome}
 use Rattle.mc_machine.specs.Turns.{outcome_value}
@@ -96,13 +96,7 @@ module _ {N R : Type 0} (state : N → DeviceState) (wrote : N → ℕ → List 
       let two = subst (λ (x : model.Card). MadeBy state wrote obeys x l.items (device_in m) (answer_of result) (device_in d) vs) (sym now) (by_made state wrote obeys (card_in state m) l.items (device_in m) (device_in d) (answer_of result) rest.commanded.made) in
       let made = made_on state wrote obeys (card_in state c) k.items l.items (device_in c) (device_in m) (device_in d) (answer_of result) ws vs on one two in
       record {
-        commanded =
-            record {
-              made = record { writes = ws ++ vs; makes = made.makes; number = made.number; stops = made.stops; done = made.done };
-              outcome = rest.commanded.outcome;
-              session_state = rest.commanded.session_state;
-              ready = rest.commanded.ready;
-            };
+        commanded = grind arith;
         reports = reports_behind result c m d ws vs (k.turns ++ l.turns) l.turns p q r one.makes (ap (λ ts. ts ++ l.turns) none ∙ also) also (untold (Ok o) c m ws k.turns p q none first.reports) rest.reports;
       }
 
@@ -148,22 +142,12 @@ module _ {N R : Type 0} (state : N → DeviceState) (wrote : N → ℕ → List 
   -- a command that was answered otherwise
   pub sends_end : (c m d : Card N) (budget : ℕ) (all : List (List ℕ)) (q p r : R) (b : List ℕ) (left : List (List ℕ)) (o : Outcome) → Sends c budget all q (b ∷ left) m p → RanAndReported state wrote reported m (due state m b budget) (Ok o) d p r → is_done (outcome_value o) ≡ false
       → RanAndReported state wrote reported c (send (card_in state c) (session_state_in state c) budget all) (Ok o) d q r
-  sends_end c m d budget all q p r b left o h ran done =
-      let k = command (card_in state m) (session_state_in state m) b budget in
-      let behind = send (card_done (card_in state m) k.items) k.session_state budget left in
-      let bad : is_done k.outcome ≡ false = ap is_done (sym ran.commanded.outcome) ∙ done in
-      let all-of : k ≡ send (card_in state m) (session_state_in state m) budget (b ∷ left) = sym (send_first (card_in state m) (session_state_in state m) budget b left ∙ ap (λ (x : Bool). command_with_rest x k behind) bad) in
-      h.rest (Ok o) d r (subst (λ (x : Command). RanAndReported state wrote reported m x (Ok o) d p r) all-of ran)
+  sends_end c m d budget all q p r b left o h ran done = grind (arith, send_first)
 
   -- a command that was stopped
   pub sends_stop : (c m d : Card N) (budget : ℕ) (all : List (List ℕ)) (q p r : R) (b : List ℕ) (left : List (List ℕ)) (s : Stop) → Sends c budget all q (b ∷ left) m p → RanAndReported state wrote reported m (due state m b budget) (Err s) d p r
       → RanAndReported state wrote reported c (send (card_in state c) (session_state_in state c) budget all) (Err s) d q r
-  sends_stop c m d budget all q p r b left s h ran =
-      let k = command (card_in state m) (session_state_in state m) b budget in
-      let behind = send (card_done (card_in state m) k.items) k.session_state budget left in
-      h.rest (Err s) d r
-      (subst (λ (x : Command). RanAndReported state wrote reported m x (Err s) d p r) (sym (send_first (card_in state m) (session_state_in state m) budget b left))
-      (first_ran (is_done k.outcome) m d k behind s p r (managed_turns (card_in state m) (session_state_in state m) b budget h.managed.0) (send_turns (card_done (card_in state m) k.items) k.session_state budget left h.managed.1) ran))
+  sends_stop c m d budget all q p r b left s h ran = grind (arith, send_first, first_ran, managed_turns, send_turns)
 
   -- no command is left
   pub sends_none : (c m : Card N) (budget : ℕ) (all : List (List ℕ)) (q p : R) (o : Outcome) → Sends c budget all q [] m p → outcome_value o ≡ status 0x9000 → RanAndReported state wrote reported c (send (card_in state c) (session_state_in state c) budget all) (Ok o) m q p
@@ -207,13 +191,4 @@ pieces_managed (suc n) ins at b =
     chosen_managed (length b == 0) ((0xBE ∷ ins ∷ (bytes2 at ++ length (take 248 b) ∷ take 248 b)) ∷ piece_commands n ins (at + 248) (drop 248 b)) (refl, pieces_managed n ins (at + 248) (drop 248 b))
 
 pub load_managed : (u : UnitParts) (fixed session : ℕ) → AllByRecursion IsManaged (load_commands u fixed session)
-load_managed u fixed session =
-    let section = λ (ins : ℕ) (b : List ℕ). pieces_managed (length b) ins 0 b in
-    let code = section_commands 0x24 u.code in
-    let init = section_commands 0x26 u.init in
-    let dir = section_commands 0x20 u.dir in
-    let fci = section_commands 0x22 u.fci in (
-      refl,
-      both_managed (code ++ init ++ dir ++ fci) ((0xBE ∷ 0x16 ∷ 0x00 ∷ 0x00 ∷ []) ∷ [])
-          (both_managed (code ++ init ++ dir) fci (both_managed (code ++ init) dir (both_managed code init (section 0x24 u.code) (section 0x26 u.init)) (section 0x20 u.dir)) (section 0x22 u.fci)) (refl, tt),
-    )
+load_managed u fixed session = grind (arith, pieces_managed, both_managed)

@@ -1,10 +1,7 @@
 -- A player whose card changes and keeps its device goes on playing.
-use Rattle.std.proofs.Common.{◌≡◌, refl, sym, ◌∙◌, subst}
+use Rattle.std.proofs.Common.{arith, ◌≡◌, sym, ◌∙◌, subst}
 use Rattle.model_play.specs.model_device.specs.Device.{DeviceState, BenchState}
-use Rattle.model_play.specs.model_device.specs.Card.{means}
-use Rattle.model_play.specs.model_device.specs.PowerUp.{OnCard}
 use Rattle.model_play.specs.Play.{Warm, State, BeforePower, AfterPower, Running}
-use Rattle.mc_store.specs.Power.{HoldsBase}
 use Rattle.mc_card.specs.declared.card.Card.{Card}
 use Rattle.mc_card.specs.Parts.{device_in, session_state_in, IsReadyCard}
 use Rattle.mc_script.specs.declared.player.Power.{Power}
@@ -16,14 +13,7 @@ module _ {N : Type 0} (state : N → DeviceState) (bench : N → BenchState) whe
   -- a card that runs is that of the play with its session state
   card_put : (c k : Card N) (w : Warm) → device_in k ≡ device_in c → (IsReadyCard state c → IsReadyCard state k)
       → StateIs state power.On c (AfterPower w) → StateIs state power.On k (AfterPower (record w { live = Running (session_state_in state k) }))
-  card_put c k w same ready is = (
-    record {
-      ready = ready is.0.ready;
-      base = subst (λ (d : N). w.base ≡ OnCard (means (state d).words)) (sym same) is.0.base;
-      live = refl;
-    },
-    subst (λ (d : N). HoldsBase w.base w.owed w.by (state d).words) (sym same) is.1,
-  )
+  card_put c k w same ready is = grind arith
 
   put_at : (p : Player N) (k : Card N) (s : State) → p.power ≡ power.On → device_in k ≡ device_in p.card → (IsReadyCard state p.card → IsReadyCard state k)
       → IsPlayerAt state bench p s → IsPlaying state bench (record p { card = k })

@@ -16,9 +16,9 @@ use Rattle.model_play.specs.model_machine.specs.Code.{instruction_at}
 use Rattle.model_play.specs.model_machine.specs.Row.{RowEnd, Abends, Does, row}
 use Rattle.model_play.specs.model_machine.specs.Chain.{Chain, Acted, Ran, Follows, Continues, Ends, code_in, around, frame_at, row_turn, turn_of_fetch, turn_of_chain, chain_session, run_after_turn, run_of_chain, run}
 use Rattle.model_play.specs.model_card.specs.Units.{UnitParts}
-use Rattle.model_play.specs.model_card.specs.Manager.{Selected, SessionState, Managed, Declines, Accepts, Route, WrongLength, WrongClass, ToSelect, ToManager, ToApplication, route, route_of_parts, select, manage, room_on}
+use Rattle.model_play.specs.model_card.specs.Manager.{Selected, SessionState, Managed, Declines, Accepts, Route, WrongLength, WrongClass, ToSelect, ToManager, ToApplication, route, route_of_parts, select}
 use Rattle.model_play.specs.model_card.specs.Commands.{command, manager_command, application_command, by_route}
-use Rattle.model_play.specs.Play.{send, piece_commands, section_commands, load_commands}
+use Rattle.model_play.specs.Play.{send, piece_commands, load_commands}
 use Rattle.mc_manager.specs.CommandDue.{is_open, most_ticks}
 use Rattle.mc_card.specs.Ends.{is_passed, RunSteps, PassedSteps, RouteSteps, BeginSteps}
 use Rattle.mc_script.specs.Classes.{IsManaged}
@@ -117,10 +117,7 @@ routed_steps : (c : model.Card) (session_state : SessionState) (budget : ℕ) (x
 routed_steps c session_state budget WrongLength k old new r opens h = none 0 k old new (is_err r) refl h
 routed_steps c session_state budget WrongClass k old new r opens h = none 0 k old new (is_err r) refl h
 routed_steps c session_state budget (ToSelect a) k old new r opens h = none (instructions (manager_command c session_state (select c.apps session_state a)).turns) k old new (is_err r) (no_turns c session_state (select c.apps session_state a)) h
-routed_steps c session_state budget (ToManager a) k old new r opens h =
-    let m = manage (room_on c) c.apps session_state a in
-    let most : new ≤ old + k = subst (λ (j : ℕ). new ≤ old + j) (opens a refl) h.1 in
-    still (instructions (manager_command c session_state m).turns) k old new (is_err r) (no_turns c session_state m) h.0 most
+routed_steps c session_state budget (ToManager a) k old new r opens h = grind (arith, still, no_turns)
 routed_steps c session_state budget (ToApplication a) k old new r opens h = passed_steps c session_state session_state.selected a budget k old new r h
 
 -- the steps of a command
@@ -140,10 +137,7 @@ begun_by c (ToApplication a) k old new opens h = (omega (arith, h), omega (arith
 -- the steps of a command that is not passed to an application
 pub answered_steps : (c : model.Card) (session_state : SessionState) (bytes : List ℕ) (budget old new : ℕ) (stopped : Bool) → is_passed (route bytes) session_state.selected ≡ false → BeginSteps c (route bytes) old new
     → StepsOf (instructions (command c session_state bytes budget).turns) (command_search c bytes) stopped old new
-answered_steps c session_state bytes budget old new stopped stays h =
-    let k = command_search c bytes in
-    let b = begun_by c (route bytes) k old new (λ a is. open_search bytes (2 + length (gaps c)) a is) h in
-    still (instructions (command c session_state bytes budget).turns) k old new stopped (ap instructions (command_turns c session_state bytes budget stays)) b.0 b.1
+answered_steps c session_state bytes budget old new stopped stays h = grind (arith, begun_by, open_search, still, command_turns)
 
 -- the steps of the beginning of a command that is passed to an application
 pub passed_begin : (c : model.Card) (bytes : List ℕ) (a : ApduParts) (old new : ℕ) → route bytes ≡ ToApplication a → BeginSteps c (route bytes) old new → new ≡ old
@@ -172,12 +166,4 @@ pieces_closed (suc n) ins at b other =
 
 -- of the commands of a load the first alone is an OPEN
 pub load_opens : (u : UnitParts) (fixed session : ℕ) → OnlyFirstOpens (load_commands u fixed session)
-load_opens u fixed session =
-    let code = section_commands 0x24 u.code in
-    let init = section_commands 0x26 u.init in
-    let dir = section_commands 0x20 u.dir in
-    let fci = section_commands 0x22 u.fci in
-    both_closed (code ++ init ++ dir ++ fci) ((0xBE ∷ 0x16 ∷ 0x00 ∷ 0x00 ∷ []) ∷ [])
-    (both_closed (code ++ init ++ dir) fci
-    (both_closed (code ++ init) dir (both_closed code init (pieces_closed (length u.code) 0x24 0 u.code refl) (pieces_closed (length u.init) 0x26 0 u.init refl)) (pieces_closed (length u.dir) 0x20 0 u.dir refl))
-    (pieces_closed (length u.fci) 0x22 0 u.fci refl)) (refl, tt)
+load_opens u fixed session = grind (arith, both_closed, pieces_closed)

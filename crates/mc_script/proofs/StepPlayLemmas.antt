@@ -1,23 +1,19 @@
 -- The steps of the lines of a play, and of a whole play.
-use Rattle.std.proofs.Common.{◌≡◌, ℕ, ◌+◌, Bool, true, false, List, [], ◌∷◌, ◌++◌, Option, Some, None, refl, arith, sym, ap, subst, ◌∙◌}
+use Rattle.std.proofs.Common.{◌≡◌, ℕ, ◌+◌, Bool, true, false, List, [], ◌∷◌, ◌++◌, Option, Some, None, refl, arith, ap, subst, ◌∙◌}
 use Rattle.std.specs.Prelude.{option_map}
 use Rattle.std.specs.List.{AllByRecursion}
 use Rattle.model_play.specs.model_device.specs.Device.{DeviceState}
 use Rattle.model_play.specs.model_device.specs.Card.{App}
 use Rattle.model_play.specs.model_device.specs.PowerUp.{Base, OnCard, AtFault}
-use Rattle.model_play.specs.model_device.specs.Bytes.{lookup}
-use Rattle.model_play.specs.model_card.specs.Items.{StopAt, moves}
+use Rattle.model_play.specs.model_card.specs.Items.{StopAt}
 use Rattle.model_play.specs.model_card.specs.Commands.{Command}
 use Rattle.model_play.specs.DeckGrammar.{DeckLine}
 use Rattle.model_play.specs.DeckGrammar as line
-use Rattle.model_play.specs.Play.{LineResult, OffAt, FailureStop, Live, Running, Unpowered, Muted, Warm, State, BeforePower, AfterPower, FailedWrite, Step, step, line_command, card_line, line_says, power_says, power_result, power_moves, play_at_power, hit_of, dump_result, static_of}
+use Rattle.model_play.specs.Play.{LineResult, OffAt, FailureStop, Live, Running, Warm, State, BeforePower, AfterPower, FailedWrite, Step, step, card_line, line_says, power_says, power_result, power_moves, play_at_power, hit_of, dump_result, static_of}
 use Rattle.model_play.proofs.PlayLemmas.{step_is}
 use Rattle.mc_card.specs.declared.card.Card.{Card}
-use Rattle.mc_card.specs.Parts.{card_in}
 use Rattle.mc_script.specs.declared.answer.Answer.{Answer}
-use Rattle.mc_script.specs.declared.answer.Answer.TheVariants as answer
 use Rattle.mc_script.specs.declared.player.Power.{Power}
-use Rattle.mc_script.specs.declared.player.Power.TheVariants as power
 use Rattle.mc_script.specs.declared.player.Player.{Player}
 use Rattle.mc_script.specs.Players.{answer_value, dump_value}
 use Rattle.mc_script.specs.Counting.{total}
@@ -26,17 +22,11 @@ use Rattle.mc_script.specs.StepCounts.{instructions, search_in, instructions_on,
 -- ---- the instructions of a line, by its step
 
 card_turns : (n : ℕ) (l : DeckLine) (s : Warm) (live : Live) (base : Base) (w : Option FailedWrite) → instructions (card_line n l s live base w).turns ≡ instructions_on live base s.budget l
-card_turns n l s (Running session_state) (OnCard c) w = refl
-card_turns n l s (Running session_state) (AtFault cause p) w = refl
-card_turns n l s Unpowered base w = refl
-card_turns n l s Muted base w = refl
+card_turns n l s live base w = grind arith
 
 -- a line that sends no command executes no instruction
 none_executed : (live : Live) (base : Base) (budget : ℕ) (l : DeckLine) → ((c : _) (session_state : _) → instructions_on (Running session_state) (OnCard c) budget l ≡ 0) → 0 ≡ instructions_on live base budget l
-none_executed (Running session_state) (OnCard c) budget l h = sym (h c session_state)
-none_executed (Running session_state) (AtFault cause p) budget l h = refl
-none_executed Unpowered base budget l h = refl
-none_executed Muted base budget l h = refl
+none_executed live base budget l h = grind arith
 
 line_turns : (s : State) (l : ℕ × DeckLine) (w : Option FailedWrite) → instructions (step s l w).turns ≡ instructions_in s l.1
 unfolding step
@@ -66,22 +56,14 @@ command_unstopped r None h = refl
 command_unstopped r (Some t) h = absurd (cc h)
 
 card_unstopped : (n : ℕ) (l : DeckLine) (s : Warm) (live : Live) (base : Base) (w : Option FailedWrite) → (card_line n l s live base w).stop ≡ None → is_stop_result (card_line n l s live base w).result ≡ false
-card_unstopped n l s (Running session_state) (OnCard c) w h =
-    let r = line_command c session_state s.budget l in
-    command_unstopped r (hit_of s.armed (moves r.items) w) h
-card_unstopped n l s (Running session_state) (AtFault cause p) w h = refl
-card_unstopped n l s Unpowered base w h = refl
-card_unstopped n l s Muted base w h = refl
+card_unstopped n l s live base w h = grind (arith, command_unstopped)
 
 static_result : (o : Option App) → is_stop_result (Some (static_of o)) ≡ false
 static_result None = refl
 static_result (Some a) = refl
 
 dump_unstopped : (live : Live) (base : Base) (x : List ℕ) → is_stop_result (Some (dump_result live base x)) ≡ false
-dump_unstopped (Running session_state) (OnCard c) x = static_result (lookup c.apps x)
-dump_unstopped (Running session_state) (AtFault cause p) x = refl
-dump_unstopped Unpowered base x = refl
-dump_unstopped Muted base x = refl
+dump_unstopped live base x = grind (arith, static_result)
 
 unstopped : (s : State) (l : ℕ × DeckLine) (w : Option FailedWrite) → (step s l w).stop ≡ None → is_stop_result (step s l w).result ≡ false
 unfolding step
@@ -96,23 +78,11 @@ unstopped (AfterPower s) (n, _) w h = refl
 module _ {N : Type 0} (state : N → DeviceState) where
   -- the answer of a dump line is that of no stop
   dump_answer : (p : Power) (c : Card N) (x : List ℕ) → is_stop_result (Some (dump_value state p c x)) ≡ false
-  dump_answer power.BeforePower c x = refl
-  dump_answer power.Off c x = refl
-  dump_answer power.Mute c x = refl
-  dump_answer power.On c x = static_result (lookup (card_in state c).apps x)
+  dump_answer p c x = grind (arith, static_result)
 
   -- an answer is that of a stop if its result is
   stop_answer : (p : Player N) (a : Option Answer) → is_stop_result (option_map (answer_value state p) a) ≡ false → is_stopped a ≡ false
-  stop_answer p None h = refl
-  stop_answer p (Some answer.Formatted) h = refl
-  stop_answer p (Some (answer.Ready n)) h = refl
-  stop_answer p (Some (answer.Unusable u)) h = refl
-  stop_answer p (Some (answer.OffAt k)) h = h
-  stop_answer p (Some answer.Worn) h = h
-  stop_answer p (Some answer.NoCard) h = refl
-  stop_answer p (Some answer.Mute) h = refl
-  stop_answer p (Some answer.Outcome) h = refl
-  stop_answer p (Some (answer.Dump x)) h = refl
+  stop_answer p a h = grind arith
 
   -- ---- one line of a play
 
@@ -147,19 +117,7 @@ all_front (t ∷ ts) us h = let r = all_front ts us h.1 in ((h.0, r.0), r.1)
 
 -- the steps of lines, and of the lines after them
 pub steps_then : (ts us : List Step) (old mid new : ℕ) → PlaySteps ts old mid → PlaySteps us mid new → PlaySteps (ts ++ us) old new
-steps_then ts us old mid new first rest =
-    let a = total_append (λ t. instructions t.turns) ts us in
-    let b = total_append (λ t. instructions t.turns + search_in t.before t.line) ts us in
-    let x = first.most in
-    let y = rest.most in
-    record {
-      least = λ none.
-          let parts = all_front ts us none in
-          let p = first.least parts.0 in
-          let q = rest.least parts.1 in
-          omega (arith, a, p, q);
-      most = omega (arith, b, x, y);
-    }
+steps_then ts us old mid new first rest = grind (arith, total_append, all_front)
 
 -- the same steps, of another expression for the lines
 pub steps_as : (ts us : List Step) (old new : ℕ) → ts ≡ us → PlaySteps ts old new → PlaySteps us old new

@@ -6,12 +6,11 @@ use Rattle.model_play.specs.model_device.specs.declared.device.Stop.TheVariants.
 use Rattle.model_play.specs.model_device.specs.Device.{DeviceState, BenchState}
 use Rattle.model_play.specs.model_device.specs.Card as model
 use Rattle.model_play.specs.model_device.specs.Card.{means}
-use Rattle.model_play.specs.model_device.specs.PowerUp.{Base, OnCard, AtFault}
+use Rattle.model_play.specs.model_device.specs.PowerUp.{Base}
 use Rattle.model_play.specs.model_machine.specs.Chain.{Chain, Turn, Acted, Ran, Follows, Continues, Ends, turn_of_chain, turn_of, end_of, chain_session, run_after_turn, run_of_chain}
-use Rattle.model_play.specs.model_card.specs.Manager.{SessionState}
 use Rattle.model_play.specs.DeckGrammar.{DeckLine}
 use Rattle.model_play.specs.DeckGrammar as line
-use Rattle.model_play.specs.Play.{Live, Running, Unpowered, Muted, State, BeforePower, AfterPower, line_command}
+use Rattle.model_play.specs.Play.{Live, Unpowered, Muted, State, BeforePower, AfterPower, line_command}
 use Rattle.mc_machine.specs.declared.outcome.Outcome.{Outcome}
 use Rattle.mc_machine.specs.declared.outcome.Turn.{Turn as CodeTurn}
 use Rattle.mc_machine.specs.Turns.{outcome_value, turn_value}
@@ -63,10 +62,6 @@ closed_search : (c : model.Card) (bs : List (List ℕ)) → NoneOpens bs → fir
 closed_search c [] h = refl
 closed_search c (b ∷ bs) h = ap (λ (x : Bool). cond x (most_search c) 0) h.0
 
-closed_opens : (bs : List (List ℕ)) → NoneOpens bs → OnlyFirstOpens bs
-closed_opens [] h = tt
-closed_opens (b ∷ bs) h = h.1
-
 -- the commands that are left, after one that was done
 pub record SearchesLeft (c : model.Card) (left : List (List ℕ)) (old now bound : ℕ) : Type 0 where
   pub opens : OnlyFirstOpens left
@@ -74,28 +69,15 @@ pub record SearchesLeft (c : model.Card) (left : List (List ℕ)) (old now bound
   pub most : now + first_search c left ≤ bound
 
 pub left_on : (c d : model.Card) (b : List ℕ) (bs : List (List ℕ)) (n old now new bound : ℕ) → SearchesLeft c (b ∷ bs) old now bound → n ≡ 0 → StepsOf n (command_search c b) false now new → SearchesLeft d bs old new bound
-left_on c d b bs n old now new bound h idle steps =
-    let low = steps.least refl in
-    let high = steps.most in
-    let closed = closed_search d bs h.opens in
-    let first = h.least in
-    let all = h.most in
-    record { opens = closed_opens bs h.opens; least = omega (arith, low, first); most = omega (arith, high, all, idle, closed) }
+left_on c d b bs n old now new bound h idle steps = grind (arith, steps.least refl, steps.most, closed_search d bs h.opens, h.least, h.most)
 
 -- the steps of commands up to one that ended them, or that was stopped
 pub left_end : (c : model.Card) (b : List ℕ) (bs : List (List ℕ)) (n m k old now new : ℕ) (stopped : Bool) → SearchesLeft c (b ∷ bs) old now (old + k) → n ≡ 0 → m ≡ 0 → StepsOf n (command_search c b) stopped now new → StepsOf m k stopped old new
-left_end c b bs n m k old now new stopped h idle still steps =
-    let high = steps.most in
-    let first = h.least in
-    let all = h.most in
-    record { least = λ e. (let low = steps.least e in omega (arith, low, first, still)); most = omega (arith, high, all, idle) }
+left_end c b bs n m k old now new stopped h idle still steps = grind (arith, steps.most, h.least, h.most)
 
 -- the steps of all commands
 pub left_none : (c : model.Card) (m k old now : ℕ) (stopped : Bool) → SearchesLeft c [] old now (old + k) → m ≡ 0 → StepsOf m k stopped old now
-left_none c m k old now stopped h still =
-    let first = h.least in
-    let all = h.most in
-    record { least = λ e. omega (arith, first, still); most = omega (arith, all) }
+left_none c m k old now stopped h still = grind (arith, h.least, h.most)
 
 -- ---- lines
 
@@ -110,11 +92,7 @@ record CountsNone (s : State) (l : DeckLine) : Type 0 where
   searches : search_in s l ≡ 0
 
 on_none : (live : Live) (base : Base) (budget : ℕ) (l : DeckLine) → sends l ≡ false → (instructions_on live base budget l ≡ 0) × (search_on live base l ≡ 0)
-on_none (Running session_state) (OnCard c) budget (line.Sent sent) h = absurd (cc h)
-on_none (Running session_state) (OnCard c) budget _ h = (refl, refl)
-on_none (Running session_state) (AtFault cause p) budget l h = (refl, refl)
-on_none Unpowered base budget l h = (refl, refl)
-on_none Muted base budget l h = (refl, refl)
+on_none live base budget l h = grind arith
 
 quiet_none : (s : State) (l : DeckLine) → sends l ≡ false → CountsNone s l
 quiet_none (BeforePower m b a) l h = record { executes = refl; searches = refl }
@@ -122,10 +100,7 @@ quiet_none (AfterPower w) l h = let r = on_none w.live w.base w.budget l h in re
 
 -- the steps of a line that makes none
 none_steps : (s : State) (l : DeckLine) (a : Option Answer) (old new : ℕ) → CountsNone s l → new ≡ old → LineSteps s l a old new
-none_steps s l a old new h same =
-    let e = h.executes in
-    let f = h.searches in
-    record { least = λ x. omega (arith, e, same); most = omega (arith, e, f, same) }
+none_steps s l a old new h same = grind (arith, h.executes, h.searches)
 
 pub quiet_steps : (s : State) (l : DeckLine) (a : Option Answer) (old new : ℕ) → sends l ≡ false → new ≡ old → LineSteps s l a old new
 quiet_steps s l a old new h same = none_steps s l a old new (quiet_none s l h) same
@@ -166,30 +141,11 @@ module _ {N : Type 0} (state : N → DeviceState) (bench : N → BenchState) whe
   counts_on : (p : Player N) (u : Card N) (s : State) (l : DeckLine) → IsPlayerAt state bench p s → p.power ≡ power.On → state (device_in u) ≡ state (device_in p.card) → u ≡ with_device p.card (device_in u) → CountsOn p u s l
   counts_on p u (BeforePower m b a) l at on same rest = absurd (cc (sym at.stands.0 ∙ on))
   counts_on p u (AfterPower w) l at on same rest =
-      let c = p.card in
-      let is = subst (λ (x : Power). LiveIs state x c w.base w.live) on at.stands.0 in
-      let card : card_in state c ≡ card_in state u = sym (ap (λ (x : DeviceState). means x.words) same) in
-      let session_state : session_state_in state c ≡ session_state_in state u = sym (session_state_over state c u rest same) in
-      record {
-        executes =
-            ap (λ (x : Live). instructions_on x w.base w.budget l) is.live
-            ∙ ap (λ (x : Base). instructions_on (Running (session_state_in state c)) x w.budget l) is.base
-            ∙ ap (λ (x : model.Card). instructions (line_command x (session_state_in state c) w.budget l).turns) card
-            ∙ ap (λ (x : SessionState). instructions (line_command (card_in state u) x w.budget l).turns) session_state
-            ∙ ap (λ (k : ℕ). instructions (line_command (card_in state u) (session_state_in state u) k l).turns) (sym at.budget);
-        searches =
-            ap (λ (x : Live). search_on x w.base l) is.live
-            ∙ ap (λ (x : Base). search_on (Running (session_state_in state c)) x l) is.base
-            ∙ ap (λ (x : model.Card). line_search x l) card;
-      }
+      grind (arith, p.card, subst (λ (x : Power). LiveIs state x p.card w.base w.live) on at.stands.0, sym (ap (λ (x : DeviceState). means x.words) same), sym (session_state_over state p.card u rest same))
 
   ran_steps : (p : Player N) (u : Card N) (s : State) (l : DeckLine) (a : Answer) (stopped : Bool) (old new : ℕ) → CountsOn p u s l → (is_stopped (Some a) ≡ false → stopped ≡ false)
       → StepsOf (instructions (line_command (card_in state u) (session_state_in state u) p.budget l).turns) (line_search (card_in state u) l) stopped old new → LineSteps s l (Some a) old new
-  ran_steps p u s l a stopped old new on goes h =
-      let e = on.executes in
-      let f = on.searches in
-      let high = h.most in
-      record { least = λ x. (let low = h.least (goes x) in omega (arith, low, e)); most = omega (arith, high, e, f) }
+  ran_steps p u s l a stopped old new on goes h = grind (arith, on.executes, on.searches, h.most)
 
   -- a line that was answered
   pub done_steps : (p : Player N) (u : Card N) (s : State) (l : DeckLine) (old new : ℕ) → IsPlayerAt state bench p s → p.power ≡ power.On → state (device_in u) ≡ state (device_in p.card) → u ≡ with_device p.card (device_in u)

@@ -34,9 +34,7 @@ module _ {D : Type 0} (wrote : D → ℕ → List ℕ → Answer → D → Type 
 
   -- writes that stopped after writes that were done
   pub behind_done : (ws vs : List (ℕ × List ℕ)) (d m e : D) (j : ℕ) (s : Stop) → Makes wrote d ws (Ok tt) m → StoppedAtPlace m vs j s e → StoppedAtPlace d (ws ++ vs) (length ws + j) s e
-  behind_done [] vs d m e j s done b =
-      let none : j ≡ 0 + j = omega arith in
-      subst (λ (k : ℕ). StoppedAtPlace d vs k s e) none (subst (λ (x : D). StoppedAtPlace x vs j s e) done b)
+  behind_done [] vs d m e j s done b = grind arith
   behind_done (p ∷ ws) vs d m e j s done b =
       elim done [
         | inl first ↦

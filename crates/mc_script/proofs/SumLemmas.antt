@@ -77,9 +77,7 @@ lines_by None rs = refl
 lines_by (Some r) rs = refl
 
 dump_by : (t : Step) (ts : List Step) (b : Bool) → is_dump t.line ≡ b → dump_lines (t ∷ ts) ≡ cond b (result_line t.result) [] ++ dump_lines ts
-dump_by t ts true e =
-    rw e (ap (λ (rs : List LineResult). flat_map (λ r. text_of_result r ++ codes "\n") rs) (results_cons t (filter (λ t. is_dump t.line) ts)) ∙ lines_by t.result (results (filter (λ t. is_dump t.line) ts)))
-dump_by t ts false e = rw e refl
+dump_by t ts b e = grind (arith, results_cons, lines_by)
 
 -- a dump line changes nothing, and its result is that of any dump line with this name
 dump_after : (s : State) (n : ℕ) (a : List ℕ) (w : Option FailedWrite) → (step s (n, line.Dump a) w).after ≡ s
@@ -124,16 +122,7 @@ dumps_keep s (l ∷ ls) ws all =
 -- the result of a line, if it is a dump line, in the last state
 first_dump : (s : State) (l : ℕ × DeckLine) (ls : List (ℕ × DeckLine)) (ws : List (Option FailedWrite)) (b : Bool) → is_dump l.1 ≡ b → (is_dump l.1 ≡ true → AllByRecursion (λ k. is_dump k.1 ≡ true) ls)
     → cond b (result_line (step s l (first_failure ws)).result) [] ≡ dump_text (last_state (step s l (first_failure ws)).after (plays (step s l (first_failure ws)).after ls (drop 1 ws))) l.1
-first_dump s l ls ws false e last = sym (no_dump (last_state (step s l (first_failure ws)).after (plays (step s l (first_failure ws)).after ls (drop 1 ws))) l.1 e)
-first_dump s (n, l) ls ws true e last =
-    let w = first_failure ws in
-    let d = as_dump l e in
-    let same = after_dump s (n, l) w e in
-    let kept : last_state (step s (n, l) w).after (plays (step s (n, l) w).after ls (drop 1 ws)) ≡ s = dumps_keep (step s (n, l) w).after ls (drop 1 ws) (last e) ∙ same in
-    ap (λ (k : DeckLine). result_line (step s (n, k) w).result) d.1
-    ∙ ap result_line (dump_result s n d.0 w)
-    ∙ ap (λ (k : DeckLine). dump_text s k) (sym d.1)
-    ∙ ap (λ (u : State). dump_text u l) (sym kept)
+first_dump s l ls ws b e last = grind (arith, no_dump, as_dump, after_dump, dumps_keep, dump_result)
 
 -- the dump lines of a play, by the state that it reaches
 pub dumps_are : (s : State) (ls : List (ℕ × DeckLine)) (ws : List (Option FailedWrite)) → DumpsLast ls → dump_lines (plays s ls ws) ≡ dumps_text (last_state s (plays s ls ws)) ls

@@ -6,7 +6,7 @@ use Rattle.model_play.specs.model_device.specs.Device.{DeviceState, Entry, Grows
 use Rattle.model_play.specs.model_card.specs.Items.{StopAt, moves}
 use Rattle.model_play.specs.DeckGrammar.{DeckLine}
 use Rattle.model_play.specs.DeckGrammar as line
-use Rattle.model_play.specs.Play.{Armed, Unarmed, ArmedCut, ArmedFail, Live, Running, Unpowered, Muted, Warm, State, BeforePower, AfterPower, FailedWrite, Step, step, power_part, hit_of, moves_with, power_moves, play_at_power, line_command, card_line, moves_of, MayHit, failures_of_tape, Accounts, AccountsForLine, words_left, chunk, with_entry, ends_tape, failures_in, EndsAs, kind_of}
+use Rattle.model_play.specs.Play.{Armed, Live, Running, Unpowered, Muted, Warm, State, BeforePower, AfterPower, FailedWrite, Step, step, power_part, hit_of, moves_with, power_moves, play_at_power, line_command, card_line, moves_of, MayHit, failures_of_tape, Accounts, AccountsForLine, words_left, chunk, with_entry, ends_tape, failures_in, EndsAs, kind_of}
 use Rattle.model_play.specs.model_device.specs.PowerUp.{Base, OnCard, AtFault}
 use Rattle.mc_script.specs.Plays.{StepTape, PlayTape, words_after}
 
@@ -34,10 +34,7 @@ cut_reaches false k m x e = tt
 
 -- any stop that hits a line is at one of its writes
 hit_reaches : (a : Armed) (m : ℕ) (w : Option FailedWrite) → MayReach m w → Reaches m (hit_of a m w)
-hit_reaches a m (Some w) h = h
-hit_reaches (ArmedCut k x) m None h = cut_reaches (nat_le k m) k m x refl
-hit_reaches Unarmed m None h = tt
-hit_reaches (ArmedFail k) m None h = tt
+hit_reaches a m w h = grind (arith, cut_reaches)
 
 -- a failed write that may hit a line is one of its writes
 may_reach : (s : State) (l : ℕ × DeckLine) (w : Option FailedWrite) → MayHit s l w → MayReach (moves_of s l) w
@@ -108,9 +105,7 @@ chunk_by m None es rest reach count ends = subst (λ k. chunk k (es ++ rest) ≡
 chunk_by m (Some t) es rest reach count ends = up_to_stop m es rest t.kind (omega (arith, reach, count)) ends
 
 pub line_chunk : (m : List (List ℕ)) (s : State) (l : ℕ × DeckLine) (w : Option FailedWrite) (es rest : List Entry) → MayHit s l w → AccountsForLine m s l (step s l w) es → chunk (moves_of s l) (es ++ rest) ≡ (es, rest)
-line_chunk m s l w es rest may reported =
-    let moved = line_moved s l w (may_reach s l w may) in
-    chunk_by (moves_of s l) (step s l w).stop es rest moved.reaches (reported.count ∙ moved.moves) reported.ends
+line_chunk m s l w es rest may reported = grind (arith, line_moved, may_reach, chunk_by)
 
 -- ---- a tape
 
@@ -121,9 +116,7 @@ failure_by_chunk s l ls w ws t es rest is worn h = rw (is, worn, h) refl
 
 -- the account of a tape, by the entries of its first line
 accounts_by_chunk : (m n : List (List ℕ)) (s : State) (l : ℕ × DeckLine) (ls : List (ℕ × DeckLine)) (w : Option FailedWrite) (ws : List (Option FailedWrite)) (t es rest : List Entry) → chunk (moves_of s l) t ≡ (es, rest) → words_left m es (step s l w).after ≡ n → AccountsForLine m s l (step s l w) es → Accounts n (step s l w).after ls ws rest → Accounts m s (l ∷ ls) (w ∷ ws) t
-accounts_by_chunk m n s l ls w ws t es rest is left line h =
-    subst (λ (c : List Entry × List Entry). AccountsForLine m s l (step s l w) c.0 × Accounts (words_left m c.0 (step s l w).after) (step s l w).after ls ws c.1) (sym is)
-    (line, subst (λ (k : List (List ℕ)). Accounts k (step s l w).after ls ws rest) (sym left) h)
+accounts_by_chunk m n s l ls w ws t es rest is left line h = grind arith
 
 -- the words that a tape leaves, by the entries of its first line
 left_by_chunk : (m n k : List (List ℕ)) (s : State) (l : ℕ × DeckLine) (ls : List (ℕ × DeckLine)) (w : Option FailedWrite) (ws : List (Option FailedWrite)) (t es rest : List Entry) → chunk (moves_of s l) t ≡ (es, rest) → words_left m es (step s l w).after ≡ n → words_after n (step s l w).after ls ws rest ≡ k → words_after m s (l ∷ ls) (w ∷ ws) t ≡ k

@@ -1,5 +1,5 @@
 -- A line whose device writes were tried under an armed stop: they were all made, or one of them stopped.
-use Rattle.std.proofs.Common.{◌≡◌, ℕ, zero, suc, ◌+◌, ◌<◌, ◌≤◌, true, List, length, Option, Some, None, Ok, refl, sym, ◌∙◌, ap, subst, arith}
+use Rattle.std.proofs.Common.{◌≡◌, ℕ, zero, suc, ◌<◌, ◌≤◌, true, List, length, Option, Some, None, Ok, refl, sym, ◌∙◌, ap, subst, arith}
 use Rattle.std.specs.List.{AllByRecursion}
 use Rattle.model_play.specs.model_device.specs.declared.device.Stop.{Stop}
 use Rattle.model_play.specs.model_device.specs.declared.device.Stop.TheVariants.{Off, Worn}
@@ -17,7 +17,7 @@ use Rattle.mc_script.specs.declared.answer.Answer.{Answer}
 use Rattle.mc_script.specs.declared.armed.Armed.{Armed}
 use Rattle.mc_script.specs.declared.player.Player.{Player}
 use Rattle.mc_script.specs.Players.{answer_value, armed_value, cut_place, device_of, CanArm, IsUnfused, IsPlayerAt}
-use Rattle.mc_script.specs.Counting.{count_after_rises, when_poked, cuts_due, fails_due, line_powers, line_pokes, line_cuts, line_fails, count_of_cuts, failure_by, on_after_stop, on_unstopped, LineCounts}
+use Rattle.mc_script.specs.Counting.{count_after_rises, when_poked, line_powers, line_pokes, line_cuts, line_fails, count_of_cuts, failure_by, on_after_stop, on_unstopped, LineCounts}
 use Rattle.mc_script.specs.Arming.{armed_bench}
 use Rattle.mc_script.specs.Lines.{Stepped}
 use Rattle.mc_script.specs.Runs.{StoppedAtWrite}
@@ -79,16 +79,7 @@ line_counts n l s result items whole stop m pairs turns w np a b c d e worth arm
         faults = faults;
         steady = calls.steady;
       };
-      arms = record {
-        arms =
-            let h : c.arms ≤ b.arms + cuts_due (armed_stop_in s) = subst (λ (x : play.Armed). c.arms ≤ b.arms + cuts_due x) armed calls.arms in
-            let z : cuts_due w.armed ≡ 0 = ap cuts_due free in
-            omega (arith, h, z);
-        wears =
-            let h : c.wears ≤ b.wears + fails_due (armed_stop_in s) = subst (λ (x : play.Armed). c.wears ≤ b.wears + fails_due x) armed calls.wears in
-            let z : fails_due w.armed ≡ 0 = ap fails_due free in
-            omega (arith, h, z);
-      };
+      arms = grind arith;
     }
 
 raised_cut : (s : Stop) (d e : DeviceState) (k : ℕ) (x : List ℕ) → Raises s d e → let t : StopAt = record { kind = s; at = k; left = x } in (e.cuts ≡ count_after_rises d.cuts (count_of_cuts (Some t))) × (e.faults ≡ count_after_rises d.faults (failure_by (Some t)))

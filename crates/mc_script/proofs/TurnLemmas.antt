@@ -1,5 +1,5 @@
 -- The turns of a run and their atomic writes.
-use Rattle.std.proofs.Common.{◌≡◌, ℕ, zero, suc, ◌+◌, ◌-◌, ◌≤◌, List, [], ◌∷◌, ◌++◌, length, Option, Some, None, Result, Ok, Err, refl, arith, ap, ◌∙◌}
+use Rattle.std.proofs.Common.{◌≡◌, ℕ, zero, suc, ◌+◌, ◌≤◌, List, [], ◌∷◌, ◌++◌, length, Option, Some, None, Result, Ok, Err, refl, arith, ap, ◌∙◌}
 use Rattle.std.proofs.lemmas.Bool.{le-leb, lt-leb}
 use Rattle.model_play.specs.model_machine.specs.declared.instruction.Ins.{Ins}
 use Rattle.model_play.specs.model_machine.specs.declared.instruction.DecodeFault.{DecodeFault}
@@ -53,9 +53,7 @@ row_counts ch next i (Abends a) e = refl
 row_counts ch next i (Does d) e = refl
 
 fetched_counts : (ch next : Chain) (r : Result (Ins × ℕ) DecodeFault) → (turn_of_fetch ch r).follows ≡ Continues next → (turn_of_fetch ch r).count ≡ 1
-fetched_counts ch next (Err Undefined) e = absurd (cc e)
-fetched_counts ch next (Err Past) e = absurd (cc e)
-fetched_counts ch next (Ok i) e = row_counts ch next i.0 (row i.0 (frame_at ch.frame i.1) ch.public (around ch)) e
+fetched_counts ch next r e = grind (arith, row_counts)
 
 pub acted_counts : (ch next : Chain) → (turn_of_chain ch).follows ≡ Continues next → (turn_of_chain ch).count ≡ 1
 unfolding turn_of_chain
@@ -73,10 +71,7 @@ before_first t ts k low high = stop_first t.wrote t ts k refl low high
 
 -- a stop after the first turn
 stop_later : (w : Option ℕ) (t : Turn) (ts : List Turn) (k j : ℕ) → t.wrote ≡ w → 1 ≤ j → k ≡ turn_moves w + j → before_stop (t ∷ ts) k ≡ t ∷ before_stop ts j
-stop_later None t ts k j is low e = let same : k ≡ j = omega (arith, e) in rw (is, same) refl
-stop_later (Some w) t ts k j is low e =
-    let left : k - cost Two w ≡ j = omega (arith, e) in
-    rw (is, lt-leb k (cost Two w) (omega (arith, e, low)), left) refl
+stop_later w t ts k j is low e = grind (arith, lt-leb)
 
 pub before_later : (t : Turn) (ts : List Turn) (k j : ℕ) → 1 ≤ j → k ≡ turn_moves t.wrote + j → before_stop (t ∷ ts) k ≡ t ∷ before_stop ts j
 before_later t ts k j low e = stop_later t.wrote t ts k j refl low e

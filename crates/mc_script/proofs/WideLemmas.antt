@@ -1,5 +1,5 @@
 -- The dynamic and the public segment of a chain keep their bytes: no turn makes them shorter.
-use Rattle.std.specs.Prelude.{◌≡◌, ℕ, ◌-◌, ◌≤◌, Bool, true, false, cond, ◌||◌, nat_le, nat_lt, List, [], ◌∷◌, ◌++◌, length, unwrap_or, Option, Some, None, Result, Ok, Err}
+use Rattle.std.specs.Prelude.{◌≡◌, ℕ, ◌-◌, ◌≤◌, Bool, true, false, ◌||◌, nat_le, List, [], ◌∷◌, ◌++◌, length, unwrap_or, Option, Some, None, Result, Ok, Err}
 use Rattle.std.specs.List.{AllByRecursion}
 use Rattle.std.proofs.Common.{refl, arith, subst, length-append}
 use Rattle.std.proofs.lemmas.List.{length-replicate}
@@ -9,13 +9,12 @@ use Rattle.model_play.specs.model_device.proofs.ListLemmas.{splice_longer}
 use Rattle.model_play.specs.model_machine.specs.declared.instruction.Ins.{Ins}
 use Rattle.model_play.specs.model_machine.specs.declared.instruction.DecodeFault.{DecodeFault}
 use Rattle.model_play.specs.model_machine.specs.declared.instruction.DecodeFault.TheVariants.{Undefined, Past}
-use Rattle.model_play.specs.model_machine.specs.declared.machine.Abend.TheVariants.{A09}
 use Rattle.model_play.specs.model_machine.specs.Apdu.{ApduParts}
 use Rattle.model_play.specs.model_machine.specs.Code.{instruction_at}
-use Rattle.model_play.specs.model_machine.specs.Frame.{Frame, la_of, new_public, with_sw}
-use Rattle.model_play.specs.model_machine.specs.Primitives.{Delegates, Exits, Goes, Then}
-use Rattle.model_play.specs.model_machine.specs.Row.{RowEnd, Abends, Does, row}
-use Rattle.model_play.specs.model_machine.specs.Chain.{Chain, Follows, Continues, Ends, Outcome, Abended, reply_of, code_in, after_exit, around, called_app, chain_after_call, chain_after_effect, depth_of, follows, frame_at, is_active, last_exit, row_turn, start, turn_of_chain, turn_of_fetch}
+use Rattle.model_play.specs.model_machine.specs.Frame.{Frame, new_public, with_sw}
+use Rattle.model_play.specs.model_machine.specs.Primitives.{Then}
+use Rattle.model_play.specs.model_machine.specs.Row.{RowEnd, row}
+use Rattle.model_play.specs.model_machine.specs.Chain.{Chain, Follows, Continues, Ends, code_in, after_exit, around, called_app, chain_after_call, depth_of, follows, frame_at, is_active, last_exit, row_turn, start, turn_of_chain, turn_of_fetch}
 use Rattle.mc_deck.specs.law_rows.specs.Keeping.{Keeps, OnDone}
 use Rattle.mc_deck.specs.law_rows.proofs.Keeping.{row_keeps}
 use Rattle.mc_script.specs.Watching.{IsWide}
@@ -28,11 +27,7 @@ GoesWide (Continues ch) = IsWide ch
 GoesWide (Ends o) = Unit {0}
 
 last_wide : (ch : Chain) → GoesWide (last_exit ch)
-last_wide ch = by_bool (nat_lt 1024 (la_of ch.public)) (Abended A09) (reply_of ch)
-  where
-    by_bool : (b : Bool) (o p : Outcome) → GoesWide (cond b (Ends o) (Ends p))
-    by_bool true o p = tt
-    by_bool false o p = tt
+last_wide ch = grind arith
 
 exit_wide : (ch : Chain) (fs : List Frame) → AllByRecursion (λ f. 512 ≤ length f.dyn) fs → 1041 ≤ length ch.public → GoesWide (after_exit ch fs)
 exit_wide ch [] all public = last_wide ch
@@ -56,18 +51,10 @@ call_after_wide ch n None h = record { frames = h.frames; public = sw_wide ch.pu
 call_after_wide ch n (Some a) h = called_wide (is_active n ch.frame ch.below || nat_le 4 (depth_of ch)) ch n a h
 
 follows_wide : (ch : Chain) (t : Then) → IsWide ch → GoesWide (follows ch t)
-follows_wide ch Goes h = h
-follows_wide ch Exits h = exit_wide ch ch.below h.frames.1 h.public
-follows_wide ch (Delegates n) h = call_after_wide ch n (lookup ch.map n) h
+follows_wide ch t h = grind (arith, exit_wide, call_after_wide)
 
 row_goes_wide : (ch : Chain) (i : Ins) (r : RowEnd) → OnDone r (λ d. Keeps ch.frame ch.public d.effect) → IsWide ch → GoesWide (row_turn ch i r).follows
-row_goes_wide ch i (Abends c) keeps h = tt
-row_goes_wide ch i (Does d) keeps h =
-    let dyn = keeps.dyn in
-    let public = keeps.public in
-    let here = h.frames.0 in
-    let all = h.public in
-    follows_wide (chain_after_effect ch d.effect) d.next (record { frames = (omega (arith, dyn, here), h.frames.1); public = omega (arith, public, all) })
+row_goes_wide ch i r keeps h = grind (arith, follows_wide)
 
 fetch_wide : (ch : Chain) (r : Result (Ins × ℕ) DecodeFault) → IsWide ch → GoesWide (turn_of_fetch ch r).follows
 fetch_wide ch (Err Undefined) h = tt
