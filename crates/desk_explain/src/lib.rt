@@ -11,6 +11,7 @@ mod part;
 mod place;
 mod reach;
 mod refusals;
+mod rows;
 mod rule;
 mod sentence;
 mod text;
