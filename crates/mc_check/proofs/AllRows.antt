@@ -7,7 +7,7 @@ use Rattle.law_family.specs.model_machine.specs.declared.instruction.Ins.TheVari
 use Rattle.law_family.specs.model_machine.specs.declared.machine.Abend.{Abend}
 use Rattle.law_family.specs.model_machine.specs.Code.{Shaped}
 use Rattle.law_family.specs.model_machine.specs.Frame.{Frame, public_base, public_end, moved_address}
-use Rattle.law_family.specs.model_machine.specs.Primitives.{Around, Then, Goes, Exits, Delegates, Done}
+use Rattle.law_family.specs.model_machine.specs.Primitives.{Around, Then, Done}
 use Rattle.law_family.specs.model_machine.specs.Chain.{frame_at}
 use Rattle.law_family.specs.model_machine.specs.Row.{causes, first_cause, effect, holds, no_place, address_or_zero, row_end, row, Does}
 use Rattle.model_stack.specs.StackRows.{need, height_after, row_uses, WritesNothing, row_writing, always_abends, is_indirect, counts, goes_on, call_target}
@@ -23,9 +23,7 @@ use Rattle.mc_check.proofs.CalmEffects.{RunsPlainRow, place_after, effect_kept, 
 
 -- a frame that goes on at the place after the instruction
 goes_behind : (i : Ins) (next at : ℕ) (t : Then) → at ≡ next → goes_on i ≡ true → GoesTo i next at t
-goes_behind i next at Goes is on = inl (is, on)
-goes_behind i next at Exits is on = tt
-goes_behind i next at (Delegates n) is on = inl (is, on)
+goes_behind i next at t is on = grind arith
 
 -- an instruction that may run, and is no return, goes on
 on_from : (b : Bool) → b ≡ false → (not b && true) ≡ true
@@ -49,14 +47,10 @@ branch_goes false k next at o f held is inside = inl (is, not_from_false (k == 7
 
 -- a jump whose address is not on the stack
 not_either : (a b : Bool) → a ≡ false → b ≡ false → not (a || b) ≡ true
-not_either true b ha hb = absurd (cc ha)
-not_either false true ha hb = absurd (cc hb)
-not_either false false ha hb = refl
+not_either a b ha hb = grind arith
 
 jump_goes : (b on : Bool) (k next at to : ℕ) (f : Frame) → on ≡ false → holds k f ≡ b → at ≡ cond b to next → ((at ≡ next) × (not ((k == 7) || on) ≡ true)) ⊎ (cond on None (Some (Some to)) ≡ Some (Some at))
-jump_goes b true k next at to f direct held is = absurd (cc direct)
-jump_goes true false k next at to f direct held is = inr (ap (λ (n : ℕ). Some (Some n)) (sym is))
-jump_goes false false k next at to f direct held is = inl (is, not_either (k == 7) false (not_all k f held) refl)
+jump_goes b on k next at to f direct held is = grind (arith, not_either, not_all)
 
 branch_inside : (k : ℕ) (d : ℤ) (f : Frame) (public : List ℕ) (x : Around) → first_cause (causes (ins.Branch k d) f public x) ≡ None → (holds k f && no_place f (moved_address f.at d)) ≡ false
 unfolding causes
@@ -98,15 +92,7 @@ effect_stays len size base h i next f public x s runs y room =
     let k = effect_kept len size base h g public (stepped_stands len size base h f next s) i x y in
     record {
       name = k.name;
-      stands = λ fixed. record {
-        session = k.session ∙ s.session;
-        code_len = k.code_len ∙ s.code_len;
-        dyn = k.dyn;
-        fixed = fixed;
-        lb = k.lb ∙ s.lb;
-        dt = k.dt ∙ ap (λ (n : ℕ). n + height_after i h) (sym k.lb);
-        room = room;
-      };
+      stands = grind arith;
       calls = λ safe. k.calls (subst (λ (b : Bool). IsSafe size base h (cond b WritesNothing (row_writing i))) runs safe);
       place = row_goes i h g public x (effect i g public x).effect.frame.at runs y k.at;
     }

@@ -1,5 +1,5 @@
 -- The list of calls of code: what follows from its table of facts, and the depths by the list.
-use Rattle.std.proofs.Common.{◌≡◌, ℕ, ◌+◌, ◌<◌, ◌≤◌, Bool, true, false, not, List, [], ◌∷◌, length, Option, Some, None, Result, Ok, Err, refl, sym, ap, subst, ◌∙◌, arith}
+use Rattle.std.proofs.Common.{◌≡◌, ℕ, ◌+◌, ◌<◌, ◌≤◌, Bool, true, not, List, [], ◌∷◌, length, Option, Some, None, Result, Ok, Err, refl, sym, ap, subst, ◌∙◌, arith}
 use Rattle.std.specs.Prelude.{◌&&◌, ◌||◌, nat_lt, is_some}
 use Rattle.std.proofs.lemmas.Bool.{ltb-true, and_parts}
 use Rattle.law_family.specs.model_machine.specs.declared.instruction.Ins.{Ins}
@@ -26,11 +26,7 @@ same_parts : (a i : Ins) (m n : ℕ) → ◌≡◌ {A = FactLook} (Stands a m) (
 same_parts a i m n e = (cc, cc)
 
 none_bad : (a b c d : Bool) (x i : Ins) (m n : ℕ) → first_bad ((Indirect, a) ∷ (Returns, b) ∷ (Under, c) ∷ (Target, not d) ∷ []) (Stands x m) ≡ Stands i n → (d ≡ true) × (◌≡◌ {A = FactLook} (Stands x m) (Stands i n))
-none_bad true b c d x i m n e = cc
-none_bad false true c d x i m n e = cc
-none_bad false false true d x i m n e = cc
-none_bad false false false true x i m n e = (refl, e)
-none_bad false false false false x i m n e = cc
+none_bad a b c d x i m n e = grind arith
 
 seen_shows : (len : ℕ) (f : Fact) (r : Result (Ins × ℕ) DecodeFault) (i : Ins) (next : ℕ) → fact_look len f r ≡ Stands i next → DecodesInside len r i next
 seen_shows len f (Err fault.Undefined) i next e = cc
@@ -79,13 +75,7 @@ called_by (shape.returns i next q back less more from gives target other at has 
 
 -- a listed call is one of the code
 calls_of : (code : List ℕ) (c : Call) (r : Routine) (h q : ℕ) → IsCall code c → routine_of c.caller ≡ r → c.height ≡ h → c.target ≡ q → Calls code r h q
-calls_of code c r h q is same_caller same_height same_target = record {
-  place = c.place;
-  reached = subst (λ (s : Routine). Reached code (fact s c.place h)) same_caller (subst (λ (n : ℕ). Reached code (fact (routine_of c.caller) c.place n)) same_height is.reached);
-  call = is.ins;
-  stands = is.stands;
-  target = is.target ∙ ap Some same_target;
-}
+calls_of code c r h q is same_caller same_height same_target = grind arith
 
 pub listed_calls : (code : List ℕ) (calls : List Call) → AreCalls code calls → (r : Routine) (h q : ℕ) → ListsCall calls r h q → Calls code r h q
 listed_calls code calls are r h q has = calls_of code has.call r h q (are.each has.at has.call has.there) has.caller has.height has.target

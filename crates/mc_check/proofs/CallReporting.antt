@@ -1,5 +1,5 @@
 -- The base of a routine by its calls, in a pass over them.
-use Rattle.std.proofs.Common.{◌≡◌, ◌⊎◌, ℕ, ◌+◌, ◌<◌, ◌≤◌, max, Bool, true, false, cond, eqb, ltb, List, length, Less, Equal, Greater, Option, Some, None, refl, sym, ap, subst, inl, inr, ◌∙◌, arith}
+use Rattle.std.proofs.Common.{◌≡◌, ◌⊎◌, ℕ, ◌+◌, ◌<◌, ◌≤◌, max, Bool, cond, eqb, ltb, List, length, Less, Equal, Greater, Option, Some, refl, sym, ap, subst, inl, inr, ◌∙◌, arith}
 use Rattle.std.specs.Prelude.{slice_get}
 use Rattle.std.specs.Ordering.{is_lt, ord_max, nat_cmp}
 use Rattle.std.proofs.lemmas.Bool.{cases_eq, cases_lt, ltb-true, ltb-false}
@@ -9,7 +9,6 @@ use Rattle.mc_check.specs.declared.calls.Call.{Call}
 use Rattle.mc_check.specs.declared.table.Routine.{Routine as Owner}
 use Rattle.mc_check.specs.declared.table.Routine.TheVariants as owner
 use Rattle.mc_check.specs.declared.bases.Progress.{Progress}
-use Rattle.mc_check.specs.declared.bases.Progress.TheVariants as progress
 use Rattle.mc_check.specs.declared.bases.Answer.{Answer}
 use Rattle.mc_check.specs.declared.bases.Answer.TheVariants as answer
 use Rattle.mc_check.specs.CallList.{IsCalled, AreClosed}
@@ -18,9 +17,7 @@ use Rattle.mc_check.specs.Searching.{answer_by_progress, answer_to_owner, answer
 -- ---- places
 
 pub called_is_inside : (len : ℕ) (l : List Call) (q : ℕ) → AreClosed len l → IsCalled l q → q < len
-called_is_inside len l q closed called =
-    let has = called.2 in
-    subst (λ (n : ℕ). n < len) has.target (closed.inside has.at has.call has.there)
+called_is_inside len l q closed called = grind arith
 
 pub caller_is_inside : (len : ℕ) (l : List Call) (k : ℕ) (c : Call) → AreClosed len l → slice_get l k ≡ Some c → (p : ℕ) → c.caller ≡ owner.At p → p < len
 caller_is_inside len l k c closed there p by = called_is_inside len l p closed (closed.callers k c p there by)
@@ -31,10 +28,7 @@ is_called l k c there = (routine_of c.caller, c.height, record { at = k; call = 
 -- ---- a base by a call is not 0
 
 by_positive : (c : Call) (p d : ℕ) (o : Option Progress) → answer_by_progress c p o ≡ answer.Base d → 4 ≤ d
-by_positive c p d None e = cc
-by_positive c p d (Some progress.Unseen) e = cc
-by_positive c p d (Some progress.Open) e = cc
-by_positive c p d (Some (progress.Done b)) e = let same : b + c.height + 4 ≡ d = cc in omega arith
+by_positive c p d o e = grind arith
 
 of_positive : (states : List Progress) (c : Call) (d : ℕ) (o : Owner) → answer_to_owner states c o ≡ answer.Base d → 4 ≤ d
 of_positive states c d owner.Main e = let same : c.height + 4 ≡ d = cc in omega arith
@@ -43,9 +37,7 @@ of_positive states c d (owner.At p) e = by_positive c p d (slice_get states p) e
 -- ---- the greater one of two numbers
 
 greater_by : (x y : Bool) (g b : ℕ) → ltb b g ≡ x → cond (is_lt (cond x Less (cond y Equal Greater))) g b ≡ max g b
-greater_by true y g b e = let lt : b < g = ltb-true b g e in omega arith
-greater_by false true g b e = let le : g ≤ b = ltb-false b g e in omega arith
-greater_by false false g b e = let le : g ≤ b = ltb-false b g e in omega arith
+greater_by x y g b e = grind (arith, ltb-true, ltb-false)
 
 pub greater_is : (g b : ℕ) → ord_max nat_cmp g b ≡ max g b
 greater_is g b = greater_by (ltb b g) (eqb b g) g b refl
@@ -104,9 +96,7 @@ reports_all states l q n g so long called =
 
 -- a call whose caller has no base yet
 pub reports_stop : (states : List Progress) (l : List Call) (q : ℕ) (a : Answer) → ((b : ℕ) → a ≡ answer.Base b → ⊥) → CallReports states l q a → Answers states l q a
-reports_stop states l q (answer.Base b) other is = absurd (other b refl)
-reports_stop states l q (answer.Unseen p) other is = is
-reports_stop states l q (answer.Open p) other is = is
+reports_stop states l q a other is = grind arith
 
 -- the default element, for places after the end
 abbrev pub no_call : Call

@@ -1,6 +1,6 @@
 -- Written addresses that are plain touch no byte of the stack below LB; and the number of bytes that rows read and
 -- write.
-use Rattle.std.proofs.Common.{◌≡◌, ◌⊎◌, ℕ, zero, suc, ◌+◌, ◌-◌, ◌≤◌, ◌<◌, ℤ, pos, negsuc, Bool, true, false, cond, List, [], ◌∷◌, take, drop, length, Option, Some, None, refl, inl, inr, arith}
+use Rattle.std.proofs.Common.{◌≡◌, ◌⊎◌, ℕ, suc, ◌+◌, ◌-◌, ◌≤◌, ◌<◌, ℤ, pos, negsuc, Bool, true, false, cond, List, [], ◌∷◌, take, drop, length, Option, Some, None, refl, inl, inr, arith}
 use Rattle.std.specs.Prelude.{◌==◌, ◌&&◌, not, nat_lt, nat_le, is_none}
 use Rattle.std.proofs.lemmas.Bool.{and_parts, leb-true, ltb-true, eqb-true}
 use Rattle.std.proofs.lemmas.List.{length-take, length-drop}
@@ -34,59 +34,12 @@ up_is : (r j a : ℕ) → address_or_zero (moved_address r (pos j)) ≡ a → dy
 up_is r j a is low = two_is (nat_lt (r + j) 65536) (r + j) a is low
 
 down_is : (r j a : ℕ) → address_or_zero (moved_address r (negsuc j)) ≡ a → dynamic_base ≤ a → (j < r) × (a ≡ r - suc j)
-down_is r j a is low =
-    let parts = below_is (nat_lt j r) (nat_lt (r - suc j) 65536) (r - suc j) a is low in
-    (ltb-true j r parts.0, parts.1)
+down_is r j a is low = grind (arith, below_is, ltb-true)
 
 -- a plain address, tag by tag and by the sign of the offset
 plain_untouched : (len size base h : ℕ) (f : Frame) (tag : ℕ) (off : ℤ) (n k m a : ℕ) → StandsAt len size base h f → IsAddress tag off → ((tag == 0) ≡ true → k ≤ h) → m ≤ n
     → place_of f tag off k ≡ a → dynamic_base ≤ a → a + m ≤ dynamic_end → is_plain_at size h tag off n ≡ true → MissesCalls (floor f) f.lb a m
-plain_untouched len size base h f zero off n k m a s shaped top few is low high plain =
-    let fits : k ≤ h = top refl in
-    stack (omega arith)
-plain_untouched len size base h f (suc zero) (pos j) n k m a s shaped top few is low high plain =
-    let at : a ≡ 0 + j = up_is 0 j a is low in
-    let small = shaped.offset.sfits in
-    absurd (omega arith)
-plain_untouched len size base h f (suc zero) (negsuc j) n k m a s shaped top few is low high plain = absurd (cc plain)
-plain_untouched len size base h f (suc (suc zero)) (pos j) n k m a s shaped top few is low high plain = absurd (cc plain)
-plain_untouched len size base h f (suc (suc zero)) (negsuc j) n k m a s shaped top few is low high plain =
-    let at = down_is (length f.fixed) j a is low in
-    absurd (omega arith)
-plain_untouched len size base h f (suc (suc (suc zero))) (pos j) n k m a s shaped top few is low high plain =
-    let at : a ≡ dynamic_base + j = up_is dynamic_base j a is low in
-    let inside : j + n ≤ size = leb-true (j + n) size plain in
-    session (omega arith)
-plain_untouched len size base h f (suc (suc (suc zero))) (negsuc j) n k m a s shaped top few is low high plain = absurd (cc plain)
-plain_untouched len size base h f (suc (suc (suc (suc zero)))) (pos j) n k m a s shaped top few is low high plain =
-    let at : a ≡ f.lb + j = up_is f.lb j a is low in
-    stack (omega arith)
-plain_untouched len size base h f (suc (suc (suc (suc zero)))) (negsuc j) n k m a s shaped top few is low high plain = absurd (cc plain)
-plain_untouched len size base h f (suc (suc (suc (suc (suc zero))))) (pos j) n k m a s shaped top few is low high plain =
-    let at : a ≡ f.dt + j = up_is f.dt j a is low in
-    stack (omega arith)
-plain_untouched len size base h f (suc (suc (suc (suc (suc zero))))) (negsuc j) n k m a s shaped top few is low high plain =
-    let at = down_is f.dt j a is low in
-    let parts = and_parts (nat_le (suc j) h) (nat_le n (suc j)) plain in
-    let inside : suc j ≤ h = leb-true (suc j) h parts.0 in
-    stack (omega arith)
-plain_untouched len size base h f (suc (suc (suc (suc (suc (suc zero)))))) (pos j) n k m a s shaped top few is low high plain =
-    let at : a ≡ public_base + j = up_is public_base j a is low in
-    absurd (omega arith)
-plain_untouched len size base h f (suc (suc (suc (suc (suc (suc zero)))))) (negsuc j) n k m a s shaped top few is low high plain =
-    let at = down_is public_base j a is low in
-    let near : suc j ≤ 4096 = leb-true (suc j) 4096 plain in
-    absurd (omega arith)
-plain_untouched len size base h f (suc (suc (suc (suc (suc (suc (suc zero))))))) (pos j) n k m a s shaped top few is low high plain =
-    let at : a ≡ public_end + j = up_is public_end j a is low in
-    absurd (omega arith)
-plain_untouched len size base h f (suc (suc (suc (suc (suc (suc (suc zero))))))) (negsuc j) n k m a s shaped top few is low high plain =
-    let at = down_is public_end j a is low in
-    let near : suc j ≤ 4096 = leb-true (suc j) 4096 plain in
-    absurd (omega arith)
-plain_untouched len size base h f (suc (suc (suc (suc (suc (suc (suc (suc t)))))))) off n k m a s shaped top few is low high plain =
-    let small : suc (suc (suc (suc (suc (suc (suc (suc t))))))) < 8 = shaped.register in
-    absurd (omega arith)
+plain_untouched len size base h f tag off n k m a s shaped top few is low high plain = grind (arith, stack, up_is, down_is, leb-true, session, and_parts)
 
 -- without an open call LB is the floor
 no_call : (len size base h : ℕ) (f : Frame) (a n : ℕ) → StandsAt len size base h f → base ≡ 0 → MissesCalls (floor f) f.lb a n

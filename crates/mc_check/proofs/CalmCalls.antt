@@ -1,12 +1,12 @@
 -- Calls of accepted code: the frame goes on at the routine, with the call among its open ones, or after a call that is
 -- not taken.
-use Rattle.std.proofs.Common.{◌≡◌, ℕ, ◌+◌, ◌-◌, ◌≤◌, Bool, true, false, cond, List, ◌++◌, length, take, drop, Option, Some, None, refl, sym, ap, subst, ◌∙◌, inl, inr, arith}
+use Rattle.std.proofs.Common.{◌≡◌, ℕ, ◌+◌, Bool, true, false, cond, List, take, drop, Option, Some, None, refl, ap, subst, ◌∙◌, inl, inr, arith}
 use Rattle.std.specs.Prelude.{◌⊎◌, ◌==◌, not}
 use Rattle.std.proofs.lemmas.Bool.{false_from_ne_true, eqb-true}
 use Rattle.law_family.specs.model_machine.specs.declared.instruction.Ins.{Ins}
 use Rattle.law_family.specs.model_machine.specs.declared.instruction.Ins.TheVariants as ins
 use Rattle.law_family.specs.model_machine.specs.declared.machine.Abend.{Abend}
-use Rattle.law_family.specs.model_device.specs.Bytes.{bytes2, num, splice}
+use Rattle.law_family.specs.model_device.specs.Bytes.{bytes2, num}
 use Rattle.law_family.specs.model_machine.specs.Frame.{Frame, dynamic_base, top, frame_after_pop, frame_after_entry}
 use Rattle.law_family.specs.model_machine.specs.Primitives.{Around, Done, Goes, effect_and_next, frame_effect}
 use Rattle.law_family.specs.model_machine.specs.Row.{causes, effect, first_cause, row_end, row, Abends, Does, holds}
@@ -90,33 +90,7 @@ module _ (code : List ℕ) (session most : ℕ) (accepts : Accepts code session 
 
     -- the frame in the routine
     pub entered_at : IsAtFact code session (At q) (b + h + 4) 0 (frame_after_entry (frame_at f next) q)
-    entered_at =
-        let s = here.stands in
-        let size = s.session in
-        let long = s.dyn in
-        let lb = s.lb in
-        let dt = s.dt in
-        let enough = call_room.stack in
-        let words : List ℕ = bytes2 f.lb ++ bytes2 next in
-        let at : f.dt - dynamic_base ≡ session + (b + h) = omega (arith, lb, dt) in
-        let within : f.dt - dynamic_base ≤ length f.dyn = omega (arith, lb, dt, long, enough) in
-        let fits : f.dt - dynamic_base + length words ≤ length f.dyn = omega (arith, lb, dt, long, enough) in
-        let bytes : List ℕ = drop session (splice f.dyn (f.dt - dynamic_base) words) in
-        let kept : take b bytes ≡ take b (drop session f.dyn) = spliced_above session b f.dyn (f.dt - dynamic_base) words (omega (arith, at)) within in
-        let pushed = spliced_words session (b + h) f.dyn (f.dt - dynamic_base) f.lb next at within in
-        record {
-          stands = record {
-            session = size;
-            code_len = s.code_len;
-            dyn = length_splice f.dyn (f.dt - dynamic_base) words fits ∙ long;
-            fixed = s.fixed;
-            lb = omega (arith, lb, dt);
-            dt = omega (arith);
-            room = enough;
-          };
-          opened = call_opened bytes (sym kept) pushed.0 pushed.1;
-          reached = routine_reached;
-        }
+    entered_at = grind (arith, call_room, next, spliced_above, spliced_words, length_splice, call_opened, routine_reached)
 
     -- the frame after a call that is not taken
     pub passed_at : is_conditional i ≡ true → IsAtFact code session r b h (frame_at f next)

@@ -1,6 +1,6 @@
 -- The causes of a row of accepted code: none of the abends 01, 02, 04 and 05 is the first that holds.
-use Rattle.std.proofs.Common.{◌≡◌, ℕ, ◌+◌, ◌-◌, ◌*◌, ◌≤◌, Bool, true, false, cond, List, [], ◌∷◌, Option, Some, None, refl, sym, ap, subst, ◌∙◌, arith, le-ltb}
-use Rattle.std.specs.Prelude.{◌==◌, ◌&&◌, ◌||◌, not, nat_lt}
+use Rattle.std.proofs.Common.{◌≡◌, ℕ, ◌+◌, ◌-◌, ◌≤◌, Bool, true, false, cond, List, [], ◌∷◌, Option, Some, None, refl, sym, ap, subst, ◌∙◌, arith, le-ltb}
+use Rattle.std.specs.Prelude.{◌==◌, ◌&&◌, not, nat_lt}
 use Rattle.std.proofs.lemmas.Bool.{and_parts, and_left, and_right, not_from_true}
 use Rattle.law_family.specs.model_machine.specs.declared.instruction.Ins.{Ins}
 use Rattle.law_family.specs.model_machine.specs.declared.instruction.Ins.TheVariants as ins
@@ -11,7 +11,7 @@ use Rattle.law_family.specs.model_machine.specs.Frame.{Frame, floor, dynamic_end
 use Rattle.law_family.specs.model_machine.specs.Primitives.{Around, Primitive, LoadCcr, DelegatorAid, BitByte, primitive, prim_causes, later_causes, reported_causes}
 use Rattle.law_family.specs.model_machine.specs.Chain.{frame_at}
 use Rattle.law_family.specs.model_machine.specs.Row.{causes, first_cause, holds, no_place, on_stack}
-use Rattle.model_stack.specs.StackRows.{need, always_abends, prim_abends, height_after, pair_uses, prim_uses, row_uses, is_indirect, counts, call_target, is_inside, target_inside, call_inside, goes_on, jump_target, places_inside}
+use Rattle.model_stack.specs.StackRows.{need, always_abends, prim_abends, height_after, pair_uses, prim_uses, row_uses, is_indirect, counts, call_target, is_inside, target_inside, call_inside, jump_target, places_inside}
 use Rattle.mc_check.specs.Checked.{is_excluded}
 use Rattle.mc_check.specs.Standing.{StandsAt}
 use Rattle.mc_check.proofs.CalmWrites.{IsRoomy, stands_roomy}
@@ -30,10 +30,7 @@ silent false s = refl
 
 first_by : (c d : Abend) (b last : Bool) (cs : List (Abend × Bool)) (rest : Option Abend) → (not (is_excluded c && b) && are_calm last cs) ≡ true → (are_calm last cs ≡ true → rest ≡ Some d → is_excluded d ≡ false) → cond b (Some c) rest ≡ Some d
     → is_excluded d ≡ false
-first_by c d true last cs rest calm others e =
-    let same : c ≡ d = cc e in
-    ap is_excluded (sym same) ∙ silent (is_excluded c) (and_parts (not (is_excluded c && true)) (are_calm last cs) calm).0
-first_by c d false last cs rest calm others e = others (and_parts (not (is_excluded c && false)) (are_calm last cs) calm).1 e
+first_by c d b last cs rest calm others e = grind (arith, silent, and_parts)
 
 -- the first cause of calm ones is none of the excluded abends
 pub first_calm : (cs : List (Abend × Bool)) (last : Bool) (d : Abend) → are_calm last cs ≡ true → first_cause cs ≡ Some d → is_excluded d ≡ false
@@ -107,18 +104,10 @@ pub record IsReadyToRun (len : ℕ) (i : Ins) (f : Frame) (h : ℕ) : Type 0 whe
   pub call_room : (q : ℕ) → call_target i ≡ Some q → f.dt + 4 ≤ dynamic_end
 
 target_known : (len : ℕ) (i : Ins) (next : ℕ) → places_inside len i next ≡ true → target_inside len (jump_target i next) ≡ true
-target_known len i next h =
-    let behind = not (goes_on i) || nat_lt next len in
-    let at = target_inside len (jump_target i next) in
-    let of_call = call_inside len (call_target i) in
-    (and_parts behind at (and_parts (behind && at) of_call h).0).1
+target_known len i next h = grind (arith, and_parts)
 
 call_known : (len : ℕ) (i : Ins) (next : ℕ) → places_inside len i next ≡ true → call_inside len (call_target i) ≡ true
-call_known len i next h =
-    let behind = not (goes_on i) || nat_lt next len in
-    let at = target_inside len (jump_target i next) in
-    let of_call = call_inside len (call_target i) in
-    (and_parts (behind && at) of_call h).1
+call_known len i next h = grind (arith, and_parts)
 
 -- the tests of the stack, by the bytes that the row needs and pushes, and the places that it goes to
 causes_calm : (i : Ins) (len h : ℕ) (f : Frame) (public : List ℕ) (x : Around) (last : Bool) → last ≡ true → IsReadyToRun len i f h → are_calm last (causes i f public x) ≡ true
@@ -176,10 +165,7 @@ pair_pops None args = omega arith
 pair_pops (Some p) args = prim_pops p args
 
 pub row_pops : (i : Ins) → (row_uses i).pops ≤ (row_uses i).needs
-row_pops (ins.Prim set number args) = pair_pops (primitive set number) args
-row_pops (ins.Store tag off n) = tagged_pops (tag == 0) n (2 * n) (omega arith)
-row_pops (ins.Storei tag off n) = tagged_pops (tag == 0) n (n + 2) (omega arith)
-row_pops _ = omega arith
+row_pops i = grind (arith, pair_pops, tagged_pops)
 
 -- an instruction that may run needs what its row needs
 pub need_few : (i : Ins) (h : ℕ) → need i ≤ h → always_abends i ≡ false → (row_uses i).needs ≤ h

@@ -11,9 +11,9 @@ use Rattle.law_family.specs.model_device.specs.Bytes.{bytes2, lookup, insert, ze
 use Rattle.law_family.specs.model_device.specs.Card.{App}
 use Rattle.law_family.specs.model_machine.specs.Code.{instruction_at}
 use Rattle.law_family.specs.model_machine.specs.Frame.{Frame, Effect, dynamic_base, public_base, public_end, new_frame, with_sw, la_of}
-use Rattle.law_family.specs.model_machine.specs.Primitives.{Around, Then, Goes, Exits, Delegates, Done}
+use Rattle.law_family.specs.model_machine.specs.Primitives.{Around, Then, Done}
 use Rattle.law_family.specs.model_machine.specs.Row.{RowEnd, Abends, Does, row}
-use Rattle.law_family.specs.model_machine.specs.Chain.{Chain, Outcome, Reply, Abended, Follows, Continues, Ends, code_in, around, with_pieces, changed_app, map_changed, chain_after_effect, chain_after_call, called_app, is_active, depth_of, after_exit, follows, end_of, reported_frame, row_turn, frame_at, turn_of_fetch, turn_of_chain}
+use Rattle.law_family.specs.model_machine.specs.Chain.{Chain, Outcome, Follows, Ends, code_in, around, with_pieces, changed_app, map_changed, chain_after_effect, chain_after_call, called_app, is_active, depth_of, after_exit, follows, end_of, reported_frame, row_turn, frame_at, turn_of_fetch, turn_of_chain}
 use Rattle.law_family.specs.model_device.specs.Limits.{most_static, most_code}
 use Rattle.model_stack.specs.StackShape.{Main, fact, begins, main, Accepts}
 use Rattle.mc_bank.specs.Bank.{no_app, app_of}
@@ -22,7 +22,7 @@ use Rattle.mc_check.specs.Checked.{ends_excluded, RunsCode, IsCalm, OnFollows}
 use Rattle.law_family.specs.law_machine.specs.Limited.{AreLimited}
 use Rattle.mc_machine.specs.Sound.{IsSoundFrame, IsSoundChain}
 use Rattle.mc_check.specs.Standing.{none}
-use Rattle.law_family.specs.law_rows.specs.Keeping.{ChangeWithin, Keeps, OnDone}
+use Rattle.law_family.specs.law_rows.specs.Keeping.{Keeps, OnDone}
 use Rattle.law_family.specs.law_rows.proofs.Keeping.{fixed_length, row_keeps}
 use Rattle.mc_machine.proofs.SoundChains.{SameLengths, sizes_changed}
 use Rattle.mc_check.proofs.RowFacts.{RowsAreCalm}
@@ -79,10 +79,7 @@ limited_still map now same limited = λ name a there.
 
 -- the static segment of a frame lies below the dynamic one
 pub fixed_low : (map : List (List ℕ × App)) (f : Frame) → AreLimited map → IsSoundFrame map f → length f.fixed ≤ dynamic_base
-fixed_low map f limited s =
-    let long = s.fixed in
-    let low = limited_by map f.name (lookup map f.name) limited refl in
-    omega (arith, long, low)
+fixed_low map f limited s = grind (arith, limited_by)
 
 -- ---- chains whose frames of the code are at facts
 
@@ -108,9 +105,7 @@ held_still code session map n changes (f ∷ fs) all = (λ has. all.0 (code_back
 
 -- a property of a frame that does not exit, under a premise
 going_under : (t : Then) (P Q : Type 0) → (P → OnGoing t Q) → OnGoing t (P → Q)
-going_under Goes P Q h = h
-going_under Exits P Q h = tt
-going_under (Delegates n) P Q h = h
+going_under t h h2 h3 = grind arith
 
 -- ---- what follows
 
@@ -169,9 +164,7 @@ module _ (code : List ℕ) (session most : ℕ) (accepts : Accepts code session 
   exited_held ch (f ∷ fs) limited whole all = record { limited = limited; whole = whole; frame = all.0; below = all.1 }
 
   follows_held : (ch : Chain) (t : Then) → AreLimited ch.map → IsWholePublic ch.public → OnGoing t (StandsIfRunning code session ch.map ch.frame) → AllByRecursion (StandsIfRunning code session ch.map) ch.below → OnFollows (follows ch t) (IsHeldChain code session)
-  follows_held ch Goes limited whole frame below = record { limited = limited; whole = whole; frame = frame; below = below }
-  follows_held ch Exits limited whole frame below = exited_held ch ch.below limited whole below
-  follows_held ch (Delegates n) limited whole frame below = called_held ch n (lookup ch.map n) refl (record { limited = limited; whole = whole; frame = frame; below = below })
+  follows_held ch t limited whole frame below = grind (arith, exited_held, called_held)
 
 -- ---- the end of a turn
 
@@ -184,20 +177,13 @@ exited_calm ch [] = ends_calm (nat_lt 1024 (la_of ch.public)) _ _ refl refl
 exited_calm ch (f ∷ fs) = refl
 
 follows_calm : (ch : Chain) (t : Then) → ends_excluded (end_of (follows ch t)) ≡ false
-follows_calm ch Goes = refl
-follows_calm ch Exits = exited_calm ch ch.below
-follows_calm ch (Delegates n) = refl
+follows_calm ch t = grind (arith, exited_calm)
 
 reported_low : (session most : ℕ) (old new : Frame) (next : Follows) → IsLow session most old → IsLow session most new → IsLow session most (reported_frame old new next)
-reported_low session most old new (Continues ch) before after = after
-reported_low session most old new (Ends (Reply b sw)) before after = after
-reported_low session most old new (Ends (Abended cause)) before after = before
+reported_low session most old new next before after = grind arith
 
 row_turn_calm : (code : List ℕ) (session most : ℕ) (ch : Chain) (i : Ins) (r : RowEnd) → IsLow session most ch.frame → RowCalm code session most r → IsCalm session most (row_turn ch i r).turn
-row_turn_calm code session most ch i (Abends cause) low calm = record { end = calm; dt = low }
-row_turn_calm code session most ch i (Does d) low calm =
-    let next = follows (chain_after_effect ch d.effect) d.next in
-    record { end = follows_calm (chain_after_effect ch d.effect) d.next; dt = reported_low session most ch.frame d.effect.frame next low calm.dt }
+row_turn_calm code session most ch i r low calm = grind (arith, follows_calm, reported_low)
 
 -- ---- turns
 
@@ -216,18 +202,12 @@ fixed_stays ch next (Abends cause) limited sound keeps = tt
 fixed_stays ch next (Does d) limited sound keeps = subst (λ (n : ℕ). n ≤ dynamic_base) (sym (fixed_length (frame_at ch.frame next) ch.public d.effect keeps sound.0.pieces)) (fixed_low ch.map ch.frame limited sound.0)
 
 settled_limited : (ch : Chain) (next : ℕ) (e : Effect) → AreLimited ch.map → IsSoundChain ch → Keeps (frame_at ch.frame next) ch.public e → AreLimited (chain_after_effect ch e).map
-settled_limited ch next e limited sound keeps =
-    let stands = sound.0 in
-    let within : ChangeWithin (length (app_of ch.map (Some ch.frame.name)).fixed) e.changes = subst (λ (n : ℕ). ChangeWithin n e.changes) stands.fixed (keeps.changes stands.pieces) in
-    limited_still ch.map (chain_after_effect ch e).map (sizes_changed ch.map ch.frame.name e.changes within) limited
+settled_limited ch next e limited sound keeps = grind (arith, limited_still, sizes_changed)
 
 module _ (code : List ℕ) (session most : ℕ) (accepts : Accepts code session most) (bases : HasBases code) where
   -- the frame after an instruction, if it runs the code
   frame_held : (ch : Chain) (next : ℕ) (d : Done) → Keeps (frame_at ch.frame next) ch.public d.effect → (HasCode code session ch.map ch.frame.name → DoneCalm code session most d) → OnGoing d.next (StandsIfRunning code session (chain_after_effect ch d.effect).map d.effect.frame)
-  frame_held ch next d keeps calm =
-      let back : HasCode code session (chain_after_effect ch d.effect).map d.effect.frame.name → HasCode code session ch.map ch.frame.name =
-      λ has. code_back code session ch.map ch.frame.name d.effect.changes ch.frame.name (subst (λ (n : List ℕ). HasCode code session (chain_after_effect ch d.effect).map n) keeps.name has) in
-      going_under d.next (HasCode code session (chain_after_effect ch d.effect).map d.effect.frame.name) (IsStanding code session d.effect.frame) (λ has. (calm (back has)).stands)
+  frame_held ch next d keeps calm = grind (arith, code, session, code_back, going_under, IsStanding)
 
   row_turn_held : (ch : Chain) (i : Ins) (next : ℕ) (r : RowEnd) → IsSoundChain ch → IsHeldChain code session ch → OnDone r (λ d. Keeps (frame_at ch.frame next) ch.public d.effect) → RowGrows ch.public r → (HasCode code session ch.map ch.frame.name → RowCalm code session most r) → OnFollows (row_turn ch i r).follows (IsHeldChain code session)
   row_turn_held ch i next (Abends cause) sound held keeps grows calm = tt
@@ -240,9 +220,7 @@ module _ (code : List ℕ) (session most : ℕ) (accepts : Accepts code session 
   module _ (short : length code ≤ most_code) (bytes : AllByRecursion (λ b. b < 256) code) (facts : RowsAreCalm) where
     -- the code that a frame fetches from, if it runs this code
     fetches : (ch : Chain) (r : Result (Ins × ℕ) DecodeFault) → HasCode code session ch.map ch.frame.name → instruction_at (code_in (lookup ch.map ch.frame.name)) ch.frame.at ≡ r → instruction_at code ch.frame.at ≡ r
-    fetches ch r has is =
-        let same : code_in (lookup ch.map ch.frame.name) ≡ code = ap code_in has.there ∙ has.code in
-        ap (λ (c : List ℕ). instruction_at c ch.frame.at) (sym same) ∙ is
+    fetches ch r has is = grind (arith, code)
 
     row_here : (ch : Chain) (i : Ins) (next : ℕ) → IsSoundChain ch → IsHeldChain code session ch → HasCode code session ch.map ch.frame.name → instruction_at code ch.frame.at ≡ Ok (i, next) → RowCalm code session most (row i (frame_at ch.frame next) ch.public (around ch))
     row_here ch i next sound held has is =

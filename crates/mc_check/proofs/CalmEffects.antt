@@ -31,10 +31,7 @@ on_top false n m h few is = absurd (cc is)
 
 -- the value of a bit operation is as long as its operand
 manipulated_short : (a b c : Bool) (v mask : List ℕ) (n : ℕ) → length v ≤ n → length (cond a (and_blocks v (not_block mask)) (cond b (or_blocks v mask) (cond c (xor_blocks v mask) v))) ≤ n
-manipulated_short true b c v mask n few = each_short _ v _ n few
-manipulated_short false true c v mask n few = each_short _ v _ n few
-manipulated_short false false true v mask n few = each_short _ v _ n few
-manipulated_short false false false v mask n few = few
+manipulated_short a b c v mask n few = grind (arith, each_short)
 
 -- the code address after a row that is no call and no return
 abbrev pub place_after : Ins → Frame → ℕ

@@ -1,18 +1,18 @@
 -- Returns of accepted code: none abends, and the frame goes on after the call that was open last, with the LB of its
 -- routine.
-use Rattle.std.proofs.Common.{◌≡◌, ℕ, ◌+◌, ◌-◌, ◌≤◌, ◌<◌, Bool, true, false, List, length, take, drop, Option, Some, None, refl, sym, ap, subst, ◌∙◌, inl, inr, arith}
-use Rattle.std.specs.Prelude.{◌&&◌, ◌||◌, not, nat_lt, nat_le, is_some}
+use Rattle.std.proofs.Common.{◌≡◌, ℕ, ◌+◌, ◌-◌, ◌≤◌, ◌<◌, true, false, List, length, take, drop, Option, Some, None, refl, sym, ap, subst, ◌∙◌, inl, inr, arith}
+use Rattle.std.specs.Prelude.{is_some}
 use Rattle.std.proofs.lemmas.Bool.{and_parts, and_from, ltb-true, lt-ltb, le-leb, cases_lt, not_from_true}
 use Rattle.std.proofs.lemmas.List.{length-take, length-drop, drop-drop}
 use Rattle.law_family.specs.model_text.specs.declared.checker.CheckCause.TheVariants.{Under}
 use Rattle.law_family.specs.model_machine.specs.declared.instruction.Ins.{Ins}
 use Rattle.law_family.specs.model_machine.specs.declared.instruction.Ins.TheVariants as ins
 use Rattle.law_family.specs.model_device.specs.Bytes.{bytes2, num, splice}
-use Rattle.law_family.specs.model_machine.specs.Frame.{Frame, dynamic_base, floor, top, saved_address, no_return, come_back}
+use Rattle.law_family.specs.model_machine.specs.Frame.{Frame, dynamic_base, top, saved_address, no_return, come_back}
 use Rattle.law_family.specs.model_machine.specs.Primitives.{Around, effect_and_next, frame_effect}
 use Rattle.law_family.specs.model_machine.specs.Row.{causes, effect, first_cause, return_causes, no_place}
 use Rattle.law_family.specs.model_machine.specs.Chain.{frame_at}
-use Rattle.model_stack.specs.StackRows.{need, counts, goes_on, jump_target, call_target, target_inside, call_inside, places_inside}
+use Rattle.model_stack.specs.StackRows.{need, counts, call_target, places_inside}
 use Rattle.model_stack.specs.StackShape.{Routine, At, fact, Reached, returns, Gives, ReturnsWith, Accepts}
 use Rattle.mc_check.specs.Standing.{StandsAt, OpenCalls, none, call}
 use Rattle.mc_check.proofs.AcceptedFacts.{GoodAt, good_at, HasStackRoom, HasBases, room_at}
@@ -45,10 +45,7 @@ returning i c e = absurd (cc e)
 
 -- the place after a call lies in the code
 pub behind_call : (len : ℕ) (j : Ins) (q after : ℕ) → call_target j ≡ Some q → places_inside len j after ≡ true → after < len
-behind_call len j q after target inside =
-    let first : ((not (goes_on j) || nat_lt after len) && target_inside len (jump_target j after)) ≡ true = (and_parts _ (call_inside len (call_target j)) inside).0 in
-    let next : (not (goes_on j) || nat_lt after len) ≡ true = (and_parts _ (target_inside len (jump_target j after)) first).0 in
-    ltb-true after len (subst (λ (b : Bool). (not b || nat_lt after len) ≡ true) (call_goes_on j q target) next)
+behind_call len j q after target inside = grind (arith, and_parts, ltb-true, call_goes_on)
 
 -- ---- numbers of a return
 
@@ -104,27 +101,16 @@ module _ (code : List ℕ) (session most : ℕ) (accepts : Accepts code session 
       base_low = let fits = room.stack in omega (arith, fits)
 
       old_lb : saved_address f 4 ≡ dynamic_base + session + b
-      old_lb =
-          let lb = s.lb in
-          read_back f session (b + k) 4 (dynamic_base + session + b) (omega (arith, lb)) (subst (λ (l : List ℕ). take 2 (drop (b + k) l) ≡ bytes2 (dynamic_base + session + b)) same lb_word) (omega (arith, base_low))
+      old_lb = grind (arith, read_back, base_low)
 
       inside : after < length code
       inside = behind_call (length code) j q after target call_good.inside
 
       old_at : saved_address f 2 ≡ after
-      old_at =
-          let lb = s.lb in
-          read_back f session (b + k + 2) 2 after (omega (arith, lb)) (subst (λ (l : List ℕ). take 2 (drop (b + k + 2) l) ≡ bytes2 after) same at_word) (omega (arith, inside, short))
+      old_at = grind (arith, read_back, inside)
 
       back_calm : first_cause (return_causes (frame_at f next) less more) ≡ None
-      back_calm =
-          let size = s.session in
-          let lb = s.lb in
-          let dt = s.dt in
-          let low : nat_le (floor f + 4 + less) f.lb ≡ true = le-leb _ _ (omega (arith, size, lb, fewer)) in
-          let high : nat_le (f.lb + more) f.dt ≡ true = le-leb _ _ (omega (arith, dt, enough)) in
-          let place : nat_lt (saved_address f 2) f.code_len ≡ true = lt-ltb _ _ (subst (λ (n : ℕ). saved_address f 2 < n) (sym s.code_len) (subst (λ (n : ℕ). n < length code) (sym old_at) inside)) in
-          no_cause (frame_at f next) less more (not_from_true _ (and_from _ _ low high)) (not_from_true _ place)
+      back_calm = grind (arith, le-leb, fewer, enough, lt-ltb, old_at, inside, no_cause, not_from_true, and_from)
 
       moved : ℕ
       moved = f.lb - 4 - less - dynamic_base

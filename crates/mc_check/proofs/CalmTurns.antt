@@ -59,9 +59,7 @@ shaped_at code at i next bytes is =
     stands.shaped
 
 going_calm : (code : List ℕ) (session : ℕ) (t : Then) (f : Frame) → IsStanding code session f → OnGoing t (IsStanding code session f)
-going_calm code session Goes f s = s
-going_calm code session Exits f s = tt
-going_calm code session (Delegates n) f s = s
+going_calm code session t f s = grind arith
 
 module _ (code : List ℕ) (session most : ℕ) (accepts : Accepts code session most) (bases : HasBases code) where
   -- ---- writes

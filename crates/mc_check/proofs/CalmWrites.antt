@@ -99,13 +99,7 @@ pub data MissesCalls (low base a n : ℕ) : Type 0 where
 
 spliced_calls : (f : Frame) (h a : ℕ) (b : List ℕ) → IsRoomy f h → dynamic_base ≤ a → a + length b ≤ dynamic_end → MissesCalls (floor f) f.lb a (length b)
     → take (f.lb - floor f) (drop f.session (splice f.dyn (a - dynamic_base) b)) ≡ calls_of f
-spliced_calls f h a b r from to (session behind) =
-    ap (take (f.lb - floor f)) (rest_splice f.dyn f.session (a - dynamic_base) b (omega arith) (omega (arith, r.dyn)))
-spliced_calls f h a b r from to (stack before) =
-    middle_splice f.dyn f.session (f.lb - floor f) (a - dynamic_base) b (omega (arith, r.low)) (omega (arith, r.dyn))
-spliced_calls f h a b r from to (none low) =
-    let nothing : f.lb - floor f ≡ 0 = omega arith in
-    ap (λ (n : ℕ). take n (drop f.session (splice f.dyn (a - dynamic_base) b))) nothing ∙ ap (λ (n : ℕ). take n (drop f.session f.dyn)) (sym nothing)
+spliced_calls f h a b r from to h7 = grind (arith, rest_splice, middle_splice)
 
 -- bytes written into the dynamic segment, DT at a place not above its end
 spliced_kept : (f : Frame) (h k dt a : ℕ) (b : List ℕ) (safe : Type 0) (public : List ℕ) → IsRoomy f h → dynamic_base ≤ a → a + length b ≤ dynamic_end → dt ≡ f.lb + k → (safe → MissesCalls (floor f) f.lb a (length b))
@@ -140,12 +134,7 @@ topped_kept f h k b safe public r few is =
 -- the place of bytes that lie in the dynamic segment
 dynamic_fits : (s d p : Bool) (a n i j k dt : ℕ) → d ≡ (nat_le dynamic_base a && nat_le (a + n) dt)
     → cond s (Some (Static j)) (cond d (Some (Dynamic (a - dynamic_base))) (cond p (Some (Public k)) None)) ≡ Some (Dynamic i) → (dynamic_base ≤ a) × (a + n ≤ dt) × (i ≡ a - dynamic_base)
-dynamic_fits true d p a n i j k dt test e = absurd (cc e)
-dynamic_fits false true p a n i j k dt test e =
-    let parts = and_parts (nat_le dynamic_base a) (nat_le (a + n) dt) (sym test) in
-    (leb-true dynamic_base a parts.0, leb-true (a + n) dt parts.1, cc e)
-dynamic_fits false false true a n i j k dt test e = absurd (cc e)
-dynamic_fits false false false a n i j k dt test e = absurd (cc e)
+dynamic_fits s d p a n i j k dt test e = grind (arith, and_parts, leb-true)
 
 static_kept : (b : Bool) (f : Frame) (h k : ℕ) (safe : Type 0) (public : List ℕ) (i : ℕ) (bytes : List ℕ) → IsRoomy f h → k ≡ h → KeepsCalls f k f.at safe (static_written b f public i bytes)
 static_kept true f h k safe public i bytes r is =

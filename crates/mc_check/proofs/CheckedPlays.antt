@@ -1,5 +1,5 @@
 -- The property that accepted code has in every run that begins well, in every turn of a play.
-use Rattle.std.proofs.Common.{ℕ, zero, suc, Bool, true, false, List, [], ◌∷◌, Option, Some, None}
+use Rattle.std.proofs.Common.{arith, ℕ, zero, suc, Bool, true, false, List, [], ◌∷◌, Option, Some, None}
 use Rattle.std.specs.Prelude.{drop}
 use Rattle.std.specs.List.{AllByRecursion}
 use Rattle.law_family.specs.model_device.proofs.ImageLemmas.{all_append}
@@ -7,11 +7,11 @@ use Rattle.law_family.specs.model_machine.specs.Apdu.{ApduParts}
 use Rattle.law_family.specs.model_device.specs.Card.{App, Card}
 use Rattle.law_family.specs.model_machine.specs.Chain.{Chain, Turn, Follows, Continues, Ends, turn_of_chain}
 use Rattle.law_family.specs.model_card.specs.Items.{card_done}
-use Rattle.law_family.specs.model_card.specs.Manager.{Selected, SessionState, Route, WrongLength, WrongClass, ToSelect, ToManager, ToApplication, route}
+use Rattle.law_family.specs.model_card.specs.Manager.{Selected, SessionState, Route, route}
 use Rattle.law_family.specs.model_play.specs.DeckGrammar.{DeckLine}
 use Rattle.law_family.specs.model_play.specs.Laws.{bytes_of}
-use Rattle.law_family.specs.model_play.specs.Play.{FailedWrite, Live, Running, Unpowered, Muted, State, BeforePower, AfterPower, is_done, first_failure, plays, start, step}
-use Rattle.law_family.specs.model_device.specs.PowerUp.{Base, OnCard, AtFault}
+use Rattle.law_family.specs.model_play.specs.Play.{FailedWrite, Live, State, BeforePower, AfterPower, is_done, first_failure, plays, start, step}
+use Rattle.law_family.specs.model_device.specs.PowerUp.{Base}
 use Rattle.law_family.specs.model_card.specs.Commands.{command}
 use Rattle.law_family.specs.Begins.{BehindDone, OnPassed, OnRouted, OnSent, OnTaken, OnLine, OnEachRun}
 use Rattle.law_family.proofs.EachRun.{each_run}
@@ -46,11 +46,7 @@ module _ (code : List ℕ) (session deepest : ℕ) where
   passed_calm m budget (Some s) a h = run_calm budget _ h
 
   routed_calm : (m : List (List ℕ × App)) (session_state : SessionState) (budget : ℕ) (r : Route) → OnRouted RunsChecked m session_state budget r → AllByRecursion Calm (turns_routed m session_state budget r)
-  routed_calm m session_state budget (ToApplication a) h = passed_calm m budget session_state.selected a h
-  routed_calm m session_state budget WrongLength h = tt
-  routed_calm m session_state budget WrongClass h = tt
-  routed_calm m session_state budget (ToSelect a) h = tt
-  routed_calm m session_state budget (ToManager a) h = tt
+  routed_calm m session_state budget r h = grind (arith, passed_calm)
 
   behind_calm : (d : Bool) (later : Type 0) (ts : List (Chain × Turn)) → (later → AllByRecursion Calm ts) → BehindDone d later → AllByRecursion Calm (turns_behind d ts)
   behind_calm true later ts more h = more h
@@ -68,10 +64,7 @@ module _ (code : List ℕ) (session deepest : ℕ) where
   -- ---- lines
 
   taken_calm : (v : Live) (b : Base) (budget : ℕ) (bs : List (List ℕ)) → OnTaken RunsChecked v b budget bs → AllByRecursion Calm (turns_taken v b budget bs)
-  taken_calm (Running session_state) (OnCard c) budget bs h = sent_calm c session_state budget bs h
-  taken_calm (Running session_state) (AtFault cause p) budget bs h = tt
-  taken_calm Unpowered b budget bs h = tt
-  taken_calm Muted b budget bs h = tt
+  taken_calm v b budget bs h = grind (arith, sent_calm)
 
   line_calm : (s : State) (bs : List (List ℕ)) → OnLine RunsChecked s bs → AllByRecursion Calm (turns_in s bs)
   line_calm (BeforePower m b a) bs h = tt

@@ -1,10 +1,9 @@
 -- Facts after CALLs: what one CALL, and all CALLs of a routine in the table, leave in the tables.
-use Rattle.std.proofs.Common.{◌≡◌, ◌⊎◌, ◌<◌, ◌≤◌, ◌+◌, ℕ, List, length, slice_get, Option, Some, Result, OnOk, Ok, Err, sym, ap, ap₂, ◌∙◌, subst, inl, inr, arith}
+use Rattle.std.proofs.Common.{◌≡◌, ◌⊎◌, ◌<◌, ◌≤◌, ◌+◌, ℕ, List, length, slice_get, Option, Some, Result, OnOk, Ok, Err, sym, ap₂, ◌∙◌, subst, inl, inr, arith}
 use Rattle.std.proofs.lemmas.Bool.{cases_eq}
 use Rattle.std.proofs.lemmas.Option.{slice_get_within}
-use Rattle.law_family.specs.model_machine.specs.declared.instruction.Ins.{Ins}
 use Rattle.model_stack.specs.StackRows.{counts, call_target}
-use Rattle.model_stack.specs.StackShape.{Routine, At, Fact, Stands, look, Reached}
+use Rattle.model_stack.specs.StackShape.{Routine, At, Fact, Reached}
 use Rattle.mc_check.specs.declared.table.Entry.{Entry}
 use Rattle.mc_check.specs.declared.shape.Counts.{Counts as Pair}
 use Rattle.mc_check.specs.declared.closing.Found.{Found}
@@ -49,18 +48,11 @@ module _ (code : List ℕ) (t t' : List (Option Entry)) (place routine : ℕ) (c
   found_is f m at_f = found_same place e found at is ∙ sym (in_alike t f (fact_of place e) m (in_at t place e here) at_f)
 
   pub back_at : ComesBack t' (found_fact found) found.seen.next c.less c.more → (f : Fact) → IsIn t f → f.place ≡ place → ComesBackFrom code t' routine c f
-  back_at comes f m at_f i next stands call =
-      let same = found_is f m at_f in
-      let both : Stands found.seen.ins found.seen.next ≡ Stands i next = sym there.stands ∙ ap (λ (g : Fact). look code g) same ∙ stands in
-      let next_same : found.seen.next ≡ next = cc both in
-      subst (λ (n : ℕ). ComesBack t' f n c.less c.more) next_same (subst (λ (g : Fact). ComesBack t' g found.seen.next c.less c.more) same comes)
+  back_at comes f m at_f i next stands call = grind (arith, found_is)
 
   -- the instruction at the place is no CALL of the routine
   pub back_not : (call_target found.seen.ins ≡ Some routine → ⊥) → (f : Fact) → IsIn t f → f.place ≡ place → ComesBackFrom code t' routine c f
-  back_not other f m at_f i next stands call =
-      let both : Stands found.seen.ins found.seen.next ≡ Stands i next = sym there.stands ∙ ap (λ (g : Fact). look code g) (found_is f m at_f) ∙ stands in
-      let same : found.seen.ins ≡ i = cc both in
-      absurd (other (ap (λ (x : Ins). call_target x) same ∙ call))
+  back_not other f m at_f i next stands call = grind (arith, found_is)
 
 -- ---- the CALLs of a routine below a place
 
@@ -93,6 +85,4 @@ pair_same a b h = cc
 
 pub back_known : (old new : Tables) (f : Fact) (next routine : ℕ) (c : Pair) → slice_get old.counts routine ≡ Some (Some c) → AddsFacts old new → ComesBack new.table f next c.less c.more
     → (d : Pair) → slice_get new.counts routine ≡ Some (Some d) → ComesBack new.table f next d.less d.more
-back_known old new f next routine c known adds comes d there =
-    let same : c ≡ d = pair_same c d (sym known ∙ sym (ap (λ (cs : List (Option Pair)). slice_get cs routine) adds.counts) ∙ there) in
-    subst (λ (x : Pair). ComesBack new.table f next x.less x.more) same comes
+back_known old new f next routine c known adds comes d there = grind (arith, pair_same)

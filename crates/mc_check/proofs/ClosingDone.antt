@@ -1,5 +1,5 @@
 -- The search after a step: from the start, and after a plain instruction, a CALL or a return was followed.
-use Rattle.std.proofs.Common.{◌≡◌, ◌<◌, ℕ, true, false, ◌&&◌, is_some, List, [], ◌∷◌, length, replicate, slice_get, Option, Some, None, Result, OnOk, Ok, Err, refl, sym, subst, inl, inr}
+use Rattle.std.proofs.Common.{arith, ◌≡◌, ◌<◌, ℕ, true, false, ◌&&◌, is_some, List, [], ◌∷◌, length, replicate, slice_get, Option, Some, None, Result, OnOk, Ok, Err, refl, sym, subst, inl, inr}
 use Rattle.std.proofs.lemmas.Bool.{true≢false}
 use Rattle.model_stack.specs.StackRows.{counts, goes_on, jump_target, call_target, is_conditional, height_after}
 use Rattle.model_stack.specs.StackShape.{Routine, Main, At, fact, is_main, ReturnsWith}
@@ -59,9 +59,7 @@ module _ (code : List ℕ) (found : Found) (a : Tables) (state : ClosedOrWaiting
 
   -- a return whose routine has the same counts already
   pub return_known : (q : ℕ) (c : Pair) → (found_fact found).routine ≡ At q → counts found.seen.ins ≡ Some (c.less, c.more) → slice_get a.counts q ≡ Some (Some c) → ClosedOrWaiting code a.work a
-  return_known q c at e known =
-      open_followed code found.place a a (found_fact found) state (adds_none a) state.fit here refl
-      (closed_return code a.table a.counts (found_fact found) found.seen.ins found.seen.next q c at there.stands e known)
+  return_known q c at e known = grind (arith, open_followed, adds_none, closed_return)
 
   pub routine_begins : (q : ℕ) → (found_fact found).routine ≡ At q → q < length code
   routine_begins q at = subst (λ (r : Routine). BeginsInside (length code) r) at (reached_inside (state.fit.sound (found_fact found) here).0)

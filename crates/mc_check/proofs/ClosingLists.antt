@@ -1,5 +1,5 @@
 -- Lists under the search for all facts: an empty table, the places that wait, and the places that are free.
-use Rattle.std.proofs.Common.{◌≡◌, ◌⊎◌, ◌<◌, ◌+◌, ℕ, zero, suc, List, [], ◌∷◌, ◌++◌, length, set, slice_get, replicate, Option, Some, None, refl, sym, ap, ◌∙◌, inl, inr, arith}
+use Rattle.std.proofs.Common.{◌≡◌, ◌⊎◌, ◌<◌, ◌+◌, ℕ, zero, suc, List, [], ◌∷◌, ◌++◌, length, set, slice_get, replicate, Option, Some, None, refl, inl, inr, arith}
 use Rattle.std.proofs.lemmas.Bool.{cases_eq}
 use Rattle.model_stack.specs.StackShape.{Fact}
 use Rattle.mc_check.specs.declared.table.Entry.{Entry}
@@ -46,28 +46,17 @@ in_at t place e h = (e, h, refl)
 
 -- the table has one fact a place
 pub in_alike : (t : List (Option Entry)) (f g : Fact) → IsIn t f → IsIn t g → f.place ≡ g.place → f ≡ g
-in_alike t f g a b h =
-    let there : slice_get t f.place ≡ slice_get t g.place = ap (λ (p : ℕ). slice_get t p) h in
-    let same : a.0 ≡ b.0 = cc (a.1, b.1, there) in
-    sym a.2 ∙ ap (λ (e : Entry). fact_of f.place e) same ∙ ap (λ (p : ℕ). fact_of p b.0) h ∙ b.2
+in_alike t f g a b h = grind arith
 
 pub in_empty : (n : ℕ) (f : Fact) → IsIn (replicate n None) f → ⊥
-in_empty n f a =
-    let same : None ≡ Some a.0 = get_replicated n f.place None (Some a.0) a.1 in
-    cc same
+in_empty n f a = grind (arith, get_replicated)
 
 module _ (t : List (Option Entry)) (place : ℕ) (e : Entry) (free_there : slice_get t place ≡ Some None) (inside : place < length t) where
   pub in_written_there : IsIn (set t place (Some e)) (fact_of place e)
   in_written_there = (e, get_set_same t place (Some e) inside, refl)
 
   pub in_written_before : (f : Fact) → IsIn t f → IsIn (set t place (Some e)) f
-  in_written_before f a =
-      let beside : f.place ≡ place → ⊥ = λ same. let there : slice_get t f.place ≡ slice_get t place = ap (λ (p : ℕ). slice_get t p) same in cc (a.1, there, free_there) in
-      (a.0, get_set_other t place f.place (Some e) beside ∙ a.1, a.2)
+  in_written_before f a = grind (arith, get_set_other)
 
   pub in_written : (f : Fact) → IsIn (set t place (Some e)) f → (f ≡ fact_of place e) ⊎ IsIn t f
-  in_written f a =
-      elim (cases_eq f.place place) [
-        | inl same ↦ inl (in_alike (set t place (Some e)) f (fact_of place e) a in_written_there same)
-        | inr beside ↦ inr (a.0, sym (get_set_other t place f.place (Some e) beside) ∙ a.1, a.2)
-      ]
+  in_written f a = grind (arith, cases_eq, in_alike, in_written_there, get_set_other)

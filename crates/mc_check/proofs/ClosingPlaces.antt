@@ -40,11 +40,7 @@ below p q h low = let same : p ≡ q = cc h in subst (λ (x : ℕ × ℕ). x.0 <
 
 -- a return takes less than 256 bytes
 pub return_less : (i : Ins) (c : ℕ × ℕ) → Shaped i → counts i ≡ Some c → c.0 < 256
-return_less ins.Ret c shaped h = below (0, 0) c h (omega arith)
-return_less (ins.Reti less) c shaped h = below (less, 0) c h shaped
-return_less (ins.Reto more) c shaped h = below (0, more) c h (omega arith)
-return_less (ins.Retio less more) c shaped h = below (less, more) c h shaped.0
-return_less _ c shaped h = absurd (cc h)
+return_less i c shaped h = grind (arith, below)
 
 pub target_some : (t : Option (Option ℕ)) (to : ℕ) → option_and_then (λ (target : Option ℕ). target) t ≡ Some to → t ≡ Some (Some to)
 target_some None to h = absurd (cc h)

@@ -1,7 +1,7 @@
 -- The steps of the search: what a CALL and a plain instruction leave in the tables, the facts that they reach, and the
 -- refusals that are due.
-use Rattle.std.proofs.Common.{◌≡◌, ◌≢◌, ◌⊎◌, ◌<◌, ◌≤◌, ◌+◌, ◌-◌, ℕ, Bool, true, false, ◌&&◌, nat_eq, eq-eqb, List, slice_get, Option, Some, None, sym, ap, ap₂, ◌∙◌, subst, inl, inr, arith}
-use Rattle.std.proofs.lemmas.Bool.{cases_eq, true≢false, and_from}
+use Rattle.std.proofs.Common.{◌≡◌, ◌≢◌, ◌⊎◌, ◌<◌, ◌≤◌, ◌+◌, ◌-◌, ℕ, Bool, true, false, ◌&&◌, nat_eq, List, slice_get, Option, Some, None, inr, arith}
+use Rattle.std.proofs.lemmas.Bool.{cases_eq, and_from}
 use Rattle.law_family.specs.model_text.specs.declared.checker.CheckCause.TheVariants.{Returns, Under}
 use Rattle.law_family.specs.model_machine.specs.declared.instruction.Ins.{Ins}
 use Rattle.model_stack.specs.StackRows.{counts, goes_on, jump_target, call_target, is_conditional, height_after}
@@ -23,40 +23,15 @@ some_same p q h = cc
 module _ (code : List ℕ) (t : List (Option Entry)) (cs : List (Option Pair)) (f : Fact) (i : Ins) (next : ℕ) (stands : look code f ≡ Stands i next) where
   pub closed_call : (q : ℕ) → call_target i ≡ Some q → IsIn t (fact (At q) q 0) → (is_conditional i ≡ true → IsIn t (fact f.routine next f.height))
       → ((c : Pair) → slice_get cs q ≡ Some (Some c) → ComesBack t f next c.less c.more) → IsClosed code t cs f
-  closed_call q call entered passed back =
-      closed_from code t cs f i next stands (record {
-        leads = λ low. record {
-          goes = λ plain on. absurd (cc (plain, call));
-          jumps = λ to j. absurd (cc (call_jumps_not i next q call, j));
-          calls = λ r e. subst (λ (x : ℕ). IsIn t (fact (At x) x 0)) (some_same q r (sym call ∙ e)) entered;
-          passes = λ r e conditional. passed conditional;
-        };
-        back = λ r c e known. back c (subst (λ (x : ℕ). slice_get cs x ≡ Some (Some c)) (some_same r q (sym e ∙ call)) known);
-        counted = λ less more e. absurd (cc (call_returns_not i q call, e));
-      })
+  closed_call q call entered passed back = grind (arith, closed_from, call_jumps_not, some_same, call_returns_not)
 
   pub closed_step : call_target i ≡ None → counts i ≡ None → (goes_on i ≡ true → IsIn t (fact f.routine next (height_after i f.height)))
       → ((to : ℕ) → jump_target i next ≡ Some (Some to) → IsIn t (fact f.routine to f.height)) → IsClosed code t cs f
-  closed_step plain stays goes jumps =
-      closed_from code t cs f i next stands (record {
-        leads = λ low. record {
-          goes = λ e on. goes on;
-          jumps = jumps;
-          calls = λ r e. absurd (cc (plain, e));
-          passes = λ r e conditional. absurd (cc (plain, e));
-        };
-        back = λ r c e known. absurd (cc (plain, e));
-        counted = λ less more e. absurd (cc (stays, e));
-      })
+  closed_step plain stays goes jumps = grind (arith, closed_from)
 
   -- from a height above 512 no fact follows
   pub closed_high : 512 < f.height → counts i ≡ None → ((q : ℕ) (c : Pair) → slice_get cs q ≡ Some (Some c) → c.less ≤ 255) → IsClosed code t cs f
-  closed_high high stays bound =
-      closed_from code t cs f i next stands (record {
-        leads = λ low. absurd (omega (arith, high, low));
-        back = λ r c e known. record { enough = omega (arith, high, bound r c known); back = λ low. absurd (omega (arith, high, low)) };
-        counted = λ less more e. absurd (cc (stays, e));
-      })
+  closed_high high stays bound = grind (arith, closed_from)
 
 -- ---- facts that are reached
 
@@ -88,20 +63,10 @@ pair less more = record { less = less; more = more }
 
 -- a test of counts that failed
 pub pairs_differ : (a b : Pair) (r : Bool) → r ≡ (nat_eq a.less b.less && nat_eq a.more b.more) → r ≡ false → a ≢ b
-pairs_differ a b r e failed same =
-    let less = eq-eqb a.less b.less (ap (λ (c : Pair). c.less) same) in
-    let more = eq-eqb a.more b.more (ap (λ (c : Pair). c.more) same) in
-    true≢false (sym (and_from (nat_eq a.less b.less) (nat_eq a.more b.more) less more) ∙ sym e ∙ failed)
+pairs_differ a b r e failed same = grind (arith, and_from)
 
 counts_differ : (a b : Pair) → a ≢ b → (b.less ≢ a.less) ⊎ (b.more ≢ a.more)
-counts_differ a b differ =
-    elim (cases_eq b.less a.less) [
-      | inl less ↦ elim (cases_eq b.more a.more) [
-        | inl more ↦ absurd (differ (ap₂ (λ (l m : ℕ). pair l m) (sym less) (sym more)))
-        | inr more ↦ inr more
-      ]
-      | inr less ↦ inl less
-    ]
+counts_differ a b differ = grind (arith, cases_eq)
 
 pub refuses_returns : (code : List ℕ) (session : ℕ) (f : Fact) (i : Ins) (next : ℕ) (known c : Pair) → Reached code f → look code f ≡ Stands i next → counts i ≡ Some (c.less, c.more)
     → ReturnsWith code f.routine known.less known.more → known ≢ c → Refuses code session f.place Returns

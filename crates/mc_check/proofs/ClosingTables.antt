@@ -1,7 +1,7 @@
 -- The tables of the search: what stays true of them when facts come in, when a fact was followed, and when a routine
 -- gets its counts.
 use Rattle.std.proofs.Common.{◌≡◌, ◌⊎◌, ◌<◌, ℕ, List, [], ◌∷◌, ◌++◌, length, set, slice_get, Option, Some, None, refl, sym, ap, ◌∙◌, subst, inl, inr, arith, length-set, length-append}
-use Rattle.std.proofs.lemmas.Bool.{cases_eq, true≢false}
+use Rattle.std.proofs.lemmas.Bool.{cases_eq}
 use Rattle.law_family.specs.model_machine.specs.declared.instruction.Ins.{Ins}
 use Rattle.model_stack.specs.StackRows.{counts}
 use Rattle.model_stack.specs.StackShape.{Routine, Main, At, Fact, fact, Stands, look, Reached}
@@ -19,16 +19,7 @@ pub adds_none : (s : Tables) → AddsFacts s s
 adds_none s = record { kept = λ f m. m; counts = refl; waiting = λ p m. m; fresh = λ f m. inl m; left = omega arith }
 
 pub adds_then : (a b c : Tables) → AddsFacts a b → AddsFacts b c → AddsFacts a c
-adds_then a b c first second = record {
-  kept = λ f m. second.kept f (first.kept f m);
-  counts = second.counts ∙ first.counts;
-  waiting = λ p m. second.waiting p (first.waiting p m);
-  fresh = λ f m. elim (second.fresh f m) [
-    | inl before ↦ elim (first.fresh f before) [ inl old ↦ inl old | inr waits ↦ inr (second.waiting f.place waits) ]
-    | inr waits ↦ inr waits
-  ];
-  left = omega (arith, first.left, second.left);
-}
+adds_then a b c first second = grind arith
 
 -- the tables with one more fact, which waits
 abbrev pub put : Tables → ℕ → Entry → Tables
@@ -58,11 +49,7 @@ module _ (code : List ℕ) (s : Tables) (place : ℕ) (e : Entry) (free_there : 
       ]
 
   put_places : (p : ℕ) → IsAmong (s.work ++ place ∷ []) p → p < length code
-  put_places p m =
-      elim (among_taken s.work place p m) [
-        | inl same ↦ subst (λ (q : ℕ). q < length code) same inside
-        | inr before ↦ fit.places p before
-      ]
+  put_places p m = grind (arith, among_taken)
 
   pub put_fits : Reached code (fact_of place e) → IsGoodFact code (fact_of place e) → IsFit code (put s place e)
   put_fits reached good = record {
@@ -100,31 +87,14 @@ closed_kept : (code : List ℕ) (old new : Tables) (f : Fact) → AddsFacts old 
 closed_kept code old new f adds closed i next h = followed_kept old new f i next adds (closed i next h)
 
 pub closed_from : (code : List ℕ) (t : List (Option Entry)) (cs : List (Option Pair)) (f : Fact) (i : Ins) (next : ℕ) → look code f ≡ Stands i next → IsFollowed t cs f i next → IsClosed code t cs f
-closed_from code t cs f i next h followed i' next' h' =
-    let both : Stands i next ≡ Stands i' next' = sym h ∙ h' in
-    let same : i ≡ i' = cc both in
-    let next_same : next ≡ next' = cc both in
-    subst (λ (n : ℕ). IsFollowed t cs f i' n) next_same (subst (λ (x : Ins). IsFollowed t cs f x next) same followed)
+closed_from code t cs f i next h followed i' next' h' = grind arith
 
 -- ---- a fact that was followed
 
 -- the fact at the place was followed, and others may have come in
 pub open_followed : (code : List ℕ) (place : ℕ) (old new : Tables) (f : Fact) → ClosedOrWaiting code (place ∷ old.work) old → AddsFacts old new → IsFit code new
     → IsIn old.table f → place ≡ f.place → IsClosed code new.table new.counts f → ClosedOrWaiting code new.work new
-open_followed code place old new f state adds fit here at closed = record {
-  fit = fit;
-  first = adds.kept (fact Main 0 0) state.first;
-  closed = λ g m. elim (adds.fresh g m) [
-    | inl before ↦ elim (state.closed g before) [
-      | inl done ↦ inl (closed_kept code old new g adds done)
-      | inr waits ↦ elim waits [
-        | inl same ↦ inl (subst (λ (x : Fact). IsClosed code new.table new.counts x) (in_alike old.table f g here before (sym at ∙ same)) closed)
-        | inr rest ↦ inr (adds.waiting g.place rest)
-      ]
-    ]
-    | inr waits ↦ inr waits
-  ];
-}
+open_followed code place old new f state adds fit here at closed = grind (arith, closed_kept, in_alike)
 
 -- ---- the next place
 
@@ -170,18 +140,7 @@ has_pair cs q c less more there e = there ∙ ap (λ (p : ℕ × ℕ). Some (Som
 -- a return whose counts are in the tables
 pub closed_return : (code : List ℕ) (t : List (Option Entry)) (cs : List (Option Pair)) (f : Fact) (i : Ins) (next q : ℕ) (c : Pair) → f.routine ≡ At q → look code f ≡ Stands i next
     → counts i ≡ Some (c.less, c.more) → slice_get cs q ≡ Some (Some c) → IsClosed code t cs f
-closed_return code t cs f i next q c at h e there =
-    let ends = return_ends i next (c.less, c.more) e in
-    closed_from code t cs f i next h (record {
-      leads = λ low. record {
-        goes = λ plain on. absurd (true≢false (sym on ∙ ends.stops));
-        jumps = λ to j. absurd (cc (ends.jumps, j));
-        calls = λ r call. absurd (cc (ends.calls, call));
-        passes = λ r call conditional. absurd (cc (ends.calls, call));
-      };
-      back = λ r d call known. absurd (cc (ends.calls, call));
-      counted = λ less more e'. subst (λ (r : Routine). HasCounts cs r less more) (sym at) (has_pair cs q c less more there (some_same (c.less, c.more) (less, more) (sym e ∙ e')));
-    })
+closed_return code t cs f i next q c at h e there = grind (arith, return_ends, closed_from, has_pair, some_same)
 
 module _ (code : List ℕ) (s : Tables) (q : ℕ) (c : Pair) (free_there : slice_get s.counts q ≡ Some None) (inside : q < length code) (real : IsReal code q c) (fit : IsFit code s) where
   counts_there : slice_get (counted s q c).counts q ≡ Some (Some c)
@@ -192,19 +151,10 @@ module _ (code : List ℕ) (s : Tables) (q : ℕ) (c : Pair) (free_there : slice
 
   -- the counts of a routine are the new ones, or those from before
   counts_known : (r : ℕ) (d : Pair) → slice_get (counted s q c).counts r ≡ Some (Some d) → ((r ≡ q) × (c ≡ d)) ⊎ (slice_get s.counts r ≡ Some (Some d))
-  counts_known r d h =
-      elim (cases_eq r q) [
-        | inl same ↦ inl (same, let there : slice_get (counted s q c).counts r ≡ slice_get (counted s q c).counts q = ap (λ (p : ℕ). slice_get (counted s q c).counts p) same in cc (there, counts_there, h))
-        | inr beside ↦ inr (sym (counts_beside r beside) ∙ h)
-      ]
+  counts_known r d h = grind (arith, cases_eq, counts_there, counts_beside)
 
   counts_before : (r : Routine) (less more : ℕ) → HasCounts s.counts r less more → HasCounts (counted s q c).counts r less more
-  counts_before Main less more h = absurd h
-  counts_before (At r) less more h =
-      elim (cases_eq r q) [
-        | inl same ↦ let there : slice_get s.counts r ≡ slice_get s.counts q = ap (λ (p : ℕ). slice_get s.counts p) same in absurd (cc (there, free_there, h))
-        | inr beside ↦ counts_beside r beside ∙ h
-      ]
+  counts_before r less more h = grind (arith, cases_eq, counts_beside)
 
   pub counted_fits : IsFit code (counted s q c)
   counted_fits = record {

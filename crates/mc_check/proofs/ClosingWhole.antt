@@ -1,8 +1,8 @@
 -- The search at its end: no place waits, so the table has all facts.
-use Rattle.std.proofs.Common.{◌≡◌, ℕ, List, [], Option, Some, sym, ap, ◌∙◌, arith, inl, inr}
+use Rattle.std.proofs.Common.{◌≡◌, ℕ, List, [], Option, Some, arith, inl, inr}
 use Rattle.law_family.specs.model_machine.specs.declared.instruction.Ins.{Ins}
 use Rattle.model_stack.specs.StackRows.{counts}
-use Rattle.model_stack.specs.StackShape.{Routine, Main, At, Fact, fact, Stands, look, Reached, begins, goes, jumps, calls, passes, returns, IsAt, Differs, TakesMore}
+use Rattle.model_stack.specs.StackShape.{Routine, At, Fact, fact, Stands, look, Reached, begins, goes, jumps, calls, passes, returns, IsAt, Differs, TakesMore}
 use Rattle.mc_check.specs.declared.shape.Counts.{Counts as Pair}
 use Rattle.mc_check.specs.Table.{IsIn, IsWholeTable}
 use Rattle.mc_check.specs.Closing.{Tables, HasCounts, IsFollowed, IsClosed, ClosedOrWaiting}
@@ -36,10 +36,7 @@ module _ (code : List ℕ) (s : Tables) (state : ClosedOrWaiting code [] s) wher
   counts_known f back less more reached at e = (followed_at f back (all_in reached) at).2.counted less more e
 
   one_pair : (r : Routine) (less more less' more' : ℕ) → HasCounts s.counts r less more → HasCounts s.counts r less' more' → (less ≡ less') × (more ≡ more')
-  one_pair Main less more less' more' a b = absurd a
-  one_pair (At q) less more less' more' a b =
-      let same = some_same (record { less = less; more = more }) (record { less = less'; more = more' }) (sym a ∙ b) in
-      (ap (λ (c : Pair). c.less) same, ap (λ (c : Pair). c.more) same)
+  one_pair r less more less' more' a b = grind (arith, some_same)
 
   differ_not : (f : Fact) → Reached code f → Differs code f → ⊥
   differ_not f reached d =
@@ -55,10 +52,4 @@ module _ (code : List ℕ) (s : Tables) (state : ClosedOrWaiting code [] s) wher
       omega (arith, comes.enough, t.fewer)
 
   pub whole : IsWholeTable code s.table
-  whole = record {
-    size = state.fit.size;
-    sound = state.fit.sound;
-    all = λ f reached. all_in reached;
-    returns = differ_not;
-    takes = takes_not;
-  }
+  whole = grind (arith, all_in, differ_not, takes_not)

@@ -1,5 +1,5 @@
 -- The look of a fact: why a bad one is refused, and what holds of a good one.
-use Rattle.std.proofs.Common.{◌≡◌, ℕ, Bool, true, false, cond, not, ◌&&◌, nat_lt, List, length, is_some, Result, Ok, Err, refl, sym, ap, ◌∙◌, subst, inl, ltb-true}
+use Rattle.std.proofs.Common.{arith, ◌≡◌, ℕ, Bool, true, false, cond, not, ◌&&◌, nat_lt, List, length, is_some, Result, Ok, Err, refl, sym, ap, ◌∙◌, subst, inl, ltb-true}
 use Rattle.std.proofs.lemmas.Bool.{not-true, not-false}
 use Rattle.law_family.specs.model_text.specs.declared.checker.CheckCause.{CheckCause}
 use Rattle.law_family.specs.model_text.specs.declared.checker.CheckCause.TheVariants.{Undefined, Past, Indirect, Returns, Under, Target}
@@ -43,11 +43,7 @@ data FirstTestNamed (a b c d : Bool) : CheckCause → Type 0 where
   target : d ≡ true → FirstTestNamed a b c d Target
 
 chain_bad : (a b c d : Bool) (i : Ins) (next : ℕ) (cause : CheckCause) → chain a b c d (Stands i next) ≡ Bad cause → FirstTestNamed a b c d cause
-chain_bad true b c d i next cause h = subst (λ (x : CheckCause). FirstTestNamed true b c d x) (bad_same Indirect cause h) (indirect refl)
-chain_bad false true c d i next cause h = subst (λ (x : CheckCause). FirstTestNamed false true c d x) (bad_same Returns cause h) (returns refl)
-chain_bad false false true d i next cause h = subst (λ (x : CheckCause). FirstTestNamed false false true d x) (bad_same Under cause h) (under refl)
-chain_bad false false false true i next cause h = subst (λ (x : CheckCause). FirstTestNamed false false false true x) (bad_same Target cause h) (target refl)
-chain_bad false false false false i next cause h = absurd (cc h)
+chain_bad a b c d i next cause h = grind (arith, bad_same, indirect, returns, under, target)
 
 -- ---- a good fact
 
@@ -108,19 +104,7 @@ breaks code session f cause h = breaks_from code session f (instruction_at code 
 -- ---- refusals
 
 pub refuses_bad : (code : List ℕ) (session : ℕ) (f : Fact) (cause : CheckCause) → Reached code f → look code f ≡ Bad cause → Refuses code session f.place cause
-refuses_bad code session f cause reached h = record {
-  fact = f;
-  reached = reached;
-  at = refl;
-  breaks = breaks code session f cause h;
-  first = λ alone e. bad_same cause alone (sym h ∙ e);
-}
+refuses_bad code session f cause reached h = grind (arith, breaks, bad_same)
 
 pub refuses_good : (code : List ℕ) (session : ℕ) (f : Fact) (cause : CheckCause) → Reached code f → IsGoodFact code f → Breaks code session cause f → Refuses code session f.place cause
-refuses_good code session f cause reached good broken = record {
-  fact = f;
-  reached = reached;
-  at = refl;
-  breaks = broken;
-  first = λ alone e. absurd (cc (good.2, e));
-}
+refuses_good code session f cause reached good broken = grind (arith, breaks)

@@ -1,6 +1,6 @@
 -- Instructions that do not go on to the next place leave the height of the stack as it was.
-use Rattle.std.proofs.Common.{◌≡◌, ℕ, Bool, true, false, List, Option, Some, None, refl, ap, inl, inr, arith}
-use Rattle.std.specs.Prelude.{◌⊎◌, ◌&&◌, not}
+use Rattle.std.proofs.Common.{◌≡◌, ℕ, true, false, List, Option, Some, None, arith}
+use Rattle.std.specs.Prelude.{◌⊎◌}
 use Rattle.law_family.specs.model_machine.specs.declared.instruction.Ins.{Ins}
 use Rattle.law_family.specs.model_machine.specs.declared.instruction.Ins.TheVariants as ins
 use Rattle.law_family.specs.model_machine.specs.Frame.{Frame}
@@ -10,24 +10,11 @@ use Rattle.model_stack.specs.StackRows.{always_abends, goes_on, jump_target, cal
 
 -- an instruction that may be done goes on, if it is no call, or leaves the height
 pub moves : (i : Ins) (h : ℕ) → always_abends i ≡ false → ((goes_on i ≡ true) × (call_target i ≡ None)) ⊎ (height_after i h ≡ h)
-moves ins.Exit h may = inr (omega arith)
-moves (ins.Exitsw sw) h may = inr (omega arith)
-moves (ins.Exitla la) h may = inr (omega arith)
-moves (ins.Exitswla sw la) h may = inr (omega arith)
-moves (ins.Branch k d) h may = inr (omega arith)
-moves (ins.Jump k to) h may = inr (omega arith)
-moves (ins.Call k to) h may = inr (omega arith)
-moves ins.Ret h may = inr (omega arith)
-moves (ins.Reti n) h may = inr (omega arith)
-moves (ins.Reto n) h may = inr (omega arith)
-moves (ins.Retio n m) h may = inr (omega arith)
-moves i h may = inl (ap (λ (b : Bool). not b && true) may, refl)
+moves i h may = grind arith
 
 -- an instruction with a target leaves the height
 pub jump_height : (i : Ins) (next : ℕ) (t : Option ℕ) (h : ℕ) → jump_target i next ≡ Some t → height_after i h ≡ h
-jump_height (ins.Branch k d) next t h e = omega arith
-jump_height (ins.Jump k to) next t h e = omega arith
-jump_height i next t h e = absurd (cc e)
+jump_height i next t h e = grind arith
 
 -- no primitive exits
 no_exit : (p : Primitive) (args : List ℕ) (f : Frame) (public : List ℕ) (x : Around) → (prim_effect p args f public x).next ≡ Exits → ⊥

@@ -1,11 +1,11 @@
 -- The open calls of a frame: they depend on the bytes below LB alone, and they are calls of the code. And lists that
 -- have bytes spliced in.
-use Rattle.std.proofs.Common.{◌≡◌, ℕ, ◌+◌, ◌-◌, ◌≤◌, ◌<◌, true, List, ◌++◌, length, take, drop, Some, refl, sym, ap, ◌∙◌, arith}
+use Rattle.std.proofs.Common.{◌≡◌, ℕ, ◌+◌, ◌≤◌, ◌<◌, true, List, ◌++◌, length, take, drop, Some, refl, sym, ap, ◌∙◌, arith}
 use Rattle.std.proofs.lemmas.List.{length-take-le, take-take, drop-take, drop-drop, take_at, drop_at, append_assoc}
 use Rattle.law_family.specs.model_machine.specs.declared.instruction.Ins.{Ins}
 use Rattle.law_family.specs.model_machine.specs.declared.instruction.Ins.TheVariants as ins
 use Rattle.law_family.specs.model_device.specs.Bytes.{bytes2, num, splice}
-use Rattle.law_family.specs.model_machine.specs.Frame.{Frame, floor}
+use Rattle.law_family.specs.model_machine.specs.Frame.{Frame}
 use Rattle.model_stack.specs.StackRows.{call_target, is_call}
 use Rattle.model_stack.specs.StackShape.{Routine, fact, Reached, Depth, main, called}
 use Rattle.mc_check.proofs.FactLooks.{fine}
@@ -26,9 +26,7 @@ same_fewer a b xs ys fewer same = sym (take-take a b xs fewer) ∙ ap (λ (l : L
 
 -- the bytes that were spliced in are at their place
 spliced_at : (l : List ℕ) (at : ℕ) (c : List ℕ) → at ≤ length l → drop at (splice l at c) ≡ c ++ drop (at + length c) l
-spliced_at l at c fits =
-    let rest = drop (at + length c) l in
-    ap (λ (m : List ℕ). drop at m) (append_assoc (take at l) c rest) ∙ drop_at (take at l) (c ++ rest) at (length-take-le at l fits)
+spliced_at l at c fits = grind (arith, append_assoc, drop_at, length-take-le)
 
 -- b bytes from s on, all below the place
 pub spliced_above : (s b : ℕ) (l : List ℕ) (at : ℕ) (c : List ℕ) → s + b ≤ at → at ≤ length l → take b (drop s (splice l at c)) ≡ take b (drop s l)
@@ -90,8 +88,4 @@ pub record IsStanding (code : List ℕ) (session : ℕ) (f : Frame) : Type 0 whe
 
 -- the bytes below LB are those of the base
 pub calls_below : (len session base height : ℕ) (f : Frame) → StandsAt len session base height f → calls_of f ≡ take base (drop session f.dyn)
-calls_below len session base height f s =
-    let size = s.session in
-    let lb = s.lb in
-    let far : f.lb - floor f ≡ base = omega (arith, size, lb) in
-    ap (λ (n : ℕ). take n (drop f.session f.dyn)) far ∙ ap (λ (n : ℕ). take base (drop n f.dyn)) size
+calls_below len session base height f s = grind arith

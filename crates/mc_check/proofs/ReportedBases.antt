@@ -1,5 +1,5 @@
 -- The answers for a call, taken apart; and the base of a routine whose calls all have one.
-use Rattle.std.proofs.Common.{◌≡◌, ℕ, ◌+◌, ◌≤◌, List, length, Option, Some, None, refl, sym, ap, subst, ◌∙◌, arith}
+use Rattle.std.proofs.Common.{◌≡◌, ℕ, ◌+◌, ◌≤◌, List, length, Option, Some, refl, sym, ap, subst, ◌∙◌, arith}
 use Rattle.std.specs.Prelude.{slice_get}
 use Rattle.std.proofs.lemmas.Option.{slice_get_within}
 use Rattle.model_stack.specs.StackShape.{Routine, Main, At}
@@ -22,10 +22,7 @@ pub record ReportedUnseen (states : List Progress) (o : Owner) (p : ℕ) : Type 
   pub none : (x : Progress) → slice_get states p ≡ Some x → x ≡ progress.Unseen
 
 unseen_by : (c : Call) (r p : ℕ) (o : Option Progress) → answer_by_progress c r o ≡ answer.Unseen p → (r ≡ p) × ((x : Progress) → o ≡ Some x → x ≡ progress.Unseen)
-unseen_by c r p None e = (cc, λ x is. cc)
-unseen_by c r p (Some progress.Unseen) e = (cc, λ x is. cc)
-unseen_by c r p (Some progress.Open) e = cc
-unseen_by c r p (Some (progress.Done b)) e = cc
+unseen_by c r p o e = grind arith
 
 pub reported_unseen : (states : List Progress) (c : Call) (p : ℕ) (o : Owner) → answer_to_owner states c o ≡ answer.Unseen p → ReportedUnseen states o p
 reported_unseen states c p owner.Main e = cc
@@ -41,10 +38,7 @@ pub record ReportedOpen (states : List Progress) (c : Call) (o : Owner) (place :
   pub at : c.place ≡ place
 
 open_by : (c : Call) (r p : ℕ) (o : Option Progress) → answer_by_progress c r o ≡ answer.Open p → (o ≡ Some progress.Open) × (c.place ≡ p)
-open_by c r p None e = cc
-open_by c r p (Some progress.Unseen) e = cc
-open_by c r p (Some progress.Open) e = (refl, cc)
-open_by c r p (Some (progress.Done b)) e = cc
+open_by c r p o e = grind arith
 
 pub reported_open : (states : List Progress) (c : Call) (p : ℕ) (o : Owner) → answer_to_owner states c o ≡ answer.Open p → ReportedOpen states c o p
 reported_open states c p owner.Main e = cc
@@ -58,10 +52,7 @@ pub data ReportedBase (states : List Progress) (c : Call) (o : Owner) (b : ℕ) 
   by_done : (r d : ℕ) → o ≡ owner.At r → slice_get states r ≡ Some (progress.Done d) → d + c.height + 4 ≡ b → ReportedBase states c o b
 
 base_by : (c : Call) (r b : ℕ) (o : Option Progress) → answer_by_progress c r o ≡ answer.Base b → (d : ℕ) × (o ≡ Some (progress.Done d)) × (d + c.height + 4 ≡ b)
-base_by c r b None e = cc
-base_by c r b (Some progress.Unseen) e = cc
-base_by c r b (Some progress.Open) e = cc
-base_by c r b (Some (progress.Done d)) e = (d, refl, cc)
+base_by c r b o e = grind arith
 
 pub reported_base : (states : List Progress) (c : Call) (b : ℕ) (o : Owner) → answer_to_owner states c o ≡ answer.Base b → ReportedBase states c o b
 reported_base states c b owner.Main e = by_main refl (cc)

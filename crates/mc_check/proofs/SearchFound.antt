@@ -1,5 +1,5 @@
 -- The result of the search: the bases of code, or a CALL by which a routine reaches itself.
-use Rattle.std.proofs.Common.{◌≡◌, ℕ, ◌+◌, ◌<◌, ◌≤◌, List, [], length, map, get_or, replicate, Some, refl, sym, ap, subst, inl, inr, ◌∙◌, arith}
+use Rattle.std.proofs.Common.{◌≡◌, ℕ, ◌+◌, ◌<◌, ◌≤◌, List, [], length, map, get_or, replicate, Some, refl, sym, ap, subst, ◌∙◌, arith}
 use Rattle.std.specs.Prelude.{slice_get, slice_index, option_map}
 use Rattle.std.proofs.lemmas.Bool.{cases_eq}
 use Rattle.std.proofs.lemmas.List.{length-map, length-replicate, get_or-replicate}
@@ -17,7 +17,7 @@ use Rattle.mc_check.specs.declared.table.Fault.TheVariants.{NoMemory, Refused}
 use Rattle.mc_check.specs.declared.bases.Progress.{Progress}
 use Rattle.mc_check.specs.declared.bases.Progress.TheVariants as progress
 use Rattle.mc_check.specs.CallList.{IsCalled, AreClosed, AreCalls, IsBaseIn, AreBasesIn, IsRing}
-use Rattle.mc_check.specs.Searching.{is_unseen, IsSeen, StaySeen, Searches, base_of}
+use Rattle.mc_check.specs.Searching.{IsSeen, StaySeen, Searches, base_of}
 use Rattle.mc_check.proofs.Begins.{none_there}
 use Rattle.mc_check.proofs.CallReporting.{called_is_inside}
 use Rattle.mc_check.proofs.CallLemmas.{called_by, enters_of, is_base, no_recursion}
@@ -31,14 +31,7 @@ all_unseen n q x get =
     sym (get_or-replicate n q progress.Unseen x inside) ∙ get_or_from_slice_get (replicate n progress.Unseen) q x x get
 
 starts_with : (l : List Call) (n : ℕ) → Searches l (replicate n progress.Unseen) []
-starts_with l n = record {
-  called = λ k q get. absurd (none_there k q get);
-  enters = λ i j p q le first second. absurd (none_there i p first);
-  on_stack = λ q get. absurd (cc (all_unseen n q progress.Open get));
-  bases = λ q b get. absurd (cc (all_unseen n q (progress.Done b) get));
-  room = let most = count_by-le-length is_unseen (replicate n progress.Unseen) in omega arith;
-  bound = λ q b get. absurd (cc (all_unseen n q (progress.Done b) get));
-}
+starts_with l n = grind (arith, none_there, all_unseen, count_by-le-length)
 
 pub starts : (l : List Call) (states : List Progress) (n : ℕ) → states ≡ replicate n progress.Unseen → Searches l states []
 starts l states n is = subst (λ (s : List Progress). Searches l s []) (sym is) (starts_with l n)
@@ -50,19 +43,12 @@ abbrev pub SeenUpTo : List Call → List Progress → ℕ → Type 0
 SeenUpTo l states n = (k : ℕ) (c : Call) → k < n → slice_get l k ≡ Some c → IsSeen states c.target
 
 pub seen_more : (l : List Call) (states new : List Progress) (n : ℕ) (c : Call) → slice_get l n ≡ Some c → SeenUpTo l states n → StaySeen states new → IsSeen new c.target → SeenUpTo l new (n + 1)
-seen_more l states new n c there so stay this k d lt get = elim (cases_eq k n) [
-  | inl same ↦
-      let call : c ≡ d = same_Some c d (sym there ∙ subst (λ (m : ℕ). slice_get l m ≡ Some d) same get) in
-      subst (λ (x : Call). IsSeen new x.target) call this
-  | inr other ↦ stay d.target (so k d (omega arith) get)
-]
+seen_more l states new n c there so stay this k d lt get = grind (arith, cases_eq, same_Some)
 
 -- ---- the end
 
 done_by : (l : List Call) (states : List Progress) (q : ℕ) (x : Progress) → Searches l states [] → IsSeen states q → slice_get states q ≡ Some x → (b : ℕ) × (slice_get states q ≡ Some (progress.Done b))
-done_by l states q progress.Unseen so seen there = absurd (seen there)
-done_by l states q progress.Open so seen there = let on = so.on_stack q there in absurd (none_there on.0 q on.1)
-done_by l states q (progress.Done b) so seen there = (b, there)
+done_by l states q x so seen there = grind (arith, none_there)
 
 base_at : (states : List Progress) (q b : ℕ) → slice_get states q ≡ Some (progress.Done b) → slice_index (map base_of states) q ≡ b
 base_at states q b there = get_or_from_slice_get (map base_of states) q b 0 (slice_get-map base_of states q ∙ ap (option_map base_of) there)

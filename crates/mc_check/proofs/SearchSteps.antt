@@ -1,6 +1,6 @@
 -- One step of the search: the routine that was entered last is left with its base, or an unseen caller of it is
 -- entered.
-use Rattle.std.proofs.Common.{◌≡◌, ℕ, ◌+◌, ◌-◌, ◌*◌, ◌<◌, ◌≤◌, cond, List, [], ◌∷◌, ◌++◌, length, get_or, set, take, Some, refl, sym, ap, subst, inl, inr, ◌∙◌, arith}
+use Rattle.std.proofs.Common.{◌≡◌, ℕ, ◌+◌, ◌-◌, ◌*◌, ◌<◌, ◌≤◌, cond, List, [], ◌∷◌, ◌++◌, length, get_or, set, take, Some, refl, sym, ap, subst, ◌∙◌, arith}
 use Rattle.std.specs.Prelude.{slice_get}
 use Rattle.std.proofs.lemmas.Bool.{cases_eq}
 use Rattle.std.proofs.lemmas.List.{length-set, length-append, length-take}
@@ -9,7 +9,6 @@ use Rattle.std.proofs.lemmas.Option.{slice_get-get_or, slice_get_within, get_or_
 use Rattle.model_stack.specs.StackShape.{At}
 use Rattle.mc_check.specs.Table.{routine_of}
 use Rattle.mc_check.specs.declared.calls.Call.{Call}
-use Rattle.mc_check.specs.declared.table.Routine.{Routine as Owner}
 use Rattle.mc_check.specs.declared.table.Routine.TheVariants as owner
 use Rattle.mc_check.specs.declared.bases.Progress.{Progress}
 use Rattle.mc_check.specs.declared.bases.Progress.TheVariants as progress
@@ -36,31 +35,21 @@ pub data Written (states : List Progress) (p : ℕ) (x : Progress) (q : ℕ) (y 
   other : (q ≡ p → ⊥) → slice_get states q ≡ Some y → Written states p x q y
 
 pub written : (states : List Progress) (p : ℕ) (x : Progress) (q : ℕ) (y : Progress) → p < length states → slice_get (set states p x) q ≡ Some y → Written states p x q y
-written states p x q y inside get = elim (cases_eq q p) [
-  | inl same ↦ this same (same_Some x y (sym (get_set_same states p x inside) ∙ subst (λ (n : ℕ). slice_get (set states p x) n ≡ Some y) same get))
-  | inr ne ↦ other ne (sym (get_set_other states p q x ne) ∙ get)
-]
+written states p x q y inside get = grind (arith, cases_eq, this, same_Some, get_set_same, other, get_set_other)
 
 -- a written state that is not unseen leaves what was seen
 pub stay_seen : (states : List Progress) (p : ℕ) (x : Progress) → p < length states → (x ≡ progress.Unseen → ⊥) → StaySeen states (set states p x)
-stay_seen states p x inside seen q was get = elim (written states p x q progress.Unseen inside get) [
-  | this same is ↦ seen is
-  | other ne old ↦ was old
-]
+stay_seen states p x inside seen q was get = grind (arith, written, this, other)
 
 -- ---- numbers
 
 -- the bound on bases, with one unseen routine fewer and one open routine more
 pub entered_bound : (n u s m v t b : ℕ) → m ≡ n → v + 1 ≡ u → t ≡ s + 1 → u + s ≤ n → b ≤ 65539 * (n - u - s) → b ≤ 65539 * (m - v - t)
-entered_bound n u s m v t b em ev et room low =
-    let same : n - u - s ≡ m - v - t = omega arith in
-    subst (λ (k : ℕ). b ≤ 65539 * k) same low
+entered_bound n u s m v t b em ev et room low = grind arith
 
 -- the bound on bases, with one open routine fewer
 left_bound : (n u s m v t b : ℕ) → m ≡ n → v ≤ u → t + 1 ≡ s → u + s ≤ n → b ≤ 65539 * (n - u - s) + 65539 → b ≤ 65539 * (m - v - t)
-left_bound n u s m v t b em ev et room low =
-    let more : n - u - s + 1 ≤ m - v - t = omega arith in
-    omega arith
+left_bound n u s m v t b em ev et room low = grind arith
 
 left_old_bound : (n u s m v t b : ℕ) → m ≡ n → v ≤ u → t + 1 ≡ s → u + s ≤ n → b ≤ 65539 * (n - u - s) → b ≤ 65539 * (m - v - t)
 left_old_bound n u s m v t b em ev et room low = left_bound n u s m v t b em ev et room (omega arith)
@@ -144,10 +133,7 @@ module _ (states : List Progress) (l : List Call) (stack : List ℕ) (q : ℕ) (
         | other ne old ↦ so.bases r b old
       ];
       room = let len = length-set states p progress.Open in let f = fewer in let m = more in let r = so.room in omega arith;
-      bound = λ r b get. elim (written states p progress.Open r (progress.Done b) caller_inside get) [
-        | this same is ↦ absurd (cc is)
-        | other ne old ↦ entered_bound (length states) (count_of_unseen states) (length stack) _ _ _ b (length-set states p progress.Open) fewer more so.room (so.bound r b old)
-      ];
+      bound = grind (arith, written, caller_inside, this, other, entered_bound, length-set, fewer, more);
     }
 
     entered_nearer : remaining_work (set states p progress.Open) (stack ++ p ∷ []) < remaining_work states stack
@@ -158,13 +144,7 @@ module _ (states : List Progress) (l : List Call) (stack : List ℕ) (q : ℕ) (
 
   -- an open caller
   pub closes_ring : (place : ℕ) (reports : CallReports states l q (answer.Open place)) → ClosesRing l reports.call × (reports.call.place ≡ place)
-  closes_ring place reports =
-      let reported = reported_open states reports.call place reports.call.caller reports.reports in
-      let on = so.on_stack reported.routine reported.open_there in
-      let inside = slice_get_within stack on.0 reported.routine on.1 in
-      let way = so.enters on.0 (length stack - 1) reported.routine q (omega arith) on.1 top in
-      let from : EntersIn l (At reports.call.target) (At reported.routine) = subst (λ (x : ℕ). EntersIn l (At x) (At reported.routine)) (sym reports.target) way in
-      (record { at = reports.at; there = reports.there; enters = subst (λ (x : Owner). EntersIn l (At reports.call.target) (routine_of x)) (sym reported.by) from }, reported.at)
+  closes_ring place reports = grind (arith, reported_open, slice_get_within, way, enters)
 
   -- a base
   module _ (b : ℕ) (answers : Answers states l q (answer.Base b)) where
@@ -178,16 +158,7 @@ module _ (states : List Progress) (l : List Call) (stack : List ℕ) (q : ℕ) (
     one_less = let len = length-take (length stack - 1) stack in let some = some_open in omega arith
 
     on_popped : (r : ℕ) → slice_get (set states q (progress.Done b)) r ≡ Some progress.Open → (k : ℕ) × (slice_get (take (length stack - 1) stack) k ≡ Some r)
-    on_popped r get = elim (written states q (progress.Done b) r progress.Open last_inside get) [
-      | this same is ↦ absurd (cc is)
-      | other ne old ↦
-          let at = so.on_stack r old in
-          let inside = slice_get_within stack at.0 r at.1 in
-          elim (cases_eq at.0 (length stack - 1)) [
-            | inl end ↦ absurd (ne (same_Some r q (sym at.1 ∙ ap (slice_get stack) end ∙ top)))
-            | inr before_end ↦ (at.0, take_get (length stack - 1) stack at.0 r (omega arith) at.1)
-          ]
-    ]
+    on_popped r get = grind (arith, written, last_inside, this, other, slice_get_within, cases_eq, same_Some, take_get)
 
     left_behind : Searches l (set states q (progress.Done b)) (take (length stack - 1) stack)
     left_behind = record {
@@ -199,13 +170,7 @@ module _ (states : List Progress) (l : List Call) (stack : List ℕ) (q : ℕ) (
         | other ne old ↦ so.bases r d old
       ];
       room = let len = length-set states q (progress.Done b) in let f = no_more in let m = one_less in let r = so.room in omega arith;
-      bound = λ r d get. elim (written states q (progress.Done b) r (progress.Done d) last_inside get) [
-        | this same is ↦
-            let low = reported_bound states l q b (65539 * (length states - count_of_unseen states - length stack)) closed so.bound answers.0 in
-            let equal : b ≡ d = cc is in
-            left_bound (length states) (count_of_unseen states) (length stack) _ _ _ d (length-set states q (progress.Done b)) no_more one_less so.room (subst (λ (x : ℕ). x ≤ 65539 * (length states - count_of_unseen states - length stack) + 65539) equal low)
-        | other ne old ↦ left_old_bound (length states) (count_of_unseen states) (length stack) _ _ _ d (length-set states q (progress.Done b)) no_more one_less so.room (so.bound r d old)
-      ];
+      bound = grind (arith, written, last_inside, this, reported_bound, left_bound, length-set, no_more, one_less, other, left_old_bound);
     }
 
     left_nearer : remaining_work (set states q (progress.Done b)) (take (length stack - 1) stack) < remaining_work states stack

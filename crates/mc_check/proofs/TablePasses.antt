@@ -34,9 +34,7 @@ wild_of session height (Ok p) h = (p.0, p.1, refl, h)
 wild_of session height (Err e) h = absurd (cc h)
 
 same_next : (r : Result (Ins × ℕ) DecodeFault) (i j : Ins) (n m : ℕ) → r ≡ Ok (i, n) → r ≡ Ok (j, m) → n ≡ m
-same_next r i j n m a b =
-    let pairs : ◌≡◌ {A = Ins × ℕ} (i, n) (j, m) = cc (a, b) in
-    ap (λ (p : Ins × ℕ). p.1) pairs
+same_next r i j n m a b = grind arith
 
 -- ---- one entry
 
@@ -58,9 +56,7 @@ fine false false a b s d h = record { shallow = refl; plain = refl; depth = cc h
 
 broken : (deep wild : Bool) (a b r : Refusal) (s : ℕ) → ◌≡◌ {A = Result ℕ Refusal} (cond deep (Err a) (cond wild (Err b) (Ok s))) (Err r)
     → ((deep ≡ true) × (a ≡ r)) ⊎ ((wild ≡ true) × (b ≡ r))
-broken true wild a b r s h = inl (refl, cc h)
-broken false true a b r s h = inr (refl, cc h)
-broken false false a b r s h = absurd (cc h)
+broken deep wild a b r s h = grind arith
 
 -- an entry has a depth: it is within the stack, and its write is plain if the code has a call
 pub record Rests (code : List ℕ) (session : ℕ) (bases : List ℕ) (calls : Bool) (p : ℕ) (e : Entry) (d : ℕ) : Type 0 where
@@ -69,9 +65,7 @@ pub record Rests (code : List ℕ) (session : ℕ) (bases : List ℕ) (calls : B
   pub depth : base_in bases (routine_of e.routine) + e.height ≡ d
 
 and_left : (a b : Bool) → (a && not b) ≡ false → a ≡ true → b ≡ true
-and_left true true h e = refl
-and_left true false h e = absurd (cc h)
-and_left false b h e = absurd (cc e)
+and_left a b h e = grind arith
 
 rests : (code : List ℕ) (session : ℕ) (bases : List ℕ) (calls : Bool) (p : ℕ) (e : Entry) (d : ℕ) → depth_in code session bases calls p e ≡ Ok d → Rests code session bases calls p e d
 rests code session bases calls p e d h =
@@ -160,9 +154,7 @@ reported_call code t true reported h = reported
 reported_call code t false reported h = absurd (cc h)
 
 and_both : (a b : Bool) → (a && not b) ≡ true → (a ≡ true) × (b ≡ false)
-and_both true true h = absurd (cc h)
-and_both true false h = (refl, refl)
-and_both false b h = absurd (cc h)
+and_both a b h = grind arith
 
 -- the premises of the pass
 pub record Known (code : List ℕ) (t : List (Option Entry)) (bases : List ℕ) (calls : Bool) : Type 0 where
@@ -178,11 +170,7 @@ module _ (code : List ℕ) (session : ℕ) (t : List (Option Entry)) (bases : Li
       (g.0, g.1, good-alone code f g.0 g.1 g.2)
 
   no_holds : (f : Fact) (P : Ins → ℕ → Type 0) → Reached code f → ((i : Ins) (next : ℕ) → GoodAlone code f i next → P i next → ⊥) → HoldsAtFact code f P → ⊥
-  no_holds f P reached not-there h =
-      let g = good f reached in
-      let ins = same_ins (instruction_at code f.place) h.0 g.0 h.1 g.1 h.2 g.2.there in
-      let next = same_next (instruction_at code f.place) h.0 g.0 h.1 g.1 h.2 g.2.there in
-      not-there g.0 g.1 g.2 (subst (λ (n : ℕ). P g.0 n) next (subst (λ (i : Ins). P i h.1) ins h.3))
+  no_holds f h reached h3 h4 = grind (arith, good, same_ins, same_next)
 
   no_undefined : (f : Fact) → Reached code f → instruction_at code f.place ≡ Err fault.Undefined → ⊥
   no_undefined f reached h = let g = good f reached in cc (h, g.2.there)
@@ -191,13 +179,7 @@ module _ (code : List ℕ) (session : ℕ) (t : List (Option Entry)) (bases : Li
   no_past f reached h = let g = good f reached in cc (h, g.2.there)
 
   no_shared : (f : Fact) → Reached code f → SharesPlace code f → ⊥
-  no_shared f reached shares =
-      let mine = known.whole.all f reached in
-      let other = known.whole.all shares.other shares.reached in
-      let there : slice_get t f.place ≡ Some (Some other.0) = subst (λ (p : ℕ). slice_get t p ≡ Some (Some other.0)) shares.place other.1 in
-      let same : other.0 ≡ mine.0 = cc (there, mine.1) in
-      let fact_there : fact_of f.place other.0 ≡ shares.other = subst (λ (p : ℕ). fact_of p other.0 ≡ shares.other) shares.place other.2 in
-      shares.differ (sym fact_there ∙ ap (λ (e : Entry). fact_of f.place e) same ∙ mine.2)
+  no_shared f reached shares = grind arith
 
   no_recursion : (f : Fact) → Reached code f → ReachesItself code f → ⊥
   no_recursion f reached r = known.based.sound f reached r
@@ -230,12 +212,7 @@ module _ (code : List ℕ) (session : ℕ) (t : List (Option Entry)) (bases : Li
 
     -- the base of a fact and its height are no more than the depth
     no_deeper : (f : Fact) (b : ℕ) → Reached code f → Depth code f.routine b → (session + b + f.height ≤ 512) × (b + f.height ≤ most)
-    no_deeper f b reached depth =
-        let a = at_fact f reached in
-        let low = (known.based.each f reached).greatest b depth in
-        let base : base_in bases (routine_of a.0.routine) ≡ base_in bases f.routine = ap (λ (g : Fact). base_in bases g.routine) a.2 in
-        let height : a.0.height ≡ f.height = ap (λ (g : Fact). g.height) a.2 in
-        (omega (arith, low, base, height, a.3.room), omega (arith, low, base, height, a.3.depth, a.4))
+    no_deeper f b reached depth = grind (arith, at_fact)
 
     no_deep : (f : Fact) → Reached code f → TooDeep code session f → ⊥
     no_deep f reached d = absurd (omega (arith, d.deep, (no_deeper f d.base reached d.is_base.reached).0))
@@ -272,9 +249,7 @@ module _ (code : List ℕ) (session : ℕ) (t : List (Option Entry)) (bases : Li
   -- ---- an entry breaks a rule
 
   never_bad : (f : Fact) → Reached code f → (cause alone : CheckCause) → look code f ≡ Bad alone → cause ≡ alone
-  never_bad f reached cause alone h =
-      let g = (known.whole.sound f (known.whole.all f reached)).1 in
-      absurd (cc (h, g.2))
+  never_bad f reached cause alone h = grind arith
 
   too_deep : (p : ℕ) (e : Entry) → Reached code (fact_of p e) → 512 < session + base_in bases (routine_of e.routine) + e.height → Refuses code session p Deep
   too_deep p e reached deep =
@@ -282,12 +257,7 @@ module _ (code : List ℕ) (session : ℕ) (t : List (Option Entry)) (bases : Li
         fact = fact_of p e;
         reached = reached;
         at = refl;
-        breaks = record {
-          sound = known.based.sound;
-          base = base_in bases (routine_of e.routine);
-          is_base = known.based.each (fact_of p e) reached;
-          deep = deep;
-        };
+        breaks = grind (arith, sound);
         first = never_bad (fact_of p e) reached Deep;
       }
 

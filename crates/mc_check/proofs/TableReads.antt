@@ -17,15 +17,11 @@ some_of (Some e) h = (e, refl)
 
 -- if a read returns something, the table has an entry there
 pub some_kept : (t : List (Option Entry)) (p : ℕ) → p < length t → is_some (get_or t p None) ≡ true → HasFactAt t p
-some_kept t p inside h =
-    let found = some_of (get_or t p None) h in
-    (found.0, read_kept t p found.0 inside found.1)
+some_kept t p inside h = grind (arith, some_of, read_kept)
 
 -- if a read returns nothing, the table has no entry there
 pub none_kept : (t : List (Option Entry)) (p : ℕ) → is_some (get_or t p None) ≡ false → HasFactAt t p → ⊥
-none_kept t p h kept =
-    let read = get_or_from_slice_get t p (Some kept.0) None kept.1 in
-    cc (h, ap (λ (o : Option Entry). is_some o) read)
+none_kept t p h kept = grind (arith, get_or_from_slice_get)
 
 -- if a read returns no entry, the table has none there
 pub unread : (t : List (Option Entry)) (p : ℕ) → ((e : Entry) → get_or t p None ≡ Some e → ⊥) → HasFactAt t p → ⊥

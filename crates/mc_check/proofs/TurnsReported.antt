@@ -1,20 +1,19 @@
 -- The turns of a line are those of its runs.
-use Rattle.std.proofs.Common.{◌≡◌, ℕ, zero, suc, Bool, true, false, List, [], ◌∷◌, ◌++◌, Option, Some, None, refl, sym, ap, subst, ◌∙◌, inl}
+use Rattle.std.proofs.Common.{arith, ◌≡◌, ℕ, zero, suc, Bool, true, false, List, [], ◌∷◌, ◌++◌, Option, Some, None, refl, ap, ◌∙◌}
 use Rattle.std.proofs.lemmas.List.{map-append, append-nil}
 use Rattle.law_family.specs.model_machine.specs.Apdu.{ApduParts}
 use Rattle.law_family.specs.model_device.specs.Card.{Card}
 use Rattle.law_family.specs.model_machine.specs.Chain.{Chain, Turn, Acted, Ran, Follows, Continues, Ends, turn_of_chain, chain_session, run_of_chain, run_after_turn, start as begun}
 use Rattle.law_family.specs.model_card.specs.Items.{card_done}
-use Rattle.law_family.specs.model_card.specs.Manager.{Selected, SessionState, Route, WrongLength, WrongClass, ToSelect, ToManager, ToApplication, Managed, Declines, Accepts, select, manage, room_on, route}
+use Rattle.law_family.specs.model_card.specs.Manager.{Selected, SessionState, Route, Managed, Declines, Accepts, route}
 use Rattle.law_family.specs.model_play.specs.DeckGrammar.{DeckLine}
-use Rattle.law_family.specs.model_play.specs.DeckGrammar as line
 use Rattle.law_family.specs.model_play.specs.Laws.{bytes_of}
-use Rattle.law_family.specs.model_play.specs.Play.{FailedWrite, Live, Running, Unpowered, Muted, State, BeforePower, AfterPower, is_done, send, command_with_rest, line_command, step, select_bytes, delete_bytes, Step}
-use Rattle.law_family.specs.model_device.specs.PowerUp.{Base, OnCard, AtFault}
+use Rattle.law_family.specs.model_play.specs.Play.{FailedWrite, Live, State, is_done, send, command_with_rest, line_command, step, Step}
+use Rattle.law_family.specs.model_device.specs.PowerUp.{Base}
 use Rattle.law_family.specs.model_card.specs.Commands.{Command, command, manager_command, application_command, by_route}
 use Rattle.law_family.specs.model_play.proofs.PlayLemmas.{step_is}
 use Rattle.mc_check.specs.Turns.{turns_on, turns_from, turns_passed, turns_routed, turns_behind, turns_sent, turns_taken, turns_in, turns_with, bare}
-use Rattle.law_family.specs.model_play.proofs.LineKinds.{IsUnheard, StepKind, Early, Quiet, Powers, Sends, by_kind, unheard_bytes}
+use Rattle.law_family.specs.model_play.proofs.LineKinds.{IsUnheard, StepKind, by_kind, unheard_bytes}
 
 -- ---- runs
 
@@ -41,11 +40,7 @@ managed_reported c session_state (Declines sw) = refl
 managed_reported c session_state (Accepts a) = refl
 
 routed_reported : (c : Card) (session_state : SessionState) (budget : ℕ) (r : Route) → bare (turns_routed c.apps session_state budget r) ≡ (by_route c session_state budget r).turns
-routed_reported c session_state budget WrongLength = refl
-routed_reported c session_state budget WrongClass = refl
-routed_reported c session_state budget (ToSelect a) = managed_reported c session_state (select c.apps session_state a)
-routed_reported c session_state budget (ToManager a) = managed_reported c session_state (manage (room_on c) c.apps session_state a)
-routed_reported c session_state budget (ToApplication a) = passed_reported c session_state budget session_state.selected a
+routed_reported c session_state budget r = grind (arith, managed_reported, passed_reported)
 
 command_reported : (c : Card) (session_state : SessionState) (budget : ℕ) (b : List ℕ) → bare (turns_routed c.apps session_state budget (route b)) ≡ (command c session_state b budget).turns
 unfolding command
@@ -75,31 +70,17 @@ one_reported c session_state budget b = last_reported (is_done (command c sessio
 -- ---- lines
 
 line_reported : (c : Card) (session_state : SessionState) (budget : ℕ) (l : DeckLine) → bare (turns_sent c session_state budget (bytes_of l)) ≡ (line_command c session_state budget l).turns
-line_reported c session_state budget (line.Sent (line.Select n)) = one_reported c session_state budget (select_bytes n)
-line_reported c session_state budget (line.Sent (line.Delete n)) = one_reported c session_state budget (delete_bytes n)
-line_reported c session_state budget (line.Sent (line.Apdu b)) = one_reported c session_state budget b
-line_reported c session_state budget (line.Sent (line.Load u fixed session)) = sent_reported c session_state budget (bytes_of (line.Sent (line.Load u fixed session)))
-line_reported c session_state budget _ = refl
+line_reported c session_state budget l = grind (arith, one_reported, sent_reported)
 
 none_taken : (v : Live) (b : Base) (budget : ℕ) (l : DeckLine) → IsUnheard l v b → bare (turns_taken v b budget (bytes_of l)) ≡ []
-none_taken (Running session_state) (OnCard c) budget l h = ap (λ (bs : List (List ℕ)). bare (turns_sent c session_state budget bs)) (unheard_bytes l c session_state h)
-none_taken (Running session_state) (AtFault cause p) budget l h = refl
-none_taken Unpowered b budget l h = refl
-none_taken Muted b budget l h = refl
+none_taken v b budget l h = grind (arith, unheard_bytes)
 
 kind_reported : {w : Option FailedWrite} {z : State} {n : ℕ} {l : DeckLine} {u : Step} → StepKind w z n l u → bare (turns_in z (bytes_of l)) ≡ u.turns
-kind_reported (Early p) = refl
-kind_reported (Quiet {l = l} {s = s} p h) = none_taken s.live s.base s.budget l h
-kind_reported (Powers (BeforePower m b a)) = refl
-kind_reported (Powers (AfterPower s)) = none_taken s.live s.base s.budget line.Power (inl refl)
-kind_reported (Sends {g = g} k c session_state) = line_reported c session_state g (line.Sent k)
+kind_reported h = grind (arith, none_taken, line_reported)
 
 step_reported : (s : State) (l : ℕ × DeckLine) (w : Option FailedWrite) → bare (turns_in s (bytes_of l.1)) ≡ (step s l w).turns
 step_reported s l w = kind_reported (by_kind s l w)
 
 -- the turns of a line are those of the runs that begin in the state before it
 pub line_reports : (s : State) (l : ℕ × DeckLine) (w : Option FailedWrite) → bare (turns_with (step s l w)) ≡ (step s l w).turns
-line_reports s l w =
-    let t = step s l w in
-    let is = step_is s l w in
-    subst (λ (z : State). bare (turns_in z (bytes_of t.line)) ≡ t.turns) (sym is.before) (subst (λ (k : DeckLine). bare (turns_in s (bytes_of k)) ≡ t.turns) (sym is.line) (step_reported s l w))
+line_reports s l w = grind (arith, step_is, step_reported)
