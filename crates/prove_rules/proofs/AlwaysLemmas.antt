@@ -1,7 +1,6 @@
 -- The lines of static bytes.
 use Rattle.std.proofs.Common.{◌≡◌, ◌<◌, ◌≤◌, ◌-◌, ℕ, suc, ◌+◌, List, [], ◌∷◌, ◌++◌, Bool, true, false, not, cond, length, map, Option, Some, None, Result, Ok, Err, append-nil, append_assoc, drop, drop-cons, get_or, add-one, arith, refl, sym, ap, subst, ◌∙◌}
 use Rattle.std.specs.Prelude.{◌&&◌, nat_le, nat_lt, bytes_eq, codes, is_none, is_some, ok_or}
-use Rattle.mc_base.specs.model_device.specs.Bytes.{lookup}
 use Rattle.mc_text.specs.model_text.specs.Text.{◌>>=◌, ok_as, only_if}
 use Rattle.mc_text.specs.model_text.specs.Assembly.{natural}
 use Rattle.lab_match.specs.model_play.specs.declared.deck.DeckCause.{DeckCause}
@@ -131,9 +130,7 @@ none_some (Some a) e = absurd (cc e)
 
 -- a term that is no sum
 pub sums_refused : (sums : List (List ℕ × ℕ)) (names : List SignedName) (i : ℕ) (d : SignedName) (whole : Bool) → i < length names → None ≡ place_of sums (get_or names i d).name.now → are_sums sums (map term_of (drop i names)) ≡ whole → whole ≡ false
-sums_refused sums names i d whole h e g =
-    sym g ∙ ap (λ l. are_sums sums (map term_of l)) (drop_at names i d h)
-    ∙ ap (λ b. b && are_sums sums (map term_of (drop (i + 1) names))) (none_some (lookup sums (get_or names i d).name.now) (place_none sums (get_or names i d).name.now (sym e)))
+sums_refused sums names i d whole h e g = grind (arith, drop_at, none_some, place_none)
 
 pub are_no_sums : (are : Bool) (e : Fault) → are ≡ false → e ≡ fault.Cause (cause.Deck UnknownName) → AreNoSums are e
 are_no_sums are e h i = subst (AreNoSums are) (sym i) (refl, h)
@@ -147,15 +144,7 @@ upper : (k n : ℕ) (o : Option ℕ) (h : IsNumber o n) → k < 65536 → k ≤ 
 upper k n o h i j = upper_by k n h.number (nat_lt n 4294967296) refl h.low h.high i j
 
 later_by : (a b m k : ℕ) (d : Bool) → nat_lt a 4294967296 ≡ d → (a < 4294967296 → a ≡ m) → (4294967296 ≤ a → 4294967296 ≤ m) → (b < 4294967296 → b ≡ k) → b < a → a ≤ 4294967296 → k < m
-later_by a b m k true e low high same h i =
-    let x = low (grind (arith, e)) in
-    let small : a < 4294967296 = grind (arith, e) in
-    let y = same (omega (arith, small, h)) in
-    omega (arith, x, y, h)
-later_by a b m k false e low high same h i =
-    let x = high (grind (arith, e)) in
-    let y = same (omega (arith, h, i)) in
-    omega (arith, x, y, h, i)
+later_by a b m k d e low high same h i = grind arith
 
 -- numbers are in the order of their capped numbers
 later : (a b : ℕ) (o u : Option ℕ) (p : IsNumber o a) (q : IsNumber u b) → b < a → a ≤ 4294967296 → q.number < p.number
@@ -174,9 +163,6 @@ range_from a n at low high =
 abbrev range_by : AppRules → Range → Bool → Result AppRules RuleCause
 range_by a w target =
     only_if target NoApplication a >>= λ r. unless (nat_lt w.at (static_size r.target) && nat_le w.low w.high && nat_le w.high 255) OutOfRange (record r { ranges = r.ranges ++ w ∷ [] })
-
-abbrev range_in : AppRules → Range → Bool → Result AppRules RuleCause
-range_in a w within = unless within OutOfRange (record a { ranges = a.ranges ++ w ∷ [] })
 
 less : (a b : ℕ) → a < b → nat_lt a b ≡ true
 less a b h = grind (arith, h)
@@ -200,24 +186,11 @@ no_sign fs low high e h = ap (begins_with (codes "=")) (sym e) ∙ h
 -- the line of a range, by its fields
 range_line : (a : AppRules) (n : ℕ) (block at low high : List ℕ) (fs : List (List ℕ)) → static_field block ≡ Ok at → begins_with (codes "=") fs ≡ false → fs ≡ low ∷ high ∷ []
     → always_line a n (block ∷ fs) ≡ range_from a n (natural at) (natural low) (natural high)
-range_line a n block at low high fs inside none e =
-    ap (λ l. always_line a n (block ∷ l)) e
-    ∙ ap (λ b. cond b (static_field block >>= λ t. ends_of t >>= λ e. with_total a n e high []) (static_field block >>= λ p. with_range a n p low high)) (no_sign fs low high e none)
-    ∙ ap (λ r. r >>= λ p. with_range a n p low high) inside
+range_line a n block at low high fs inside none e = grind (arith, no_sign)
 
 pub range_read : (a : AppRules) (p : Partial) (n : ℕ) (block at : List ℕ) (fs : List (List ℕ)) (w : Always) → ArePart a p → static_field block ≡ Ok at → begins_with (codes "=") fs ≡ false → w.line ≡ n → IsRangeRead p at fs w
     → always_line a n (block ∷ fs) ≡ Ok (record a { ranges = a.ranges ++ range_of w ∷ [] })
-range_read a p n block at fs w are inside none line h =
-    let within : nat_lt w.at (static_size a.target) ≡ true = ap (nat_lt w.at) (size_is a.target p.load h.found are.target h.loaded) ∙ less w.at h.found.load.fixed h.within in
-    let limits : (nat_lt w.at (static_size a.target) && nat_le w.low w.high && nat_le w.high 255) ≡ true = all_of (nat_lt w.at (static_size a.target)) (nat_le w.low w.high) (nat_le w.high 255) within (at_most w.low w.high h.order) (at_most w.high 255 h.byte) in
-    let range : ℕ → Range = λ n. record { number = n; at = w.at; low = w.low; high = w.high } in
-    range_line a n block at h.low h.high fs inside none h.parts
-    ∙ ap (λ o. range_from a n o (natural h.low) (natural h.high)) h.place
-    ∙ ap (λ o. range_from a n (Some w.at) o (natural h.high)) h.lowest
-    ∙ ap (λ o. range_from a n (Some w.at) (Some w.low) o) h.highest
-    ∙ ap (range_by a (range n)) (is_target a.target p.load h.found are.target h.loaded)
-    ∙ ap (range_in a (range n)) limits
-    ∙ ap (λ k. Ok (record a { ranges = a.ranges ++ range k ∷ [] })) (sym line)
+range_read a p n block at fs w are inside none line h = grind (arith, size_is, less, all_of, at_most, range_line, is_target)
 
 -- ---- refused ranges
 
@@ -228,13 +201,7 @@ ends_then (Err c) k h f = ap (λ c. Err c) h
 
 -- fields that are not two are no range
 pub no_two : (a : AppRules) (n : ℕ) (block at : List ℕ) (fs : List (List ℕ)) → static_field block ≡ Ok at → begins_with (codes "=") fs ≡ false → two_of fs ≡ None → always_line a n (block ∷ fs) ≡ Err (Deck BadLine)
-no_two a n block at [] inside none h = refl
-no_two a n block at (x ∷ []) inside none h = refl
-no_two a n block at (x ∷ y ∷ []) inside none h = absurd (cc h)
-no_two a n block at (x ∷ y ∷ z ∷ fs) inside none h =
-    ap (λ r. r >>= λ t. ends_of t >>= λ e. unless (bytes_eq x (codes "=")) BadLine x >>= λ is. terms_of (z ∷ fs) >>= λ ts. with_total a n e y ts) inside
-    ∙ ends_then (ends_of at) (λ e. unless (bytes_eq x (codes "=")) BadLine x >>= λ is. terms_of (z ∷ fs) >>= λ ts. with_total a n e y ts) (ends_refused at)
-    (λ e. ap (λ b. unless b BadLine x >>= λ is. terms_of (z ∷ fs) >>= λ ts. with_total a n e y ts) none)
+no_two a n block at fs inside none h = grind (arith, ends_then, ends_refused)
 
 pub no_place : (a : AppRules) (n : ℕ) (block at low high : List ℕ) (fs : List (List ℕ)) → static_field block ≡ Ok at → begins_with (codes "=") fs ≡ false → fs ≡ low ∷ high ∷ [] → natural at ≡ None → always_line a n (block ∷ fs) ≡ Err (Deck BadNumber)
 no_place a n block at low high fs inside none e h = range_line a n block at low high fs inside none e ∙ ap (λ o. range_from a n o (natural low) (natural high)) h
@@ -253,23 +220,15 @@ pub record AreRangeNumbers (at low high : List ℕ) (fs : List (List ℕ)) (p q 
 
 pub no_high : (a : AppRules) (n : ℕ) (block at low high : List ℕ) (fs : List (List ℕ)) (p q : ℕ) → static_field block ≡ Ok at → begins_with (codes "=") fs ≡ false → fs ≡ low ∷ high ∷ [] → natural at ≡ Some p → natural low ≡ Some q
     → natural high ≡ None → always_line a n (block ∷ fs) ≡ Err (Deck BadNumber)
-no_high a n block at low high fs p q inside none e h i j =
-    range_line a n block at low high fs inside none e ∙ ap (λ o. range_from a n o (natural low) (natural high)) h ∙ ap (λ o. range_from a n (Some p) o (natural high)) i
-    ∙ ap (λ o. range_from a n (Some p) (Some q) o) j
+no_high a n block at low high fs p q inside none e h i j = grind (arith, range_line)
 
 range_numbers : (a : AppRules) (n : ℕ) (block at low high : List ℕ) (fs : List (List ℕ)) (p q r : ℕ) → static_field block ≡ Ok at → begins_with (codes "=") fs ≡ false → (h : AreRangeNumbers at low high fs p q r)
     → always_line a n (block ∷ fs) ≡ range_by a (record { number = n; at = h.place.number; low = h.lowest.number; high = h.highest.number }) (is_some a.target)
-range_numbers a n block at low high fs p q r inside none h =
-    range_line a n block at low high fs inside none h.parts
-    ∙ ap (λ o. range_from a n o (natural low) (natural high)) h.place.is
-    ∙ ap (λ o. range_from a n (Some h.place.number) o (natural high)) h.lowest.is
-    ∙ ap (λ o. range_from a n (Some h.place.number) (Some h.lowest.number) o) h.highest.is
+range_numbers a n block at low high fs p q r inside none h = grind (arith, range_line)
 
 pub range_unnamed : (a : AppRules) (s : Partial) (n : ℕ) (block at low high : List ℕ) (fs : List (List ℕ)) (p q r : ℕ) → ArePart a s → static_field block ≡ Ok at → begins_with (codes "=") fs ≡ false → AreRangeNumbers at low high fs p q r
     → s.load ≡ None → always_line a n (block ∷ fs) ≡ Err NoApplication
-range_unnamed a s n block at low high fs p q r are inside none h l =
-    range_numbers a n block at low high fs p q r inside none h
-    ∙ ap (range_by a (record { number = n; at = h.place.number; low = h.lowest.number; high = h.highest.number })) (no_target a.target s.load are.target l)
+range_unnamed a s n block at low high fs p q r are inside none h l = grind (arith, range_numbers, no_target)
 
 not_below : (a b : ℕ) → b ≤ a → nat_lt a b ≡ false
 not_below a b h = grind (arith, h)
@@ -285,15 +244,11 @@ second_of true b c e = rw e refl
 second_of false b c e = refl
 
 third_of : (a b c : Bool) → c ≡ false → (a && b && c) ≡ false
-third_of true true c e = e
-third_of true false c e = refl
-third_of false b c e = refl
+third_of a b c e = grind arith
 
 range_outside : (a : AppRules) (s : Partial) (n : ℕ) (block at low high : List ℕ) (fs : List (List ℕ)) (p q r : ℕ) (found : Found) → ArePart a s → static_field block ≡ Ok at → begins_with (codes "=") fs ≡ false
     → (h : AreRangeNumbers at low high fs p q r) → s.load ≡ Some found → (nat_lt h.place.number (static_size a.target) && nat_le h.lowest.number h.highest.number && nat_le h.highest.number 255) ≡ false → always_line a n (block ∷ fs) ≡ Err (Deck OutOfRange)
-range_outside a s n block at low high fs p q r found are inside none h l out =
-    let range : Range = record { number = n; at = h.place.number; low = h.lowest.number; high = h.highest.number } in
-    range_numbers a n block at low high fs p q r inside none h ∙ ap (range_by a range) (is_target a.target s.load found are.target l) ∙ ap (range_in a range) out
+range_outside a s n block at low high fs p q r found are inside none h l out = grind (arith, range_numbers, is_target)
 
 least_by : (b : Bool) (n m : ℕ) → nat_le m 4294967296 ≡ b → n ≡ cond b m 4294967296 → n ≤ m
 least_by true n m e i = omega (arith, i)
@@ -301,26 +256,15 @@ least_by false n m e i = let k : 4294967296 < m = grind (arith, e) in omega (ari
 
 pub place_outside : (a : AppRules) (s : Partial) (n : ℕ) (block at low high : List ℕ) (fs : List (List ℕ)) (p q r : ℕ) (found : Found) → ArePart a s → static_field block ≡ Ok at → begins_with (codes "=") fs ≡ false
     → AreRangeNumbers at low high fs p q r → s.load ≡ Some found → found.load.fixed ≤ p → always_line a n (block ∷ fs) ≡ Err (Deck OutOfRange)
-place_outside a s n block at low high fs p q r found are inside none h l out =
-    let least : p ≤ h.place.number = least_by (nat_le h.place.number 4294967296) p h.place.number refl h.place.capped in
-    let more : found.load.fixed ≤ h.place.number = omega (arith, least, out) in
-    range_outside a s n block at low high fs p q r found are inside none h l
-    (first_of (nat_lt h.place.number (static_size a.target)) (nat_le h.lowest.number h.highest.number) (nat_le h.highest.number 255)
-    (ap (nat_lt h.place.number) (size_is a.target s.load found are.target l) ∙ not_below h.place.number found.load.fixed more))
+place_outside a s n block at low high fs p q r found are inside none h l out = grind (arith, least_by, range_outside, first_of, size_is, not_below)
 
 pub order_outside : (a : AppRules) (s : Partial) (n : ℕ) (block at low high : List ℕ) (fs : List (List ℕ)) (p q r : ℕ) (found : Found) → ArePart a s → static_field block ≡ Ok at → begins_with (codes "=") fs ≡ false
     → AreRangeNumbers at low high fs p q r → s.load ≡ Some found → r < q → q ≤ 4294967296 → always_line a n (block ∷ fs) ≡ Err (Deck OutOfRange)
-order_outside a s n block at low high fs p q r found are inside none h l out most =
-    let more : h.highest.number < h.lowest.number = later q r (natural low) (natural high) h.lowest h.highest out most in
-    range_outside a s n block at low high fs p q r found are inside none h l
-    (second_of (nat_lt h.place.number (static_size a.target)) (nat_le h.lowest.number h.highest.number) (nat_le h.highest.number 255) (not_at_most h.lowest.number h.highest.number more))
+order_outside a s n block at low high fs p q r found are inside none h l out most = grind (arith, later, range_outside, second_of, not_at_most)
 
 pub byte_outside : (a : AppRules) (s : Partial) (n : ℕ) (block at low high : List ℕ) (fs : List (List ℕ)) (p q r : ℕ) (found : Found) → ArePart a s → static_field block ≡ Ok at → begins_with (codes "=") fs ≡ false
     → AreRangeNumbers at low high fs p q r → s.load ≡ Some found → 255 < r → always_line a n (block ∷ fs) ≡ Err (Deck OutOfRange)
-byte_outside a s n block at low high fs p q r found are inside none h l out =
-    let more : 255 < h.highest.number = upper 256 r (natural high) h.highest (omega arith) (omega (arith, out)) in
-    range_outside a s n block at low high fs p q r found are inside none h l
-    (third_of (nat_lt h.place.number (static_size a.target)) (nat_le h.lowest.number h.highest.number) (nat_le h.highest.number 255) (not_at_most h.highest.number 255 more))
+byte_outside a s n block at low high fs p q r found are inside none h l out = grind (arith, upper, range_outside, third_of, not_at_most)
 
 not_less : (a b : ℕ) → nat_le a b ≡ false → b < a
 not_less a b h = grind (arith, h)
@@ -361,20 +305,12 @@ total_in a t within = unless within OutOfRange (record a { totals = a.totals ++ 
 
 total_line : (a : AppRules) (n : ℕ) (block w k : List ℕ) (e : List ℕ × List ℕ) (fs : List (List ℕ)) (terms : List (Bool × List ℕ)) → static_field block ≡ Ok w → ends_of w ≡ Ok e → terms_of fs ≡ Ok terms
     → always_line a n (block ∷ codes "=" ∷ k ∷ fs) ≡ with_total a n e k terms
-total_line a n block w k e [] terms f g h =
-    let none : [] ≡ terms = cc h in
-    ap (λ r. r >>= λ t. ends_of t >>= λ e. with_total a n e k []) f ∙ ap (λ r. r >>= λ e. with_total a n e k []) g ∙ ap (with_total a n e k) none
-total_line a n block w k e (t ∷ fs) terms f g h =
-    ap (λ r. r >>= λ t1. ends_of t1 >>= λ e. unless (bytes_eq (codes "=") (codes "=")) BadLine (codes "=") >>= λ is. terms_of (t ∷ fs) >>= λ ts. with_total a n e k ts) f
-    ∙ ap (λ r. r >>= λ e. terms_of (t ∷ fs) >>= λ ts. with_total a n e k ts) g
-    ∙ ap (λ r. r >>= λ ts. with_total a n e k ts) h
+total_line a n block w k e fs terms f g h = grind arith
 
 -- the line of a total, by its fields
 pub form_line : (a : AppRules) (n : ℕ) (block range : List ℕ) (fs : List (List ℕ)) (f : TotalForm) → static_field block ≡ Ok range → IsTotalForm range fs f
     → always_line a n (block ∷ codes "=" ∷ fs) ≡ with_total a n (f.from.now, f.to.now) f.constant.now (map term_of f.names.items)
-form_line a n block range fs f inside h =
-    ap (λ l. always_line a n (block ∷ codes "=" ∷ l)) h.parts
-    ∙ total_line a n block range f.constant.now (f.from.now, f.to.now) h.rest (map term_of f.names.items) inside h.ends h.terms
+form_line a n block range fs f inside h = grind (arith, total_line)
 
 pub total_read : (a : AppRules) (p : Partial) (n : ℕ) (f : TotalForm) (b : Balance) → ArePart a p → b.line ≡ n → IsTotalRead p f b
     → (t : Total) × (with_total a n (f.from.now, f.to.now) f.constant.now (map term_of f.names.items) ≡ Ok (record a { totals = a.totals ++ t ∷ [] })) × IsTotal (map name_of p.sums.items) t b
@@ -403,10 +339,7 @@ no_constant a n block fs e = ap (λ l. always_line a n (block ∷ codes "=" ∷ 
 
 -- a block of another form
 no_ends_by : (a : AppRules) (n : ℕ) (block range k : List ℕ) (fs : List (List ℕ)) → static_field block ≡ Ok range → ends_of range ≡ Err (Deck BadLine) → always_line a n (block ∷ codes "=" ∷ k ∷ fs) ≡ Err (Deck BadLine)
-no_ends_by a n block range k [] f g = ap (λ r. r >>= λ t. ends_of t >>= λ e. with_total a n e k []) f ∙ ap (λ r. r >>= λ e. with_total a n e k []) g
-no_ends_by a n block range k (t ∷ fs) f g =
-    ap (λ r. r >>= λ t1. ends_of t1 >>= λ e. unless (bytes_eq (codes "=") (codes "=")) BadLine (codes "=") >>= λ is. terms_of (t ∷ fs) >>= λ ts. with_total a n e k ts) f
-    ∙ ap (λ r. r >>= λ e. terms_of (t ∷ fs) >>= λ ts. with_total a n e k ts) g
+no_ends_by a n block range k fs f g = grind arith
 
 pub no_total_ends : (a : AppRules) (n : ℕ) (block range k : List ℕ) (all fs : List (List ℕ)) → all ≡ k ∷ fs → static_field block ≡ Ok range → ends_of range ≡ Err (Deck BadLine) → always_line a n (block ∷ codes "=" ∷ all) ≡ Err (Deck BadLine)
 no_total_ends a n block range k all fs e f g = ap (λ l. always_line a n (block ∷ codes "=" ∷ l)) e ∙ no_ends_by a n block range k fs f g
@@ -414,13 +347,7 @@ no_total_ends a n block range k all fs e f g = ap (λ l. always_line a n (block 
 -- terms of another form
 no_terms_by : (a : AppRules) (n : ℕ) (block range k : List ℕ) (ends : List ℕ × List ℕ) (fs : List (List ℕ)) (e : Fault) → static_field block ≡ Ok range → ends_of range ≡ Ok ends → Faulty (terms_of fs) e
     → Faulty (always_line a n (block ∷ codes "=" ∷ k ∷ fs)) e
-no_terms_by a n block range k ends [] (fault.Cause c) f g h = absurd (cc h)
-no_terms_by a n block range k ends [] fault.NoMemory f g h = tt
-no_terms_by a n block range k ends (t ∷ fs) e f g h =
-    same_faulty (always_line a n (block ∷ codes "=" ∷ k ∷ t ∷ fs)) (terms_of (t ∷ fs) >>= λ ts. with_total a n ends k ts) e
-    (ap (λ r. r >>= λ t1. ends_of t1 >>= λ e. unless (bytes_eq (codes "=") (codes "=")) BadLine (codes "=") >>= λ is. terms_of (t ∷ fs) >>= λ ts. with_total a n e k ts) f
-    ∙ ap (λ r. r >>= λ e. terms_of (t ∷ fs) >>= λ ts. with_total a n e k ts) g)
-    (then_faulty (terms_of (t ∷ fs)) (λ ts. with_total a n ends k ts) e h)
+no_terms_by a n block range k ends fs e f g h = grind (arith, same_faulty, then_faulty)
 
 pub no_terms : (a : AppRules) (n : ℕ) (block range k : List ℕ) (ends : List ℕ × List ℕ) (all fs : List (List ℕ)) (e : Fault) → all ≡ k ∷ fs → static_field block ≡ Ok range → ends_of range ≡ Ok ends → Faulty (terms_of fs) e
     → Faulty (always_line a n (block ∷ codes "=" ∷ all)) e
@@ -470,19 +397,14 @@ module _ (a : AppRules) (n : ℕ) (f : TotalForm) where
   total_at p q k h = record { number = n; at = h.starts.number; n = suc h.stops.number - h.starts.number; constant = k; terms = map term_of f.names.items }
 
   numbers : (p q k : ℕ) (h : AreTotalNumbers f p q k) → total_of ≡ total_by a (total_at p q k h) h.stops.number (is_some a.target)
-  numbers p q k h =
-      from_ends h.starts.number h.stops.number h.starts.is h.stops.is
-      ∙ ap (λ r. total_from a n (Some h.starts.number) (Some h.stops.number) r (are_names (map term_of f.names.items))) h.number
-      ∙ ap (total_from a n (Some h.starts.number) (Some h.stops.number) (Ok k)) h.named
+  numbers p q k h = grind (arith, from_ends)
 
   pub total_unnamed : (s : Partial) (p q k : ℕ) → ArePart a s → AreTotalNumbers f p q k → s.load ≡ None → total_of ≡ Err NoApplication
   total_unnamed s p q k are h l = numbers p q k h ∙ ap (total_by a (total_at p q k h) h.stops.number) (no_target a.target s.load are.target l)
 
   summed : (s : Partial) (p q k : ℕ) (found : Found) → ArePart a s → (h : AreTotalNumbers f p q k) → s.load ≡ Some found
       → total_of ≡ total_sums a (total_at p q k h) h.stops.number (are_sums (map allowance_of s.sums.items) (map term_of f.names.items))
-  summed s p q k found are h l =
-      numbers p q k h ∙ ap (total_by a (total_at p q k h) h.stops.number) (is_target a.target s.load found are.target l)
-      ∙ ap (λ x. total_sums a (total_at p q k h) h.stops.number (are_sums x (map term_of f.names.items))) are.sums
+  summed s p q k found are h l = grind (arith, numbers, is_target)
 
   pub no_sums : (s : Partial) (p q k : ℕ) (found : Found) (e : Fault) → ArePart a s → AreTotalNumbers f p q k → s.load ≡ Some found → AreNoSums (are_sums (map allowance_of s.sums.items) (map term_of f.names.items)) e → Faulty total_of e
   no_sums s p q k found (fault.Cause c) are h l i = summed s p q k found are h l ∙ ap (total_sums a (total_at p q k h) h.stops.number) i.1 ∙ ap (λ x. Err (cause_value x)) (sym i.0)
@@ -504,11 +426,7 @@ three_by a n block x y true h = ap (λ r. r >>= λ t. ends_of t >>= λ e. with_t
 three_by a n block x y false h = ap (λ r. r >>= λ p. with_range a n p x y) h
 
 block_by : (a : AppRules) (n : ℕ) (block : List ℕ) (fs : List (List ℕ)) → static_field block ≡ Err (Deck BadLine) → always_line a n (block ∷ fs) ≡ Err (Deck BadLine)
-block_by a n block [] h = refl
-block_by a n block (x ∷ []) h = refl
-block_by a n block (x ∷ y ∷ []) h = three_by a n block x y (bytes_eq x (codes "=")) h
-block_by a n block (x ∷ y ∷ z ∷ fs) h =
-    ap (λ r. r >>= λ t. ends_of t >>= λ e. unless (bytes_eq x (codes "=")) BadLine x >>= λ is. terms_of (z ∷ fs) >>= λ ts. with_total a n e y ts) h
+block_by a n block fs h = grind (arith, three_by)
 
 pub other_block : (a : AppRules) (n : ℕ) (block : List ℕ) (all fs : List (List ℕ)) → all ≡ block ∷ fs → static_field block ≡ Err (Deck BadLine) → always_line a n all ≡ Err (Deck BadLine)
 other_block a n block all fs e h = ap (always_line a n) e ∙ block_by a n block fs h

@@ -12,7 +12,7 @@ use Rattle.prove_facts.specs.model_rules.specs.Rules.{AppRules, Target}
 use Rattle.prove_facts.specs.model_rules.specs.Reading.{AllowLine, AppLine, AppWord, Deck, LoadLine, NeverLine, NoApplication, RuleCause, SumWord, app_rule, of_deck, sizes_of, target_of, unless, with_app, with_never, with_target}
 use Rattle.prove_events.specs.declared.rules.Load.{Load}
 use Rattle.prove_events.specs.declared.rules.Named.{Named}
-use Rattle.prove_events.specs.Rules.{allowance_of, name_of, AreDistinct, AreLines, IsCreated}
+use Rattle.prove_events.specs.Rules.{allowance_of, IsCreated}
 use Rattle.prove_rules.specs.declared.load.Found.{Found}
 use Rattle.prove_rules.specs.declared.partial.Partial.{Partial}
 use Rattle.prove_rules.specs.declared.fault.Fault.{Fault}
@@ -21,8 +21,7 @@ use Rattle.prove_rules.specs.declared.fault.RuleCause.TheVariants as cause
 use Rattle.prove_rules.specs.Apps.{one_of, IsAppRead}
 use Rattle.prove_rules.specs.Loads.{is_accepted, IsLoad, IsLoadOf}
 use Rattle.prove_rules.specs.Partials.{place_of, ArePart, AreLists, AreListsRead, HasFault, IsMoreNamed, IsTarget}
-use Rattle.prove_rules.specs.Refused.{cause_value, Faulty}
-use Rattle.prove_rules.specs.Sums.{AreSumLines, AreTotals}
+use Rattle.prove_rules.specs.Refused.{Faulty}
 use Rattle.prove_rules.proofs.OnLemmas.{is_target, no_target}
 use Rattle.prove_rules.proofs.PlaceLemmas.{distinct_more, lines_names, map_more, place_none, place_some}
 use Rattle.prove_rules.proofs.RefusalLemmas.{deck_faulty, same_faulty}
@@ -51,14 +50,10 @@ never_is loads a n word = refl
 -- ---- the application
 
 no_app : (o : Option Target) (l : Option Found) → IsTarget o l → l ≡ None → is_none o ≡ true
-no_app None l h e = refl
-no_app (Some g) None h e = absurd h
-no_app (Some g) (Some l) h e = absurd (cc e)
+no_app o l h e = grind arith
 
 some_app : (o : Option Target) (l : Option Found) → IsTarget o l → is_some l ≡ true → is_none o ≡ false
-some_app None None h e = absurd (cc e)
-some_app None (Some l) h e = absurd h
-some_app (Some g) l h e = refl
+some_app o l h e = grind arith
 
 upto : (a b : ℕ) → a ≤ b → nat_le a b ≡ true
 upto a b h = grind (arith, h)
@@ -72,22 +67,10 @@ three_left a b c d e f g h1 h2 h3 h4 = rw h1 (rw h2 (rw h3 (rw h4 (and_true (c &
 
 -- a card accepts the sizes of an application exactly if those that a `load` line gives are accepted
 fits_is : (l : LoadLine) (found : Found) → IsLoad l found → fits_limits (sizes_of l) ≡ is_accepted found.load
-fits_is l found h =
-    let good = h.good.limits in
-    let some : 1 ≤ length l.unit.code = omega (arith, good.some_code) in
-    let long : length l.unit.code ≤ 8192 = good.code_len in
-    let dir : length l.unit.dir ≤ 128 = good.dir_len in
-    let fci : length l.unit.fci ≤ 128 = good.fci_len in
-    three_left (nat_le 1 (length l.unit.code)) (nat_le (length l.unit.code) 8192) (nat_le l.fixed 4096) (nat_le (length l.unit.init) l.fixed) (nat_le l.session 256) (nat_le (length l.unit.dir) 128) (nat_le (length l.unit.fci) 128)
-    (upto 1 (length l.unit.code) some) (upto (length l.unit.code) 8192 long) (upto (length l.unit.dir) 128 dir) (upto (length l.unit.fci) 128 fci)
-    ∙ ap (λ n. nat_le n 4096 && nat_le (length l.unit.init) n && nat_le l.session 256) h.fixed
-    ∙ ap (λ t. nat_le found.load.fixed 4096 && nat_le (length t) found.load.fixed && nat_le l.session 256) h.front
-    ∙ ap (λ n. nat_le found.load.fixed 4096 && nat_le (length found.load.data.now) found.load.fixed && nat_le n 256) h.session
+fits_is l found h = grind (arith, three_left, upto)
 
 and_parts : (a b : Bool) → (a && b) ≡ true → (a ≡ true) × (b ≡ true)
-and_parts true true e = (refl, refl)
-and_parts true false e = absurd (cc e)
-and_parts false b e = absurd (cc e)
+and_parts a b e = grind arith
 
 at_most : (a b : ℕ) → nat_le a b ≡ true → a ≤ b
 at_most a b h = grind (arith, h)
@@ -100,9 +83,7 @@ record IsAccepted (load : Load) : Type 0 where
 
 accepted : (load : Load) → is_accepted load ≡ true → IsAccepted load
 accepted load e =
-    let p = and_parts (nat_le load.fixed 4096 && nat_le (length load.data.now) load.fixed) (nat_le load.session 256) e in
-    let q = and_parts (nat_le load.fixed 4096) (nat_le (length load.data.now) load.fixed) p.0 in
-    record { fixed = at_most load.fixed 4096 q.0; front = at_most (length load.data.now) load.fixed q.1; session = at_most load.session 256 p.1 }
+    grind (arith, and_parts (nat_le load.fixed 4096 && nat_le (length load.data.now) load.fixed) (nat_le load.session 256) e, and_parts (nat_le load.fixed 4096) (nat_le (length load.data.now) load.fixed) (and_parts (nat_le load.fixed 4096 && nat_le (length load.data.now) load.fixed) (nat_le load.session 256) e).0)
 
 bytes_append : (s t : List ℕ) → AreBytes s → AreBytes t → AreBytes (s ++ t)
 bytes_append [] t h i = i
@@ -117,10 +98,7 @@ length_zeros zero = refl
 length_zeros (suc n) = ap suc (length_zeros n)
 
 size_by : (t : List ℕ) (n : ℕ) → length t ≤ n → length (t ++ zeros (n - length t)) ≡ n
-size_by t n h =
-    let k = length-append t (zeros (n - length t)) in
-    let z = length_zeros (n - length t) in
-    omega (arith, k, z, h)
+size_by t n h = grind (arith, length-append t (zeros (n - length t)), length_zeros (n - length t))
 
 -- the application is the one that a `load` line creates
 pub created : (name : List ℕ) (l : LoadLine) (found : Found) → IsLoad l found → is_accepted found.load ≡ true → IsCreated (target_of name l).app found.load
@@ -212,9 +190,7 @@ app_large loads a p n fs name found are e h l i out = app_new loads a p n fs nam
 -- the rules with their application
 pub app_added : (loads : List (List ℕ × LoadLine)) (a : AppRules) (p : Partial) (n : ℕ) (fs : List (List ℕ)) (found : Found) (o : Option Found) → ArePart a p → IsAppRead loads p fs found → o ≡ Some found
     → AreListsRead (app_rule loads a n AppLine fs) o p.allowances.items p.sums.items p.ons.items p.always.items p.balances.items p.never
-app_added loads a p n fs found o are h e =
-    subst (λ (x : Option Found). AreListsRead (app_rule loads a n AppLine fs) x p.allowances.items p.sums.items p.ons.items p.always.items p.balances.items p.never) (sym e) (
-    app_found loads a p n fs found (lookup loads h.name) are h refl h.is)
+app_added loads a p n fs found o are h e = grind (arith, app_found)
 
 -- ---- allowances and sums
 
@@ -244,24 +220,14 @@ place_by held name (Some i) e h = some_by held name i (sym e)
 
 pub twice_fault : (old : List Named) (fs : List (List ℕ)) (name : List ℕ) (k : ℕ) (o : Option ℕ) (e : Fault) → name_and_amount fs ≡ Ok (name, k) → o ≡ place_of (map allowance_of old) name → is_some o ≡ true
     → e ≡ fault.Cause (cause.Deck NameTwice) → HasFault old fs e
-twice_fault old fs name k o e h p s i =
-    deck_faulty (named_by (map allowance_of old) (name_and_amount fs)) e NameTwice i
-    (ap (named_by (map allowance_of old)) h ∙ ap (λ b. unless b NameTwice (name, k)) (place_by (map allowance_of old) name o p s))
+twice_fault old fs name k o e h p s i = grind (arith, deck_faulty, place_by)
 
 test_by : {A B : Type 0} (b : Bool) (x : A) (y : B) (e : Fault) → Faulty (unless b NameTwice x) e → Faulty (unless b NameTwice y) e
-test_by true x y (fault.Cause c) h = absurd (cc h)
-test_by false x y (fault.Cause c) h =
-    let same : Deck NameTwice ≡ cause_value c = cc h in
-    ap (λ z. Err z) same
-test_by b x y fault.NoMemory h = tt
+test_by b x y e h = grind arith
 
 -- a refused name before the rules with it
 then_by : (r : Result (List ℕ × ℕ) RuleCause) (test : List ℕ × ℕ → Bool) (f : List ℕ × ℕ → AppRules) (e : Fault) → Faulty (r >>= λ a. unless (test a) NameTwice a) e → Faulty (r >>= λ a. unless (test a) NameTwice (f a)) e
-then_by (Err c) test f (fault.Cause d) h =
-    let same : c ≡ cause_value d = cc h in
-    ap (λ x. Err x) same
-then_by (Err c) test f fault.NoMemory h = tt
-then_by (Ok a) test f e h = test_by (test a) a (f a) e h
+then_by r test f e h = grind (arith, test_by)
 
 -- the fault of a line about an allowance or a sum
 abbrev pub NamedFault : Partial → AppWord → List (List ℕ) → Fault → Type 0
@@ -276,58 +242,20 @@ NeverFault p n fs e = (loads : List (List ℕ × LoadLine)) (a : AppRules) → A
 
 -- refused allowances and sums
 pub allowance_refused : (loads : List (List ℕ × LoadLine)) (a : AppRules) (p : Partial) (n : ℕ) (fs : List (List ℕ)) (e : Fault) → ArePart a p → HasFault p.allowances.items fs e → Faulty (app_rule loads a n AllowLine fs) e
-allowance_refused loads a p n fs e are h =
-    same_faulty (app_rule loads a n AllowLine fs) (of_deck (name_and_amount fs) >>= λ x. unless (is_none (lookup a.allowances x.0)) NameTwice (record a { allowances = a.allowances ++ x ∷ [] })) e (allow_is loads a n fs)
-    (then_by (of_deck (name_and_amount fs)) (λ x. is_none (lookup a.allowances x.0)) (λ x. record a { allowances = a.allowances ++ x ∷ [] }) e
-    (subst (λ (l : List (List ℕ × ℕ)). Faulty (named_by l (name_and_amount fs)) e) (sym are.allowances) h))
+allowance_refused loads a p n fs e are h = grind (arith, same_faulty, allow_is, then_by)
 
 pub sum_refused : (loads : List (List ℕ × LoadLine)) (a : AppRules) (p : Partial) (n : ℕ) (fs : List (List ℕ)) (e : Fault) → ArePart a p → HasFault p.sums.items fs e → Faulty (app_rule loads a n SumWord fs) e
-sum_refused loads a p n fs e are h =
-    same_faulty (app_rule loads a n SumWord fs) (of_deck (name_and_amount fs) >>= λ x. unless (is_none (lookup a.sums x.0)) NameTwice (record a { sums = a.sums ++ x ∷ [] })) e (sum_is loads a n fs)
-    (then_by (of_deck (name_and_amount fs)) (λ x. is_none (lookup a.sums x.0)) (λ x. record a { sums = a.sums ++ x ∷ [] }) e
-    (subst (λ (l : List (List ℕ × ℕ)). Faulty (named_by l (name_and_amount fs)) e) (sym are.sums) h))
+sum_refused loads a p n fs e are h = grind (arith, same_faulty, sum_is, then_by)
 
 -- the rules with one more allowance
 pub allowance_added : (loads : List (List ℕ × LoadLine)) (a : AppRules) (p : Partial) (n : ℕ) (fs : List (List ℕ)) (more : List Named) → ArePart a p → IsMoreNamed p.allowances.items fs more
     → AreListsRead (app_rule loads a n AllowLine fs) p.load more p.sums.items p.ons.items p.always.items p.balances.items p.never
-allowance_added loads a p n fs more are h =
-    let names : map name_of p.allowances.items ++ name_of h.one ∷ [] ≡ map name_of more = sym (map_more name_of p.allowances.items h.one) ∙ ap (map name_of) (sym h.more) in
-    let whole : app_rule loads a n AllowLine fs ≡ Ok (record a { allowances = a.allowances ++ allowance_of h.one ∷ [] }) =
-    allow_is loads a n fs
-    ∙ ap (λ m. of_deck m >>= λ x. unless (is_none (lookup a.allowances x.0)) NameTwice (record a { allowances = a.allowances ++ x ∷ [] })) h.named
-    ∙ ap (λ b. unless b NameTwice (record a { allowances = a.allowances ++ allowance_of h.one ∷ [] })) (new_name a.allowances p.allowances.items (name_of h.one) are.allowances h.fresh) in
-    subst (λ (r : Result AppRules RuleCause). AreListsRead r p.load more p.sums.items p.ons.items p.always.items p.balances.items p.never) (sym whole) (record {
-      target = are.target;
-      allowances = more_values a.allowances p.allowances.items more h.one are.allowances h.more;
-      distinct = subst (λ (ns : List (List ℕ)). AreDistinct ns) names (distinct_more p.allowances.items (name_of h.one) are.distinct h.fresh);
-      sums = are.sums;
-      ons = subst (λ (ns : List (List ℕ)). AreLines ns a.ons p.ons.items) names (lines_names (map name_of p.allowances.items) (name_of h.one) a.ons p.ons.items are.ons);
-      ranges = are.ranges;
-      moves = are.moves;
-      totals = are.totals;
-      abends = are.abends;
-    })
+allowance_added loads a p n fs more are h = grind (arith, map_more, allow_is, new_name, more_values, distinct_more, lines_names)
 
 -- the rules with one more sum
 pub sum_added : (loads : List (List ℕ × LoadLine)) (a : AppRules) (p : Partial) (n : ℕ) (fs : List (List ℕ)) (more : List Named) → ArePart a p → IsMoreNamed p.sums.items fs more
     → AreListsRead (app_rule loads a n SumWord fs) p.load p.allowances.items more p.ons.items p.always.items p.balances.items p.never
-sum_added loads a p n fs more are h =
-    let names : map name_of p.sums.items ++ name_of h.one ∷ [] ≡ map name_of more = sym (map_more name_of p.sums.items h.one) ∙ ap (map name_of) (sym h.more) in
-    let whole : app_rule loads a n SumWord fs ≡ Ok (record a { sums = a.sums ++ allowance_of h.one ∷ [] }) =
-    sum_is loads a n fs
-    ∙ ap (λ m. of_deck m >>= λ x. unless (is_none (lookup a.sums x.0)) NameTwice (record a { sums = a.sums ++ x ∷ [] })) h.named
-    ∙ ap (λ b. unless b NameTwice (record a { sums = a.sums ++ allowance_of h.one ∷ [] })) (new_name a.sums p.sums.items (name_of h.one) are.sums h.fresh) in
-    subst (λ (r : Result AppRules RuleCause). AreListsRead r p.load p.allowances.items more p.ons.items p.always.items p.balances.items p.never) (sym whole) (record {
-      target = are.target;
-      allowances = are.allowances;
-      distinct = are.distinct;
-      sums = more_values a.sums p.sums.items more h.one are.sums h.more;
-      ons = are.ons;
-      ranges = are.ranges;
-      moves = subst (λ (ns : List (List ℕ)). AreSumLines ns a.moves p.ons.items) names (sum_lines_names (map name_of p.sums.items) (name_of h.one) a.moves p.ons.items are.moves);
-      totals = subst (λ (ns : List (List ℕ)). AreTotals ns a.totals p.balances.items) names (totals_names (map name_of p.sums.items) (name_of h.one) a.totals p.balances.items are.totals);
-      abends = are.abends;
-    })
+sum_added loads a p n fs more are h = grind (arith, map_more, sum_is, new_name, more_values, sum_lines_names, totals_names)
 
 -- ---- abends
 
@@ -337,39 +265,12 @@ first_never n None = Some n
 first_never n (Some m) = Some m
 
 never_lists : (a : AppRules) (p : Partial) (n : ℕ) (o never : Option ℕ) → ArePart a p → a.abends ≡ o → never ≡ first_never n o → AreLists (with_never a n o) p.load p.allowances.items p.sums.items p.ons.items p.always.items p.balances.items never
-never_lists a p n None never are e h = record {
-  target = are.target;
-  allowances = are.allowances;
-  distinct = are.distinct;
-  sums = are.sums;
-  ons = are.ons;
-  ranges = are.ranges;
-  moves = are.moves;
-  totals = are.totals;
-  abends = sym h;
-}
-never_lists a p n (Some m) never are e h = record {
-  target = are.target;
-  allowances = are.allowances;
-  distinct = are.distinct;
-  sums = are.sums;
-  ons = are.ons;
-  ranges = are.ranges;
-  moves = are.moves;
-  totals = are.totals;
-  abends = e ∙ sym h;
-}
+never_lists a p n o never are e h = grind arith
 
 -- the rules with a line about abends
 pub never_added : (loads : List (List ℕ × LoadLine)) (a : AppRules) (p : Partial) (n : ℕ) (fs : List (List ℕ)) (word : List ℕ) (found : Found) (never : Option ℕ) → ArePart a p → fs ≡ word ∷ [] → bytes_eq word (codes "abend") ≡ true
     → p.load ≡ Some found → never ≡ first_never n p.never → AreListsRead (app_rule loads a n NeverLine fs) p.load p.allowances.items p.sums.items p.ons.items p.always.items p.balances.items never
-never_added loads a p n fs word found never are parts is loaded h =
-    let whole : app_rule loads a n NeverLine fs ≡ Ok (with_never a n a.abends) =
-    ap (app_rule loads a n NeverLine) parts ∙ never_is loads a n word
-    ∙ ap (λ b. unless b BadLine a >>= λ r. with_app r (with_never r n r.abends)) is
-    ∙ ap (λ b. only_if b NoApplication (with_never a n a.abends)) (is_target a.target p.load found are.target loaded) in
-    subst (λ (r : Result AppRules RuleCause). AreListsRead r p.load p.allowances.items p.sums.items p.ons.items p.always.items p.balances.items never) (sym whole)
-    (never_lists a p n a.abends never are refl (h ∙ ap (first_never n) (sym are.abends)))
+never_added loads a p n fs word found never are parts is loaded h = grind (arith, never_is, is_target, never_lists)
 
 pub never_new : (o : Option ℕ) (n : ℕ) → is_none o ≡ true → Some n ≡ first_never n o
 never_new None n e = refl

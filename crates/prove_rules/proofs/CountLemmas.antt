@@ -1,9 +1,9 @@
 -- The number of lines of a deck.
-use Rattle.std.proofs.Common.{◌≡◌, ◌+◌, ◌≤◌, ℕ, suc, List, [], ◌∷◌, ◌++◌, Bool, true, false, length, Some, Result, Ok, Err, arith, refl, sym, ap, ◌∙◌}
+use Rattle.std.proofs.Common.{◌≡◌, ◌+◌, ◌≤◌, ℕ, suc, List, [], ◌∷◌, ◌++◌, Bool, length, Some, Result, Ok, Err, arith, refl, sym, ap, ◌∙◌}
 use Rattle.std.specs.Prelude.{◌==◌}
 use Rattle.mc_text.specs.model_text.specs.Text.{◌>>=◌, lines, ok_as, with_numbers}
 use Rattle.lab_match.specs.model_play.specs.declared.deck.DeckCause.{DeckCause}
-use Rattle.lab_match.specs.model_play.specs.DeckGrammar.{deck_lines, deck_read, turn_at, turn_in, DeckLine, LineTurn, Mode}
+use Rattle.lab_match.specs.model_play.specs.DeckGrammar.{deck_lines, deck_read, turn_at, DeckLine, LineTurn, Mode}
 use Rattle.mc_text.specs.Reading.{next_line}
 use Rattle.mc_text.proofs.ReadingLemmas.{lines_at, lines_from}
 
@@ -23,19 +23,12 @@ read_by (Err e) x f d i h = absurd (cc (sym (ap (ok_as f) i) ∙ h))
 
 turn_by : (r : Result LineTurn (ℕ × DeckCause)) (ls : List (ℕ × List ℕ)) (d : Rest) → (r >>= λ t. ok_as (λ rest. t.lines ++ rest) (deck_lines t.mode ls)) ≡ Ok d
     → (m : Mode) × (e : Rest) × (deck_lines m ls ≡ Ok e)
-turn_by (Ok t) ls d h =
-    let r = read_by (deck_lines t.mode ls) (deck_lines t.mode ls) (λ rest. t.lines ++ rest) d refl h in
-    (t.mode, r.0, r.1)
-turn_by (Err e) ls d h = absurd (cc h)
+turn_by r ls d h = grind (arith, read_by)
 
 few_by : (n : ℕ) (m : Mode) (l : List ℕ) (ls : List (List ℕ)) (d : Rest) (b : Bool) → (n == 20001) ≡ b → n ≤ 20001
     → (turn_at b m (n, l) >>= λ t. ok_as (λ rest. t.lines ++ rest) (deck_lines t.mode (with_numbers (suc n) ls))) ≡ Ok d
     → ((m : Mode) (d : Rest) → deck_lines m (with_numbers (suc n) ls) ≡ Ok d → suc n ≤ 20001 → suc n + length ls ≤ 20001) → n + suc (length ls) ≤ 20001
-few_by n m l ls d true e h i again = absurd (cc i)
-few_by n m l ls d false e h i again =
-    let t = turn_by (turn_in m (n, l)) (with_numbers (suc n) ls) d i in
-    let k = again t.0 t.1 t.2 (grind (arith, e, h)) in
-    omega (arith, k)
+few_by n m l ls d b e h i again = grind (arith, turn_by)
 
 few_from : (n : ℕ) (m : Mode) (ls : List (List ℕ)) (d : Rest) → deck_lines m (with_numbers n ls) ≡ Ok d → n ≤ 20001 → n + length ls ≤ 20001
 unfolding deck_lines

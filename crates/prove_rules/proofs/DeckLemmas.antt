@@ -1,5 +1,5 @@
 -- Each `load` line of a text that is a deck is a line of the deck.
-use Rattle.std.proofs.Common.{◌≡◌, ◌<◌, ◌≤◌, ℕ, suc, Bool, true, false, not, cond, List, [], ◌∷◌, ◌++◌, Option, Some, None, Result, Ok, Err, arith, refl, sym, ap, ◌∙◌}
+use Rattle.std.proofs.Common.{◌≡◌, ◌<◌, ℕ, suc, Bool, true, false, not, cond, List, [], ◌∷◌, ◌++◌, Option, Some, None, Result, Ok, Err, arith, refl, sym, ap, ◌∙◌}
 use Rattle.std.specs.Prelude.{◌==◌, ◌&&◌, ◌||◌, ⊤, bytes_eq, codes, is_some, nat_lt, ok_or, IfOk}
 use Rattle.std.proofs.lemmas.Bool.{eqb-true}
 use Rattle.mc_base.specs.model_device.specs.Bytes.{lookup}
@@ -13,7 +13,7 @@ use Rattle.lab_match.specs.model_play.specs.DeckGrammar.{hex_field, aid_field, f
 use Rattle.lab_match.specs.model_play.specs.DeckGrammar as line
 use Rattle.lab_match.specs.law_explore.specs.Rules.{begins_with, stays_inside}
 use Rattle.prove_facts.specs.model_rules.specs.Reading.{load_names}
-use Rattle.prove_rules.specs.Loads.{first_named, is_second, loaded, loaded_at}
+use Rattle.prove_rules.specs.Loads.{first_named, loaded, loaded_at}
 use Rattle.prove_rules.proofs.LoadLemmas.{alike, first_above, named_by, names_rise, not_lower, unlike}
 
 abbrev Lines : Type 0
@@ -140,19 +140,7 @@ shown_by true b h e = h
 shown_by false b h e = absurd (cc e)
 
 clash : (w : Word) → is_app w ≡ true → is_load w ≡ true → ⊥
-clash LoadWord e h = absurd (cc e)
-clash FormatWord e h = absurd (cc e)
-clash PowerWord e h = absurd (cc e)
-clash UnitWord e h = absurd (cc e)
-clash AppWord e h = absurd (cc h)
-clash SelectWord e h = absurd (cc e)
-clash DeleteWord e h = absurd (cc e)
-clash DumpWord e h = absurd (cc e)
-clash ApduWord e h = absurd (cc e)
-clash BudgetWord e h = absurd (cc e)
-clash CutWord e h = absurd (cc e)
-clash FailWord e h = absurd (cc e)
-clash PokeWord e h = absurd (cc e)
+clash w e h = grind arith
 
 made : (k : ℕ) (word : List ℕ) (rest : List (List ℕ)) (w : Word) → lookup deck_words word ≡ Some w → (s : Stated) → StatesAs w k s → Turned k false (word ∷ rest) (turn_of k s)
 made k word rest w e (Says l c) h = record {
@@ -183,10 +171,7 @@ comment c k word rest h = record {
 
 between_turns : (c : Context) (k : ℕ) (fs : List (List ℕ)) → IfOk (between c k fs) (Turned k false fs)
 between_turns c k [] = record { leaves = refl; before = tt; later = λ n more i. refl; loads = λ more i. absurd (cc i) }
-between_turns c k (word ∷ rest) =
-    let said = ok_or (lookup deck_words word) BadLine >>= λ w. ok_as (turn_of k) (statement_of c k w rest) in
-    turned_if (begins 35 word) (Ok (record { lines = []; mode = Between c })) (err_as (λ e. (k, e)) said) (Turned k false (word ∷ rest)) (comment c k word rest)
-    (λ e. turned_err (λ e. (k, e)) said (Turned k false (word ∷ rest)) (by_word c k word rest (lookup deck_words word) refl))
+between_turns c k (word ∷ rest) = grind (arith, turned_if, comment, turned_err, by_word)
 
 within_turns : (b : Bool) (s : Section) (c : Context) (k : ℕ) (l : List ℕ) → is_end (fields l) ≡ b → s.first < k → IfOk (within b s c (k, l)) (Turned k true (fields l))
 unfolding within
@@ -205,9 +190,7 @@ within_turns false s c k l e h = record {
 }
 
 turns : (b : Bool) (m : Mode) (k : ℕ) (l : List ℕ) → Before k m → IfOk (turn_at b m (k, l)) (Turned k (in_section m) (fields l))
-turns true m k l h = tt
-turns false (Between c) k l h = between_turns c k (fields l)
-turns false (Within s c) k l h = within_turns (is_end (fields l)) s c k l refl h
+turns b m k l h = grind (arith, between_turns, within_turns)
 
 -- ---- texts
 
@@ -221,27 +204,16 @@ Found name m k ls = (d : Lines) (n : ℕ) → Before k m → deck_lines m (with_
 found_later : (name : List ℕ) (k : ℕ) (inside : Bool) (fs : List (List ℕ)) (t : LineTurn) (ls : List (List ℕ)) (e d : Lines) (n : ℕ) → Turned k inside fs t → deck_lines t.mode (with_numbers (suc k) ls) ≡ Ok e → t.lines ++ e ≡ d
     → first_named (load_names (stays_inside inside fs) (with_numbers (suc k) ls)) name ≡ Some n → Found name t.mode (suc k) ls → is_some (loaded_at n d) ≡ true
 found_later name k inside fs t ls e d n h read whole first again =
-    let lower : suc k ≤ n = first_above name (suc k) n (load_names (stays_inside inside fs) (with_numbers (suc k) ls)) (names_rise (stays_inside inside fs) (suc k) ls) first in
-    let below : k < n = omega (arith, lower) in
-    ap (λ x. is_some (loaded_at n x)) (sym whole) ∙ ap is_some (h.later n e below)
-    ∙ again e n h.before read (ap (λ b. first_named (load_names b (with_numbers (suc k) ls)) name) h.leaves ∙ first)
+    grind (arith, first_above name (suc k) n (load_names (stays_inside inside fs) (with_numbers (suc k) ls)) (names_rise (stays_inside inside fs) (suc k) ls) first)
 
 found_by : (name : List ℕ) (k : ℕ) (inside p q : Bool) (fs : List (List ℕ)) (t : LineTurn) (ls : List (List ℕ)) (e d : Lines) (n : ℕ) → Turned k inside fs t → (not inside && begins_with (codes "load") fs) ≡ p
     → deck_lines t.mode (with_numbers (suc k) ls) ≡ Ok e → t.lines ++ e ≡ d → cond (p && q) (Some k) (first_named (load_names (stays_inside inside fs) (with_numbers (suc k) ls)) name) ≡ Some n
     → Found name t.mode (suc k) ls → is_some (loaded_at n d) ≡ true
-found_by name k inside true true fs t ls e d n h p read whole first again =
-    let at : k ≡ n = cc first in
-    ap (λ x. is_some (loaded_at n x)) (sym whole) ∙ ap (λ j. is_some (loaded_at j (t.lines ++ e))) (sym at) ∙ h.loads e p
-found_by name k inside true false fs t ls e d n h p read whole first again = found_later name k inside fs t ls e d n h read whole first again
-found_by name k inside false q fs t ls e d n h p read whole first again = found_later name k inside fs t ls e d n h read whole first again
+found_by name k inside p q fs t ls e d n h p12 read whole first again = grind (arith, found_later)
 
 rest_by : (name : List ℕ) (k : ℕ) (inside : Bool) (l : List ℕ) (t : LineTurn) (ls : List (List ℕ)) (x : Read) (d : Lines) (n : ℕ) → Turned k inside (fields l) t → deck_lines t.mode (with_numbers (suc k) ls) ≡ x
     → ok_as (λ rest. t.lines ++ rest) x ≡ Ok d → first_named (load_names inside ((k, l) ∷ with_numbers (suc k) ls)) name ≡ Some n → Found name t.mode (suc k) ls → is_some (loaded_at n d) ≡ true
-rest_by name k inside l t ls (Err c) d n h read e first again = absurd (cc e)
-rest_by name k inside l t ls (Ok x) d n h read e first again =
-    let whole : t.lines ++ x ≡ d = cc e in
-    found_by name k inside (not inside && begins_with (codes "load") (fields l)) (is_second (fields l) name) (fields l) t ls x d n h refl read whole
-    (sym (named_by k (fields l) (load_names (stays_inside inside (fields l)) (with_numbers (suc k) ls)) name (not inside && begins_with (codes "load") (fields l)) (is_second (fields l) name) refl) ∙ first) again
+rest_by name k inside l t ls x d n h read e first again = grind (arith, found_by, named_by)
 
 turn_by : (name : List ℕ) (k : ℕ) (inside : Bool) (l : List ℕ) (r : Result LineTurn (ℕ × DeckCause)) (ls : List (List ℕ)) (d : Lines) (n : ℕ) → IfOk r (Turned k inside (fields l))
     → (r >>= λ t. ok_as (λ rest. t.lines ++ rest) (deck_lines t.mode (with_numbers (suc k) ls))) ≡ Ok d → first_named (load_names inside ((k, l) ∷ with_numbers (suc k) ls)) name ≡ Some n

@@ -56,26 +56,16 @@ both_of None = []
 both_of (Some p) = p.0 ∷ p.1 ∷ []
 
 pub two_are : (ps : List (List ℕ)) (a b : List ℕ) → Some (a, b) ≡ two_of ps → ps ≡ a ∷ b ∷ []
-two_are [] a b e = absurd (cc e)
-two_are (p ∷ []) a b e = absurd (cc e)
-two_are (p ∷ q ∷ []) a b e = ap both_of (sym e)
-two_are (p ∷ q ∷ r ∷ ps) a b e = absurd (cc e)
+two_are ps a b e = grind arith
 
 -- ---- brackets
 
 -- a field whose register and text are not two pieces
 not_opened : (ps : List (List ℕ)) → None ≡ two_of ps → register_and_text ps ≡ Err (Deck BadLine)
-not_opened [] e = refl
-not_opened (p ∷ []) e = refl
-not_opened (p ∷ q ∷ []) e = absurd (cc e)
-not_opened (p ∷ q ∷ r ∷ ps) e = refl
+not_opened ps e = grind arith
 
 not_closed : (ps : List (List ℕ)) → None ≡ two_of ps → bracketed ps ≡ Err (Deck BadLine)
-not_closed [] e = refl
-not_closed (p ∷ []) e = refl
-not_closed (p ∷ q ∷ []) e = absurd (cc e)
-not_closed (p ∷ [] ∷ r ∷ ps) e = refl
-not_closed (p ∷ (c ∷ q) ∷ r ∷ ps) e = refl
+not_closed ps e = grind arith
 
 pub zero_of : (n : ℕ) → (n == 0) ≡ true → n ≡ 0
 zero_of n h = grind (arith, h)
@@ -113,17 +103,10 @@ pub one_end : (t p : List ℕ) → p ≡ (first_cut (λ c. c == 46) t).0 → Non
 one_end t p e h = ap ends_in (pieces_none (λ c. c == 46) t h) ∙ ap (λ x. Ok (x, x)) (sym e)
 
 not_ends : (p q : List ℕ) (ps : List (List ℕ)) → None ≡ two_of (q ∷ ps) → ends_in (p ∷ q ∷ ps) ≡ Err (Deck BadLine)
-not_ends p [] [] e = refl
-not_ends p (c ∷ q) [] e = refl
-not_ends p q (r ∷ []) e = absurd (cc e)
-not_ends p [] (r ∷ s ∷ ps) e = refl
-not_ends p (c ∷ q) (r ∷ s ∷ ps) e = refl
+not_ends p q ps e = grind arith
 
 pub no_ends : (t u : List ℕ) → Some u ≡ (first_cut (λ c. c == 46) t).1 → None ≡ two_of (pieces (λ c. c == 46) u) → ends_of t ≡ Err (Deck BadLine)
-no_ends t u e h =
-    let f : ℕ → Bool = λ c. c == 46 in
-    ap ends_in (pieces_some f t u e ∙ ap (λ ps. (first_cut f t).0 ∷ ps) (pieces_cut f u))
-    ∙ not_ends (first_cut f t).0 (first_cut f u).0 (pieces_after f (first_cut f u).1) (h ∙ ap two_of (pieces_cut f u))
+no_ends t u e h = grind (arith, pieces_some, pieces_cut, not_ends)
 
 middle_by : (p m q : List ℕ) → (length m == 0) ≡ false → ends_in (p ∷ m ∷ q ∷ []) ≡ Err (Deck BadLine)
 middle_by p [] q n = absurd (cc n)
@@ -148,14 +131,7 @@ AreEndsRead (Ok e) = Unit {0}
 AreEndsRead (Err c) = c ≡ Deck BadLine
 
 ends_either : (ps : List (List ℕ)) → AreEndsRead (ends_in ps)
-ends_either [] = refl
-ends_either (p ∷ []) = tt
-ends_either (p ∷ [] ∷ []) = refl
-ends_either (p ∷ (c ∷ q) ∷ []) = refl
-ends_either (p ∷ [] ∷ q ∷ []) = tt
-ends_either (p ∷ (c ∷ m) ∷ q ∷ []) = refl
-ends_either (p ∷ [] ∷ q ∷ r ∷ ps) = refl
-ends_either (p ∷ (c ∷ m) ∷ q ∷ r ∷ ps) = refl
+ends_either ps = grind arith
 
 -- a range that is refused is BadLine
 pub ends_refused : (t : List ℕ) → AreEndsRead (ends_of t)
@@ -178,10 +154,7 @@ pub capped_high : (n m : ℕ) → n ≡ capped_number m → 4294967296 ≤ n →
 capped_high n m i h = high_by (nat_le m 4294967296) n m refl i h
 
 number_by : (o : Option ℕ) (n : ℕ) → Some n ≡ option_map capped_number o → IsNumber o n
-number_by None n e = absurd (cc e)
-number_by (Some m) n e =
-    let i : n ≡ capped_number m = cc e in
-    record { number = m; is = refl; capped = i; low = λ h. capped_same n m i h; high = λ h. capped_high n m i h }
+number_by o n e = grind (arith, capped_same, capped_high)
 
 -- a number of a text
 pub number_is : (o : Option ℕ) (n : ℕ) → Some n ≡ option_map capped_number o → IsNumber o n
@@ -209,10 +182,7 @@ two_or_more n = grind arith
 
 -- whether a text is cut
 pub is_cut : (t : List ℕ) (o : Option (Bor (List ℕ))) (b : Bool) → now_of o ≡ (first_cut (λ c. c == 91) t).1 → b ≡ is_some o → has_no_bracket t ≡ not b
-is_cut t None b e i = ap (λ ps. nat_le (length ps) 1) (pieces_none (λ c. c == 91) t e) ∙ ap not (sym i)
-is_cut t (Some v) b e i =
-    ap (λ ps. nat_le (length ps) 1) (pieces_some (λ c. c == 91) t v.now e ∙ ap (λ ps. (first_cut (λ c. c == 91) t).0 ∷ ps) (pieces_cut (λ c. c == 91) v.now))
-    ∙ two_or_more (length (pieces_after (λ c. c == 91) (first_cut (λ c. c == 91) v.now).1)) ∙ ap not (sym i)
+is_cut t o b e i = grind (arith, pieces_none, pieces_some, pieces_cut, two_or_more)
 
 -- a range by what the code has of its first cut
 pub one_end_of : (t p : List ℕ) (o : Option (Bor (List ℕ))) → o ≡ None → p ≡ (first_cut (λ c. c == 46) t).0 → now_of o ≡ (first_cut (λ c. c == 46) t).1 → ends_of t ≡ Ok (p, p)

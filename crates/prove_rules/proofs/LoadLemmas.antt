@@ -6,7 +6,6 @@ use Rattle.mc_base.specs.model_device.specs.Bytes.{lookup}
 use Rattle.mc_text.specs.model_text.specs.Text.{fields, lines, with_numbers}
 use Rattle.mc_unit.specs.model_machine.specs.Primitives.{entry_of_number}
 use Rattle.lab_match.specs.model_play.specs.DeckGrammar.{DeckLine}
-use Rattle.lab_match.specs.model_play.specs.DeckGrammar as line
 use Rattle.lab_match.specs.law_explore.specs.Rules.{begins_with, stays_inside}
 use Rattle.mc_text.specs.Reading.{next_line}
 use Rattle.mc_text.proofs.ReadingLemmas.{lines_at, lines_from}
@@ -56,14 +55,10 @@ absent k m (l ∷ ls) h e =
 
 module _ (name : List ℕ) where
   under_skip : (fs : List (List ℕ)) (l : LoadLine) (ls : List (List ℕ × LoadLine)) → is_second fs name ≡ false → lookup (load_under (Some fs) l ++ ls) name ≡ lookup ls name
-  under_skip [] l ls e = refl
-  under_skip (w ∷ []) l ls e = refl
-  under_skip (w ∷ s ∷ rest) l ls e = ap (λ b. cond b (Some l) (lookup ls name)) e
+  under_skip fs l ls e = grind arith
 
   under_hit : (fs : List (List ℕ)) (l : LoadLine) (ls : List (List ℕ × LoadLine)) → is_second fs name ≡ true → lookup (load_under (Some fs) l ++ ls) name ≡ Some l
-  under_hit [] l ls e = absurd (cc e)
-  under_hit (w ∷ []) l ls e = absurd (cc e)
-  under_hit (w ∷ s ∷ rest) l ls e = ap (λ b. cond b (Some l) (lookup ls name)) e
+  under_hit fs l ls e = grind arith
 
   above_by : (b : Bool) (k j n : ℕ) (o : Option ℕ) → k ≤ j → (o ≡ Some n → suc j ≤ n) → cond b (Some j) o ≡ Some n → k ≤ n
   above_by true k j n o e h i = let f : j ≡ n = cc i in omega (arith, f, e)
@@ -76,15 +71,7 @@ module _ (name : List ℕ) where
   skip_by : (j : ℕ) (fs : List (List ℕ)) (ls : Names) (m n : ℕ) (l : LoadLine) (more : List (List ℕ × LoadLine)) (b d : Bool) → is_second fs name ≡ b → (j == m) ≡ d → Rising (suc j) ls → m < n → cond b (Some j) (first_named ls name) ≡ Some n
       → (first_named ls name ≡ Some n → lookup (load_under (entry_of_number m ls) l ++ more) name ≡ lookup more name)
       → lookup (load_under (cond d (Some fs) (entry_of_number m ls)) l ++ more) name ≡ lookup more name
-  skip_by j fs ls m n l more true true s e r h i again =
-      let f : j ≡ n = cc i in
-      let g = same_by j m e in
-      absurd (omega (arith, f, g, h))
-  skip_by j fs ls m n l more true false s e r h i again =
-      let f : j ≡ n = cc i in
-      ap (λ o. lookup (load_under o l ++ more) name) (absent (suc j) m ls r (omega (arith, f, h)))
-  skip_by j fs ls m n l more false true s e r h i again = under_skip fs l more s
-  skip_by j fs ls m n l more false false s e r h i again = again i
+  skip_by j fs ls m n l more b d s e r h i again = grind (arith, same_by, absent, under_skip)
 
   -- a line before the first of the name is not under it
   before_first : (k m n : ℕ) (ls : Names) (l : LoadLine) (more : List (List ℕ × LoadLine)) → Rising k ls → m < n → first_named ls name ≡ Some n → lookup (load_under (entry_of_number m ls) l ++ more) name ≡ lookup more name
@@ -95,16 +82,7 @@ module _ (name : List ℕ) where
   hit_by : (j : ℕ) (fs : List (List ℕ)) (ls : Names) (n : ℕ) (l : LoadLine) (more : List (List ℕ × LoadLine)) (b d : Bool) → is_second fs name ≡ b → (j == n) ≡ d → Rising (suc j) ls → cond b (Some j) (first_named ls name) ≡ Some n
       → (first_named ls name ≡ Some n → lookup (load_under (entry_of_number n ls) l ++ more) name ≡ Some l)
       → lookup (load_under (cond d (Some fs) (entry_of_number n ls)) l ++ more) name ≡ Some l
-  hit_by j fs ls n l more true true s e r i again = under_hit fs l more s
-  hit_by j fs ls n l more true false s e r i again =
-      let f : j ≡ n = cc i in
-      let g = alike j n f in
-      absurd (cc (sym g ∙ e))
-  hit_by j fs ls n l more false true s e r i again =
-      let f = same_by j n e in
-      let g = first_above (suc j) n ls r i in
-      absurd (omega (arith, f, g))
-  hit_by j fs ls n l more false false s e r i again = again i
+  hit_by j fs ls n l more b d s e r i again = grind (arith, under_hit, alike, same_by, first_above)
 
   -- the first line of the name is under it
   at_first : (k n : ℕ) (ls : Names) (l : LoadLine) (more : List (List ℕ × LoadLine)) → Rising k ls → first_named ls name ≡ Some n → lookup (load_under (entry_of_number n ls) l ++ more) name ≡ Some l
@@ -119,18 +97,7 @@ under o None = []
 under o (Some l) = load_under o l
 
 loads_step : (ns : Names) (n : ℕ) (x : DeckLine) (ls : List (ℕ × DeckLine)) → loads_of ns ((n, x) ∷ ls) ≡ under (entry_of_number n ns) (loaded x) ++ loads_of ns ls
-loads_step ns n line.Format ls = refl
-loads_step ns n line.Power ls = refl
-loads_step ns n line.Named ls = refl
-loads_step ns n (line.Sent (line.Load u f s)) ls = refl
-loads_step ns n (line.Sent (line.Select a)) ls = refl
-loads_step ns n (line.Sent (line.Delete a)) ls = refl
-loads_step ns n (line.Sent (line.Apdu b)) ls = refl
-loads_step ns n (line.Dump a) ls = refl
-loads_step ns n (line.Budget b) ls = refl
-loads_step ns n (line.Cut k f) ls = refl
-loads_step ns n (line.Fail k) ls = refl
-loads_step ns n (line.Poke a f) ls = refl
+loads_step ns n x ls = grind arith
 
 module _ (ns : Names) (name : List ℕ) (n : ℕ) (rise : Rising 1 ns) (first : first_named ns name ≡ Some n) (l : LoadLine) where
   earlier : (m : ℕ) (o : Option LoadLine) (more : List (List ℕ × LoadLine)) → m < n → lookup (under (entry_of_number m ns) o ++ more) name ≡ lookup more name
@@ -152,10 +119,7 @@ module _ (ns : Names) (name : List ℕ) (n : ℕ) (rise : Rising 1 ns) (first : 
 
 found_by : (text name : List ℕ) (d : List (ℕ × DeckLine)) (n : ℕ) (found : Found) (o : Option LoadLine) → loaded_at n d ≡ o → first_named (load_names false (with_numbers 1 (lines text))) name ≡ Some n → IsLoadOf o found
     → IsLoadOf (lookup (loads_in text d) name) found
-found_by text name d n found None e f h = absurd h
-found_by text name d n found (Some l) e f h =
-    let ns = load_names false (with_numbers 1 (lines text)) in
-    subst (λ (o : Option LoadLine). IsLoadOf o found) (sym (loads_at ns name n (names_rise false 1 (lines text)) f l d e)) h
+found_by text name d n found o e f h = grind (arith, loads_at, names_rise)
 
 -- what the line of the first number loads is what the name loads
 pub load_found : (text name : List ℕ) (d : List (ℕ × DeckLine)) (n : ℕ) (found : Found) → Some n ≡ first_named (load_names false (with_numbers 1 (lines text))) name → IsLoadOf (loaded_at n d) found
@@ -209,9 +173,7 @@ lower n m h = grind (arith, h)
 
 -- a line of a greater number
 pub line_past : (n : ℕ) (d : List (ℕ × DeckLine)) (i m : ℕ) (x : DeckLine) → slice_get d i ≡ Some (m, x) → n < m → loaded_at n d ≡ loaded_at n (drop i d) → loaded_at n d ≡ None
-line_past n d i m x e f h =
-    h ∙ ap (loaded_at n) (drop_at d i (m, x) e) ∙ ap (λ b. cond b (loaded x) (cond (nat_lt n m) None (loaded_at n (drop (i + 1) d)))) (apart m n f)
-    ∙ ap (λ b. cond b None (loaded_at n (drop (i + 1) d))) (lower n m f)
+line_past n d i m x e f h = grind (arith, drop_at, apart, lower)
 
 pub not_lower : (n m : ℕ) → m < n → nat_lt n m ≡ false
 not_lower n m h = grind (arith, h)
@@ -240,11 +202,7 @@ named_by n fs rest name false q e = refl
 -- one more line of a text
 pub first_step : (inside : Bool) (n : ℕ) (t l b name : List ℕ) (r : Bool) → Some (l, b) ≡ next_line t → r ≡ ((not inside && begins_with (codes "load") (fields l)) && is_second (fields l) name)
     → first_named (load_names inside (with_numbers n (lines t))) name ≡ cond r (Some n) (first_named (load_names (stays_inside inside (fields l)) (with_numbers (n + 1) (lines b))) name)
-first_step inside n t l b name r e h =
-    let rest = load_names (stays_inside inside (fields l)) (with_numbers (n + 1) (lines b)) in
-    ap (λ ls. first_named (load_names inside ls) name) (numbered n t l b e)
-    ∙ named_by n (fields l) rest name (not inside && begins_with (codes "load") (fields l)) (is_second (fields l) name) refl
-    ∙ ap (λ b. cond b (Some n) (first_named rest name)) (sym h)
+first_step inside n t l b name r e h = grind (arith, numbered, named_by)
 
 -- a line that is not the first of the name
 pub first_next : (inside stays : Bool) (n : ℕ) (t l b name : List ℕ) (r : Bool) (whole : Option ℕ) → Some (l, b) ≡ next_line t → r ≡ ((not inside && begins_with (codes "load") (fields l)) && is_second (fields l) name) → r ≡ false

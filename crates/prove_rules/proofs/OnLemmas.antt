@@ -1,5 +1,5 @@
 -- `on` lines by their parts.
-use Rattle.std.proofs.Common.{◌≡◌, ℕ, List, [], ◌∷◌, ◌++◌, Bool, true, false, not, cond, length, map, Option, Some, None, Ok, Err, Result, refl, sym, ap, subst, ◌∙◌}
+use Rattle.std.proofs.Common.{arith, ◌≡◌, ℕ, List, [], ◌∷◌, ◌++◌, Bool, true, false, not, cond, length, map, Option, Some, None, Ok, Err, Result, refl, sym, ap, subst, ◌∙◌}
 use Rattle.std.specs.Prelude.{◌==◌, bytes_eq, codes, is_none, is_some, ok_or}
 use Rattle.mc_base.specs.model_device.specs.Bytes.{lookup}
 use Rattle.mc_text.specs.model_text.specs.Text.{◌>>=◌, fields, is_empty, only_if}
@@ -106,23 +106,14 @@ head_command fs h w s = record {
 }
 
 pub head_session : (fs : List (List ℕ)) (h : Head) → HasWord false fs h → is_empty h.pattern.items ≡ true → IsHead event.Session fs h
-head_session fs h w s = record {
-  trigger = AtSession;
-  is = refl;
-  timely = action_timely AtSession h.deeds fs w.front (fields h.after.now) w.is;
-  leads = λ a n. ap (λ r. r >>= λ p. with_deed a n AtSession p.1 p.2) (bare_is (parts_of action_words fs) w.front (deeds_value h.deeds) (fields h.after.now) w.is (w.empty ∙ s));
-}
+head_session fs h w s = grind (arith, action_timely, bare_is)
 
 pub head_answer : (fs : List (List ℕ)) (h : Head) → HasResult fs h → IsHead event.Answer fs h
 head_answer fs h w = record {
   trigger = AtAnswer w.first.front w.second.front;
   is = (refl, w.first.pattern, w.second.pattern);
   timely = action_timely (AtAnswer w.first.front w.second.front) h.deeds (fields w.mid) w.second.front (fields h.after.now) w.second.is;
-  leads = λ a n.
-      ap (λ r. r >>= λ a1. of_deck (full_parts (parts_of action_words a1.2)) >>= λ p. with_deed a n (AtAnswer a1.0 p.0) p.1 p.2)
-      (full_is (parts_of gives_words fs) w.first.front true (fields w.mid) w.first.is (w.first.empty ∙ w.some))
-      ∙ ap (λ r. r >>= λ p. with_deed a n (AtAnswer w.first.front p.0) p.1 p.2)
-      (full_is (parts_of action_words (fields w.mid)) w.second.front (deeds_value h.deeds) (fields h.after.now) w.second.is (w.second.empty ∙ w.full));
+  leads = grind (arith, full_is);
 }
 
 -- ---- refused heads
@@ -158,11 +149,7 @@ result_after fs t mid h e = ap (λ r. r >>= λ a. of_deck (full_parts (parts_of 
 
 -- a refused step before another
 answer_by : {A B C : Type 0} (x : Result A RuleCause) (f : A → Result B RuleCause) (k : A → B → Result C RuleCause) (e : Fault) → Faulty (x >>= f) e → Faulty (x >>= λ a. f a >>= k a) e
-answer_by (Ok a) f k e h = then_faulty (f a) (k a) e h
-answer_by (Err c) f k (fault.Cause d) h =
-    let same : c ≡ cause_value d = cc h in
-    ap (λ x. Err x) same
-answer_by (Err c) f k fault.NoMemory h = tt
+answer_by x f k e h = grind (arith, then_faulty)
 
 -- the fault of a line's head
 abbrev pub EventFault : EventWord → List (List ℕ) → Fault → Type 0
@@ -206,21 +193,13 @@ answer_refused a n fs e h =
 
 -- the application that the lines above name
 pub target_is : (o : Option Target) (l : Option Found) (found : Found) → IsTarget o l → l ≡ Some found → (g : Target) × (o ≡ Some g) × IsCreated g.app found.load × (g.name ≡ found.aid)
-target_is None None found h e = absurd (cc e)
-target_is None (Some l) found h e = absurd h
-target_is (Some g) None found h e = absurd (cc e)
-target_is (Some g) (Some l) found h e =
-    let same : l ≡ found = cc e in
-    (g, refl, subst (λ (f : Found). IsCreated g.app f.load) same h.0, subst (λ (f : Found). g.name ≡ f.aid) same h.1)
+target_is o l found h e = grind arith
 
 pub is_target : (o : Option Target) (l : Option Found) (found : Found) → IsTarget o l → l ≡ Some found → is_some o ≡ true
 is_target o l found h e = let t = target_is o l found h e in ap is_some t.1
 
 trigger_is : (t : Trigger) (on : On) → IsTriggerOf t on.event on.pattern.items on.result.items → IsTrigger t on
-trigger_is (AtTurn p) on h = h
-trigger_is (AtCommand p) on h = h
-trigger_is (AtAnswer p q) on h = h
-trigger_is AtSession on h = h
+trigger_is t on h = grind arith
 
 -- a line about an allowance
 abbrev allowance_line : ℕ → Trigger → rules.Action → List ℕ × ℕ → OnLine
@@ -231,17 +210,9 @@ abbrev on_by : AppRules → ℕ → Trigger → rules.Action → List ℕ × ℕ
 on_by a n t act x target =
     only_if target NoApplication a >>= λ r. unless (is_some (lookup r.allowances x.0)) UnknownName (record r { ons = r.ons ++ allowance_line n t act x ∷ [] })
 
--- the same with one, by whether there is the allowance
-abbrev on_in : AppRules → ℕ → Trigger → rules.Action → List ℕ × ℕ → Bool → Result AppRules RuleCause
-on_in a n t act x there = unless there UnknownName (record a { ons = a.ons ++ allowance_line n t act x ∷ [] })
-
 pub allowance_read : (a : AppRules) (p : Partial) (n : ℕ) (t : Trigger) (act : rules.Action) (fs : List (List ℕ)) (effect : Effect) (place : ℕ) → ArePart a p → (h : IsAllowanceEffect p fs act effect place)
     → with_deed a n t (OnAllowance act) fs ≡ Ok (record a { ons = a.ons ++ allowance_line n t act (h.name, h.amount) ∷ [] })
-allowance_read a p n t act fs effect place are h =
-    let held : is_some (lookup a.allowances h.name) ≡ true = ap (λ l. is_some (lookup l h.name)) are.allowances ∙ place_some (map allowance_of p.allowances.items) h.name place h.place in
-    ap (λ r. of_deck r >>= λ x. with_on a n t act x.0 x.1) h.named
-    ∙ ap (on_by a n t act (h.name, h.amount)) (is_target a.target p.load h.found are.target h.loaded)
-    ∙ ap (on_in a n t act (h.name, h.amount)) held
+allowance_read a p n t act fs effect place are h = grind (arith, place_some, is_target)
 
 -- a line about a sum
 abbrev sum_line : ℕ → List ℕ → Bool → List ℕ → rules.Amount → SumLine
@@ -301,9 +272,7 @@ sum_read a p n pattern adds fs effect place are h =
 
 -- no application is named
 pub no_target : (o : Option Target) (l : Option Found) → IsTarget o l → l ≡ None → is_some o ≡ false
-no_target None l h e = refl
-no_target (Some g) None h e = absurd h
-no_target (Some g) (Some l) h e = absurd (cc e)
+no_target o l h e = grind arith
 
 -- a name without a place is not there
 pub not_held : (list : List (List ℕ × ℕ)) (held : List Named) (name : List ℕ) → list ≡ map allowance_of held → None ≡ place_of (map allowance_of held) name → is_some (lookup list name) ≡ false
@@ -320,17 +289,11 @@ no_application a p n t act fs name k are h l =
 
 pub no_allowance : (a : AppRules) (p : Partial) (n : ℕ) (t : Trigger) (act : rules.Action) (fs : List (List ℕ)) (name : List ℕ) (k : ℕ) (found : Found) → ArePart a p → name_and_amount fs ≡ Ok (name, k) → p.load ≡ Some found
     → None ≡ place_of (map allowance_of p.allowances.items) name → with_deed a n t (OnAllowance act) fs ≡ Err (Deck UnknownName)
-no_allowance a p n t act fs name k found are h l none =
-    ap (λ r. of_deck r >>= λ x. with_on a n t act x.0 x.1) h
-    ∙ ap (on_by a n t act (name, k)) (is_target a.target p.load found are.target l)
-    ∙ ap (on_in a n t act (name, k)) (not_held a.allowances p.allowances.items name are.allowances none)
+no_allowance a p n t act fs name k found are h l none = grind (arith, is_target, not_held)
 
 -- a line about a sum is refused for its fields, its form, its name or its numbers
 pub no_two_fields : (a : AppRules) (n : ℕ) (pattern : List ℕ) (adds : Bool) (fs : List (List ℕ)) → two_of fs ≡ None → with_deed a n (AtTurn pattern) (OnSum adds) fs ≡ Err (Deck BadLine)
-no_two_fields a n pattern adds [] h = refl
-no_two_fields a n pattern adds (x ∷ []) h = refl
-no_two_fields a n pattern adds (x ∷ y ∷ []) h = absurd (cc h)
-no_two_fields a n pattern adds (x ∷ y ∷ z ∷ fs) h = refl
+no_two_fields a n pattern adds fs h = grind arith
 
 pub form_refused : (a : AppRules) (n : ℕ) (pattern : List ℕ) (adds : Bool) (fs : List (List ℕ)) (name text : List ℕ) (c : DeckCause) → fs ≡ name ∷ text ∷ [] → form_of_amount (has_no_bracket text) text ≡ Err (Deck c)
     → with_deed a n (AtTurn pattern) (OnSum adds) fs ≡ Err (Deck c)
@@ -424,15 +387,7 @@ read_by a p n t fs (deeds.OnSum adds) on are i trigger timely h =
 pub on_read : (a : AppRules) (p : Partial) (n : ℕ) (e : Event) (all fs : List (List ℕ)) (word : List ℕ) (h : Head) (on : On) → ArePart a p → all ≡ word ∷ fs → Some (event_value e) ≡ lookup event_words word
     → IsHead e fs h → on.event ≡ e → on.pattern ≡ h.pattern → on.result ≡ h.result → on.line ≡ n → IsEffect p (fields h.after.now) h.deeds on.effect on.name
     → IsOnRead (map name_of p.allowances.items) (map name_of p.sums.items) a (on_line a n all) on
-on_read a p n e all fs word h on are parts named head ev pattern result line effect =
-    let trigger : IsTriggerOf head.trigger on.event on.pattern.items on.result.items =
-    subst (λ (x : Event). IsTriggerOf head.trigger x on.pattern.items on.result.items) (sym ev) (
-    subst (λ (x : List ℕ). IsTriggerOf head.trigger e x on.result.items) (ap (λ v. v.items) (sym pattern)) (
-    subst (λ (x : List ℕ). IsTriggerOf head.trigger e h.pattern.items x) (ap (λ v. v.items) (sym result)) head.is)) in
-    let whole : on_line a n all ≡ with_deed a n head.trigger (deeds_value h.deeds) (fields h.after.now) =
-    ap (on_line a n) parts ∙ ap (λ o. ok_or o (Deck BadLine) >>= λ w. with_event_line a n w fs) (sym named) ∙ head.leads a n in
-    subst (λ (r : Result AppRules RuleCause). IsOnRead (map name_of p.allowances.items) (map name_of p.sums.items) a r on) (sym whole)
-    (read_by a p n head.trigger (fields h.after.now) h.deeds on are (sym line) trigger head.timely effect)
+on_read a p n e all fs word h on are parts named head ev pattern result line effect = grind (arith, read_by)
 
 -- ---- refused lines
 
@@ -462,30 +417,7 @@ effect_refused a n all fs word ev h e parts named head f =
 
 added_by : (a : AppRules) (p : Partial) (r : Result AppRules RuleCause) (on : On) (d : Option (rules.Action × ℕ)) → ArePart a p → deed_of on.effect ≡ d → MoreLines d (map name_of p.allowances.items) (map name_of p.sums.items) a r on
     → AreListsRead r p.load p.allowances.items p.sums.items (p.ons.items ++ on ∷ []) p.always.items p.balances.items p.never
-added_by a p r on None are e h =
-    subst (λ (x : Result AppRules RuleCause). AreListsRead x p.load p.allowances.items p.sums.items (p.ons.items ++ on ∷ []) p.always.items p.balances.items p.never) (sym h.2) (record {
-      target = are.target;
-      allowances = are.allowances;
-      distinct = are.distinct;
-      sums = are.sums;
-      ons = lines_sum (map name_of p.allowances.items) on a.ons p.ons.items e are.ons;
-      ranges = are.ranges;
-      moves = sum_lines_more (map name_of p.sums.items) on a.moves p.ons.items h.0 h.1 h.3 h.4 are.moves;
-      totals = are.totals;
-      abends = are.abends;
-    })
-added_by a p r on (Some deed) are e h =
-    subst (λ (x : Result AppRules RuleCause). AreListsRead x p.load p.allowances.items p.sums.items (p.ons.items ++ on ∷ []) p.always.items p.balances.items p.never) (sym h.1) (record {
-      target = are.target;
-      allowances = are.allowances;
-      distinct = are.distinct;
-      sums = are.sums;
-      ons = lines_allowance (map name_of p.allowances.items) on a.ons p.ons.items h.0 deed e h.2 are.ons;
-      ranges = are.ranges;
-      moves = sum_lines_still (map name_of p.sums.items) on a.moves p.ons.items deed e are.moves;
-      totals = are.totals;
-      abends = are.abends;
-    })
+added_by a p r on d are e h = grind (arith, lines_sum, sum_lines_more, lines_allowance, sum_lines_still)
 
 -- the rules with one more `on` line
 pub on_added : (a : AppRules) (p : Partial) (r : Result AppRules RuleCause) (on : On) (more : List On) → ArePart a p → IsOnRead (map name_of p.allowances.items) (map name_of p.sums.items) a r on → more ≡ p.ons.items ++ on ∷ []

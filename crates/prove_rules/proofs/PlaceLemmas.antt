@@ -1,5 +1,5 @@
 -- The places of names, and lists with one more.
-use Rattle.std.proofs.Common.{◌≡◌, ℕ, zero, suc, List, [], ◌∷◌, ◌++◌, Bool, true, false, cond, map, Option, Some, None, refl, sym, ap, subst, ◌∙◌}
+use Rattle.std.proofs.Common.{arith, ◌≡◌, ℕ, zero, suc, List, [], ◌∷◌, ◌++◌, Bool, true, false, cond, map, Option, Some, None, refl, sym, subst, ◌∙◌}
 use Rattle.std.specs.Prelude.{◌||◌, bytes_eq, is_none, is_some, option_map, slice_get}
 use Rattle.std.proofs.lemmas.Slice.Eq.{bytes_eq-Decides}
 use Rattle.std.proofs.lemmas.List.{map-append}
@@ -13,9 +13,7 @@ use Rattle.prove_rules.specs.Partials.{place_of}
 -- ---- places
 
 some_by : (b : Bool) (n : ℕ) (o : Option ℕ) (p : Option ℕ) → ((i : ℕ) → p ≡ Some i → is_some o ≡ true) → (i : ℕ) → cond b (Some 0) (option_map suc p) ≡ Some i → is_some (cond b (Some n) o) ≡ true
-some_by true n o p h i e = refl
-some_by false n o None h i e = absurd (cc e)
-some_by false n o (Some j) h i e = h j refl
+some_by b n o p h i e = grind arith
 
 -- a name with a place is there
 pub place_some : (held : List (List ℕ × ℕ)) (name : List ℕ) (i : ℕ) → place_of held name ≡ Some i → is_some (lookup held name) ≡ true
@@ -23,9 +21,7 @@ place_some [] name i e = absurd (cc e)
 place_some (a ∷ held) name i e = some_by (bytes_eq a.0 name) a.1 (lookup held name) (place_of held name) (place_some held name) i e
 
 none_by : (b : Bool) (n : ℕ) (o : Option ℕ) (p : Option ℕ) → (p ≡ None → is_none o ≡ true) → cond b (Some 0) (option_map suc p) ≡ None → is_none (cond b (Some n) o) ≡ true
-none_by true n o p h e = absurd (cc e)
-none_by false n o None h e = h refl
-none_by false n o (Some j) h e = absurd (cc e)
+none_by b n o p h e = grind arith
 
 -- a name without a place is not
 pub place_none : (held : List (List ℕ × ℕ)) (name : List ℕ) → place_of held name ≡ None → is_none (lookup held name) ≡ true
@@ -33,13 +29,7 @@ place_none [] name e = refl
 place_none (a ∷ held) name e = none_by (bytes_eq a.0 name) a.1 (lookup held name) (place_of held name) (place_none held name) e
 
 get_by : (n : List ℕ) (ns : List (List ℕ)) (name : List ℕ) (b : Bool) (p : Option ℕ) → bytes_eq n name ≡ b → ((i : ℕ) → p ≡ Some i → slice_get ns i ≡ Some name) → (i : ℕ) → cond b (Some 0) (option_map suc p) ≡ Some i → slice_get (n ∷ ns) i ≡ Some name
-get_by n ns name true p d h i e =
-    let at : 0 ≡ i = cc e in
-    subst (λ (k : ℕ). slice_get (n ∷ ns) k ≡ Some name) at (ap Some ((bytes_eq-Decides n name).0 d))
-get_by n ns name false None d h i e = absurd (cc e)
-get_by n ns name false (Some j) d h i e =
-    let at : suc j ≡ i = cc e in
-    subst (λ (k : ℕ). slice_get (n ∷ ns) k ≡ Some name) at (h j refl)
+get_by n ns name b p d h i e = grind (arith, bytes_eq-Decides)
 
 -- the name at a place
 pub place_get : (held : List Named) (name : List ℕ) (i : ℕ) → place_of (map allowance_of held) name ≡ Some i → slice_get (map name_of held) i ≡ Some name
@@ -54,9 +44,7 @@ get_more (x ∷ ns) m (suc i) n e = get_more ns m i n e
 -- ---- names that are there once
 
 apart_by : (b : Bool) (p : Option ℕ) → cond b (Some 0) (option_map suc p) ≡ None → (b ≡ false) × (p ≡ None)
-apart_by true p e = absurd (cc e)
-apart_by false None e = (refl, refl)
-apart_by false (Some j) e = absurd (cc e)
+apart_by b p e = grind arith
 
 other_way : (a b : List ℕ) (d : Bool) → bytes_eq b a ≡ d → bytes_eq a b ≡ false → d ≡ false
 other_way a b true e h = let s : bytes_eq a b ≡ true = (bytes_eq-Decides a b).1 (sym ((bytes_eq-Decides b a).0 e)) in absurd (cc (sym h ∙ s))
@@ -101,14 +89,10 @@ lines_names names m [] (on ∷ ons) h = first_names (deed_of on.effect) names m 
 lines_names names m (l ∷ ls) (on ∷ ons) h = first_names (deed_of on.effect) names m (l ∷ ls) on (λ more. AreLines names more ons) (λ more. AreLines (names ++ m ∷ []) more ons) (λ more i. lines_names names m more ons i) h
 
 first_then : (d : Option (Action × ℕ)) (names : List (List ℕ)) (ls : List OnLine) (on : On) (p q : List OnLine → Type 0) → ((ls : List OnLine) → p ls → q ls) → FirstLine d names ls on p → FirstLine d names ls on q
-first_then None names ls on p q f h = f ls h
-first_then (Some deed) names [] on p q f h = absurd h
-first_then (Some deed) names (l ∷ ls) on p q f h = (h.0, f ls h.1)
+first_then d names ls on p q f h = grind arith
 
 first_last : (d : Option (Action × ℕ)) (names : List (List ℕ)) (ls : List OnLine) (m : OnLine) (on : On) (p q : List OnLine → Type 0) → ((ls : List OnLine) → p ls → q (ls ++ m ∷ [])) → FirstLine d names ls on p → FirstLine d names (ls ++ m ∷ []) on q
-first_last None names ls m on p q f h = f ls h
-first_last (Some deed) names [] m on p q f h = absurd h
-first_last (Some deed) names (l ∷ ls) m on p q f h = (h.0, f ls h.1)
+first_last d names ls m on p q f h = grind arith
 
 module _ (names : List (List ℕ)) (one : On) where
   -- one more line about a sum

@@ -1,5 +1,5 @@
 -- Amounts of public bytes.
-use Rattle.std.proofs.Common.{◌≡◌, ◌-◌, ◌<◌, ◌≤◌, ℕ, zero, suc, List, Bool, true, false, cond, drop, Option, Some, None, Result, Ok, Err, arith, refl, sym, ap, subst, ◌∙◌}
+use Rattle.std.proofs.Common.{◌≡◌, ◌-◌, ◌<◌, ◌≤◌, ℕ, zero, suc, List, Bool, true, false, cond, drop, Option, Some, None, Result, Ok, Err, arith, refl, sym, ap, ◌∙◌}
 use Rattle.std.specs.Prelude.{◌&&◌, ◌||◌, nat_le, nat_lt, ℤ, pos, bytes_eq, codes, option_map, ok_or}
 use Rattle.mc_text.specs.model_text.specs.Text.{◌>>=◌, begins, decimal_number, ok_as}
 use Rattle.mc_text.specs.model_text.specs.Assembly.{minus, natural, signed_number}
@@ -37,12 +37,7 @@ small_same : (n : ℕ) → n ≤ 4294967296 → n ≡ capped_number n
 small_same n h = let test : nat_le n 4294967296 ≡ true = grind (arith, h) in sym (ap (λ b. cond b n 4294967296) test)
 
 some_before : (n m : ℕ) → n ≡ m → 0 < n → n ≤ 1041 → Some (1041 - n) ≡ option_map capped_number (place_from false (minus m))
-some_before n zero e h i = absurd (omega (arith, e, h))
-some_before n (suc k) e h i =
-    let test : nat_lt k 1041 ≡ true = grind (arith, e, i) in
-    let same : 1041 - n ≡ 1041 - suc k = ap (λ j. 1041 - j) e in
-    let low : 1041 - suc k ≤ 4294967296 = omega arith in
-    ap Some (same ∙ small_same (1041 - suc k) low) ∙ sym (ap (λ b. option_map capped_number (cond b (Some (1041 - suc k)) None)) test)
+some_before n m e h i = grind (arith, small_same)
 
 pub before_end : (n m : ℕ) → n ≡ capped_number m → 0 < n → n ≤ 1041 → Some (1041 - n) ≡ option_map capped_number (place_from false (minus m))
 before_end n m e h i = some_before n m (capped_same n m e (omega (arith, i))) h i
@@ -56,15 +51,7 @@ decimal_some (Some m) n e = (m, refl, cc e)
 -- an offset with a sign
 pub place_minus : (b : Bool) (t digits : List ℕ) (n : ℕ) (o : Option ℕ) → begins 45 t ≡ true → digits ≡ drop 1 t → Some n ≡ option_map capped_number (decimal_number digits)
     → ((m : ℕ) → n ≡ capped_number m → o ≡ option_map capped_number (place_from b (minus m))) → IsPlace b t o
-place_minus b t digits n o e f h i =
-    let d = decimal_some (decimal_number digits) n h in
-    record {
-      offset = minus d.0;
-      reads =
-          ap (λ c. cond c (option_map minus (decimal_number (drop 1 t))) (option_map pos (natural t))) e
-          ∙ ap (λ u. option_map minus (decimal_number u)) (sym f) ∙ ap (option_map minus) d.1;
-      is = i d.0 d.2;
-    }
+place_minus b t digits n o e f h i = grind (arith, decimal_some)
 
 none_of : (o : Option ℕ) → None ≡ option_map capped_number o → o ≡ None
 none_of None e = refl
@@ -73,11 +60,7 @@ none_of (Some m) e = absurd (cc e)
 -- an offset without a sign
 pub place_plus : (b : Bool) (t : List ℕ) (n : ℕ) (o : Option ℕ) → begins 45 t ≡ false → IsNumber (natural t) n
     → ((m : ℕ) → n ≡ capped_number m → o ≡ option_map capped_number (place_from b (pos m))) → IsPlace b t o
-place_plus b t n o e h i = record {
-  offset = pos h.number;
-  reads = ap (λ c. cond c (option_map minus (decimal_number (drop 1 t))) (option_map pos (natural t))) e ∙ ap (option_map pos) h.is;
-  is = i h.number h.capped;
-}
+place_plus b t n o e h i = grind arith
 
 -- ---- forms
 
@@ -111,9 +94,7 @@ pub no_last : (b : Bool) (p q : List ℕ) (x : ℤ) → signed_number p ≡ Some
 no_last b p q x e h = ap (λ o. offsets_from b o (signed_number q)) e ∙ ap (offsets_from b (Some x)) h
 
 pub places_are : (b : Bool) (p q : List ℕ) (o u : Option ℕ) → IsPlace b p o → IsPlace b q u → IsAmountRead (amount_read (OfBytes b p q)) (read.Places o u)
-places_are b p q o u h i =
-    let whole : amount_read (OfBytes b p q) ≡ Ok (reading.Offsets b h.offset i.offset) = ap (λ x. offsets_from b x (signed_number q)) h.reads ∙ ap (offsets_from b (Some h.offset)) i.reads in
-    subst (λ (x : Result reading.AmountRead RuleCause). IsAmountRead x (read.Places o u)) (sym whole) (h.is, i.is)
+places_are b p q o u h i = grind arith
 
 -- ---- ranges
 
@@ -149,8 +130,4 @@ far_some n m false e i h = let k : 4294967296 < m = grind (arith, e) in omega (a
 
 -- the last place is not in the segment
 pub past_end : (o p : Option ℕ) (a b : ℕ) → Some a ≡ option_map capped_number o → Some b ≡ option_map capped_number p → 1041 ≤ b → public_amount o p ≡ Err (Deck OutOfRange)
-past_end None p a b e f h = absurd (cc e)
-past_end (Some m) None a b e f h = absurd (cc f)
-past_end (Some m) (Some k) a b e f h =
-    let same : b ≡ capped_number k = cc f in
-    ap (within m k) (last_false (nat_le m k) (nat_lt k 1041) (not_below k 1041 (far_some b k (nat_le k 4294967296) refl same h)))
+past_end o p a b e f h = grind (arith, last_false, not_below, far_some)

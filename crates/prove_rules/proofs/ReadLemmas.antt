@@ -72,21 +72,14 @@ with_mark loads a n (word ∷ fs) = refl
 
 -- a line that is a rule
 pub rule_line : (loads : Loads) (a : AppRules) (n : ℕ) (inside : Bool) (l : List ℕ) (fs : List (List ℕ)) → inside ≡ false → is_marked (fields l) ≡ true → fields l ≡ codes "#@" ∷ fs → rule_of loads a n fs ≡ rules_with loads inside (n, l) a
-rule_line loads a n inside l fs e m h =
-    sym (
-    ap (λ b. cond (not b && is_marked (fields l)) (app_line loads a n (fields l)) (Ok a)) e
-    ∙ ap (λ b. cond b (app_line loads a n (fields l)) (Ok a)) m ∙ ap (app_line loads a n) h ∙ with_mark loads a n fs)
+rule_line loads a n inside l fs e m h = grind (arith, with_mark)
 
 -- a line whose mark is longer
 longer_by : (loads : Loads) (a : AppRules) (n : ℕ) (fs : List (List ℕ)) → is_plain_mark fs ≡ false → app_line loads a n fs ≡ Err (Deck BadLine)
-longer_by loads a n [] h = refl
-longer_by loads a n (mark ∷ []) h = refl
-longer_by loads a n (mark ∷ word ∷ fs) h = ap (λ b. cond b (ok_or (lookup app_words word) (Deck BadLine)) (Err (Deck BadLine)) >>= λ w. app_rule loads a n w fs) h
+longer_by loads a n fs h = grind arith
 
 line_is : (loads : Loads) (a : AppRules) (n : ℕ) (inside : Bool) (l : List ℕ) → inside ≡ false → is_marked (fields l) ≡ true → rules_with loads inside (n, l) a ≡ app_line loads a n (fields l)
-line_is loads a n inside l e m =
-    ap (λ b. cond (not b && is_marked (fields l)) (app_line loads a n (fields l)) (Ok a)) e
-    ∙ ap (λ b. cond b (app_line loads a n (fields l)) (Ok a)) m
+line_is loads a n inside l e m = grind arith
 
 pub longer_mark : (loads : Loads) (a : AppRules) (n : ℕ) (inside : Bool) (l : List ℕ) → inside ≡ false → is_marked (fields l) ≡ true → is_plain_mark (fields l) ≡ false → rules_with loads inside (n, l) a ≡ Err (Deck BadLine)
 longer_mark loads a n inside l e m h = line_is loads a n inside l e m ∙ longer_by loads a n (fields l) h

@@ -6,7 +6,6 @@ use Rattle.prove_facts.specs.model_rules.specs.Reading as reading
 use Rattle.prove_facts.specs.model_rules.specs.Reading.{of_deck}
 use Rattle.prove_rules.specs.declared.fault.Fault.{Fault}
 use Rattle.prove_rules.specs.declared.fault.Fault.TheVariants as fault
-use Rattle.prove_rules.specs.declared.fault.RuleCause.{RuleCause}
 use Rattle.prove_rules.specs.declared.fault.RuleCause.TheVariants as cause
 use Rattle.prove_rules.specs.Refused.{Faulty}
 

@@ -1,11 +1,10 @@
 -- Lines about sums and the blocks that they bind, with one more.
-use Rattle.std.proofs.Common.{◌≡◌, ◌<◌, ◌+◌, ℕ, suc, List, [], ◌∷◌, ◌++◌, Bool, not, map, length, drop, drop-cons, get_or, add-one, append-nil, append_assoc, Option, Some, None, refl, sym, ap, subst, ◌∙◌}
+use Rattle.std.proofs.Common.{arith, ◌≡◌, ◌<◌, ◌+◌, ℕ, suc, List, [], ◌∷◌, ◌++◌, Bool, not, map, length, drop, drop-cons, get_or, add-one, append-nil, append_assoc, Option, Some, None, refl, sym, ap, subst, ◌∙◌}
 use Rattle.std.specs.Prelude.{slice_get}
 use Rattle.prove_facts.specs.model_rules.specs.Rules.{Action, SumLine, Total}
 use Rattle.prove_events.specs.declared.rules.Amount.{Amount}
 use Rattle.prove_events.specs.declared.rules.Balance.{Balance}
 use Rattle.prove_events.specs.declared.rules.Effect.{Effect}
-use Rattle.prove_events.specs.declared.rules.Effect.TheVariants as effect
 use Rattle.prove_events.specs.declared.rules.Named.{Named}
 use Rattle.prove_events.specs.declared.rules.On.{On}
 use Rattle.prove_events.specs.declared.rules.SignedSum.{SignedSum}
@@ -20,26 +19,13 @@ use Rattle.prove_rules.proofs.PlaceLemmas.{get_more, place_get}
 
 -- a line about an allowance is none about a sum
 no_move_by : (e : Effect) (d : Action × ℕ) → deed_of e ≡ Some d → move_of e ≡ None
-no_move_by (effect.Allow k) d h = refl
-no_move_by (effect.Spend k) d h = refl
-no_move_by (effect.Need k) d h = refl
-no_move_by (effect.Add k) d h = absurd (cc h)
-no_move_by (effect.Take k) d h = absurd (cc h)
+no_move_by e d h = grind arith
 
 sum_line_more : (names : List (List ℕ)) (m : List ℕ) (move : Bool × Amount) (l : SumLine) (on : On) → IsSumRule names move l on → IsSumRule (names ++ m ∷ []) move l on
-sum_line_more names m move l on h = record {
-  number = h.number;
-  turn = h.turn;
-  pattern = h.pattern;
-  adds = h.adds;
-  amount = h.amount;
-  name = get_more names m on.name l.name h.name;
-}
+sum_line_more names m move l on h = grind (arith, get_more)
 
 first_names : (d : Option (Bool × Amount)) (names : List (List ℕ)) (m : List ℕ) (ls : List SumLine) (on : On) (p q : List SumLine → Type 0) → ((ls : List SumLine) → p ls → q ls) → FirstSumLine d names ls on p → FirstSumLine d (names ++ m ∷ []) ls on q
-first_names None names m ls on p q f h = f ls h
-first_names (Some move) names m [] on p q f h = absurd h
-first_names (Some move) names m (l ∷ ls) on p q f h = (sum_line_more names m move l on h.0, f ls h.1)
+first_names d names m ls on p q f h = grind (arith, sum_line_more)
 
 -- lines stay those of the definition when one more name follows
 pub sum_lines_names : (names : List (List ℕ)) (m : List ℕ) (ls : List SumLine) (ons : List On) → AreSumLines names ls ons → AreSumLines (names ++ m ∷ []) ls ons
@@ -49,14 +35,10 @@ sum_lines_names names m [] (on ∷ ons) h = first_names (move_of on.effect) name
 sum_lines_names names m (l ∷ ls) (on ∷ ons) h = first_names (move_of on.effect) names m (l ∷ ls) on (λ more. AreSumLines names more ons) (λ more. AreSumLines (names ++ m ∷ []) more ons) (λ more i. sum_lines_names names m more ons i) h
 
 first_then : (d : Option (Bool × Amount)) (names : List (List ℕ)) (ls : List SumLine) (on : On) (p q : List SumLine → Type 0) → ((ls : List SumLine) → p ls → q ls) → FirstSumLine d names ls on p → FirstSumLine d names ls on q
-first_then None names ls on p q f h = f ls h
-first_then (Some move) names [] on p q f h = absurd h
-first_then (Some move) names (l ∷ ls) on p q f h = (h.0, f ls h.1)
+first_then d names ls on p q f h = grind arith
 
 first_last : (d : Option (Bool × Amount)) (names : List (List ℕ)) (ls : List SumLine) (m : SumLine) (on : On) (p q : List SumLine → Type 0) → ((ls : List SumLine) → p ls → q (ls ++ m ∷ [])) → FirstSumLine d names ls on p → FirstSumLine d names (ls ++ m ∷ []) on q
-first_last None names ls m on p q f h = f ls h
-first_last (Some move) names [] m on p q f h = absurd h
-first_last (Some move) names (l ∷ ls) m on p q f h = (h.0, f ls h.1)
+first_last d names ls m on p q f h = grind arith
 
 module _ (names : List (List ℕ)) (one : On) where
   -- one more line that moves no sum
@@ -88,10 +70,7 @@ terms_names names m (t ∷ ts) [] h = absurd h
 -- blocks stay those of the definition when one more name follows
 pub totals_names : (names : List (List ℕ)) (m : List ℕ) (ts : List Total) (bs : List Balance) → AreTotals names ts bs → AreTotals (names ++ m ∷ []) ts bs
 totals_names names m [] [] h = tt
-totals_names names m (t ∷ ts) (b ∷ bs) h = (
-  record { number = h.0.number; at = h.0.at; n = h.0.n; constant = h.0.constant; terms = terms_names names m t.terms b.sums.items h.0.terms },
-  totals_names names m ts bs h.1,
-)
+totals_names names m (t ∷ ts) (b ∷ bs) h = grind (arith, terms_names, totals_names names m ts bs h.1)
 totals_names names m [] (b ∷ bs) h = absurd h
 totals_names names m (t ∷ ts) [] h = absurd h
 
@@ -131,9 +110,7 @@ drop_at all i d h = drop-cons all i d h ∙ ap (λ k. get_or all i d ∷ drop k 
 -- one more sum
 pub terms_next : (held : List Named) (all : List SignedName) (i : ℕ) (d : SignedName) (list new : List SignedSum) (sum : SignedSum) → i < length all → sum.minus ≡ (get_or all i d).minus
     → Some sum.sum ≡ place_of (map allowance_of held) (get_or all i d).name.now → new ≡ list ++ sum ∷ [] → SumsLeft (map name_of held) all (drop i all) list → SumsLeft (map name_of held) all (drop (i + 1) all) new
-terms_next held all i d list new sum lt minus place e h =
-    next_by (map name_of held) all (get_or all i d) (drop (i + 1) all) list new sum minus (place_get held (get_or all i d).name.now sum.sum (sym place)) e
-    (subst (λ (l : List SignedName). SumsLeft (map name_of held) all l list) (drop_at all i d lt) h)
+terms_next held all i d list new sum lt minus place e h = grind (arith, next_by, place_get, drop_at)
 
 -- no term is left
 pub terms_end : (names : List (List ℕ)) (all left : List SignedName) (list : List SignedSum) → left ≡ [] → SumsLeft names all left list → AreTerms names (map term_of all) list
