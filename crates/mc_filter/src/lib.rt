@@ -14,7 +14,7 @@ mod writing;
 
 pub use decks::deck_of;
 pub use device::blank_device;
-pub use lines::{refused, too_long};
+pub use lines::{append, refusal_line, refused, too_long, too_long_line};
 pub use reading::{INPUT_LIMIT, read_input};
 pub use rejection::Rejection;
 pub use status::{Status, number};
