@@ -1,17 +1,17 @@
 -- A line that was played before a recorder, and what was recorded of it.
-use Rattle.std.proofs.Common.{◌≡◌, ℕ, Bool, false, List, Option, Some, None, option_map, sym, ap, subst, ◌∙◌}
+use Rattle.std.proofs.Common.{◌≡◌, ℕ, Bool, false, true, List, Option, Some, None, option_map, sym, ap, subst, ◌∙◌}
 use Rattle.std.specs.Prelude.{is_some}
 use Rattle.std.specs.Borrow.{Bor}
 use Rattle.mc_base.specs.model_device.specs.Device.{DeviceState, BenchState}
 use Rattle.mc_apdu.specs.model_machine.specs.Chain.{Outcome}
 use Rattle.lab_match.specs.model_play.specs.DeckGrammar.{DeckLine}
-use Rattle.lab_match.specs.model_play.specs.Play.{FailedWrite, LineResult, State, step}
+use Rattle.lab_match.specs.model_play.specs.Play.{FailedWrite, LineResult, State, armed_stop_in, moves_of, steady_at, step}
 use Rattle.lab_match.specs.model_play.proofs.PlayLemmas.{step_is}
 use Rattle.prove_events.specs.law_promise.specs.History.{is_selected_in}
 use Rattle.mc_script.specs.declared.answer.Answer.{Answer}
 use Rattle.mc_script.specs.declared.player.Player.{Player}
 use Rattle.mc_script.specs.Lines.{LineDone}
-use Rattle.mc_script.specs.Players.{IsPlayerAt}
+use Rattle.mc_script.specs.Players.{device_of, IsPlayerAt}
 use Rattle.mc_script.specs.Runs.{sent_by}
 use Rattle.mc_script.specs.Watching.{Watches}
 use Rattle.prove_events.specs.declared.rules.Rules.{Rules}
@@ -19,6 +19,8 @@ use Rattle.lab_history.specs.declared.course.Course.{Course}
 use Rattle.lab_record.specs.declared.recorder.Recorder.{Recorder}
 use Rattle.lab_record.specs.Courses.{ended_by, is_outcome, is_stop, outcome_in, passed_command, stop_in}
 use Rattle.lab_record.specs.Logs.{DeedValue, Log, Sight, log_turns, no_log, sight, values_of}
+use Rattle.lab_record.specs.RecordSteps.{steady_step, IsSteadyAt}
+use Rattle.lab_record.specs.declared.recording.Played.{Played}
 use Rattle.lab_record.specs.Playing.{IsCourse, IsPlayed, log_of_step, sights_of_step}
 use Rattle.lab_record.specs.Recorders.{log_of, log_rules, Recorded}
 use Rattle.lab_record.proofs.EndingLemmas.{ended_is, stop_is}
@@ -51,6 +53,7 @@ module _ {N : Type 0} (state : N → DeviceState) (bench : N → BenchState) whe
       → ((z : State) → IsPlayerAt state bench q z → IsCourse r l was (is_selected_in name z) (ended_by ended q) (values_of after.deeds.items) c)
       → (s : State) (n : ℕ) → IsPlayerAt state bench p s
       → (w : Option FailedWrite) × IsPlayerAt state bench q (step s (n, l) w).after × IsPlayed r name (step s (n, l) w) (record { course = c; is_stopped = stopped; turns = after.turns; has_begun = begun })
+      × ((bench (device_of p)).steady ≡ true → w ≡ steady_at (armed_stop_in s) l (moves_of s (n, l)))
   played_line r name p q l a before after was ended stopped begun c done e f g short selected is_ended is_stopped begins courses s n at =
       let d = done s n at in
       let w = d.0 in
@@ -68,4 +71,10 @@ module _ {N : Type 0} (state : N → DeviceState) (bench : N → BenchState) whe
           is_stopped = is_stopped ∙ stop_is state q a ∙ ap (λ (x : Option LineResult). is_stop x) d.1.stepped.answers;
           has_begun = begins ∙ sym (ap (λ (m : DeckLine). is_some (passed_command m)) is.line);
         },
+        d.1.stepped.played.steady,
       )
+
+  -- on a device that refuses just the writes of `fail` lines the step is determined
+  pub recorded_line : (r : Rules) (name : List ℕ) (p : Player N) (s : State) (l : ℕ × DeckLine) (x : Played) (w : Option FailedWrite) → IsSteadyAt state bench p s → IsPlayed r name (step s l w) x
+      → ((bench (device_of p)).steady ≡ true → w ≡ steady_at (armed_stop_in s) l.1 (moves_of s l)) → IsPlayed r name (steady_step s l) x
+  recorded_line r name p s l x w at played is = subst (λ (v : Option FailedWrite). IsPlayed r name (step s l v) x) (is at.steady) played
