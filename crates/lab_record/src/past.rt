@@ -333,8 +333,8 @@ pub fn chronicle<L: Ledger>(
     subject: Subject<'_>,
     steps: &mut Steps<L>,
 ) -> Result<Result<Vec<u32>, Break>, NoMemory>
-    // Those of the deck, and for each line that a stop hit those of the lines up to it, whole and for each device write up
-    // to the stop, with those of one atomic write after it.
+    // Those of the deck, and for each line that a stop hit those of the lines up to it, whole and for each device write
+    // up to the stop, with those of one atomic write after it.
     ensures steps { steps.new ≤ steps.old + most_of_chronicle deck.now }
 {
     let mut player = Player::new(SimNvm::new(alloc, DEVICE_WORDS)?);
