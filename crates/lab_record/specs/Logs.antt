@@ -34,7 +34,7 @@ deed_value deed.Keep = Keeps
 deed_value deed.Drop = Drops
 deed_value deed.Abend = Abends
 
--- a deed with the number of instructions before it
+-- a deed with the number of turns before it
 abbrev pub happening_value : Happening → ℕ × DeedValue
 happening_value h = (h.turn, deed_value h.deed)
 
@@ -58,7 +58,7 @@ sight n ch = record { name = ch.frame.name; public = ch.public; turn = (turn_of 
 -- ---- a log
 
 -- What was recorded: the depth of the frame of the application, 0 if it has none; whether protection is on in it; the
--- number of instructions that were done; and the deeds.
+-- number of turns, of which one that abends is one; and the deeds.
 pub record Log : Type 0 where
   pub frame : ℕ
   pub protected : Bool

@@ -29,7 +29,7 @@ unfoldable pub sights_of_line : State → DeckLine → List Sight
 sights_of_line (BeforePower m b a) l = []
 sights_of_line (AfterPower s) l = sights_of_live s.live s.base s.budget l
 
--- what is seen of the instructions of a line that was played, up to the one that a stop hit
+-- what is seen of the instructions of a line that was played, before the one that a stop hit
 unfoldable pub sights_of_step : Step → List Sight
 unfolding sights_of_line
 sights_of_step t = take (length (shown_turns t.turns t.stop)) (sights_of_line t.before t.line)

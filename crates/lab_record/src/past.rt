@@ -107,8 +107,8 @@ fn replay<L: Ledger>(
     replay_on(alloc, &mut player, deck, i, k, subject, steps)
 }
 
-// For each device write of a line, up to those of the instruction that a stop at write `k` hits, the number of
-// instructions that were done before it.
+// For each device write of a line, up to those of the instruction that a stop at write `k` hits, the number of turns
+// before it.
 fn turns_before<L: Ledger>(
     alloc: Global,
     deck: &Deck,

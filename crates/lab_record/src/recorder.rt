@@ -38,7 +38,7 @@ pub struct Recorder<'a> {
     protected: bool,
     /// Whether it was out of memory.
     pub is_short: bool,
-    /// The instructions that were done, of all applications.
+    /// The turns that were taken, of all applications: one that abends is among them.
     pub turns: u64,
     /// What those of the application do.
     pub deeds: Vec<Happening>,

@@ -31,8 +31,8 @@ use prove_events::{Event, On};
 use std::alloc::Global;
 use std::sync::ledger::Ledger;
 
-/// A line that was played: what happened to the application as far as it came, whether a stop hit it, the instructions
-/// that were done, and whether its command was passed to an application.
+/// A line that was played: what happened to the application as far as it came, whether a stop hit it, the turns that were
+/// taken, and whether its command was passed to an application.
 #[derive(Drop)]
 pub struct Played {
     pub course: Course,
