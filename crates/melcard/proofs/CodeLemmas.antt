@@ -1,17 +1,28 @@
 -- Digits of code, line by line, and the bytes that they spell.
-use Rattle.std.proofs.Common.{◌≡◌, ℕ, suc, ◌+◌, ◌-◌, ◌<◌, ◌≤◌, Bool, true, false, List, [], ◌∷◌, ◌++◌, length, drop, get_or, drop-cons, add-one, Option, Some, None, Result, Ok, Err, refl, ap, sym, ◌∙◌, append_assoc, arith, subst}
-use Rattle.std.specs.Prelude.{filter, not, nat_le, ok_or, option_map}
-use Rattle.std.proofs.lemmas.Bool.{le-leb, lt-leb}
-use Rattle.std.proofs.lemmas.List.{append-nil}
+use Rattle.std.proofs.Common.{◌≡◌, ℕ, suc, ◌+◌, ◌-◌, ◌*◌, ◌/◌, ◌%◌, ◌<◌, ◌≤◌, Bool, true, false, List, [], ◌∷◌, ◌++◌, length, drop, get_or, drop-cons, add-one, Option, Some, None, Result, Ok, Err, refl, ap, sym, ◌∙◌, append_assoc, arith, subst, length-take, inl, inr}
+use Rattle.std.specs.Prelude.{◌==◌, MatchResult, cond, filter, IfSome, not, nat_le, ok_or, option_map, slice_index, take}
+use Rattle.std.proofs.lemmas.Bool.{cases_eq, le-leb, lt-leb}
+use Rattle.std.proofs.lemmas.List.{append-nil, take_at}
 use Rattle.mc_text.specs.model_text.specs.Text
-use Rattle.mc_text.specs.model_text.specs.Text.{CodeFault, is_blank, hex_value, hex_values, before_values, bytes_of_digits, hex_bytes, lines, with_numbers, ok_as, only_if, code_digits, code_text_read, ◌>>=◌}
-use Rattle.mc_text.specs.Reading.{next_line}
+use Rattle.mc_text.specs.model_text.specs.Text.{CodeFault, is_blank, hex_value, hex_values, before_values, bytes_of_digits, hex_bytes, first_cut, halves_with_character, lines, with_numbers, ok_as, only_if, code_digits, code_text_read, ◌>>=◌}
+use Rattle.mc_text.specs.Reading.{line_cut, next_line, without_return}
 use Rattle.mc_text.proofs.ReadingLemmas.{lines_at, lines_from}
+use Rattle.hex.specs.Hex.{decode_sized}
+use Rattle.hex.specs.declared.error.FromHexError.{FromHexError}
+use Rattle.hex.specs.declared.error.FromHexError.TheVariants.{OddLength}
+use Rattle.hex.proofs.HexLemmas.{decode_of-odd, decode_sized-ok, decode_sized-twice}
+use Rattle.mc_deck.proofs.HexLemmas.{bytes_spelled, bytes_misspelled}
 use Rattle.mc_asm.proofs.PassLemmas.{numbered_some, numbered_none}
 use Rattle.melcard.specs.declared.code.CodeRefusal.{CodeRefusal}
-use Rattle.melcard.specs.declared.code.CodeRefusal.TheVariants.{BadHex, TooLarge, NoMemory}
+use Rattle.melcard.specs.declared.code.CodeRefusal.TheVariants.{BadHex, TooLarge}
 use Rattle.melcard.specs.Judging.{line_digits, text_digits, RefusesCode}
 use Rattle.mc_base.specs.model_device.specs.Limits.{most_code}
+use Rattle.mc_isa.proofs.SpellingLemmas.{front_spell}
+use Rattle.mc_text.specs.model_machine.specs.Code.{Shaped, front, spell}
+use Rattle.mc_text.specs.model_machine.specs.Words.{decode_word}
+use Rattle.mc_text.specs.model_machine.specs.declared.instruction.Ins.{Ins}
+use Rattle.mc_text.specs.model_machine.specs.declared.instruction.DecodeFault.{DecodeFault}
+use Rattle.mc_text.specs.model_machine.specs.declared.instruction.DecodeFault.TheVariants.{Undefined, Past}
 
 -- ---- digits after others
 
@@ -61,7 +72,6 @@ same_fault (Err g) rest (Err k) cur old f h so = cc (h, so)
 pub first_refused : (one rest whole : Result (List ℕ) CodeFault) (cur old : List ℕ) (e : CodeRefusal) → RefusesCode one e → ok_as (λ vs. cur ++ vs) (first_then one rest) ≡ ok_as (λ vs. old ++ vs) whole → RefusesCode whole e
 first_refused one rest whole cur old (BadHex n) h so = same_fault one rest whole cur old (Text.BadHex n) h so
 first_refused one rest whole cur old TooLarge h so = same_fault one rest whole cur old Text.TooLarge h so
-first_refused one rest whole cur old NoMemory h so = tt
 
 -- ---- the characters of a line
 
@@ -96,6 +106,33 @@ line_and_rest t l b e = lines_at t ∙ ap lines_from (sym e)
 no_line : (t : List ℕ) → None ≡ next_line t → lines t ≡ []
 no_line t e = lines_at t ∙ ap lines_from (sym e)
 
+-- the lengths of the parts of a text that is cut are at most its own
+abbrev CutWithin : ℕ → List ℕ × Option (List ℕ) → Type 0
+CutWithin n (l, None) = length l ≤ n
+CutWithin n (l, Some b) = length l + length b ≤ n
+
+character_within : (cuts : Bool) (c : ℕ) (t : List ℕ) (p : List ℕ × Option (List ℕ)) → CutWithin (length t) p → CutWithin (length (c ∷ t)) (halves_with_character cuts c t p)
+character_within true c t p h = omega arith
+character_within false c t (l, None) h = omega (arith, h)
+character_within false c t (l, Some b) h = omega (arith, h)
+
+cut_within : (f : ℕ → Bool) (t : List ℕ) → CutWithin (length t) (first_cut f t)
+cut_within f [] = omega arith
+cut_within f (c ∷ t) = character_within (f c) c t (first_cut f t) (cut_within f t)
+
+return_within : (l : List ℕ) (b : Bool) → length (cond b (take (length l - 1) l) l) ≤ length l
+return_within l true = omega (arith, length-take (length l - 1) l)
+return_within l false = omega arith
+
+first_within : (n : ℕ) (p : List ℕ × Option (List ℕ)) → CutWithin n p → IfSome (line_cut p) (λ q. length q.0 + length q.1 ≤ n)
+first_within n ([], None) h = tt
+first_within n (c ∷ k, None) h = omega (arith, h)
+first_within n (k, Some r) h = omega (arith, h, return_within k (slice_index k (length k - 1) == 13))
+
+-- the first line of a text and the text after it are no longer than the text
+pub line_within : (t l b : List ℕ) → Some (l, b) ≡ next_line t → length l + length b ≤ length t
+line_within t l b e = subst (λ o. IfSome o (λ q. length q.0 + length q.1 ≤ length t)) (sym e) (first_within (length t) (first_cut (λ c. c == 10) t) (cut_within (λ c. c == 10) t))
+
 -- the number of lines grows by one with a line
 pub line_counted : (n total : ℕ) (t l b : List ℕ) → Some (l, b) ≡ next_line t → n + length (lines t) ≡ total → n + 1 + length (lines b) ≡ total
 line_counted n total t l b e h = let one : length (lines t) ≡ suc (length (lines b)) = ap length (line_and_rest t l b e) in omega (arith, one, h)
@@ -122,6 +159,38 @@ module _ (n : ℕ) (rest cur : List ℕ) (whole : Result (List ℕ) CodeFault) (
       nothing_before whole cur (sym so ∙ ap (λ ls. ok_as (λ vs. cur ++ vs) (text_digits ls)) (numbered_none (n + 1) rest e) ∙ ap (λ (t : List ℕ). Ok t) (append-nil cur))
 
 -- ---- bytes
+
+-- digits that the crate decodes at once, into half as many bytes
+spelled_at_once : (t bs : List ℕ) → decode_sized t (length t / 2) ≡ Ok bs → hex_bytes t ≡ Some bs
+spelled_at_once t bs h =
+    let even = decode_sized-ok t (length t / 2) bs h in
+    bytes_spelled t bs (sym (decode_sized-twice t (length t / 2) even) ∙ h)
+
+misspelled_at_once : (t : List ℕ) (e : FromHexError) → decode_sized t (length t / 2) ≡ Err e → hex_bytes t ≡ None
+misspelled_at_once t e h =
+    elim (cases_eq (length t % 2) 1) [
+      | inl odd ↦ bytes_misspelled t OddLength (decode_of-odd t odd)
+      | inr even ↦ let twice : length t ≡ 2 * (length t / 2) = omega (arith, even) in bytes_misspelled t e (sym (decode_sized-twice t (length t / 2) twice) ∙ h)
+    ]
+
+decoded : (t out : List ℕ) (r : Result (Unit {0}) FromHexError) (u : Unit {0}) (d : Result (List ℕ) FromHexError) → r ≡ Ok u → decode_sized t (length t / 2) ≡ d → MatchResult d (λ bytes. (r ≡ Ok tt) × (out ≡ bytes)) (λ e. r ≡ Err e) → Some out ≡ hex_bytes t
+decoded t out r u (Ok bs) is e m = sym (spelled_at_once t bs e ∙ ap (λ (l : List ℕ). Some l) (sym m.1))
+decoded t out r u (Err f) is e m = absurd (cc (is, m))
+
+-- the bytes that were written into a list of half as many
+pub decoded_whole : (t out old items : List ℕ) (len : ℕ) (r : Result (Unit {0}) FromHexError) (u : Unit {0}) → r ≡ Ok u → len ≡ length t / 2 → length old ≡ len → length out ≡ len → MatchResult (decode_sized t (length old)) (λ bytes. (r ≡ Ok tt) × (out ≡ bytes)) (λ e. r ≡ Err e) → Some (take len (out ++ drop (length out) items)) ≡ hex_bytes t
+decoded_whole t out old items len r u is half whole size m =
+    let same = ap (λ (l : List ℕ). Some l) (take_at out (drop (length out) items) len size) in
+    same ∙ decoded t out r u (decode_sized t (length t / 2)) is refl (subst (λ (n : ℕ). MatchResult (decode_sized t n) (λ bytes. (r ≡ Ok tt) × (out ≡ bytes)) (λ e. r ≡ Err e)) (whole ∙ half) m)
+
+not_decoded : (t out : List ℕ) (r : Result (Unit {0}) FromHexError) (f : FromHexError) (d : Result (List ℕ) FromHexError) → r ≡ Err f → decode_sized t (length t / 2) ≡ d → MatchResult d (λ bytes. (r ≡ Ok tt) × (out ≡ bytes)) (λ e. r ≡ Err e) → None ≡ hex_bytes t
+not_decoded t out r f (Ok bs) is e m = absurd (cc (is, m.0))
+not_decoded t out r f (Err g) is e m = sym (misspelled_at_once t g e)
+
+-- digits that are refused
+pub refused_whole : (t out old : List ℕ) (r : Result (Unit {0}) FromHexError) (f : FromHexError) → r ≡ Err f → length old ≡ length t / 2 → MatchResult (decode_sized t (length old)) (λ bytes. (r ≡ Ok tt) × (out ≡ bytes)) (λ e. r ≡ Err e) → None ≡ hex_bytes t
+refused_whole t out old r f is half m =
+    not_decoded t out r f (decode_sized t (length t / 2)) is refl (subst (λ (n : ℕ). MatchResult (decode_sized t n) (λ bytes. (r ≡ Ok tt) × (out ≡ bytes)) (λ e. r ≡ Err e)) half m)
 
 -- the bytes of digits, from a result of the code
 pub bytes_found : {V : Type 0} (items : V → List ℕ) (o p : Option V) (held digits : List ℕ) → o ≡ p → held ≡ digits → option_map items o ≡ hex_bytes held → option_map items p ≡ hex_bytes digits
@@ -183,9 +252,9 @@ fault_spelled : (f : CodeFault) (r : Result (List ℕ) CodeFault) → SpellsAlik
 fault_spelled f (Ok vs) h = absurd h
 fault_spelled f (Err e) h = ap Err (sym h)
 
-bytes_spelled : (last : ℕ) (digits : List ℕ) (r : Result (List ℕ) CodeFault) → SpellsAlike (Ok digits) r → by_values last r ≡ code_of last (hex_bytes digits)
-bytes_spelled last digits (Ok vs) h = rw h refl
-bytes_spelled last digits (Err e) h = absurd h
+digits_spelled : (last : ℕ) (digits : List ℕ) (r : Result (List ℕ) CodeFault) → SpellsAlike (Ok digits) r → by_values last r ≡ code_of last (hex_bytes digits)
+digits_spelled last digits (Ok vs) h = rw h refl
+digits_spelled last digits (Err e) h = absurd h
 
 -- a refusal of the digits
 fault_refused : (t : List ℕ) (f : CodeFault) → text_digits (with_numbers 1 (lines t)) ≡ Err f → code_text_read t ≡ Err f
@@ -196,14 +265,13 @@ fault_refused t f h =
 pub digits_refused : (t : List ℕ) (e : CodeRefusal) → RefusesCode (text_digits (with_numbers 1 (lines t))) e → RefusesCode (code_text_read t) e
 digits_refused t (BadHex n) h = fault_refused t (Text.BadHex n) h
 digits_refused t TooLarge h = fault_refused t Text.TooLarge h
-digits_refused t NoMemory h = tt
 
 module _ (t digits : List ℕ) (last : ℕ) (h : text_digits (with_numbers 1 (lines t)) ≡ Ok digits) (counted : last ≡ length (lines t)) where
   spelled_text : (o : Option (List ℕ)) → o ≡ hex_bytes digits → code_text_read t ≡ code_of last o
   spelled_text o is =
       let ls = with_numbers 1 (lines t) in
       let spells = subst (λ (r : Result (List ℕ) CodeFault). SpellsAlike r (code_digits ls)) h (spells_lines ls) in
-      code_text t ∙ bytes_spelled (length (lines t)) digits (code_digits ls) spells ∙ ap (λ n. code_of n (hex_bytes digits)) (sym counted) ∙ ap (code_of last) (sym is)
+      code_text t ∙ digits_spelled (length (lines t)) digits (code_digits ls) spells ∙ ap (λ n. code_of n (hex_bytes digits)) (sym counted) ∙ ap (code_of last) (sym is)
 
   -- an odd number of digits
   pub code_odd : None ≡ hex_bytes digits → code_text_read t ≡ Err (Text.BadHex last)
@@ -216,3 +284,26 @@ module _ (t digits : List ℕ) (last : ℕ) (h : text_digits (with_numbers 1 (li
   -- code within the limit
   pub code_fits : (code : List ℕ) → Some code ≡ hex_bytes digits → length code ≤ most_code → code_text_read t ≡ Ok code
   code_fits code is fits = spelled_text (Some code) is ∙ ap (λ b. only_if b Text.TooLarge code) (le-leb (length code) most_code fits)
+
+-- ---- faults
+
+-- the word of a fault fits a line
+pub short_word : (f : DecodeFault) → length (decode_word f) ≤ 9
+short_word Undefined = omega arith
+short_word Past = omega arith
+
+-- ---- texts
+
+pub no_items : (l : List ℕ) → length l ≡ 0 → l ≡ []
+no_items [] h = refl
+no_items (c ∷ l) h = absurd (omega (arith, h))
+
+-- ---- instructions
+
+some_byte : (s : List ℕ) (i : Ins) (n : ℕ) → front (s ++ []) ≡ Ok (i, n) → 1 ≤ length s
+some_byte [] i n e = absurd (cc e)
+some_byte (b ∷ s) i n e = omega arith
+
+-- an instruction has at least one byte
+pub spell_some : (i : Ins) → Shaped i → 1 ≤ length (spell i)
+spell_some i shaped = some_byte (spell i) i (length (spell i)) (front_spell i [] shaped)

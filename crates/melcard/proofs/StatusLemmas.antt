@@ -9,6 +9,7 @@ use Rattle.mc_filter.specs.Statuses.{RejectionEnds, status_after_writing}
 use Rattle.mc_filter.specs.Outside.{outside, Outside, Untouched}
 use Rattle.mc_filter.proofs.Outside as filter
 use Rattle.melcard.specs.declared.job.Form.{Form}
+use Rattle.melcard.specs.declared.job.Form.TheVariants.{Listing}
 use Rattle.melcard.specs.declared.job.Job.{Job}
 use Rattle.melcard.specs.declared.job.Job.TheVariants as job
 use Rattle.melcard.specs.declared.job.Reporting.{Reporting}
@@ -20,7 +21,7 @@ use Rattle.melcard.specs.Jobs.{usage}
 use Rattle.melcard.specs.Verdicts.{JobVerdict, Whole, Refusal, Plays, Sums}
 use Rattle.melcard.specs.Running.{PlaysInput, RejectsJob, WritesInput}
 use Rattle.mc_script.specs.Benches.{BenchMembers}
-use Rattle.melcard.specs.Statuses.{card_outside, CardOutside, IsDue, IsSummed, MelcardDone, MelcardNoForm, MelcardNoMemory, MelcardReadFault, MelcardSays, TakesAtMost}
+use Rattle.melcard.specs.Statuses.{card_outside, CardOutside, IsDue, IsSummed, MelcardDone, MelcardNoForm, MelcardNoMemory, MelcardReadFault, MelcardSays, TakesAtMost, TakesUntilShort}
 
 -- ---- results
 
@@ -37,7 +38,7 @@ err_always (Ok x) p = tt
 err_always (Err e) p = p
 
 -- a job that is rejected only because it is out of memory
-pub memory_only : {X : Type 0} (work : Job) (a : Outside) (r : Result X Rejection) → a.input.faults ≡ a.input_old.faults → TakesAtMost work a → IfErr r (λ e. e ≡ rejection.NoMemory) → IfErr r (RejectsJob work a)
+pub memory_only : {X : Type 0} (work : Job) (a : Outside) (r : Result X Rejection) → a.input.faults ≡ a.input_old.faults → TakesUntilShort work a → IfErr r (λ e. e ≡ rejection.NoMemory) → IfErr r (RejectsJob work a)
 memory_only work a (Ok x) quiet source only = tt
 memory_only work a (Err e) quiet source only = subst (λ (e : Rejection). RejectsJob work a e) (sym only) (quiet, source)
 
@@ -75,6 +76,10 @@ takes_still (job.Generate n) a x takes = takes
 takes_still (job.Play t) a x takes = takes
 takes_still (job.Write f) a x takes = takes
 
+until_short_still : (work : Job) (a : Outside) (x : Sunk) → TakesUntilShort work (record a { out = x }) → TakesUntilShort work a
+until_short_still (job.Write Listing) a x takes = takes
+until_short_still work a x takes = takes_still work a x takes
+
 -- a job that was rejected ended
 says_rejected : (Kept : Type 0) (work : Job) (a : CardOutside) (x : Sunk) (e : Rejection) (s : Status) → Kept → RejectsJob work (record (a.streams) { out = x }) e → RejectionEnds e a.streams.out_old s a.streams.out → MelcardSays Kept s (Some work) a
 says_rejected Kept work a x (rejection.Refusal line) s kept why ends =
@@ -82,7 +87,7 @@ says_rejected Kept work a x (rejection.Refusal line) s kept why ends =
 says_rejected Kept work a x rejection.ReadFault s kept why ends =
     subst (λ s. MelcardSays Kept s (Some work) a) (sym ends.0) (why.0, record { cause = why.1; source = takes_still work a.streams x why.2; written = ends.1 }, kept)
 says_rejected Kept work a x rejection.NoMemory s kept why ends =
-    subst (λ s. MelcardSays Kept s (Some work) a) (sym ends.0) (record { quiet = why.0; source = takes_still work a.streams x why.1; written = ends.1 }, kept)
+    subst (λ s. MelcardSays Kept s (Some work) a) (sym ends.0) (record { quiet = why.0; source = until_short_still work a.streams x why.1; written = ends.1 }, kept)
 
 -- the words select no job, and the usage line was written
 pub says_no_form : (Kept : Type 0) (form : Option Job) (a : CardOutside) (r : Result (Unit {0}) Fault) (s : Status) → form ≡ None → s ≡ status_after_writing NoForm r → Kept → Untouched a.streams → Puts a.streams.out_old usage r a.streams.out → MelcardSays Kept s form a

@@ -1,5 +1,5 @@
 -- The results of the code for listed code and for rejected input, in terms of the model.
-use Rattle.std.specs.Prelude.{◌≡◌, ℕ, not, List, [], ◌∷◌, ◌++◌, filter, ok_or, option_map, Result, Ok, Err, ⊤}
+use Rattle.std.specs.Prelude.{◌≡◌, ℕ, not, List, [], ◌∷◌, ◌++◌, filter, ok_or, option_map, Result, Ok, Err}
 use Rattle.mc_text.specs.model_text.specs.Text
 use Rattle.mc_text.specs.model_text.specs.Text.{CodeFault, ◌>>=◌, hex_values, is_blank, ok_as}
 use Rattle.mc_filter.specs.Inputs.{Rejects}
@@ -7,7 +7,7 @@ use Rattle.melcard.specs.declared.code.CodeRefusal.{CodeRefusal}
 use Rattle.mc_filter.specs.declared.rejection.Rejection.{Rejection}
 use Rattle.mc_deck.specs.model_play.specs.DeckGrammar.{DeckLine}
 use Rattle.melcard.specs.Verdicts.{JobVerdict, Refusal, AreVerdicts}
-use Rattle.melcard.specs.declared.code.CodeRefusal.TheVariants.{BadHex, TooLarge, NoMemory}
+use Rattle.melcard.specs.declared.code.CodeRefusal.TheVariants.{BadHex, TooLarge}
 
 -- the digits of one line of code
 abbrev pub line_digits : ℕ → List ℕ → Result (List ℕ) CodeFault
@@ -18,11 +18,10 @@ abbrev pub text_digits : List (ℕ × List ℕ) → Result (List ℕ) CodeFault
 text_digits [] = Ok []
 text_digits (l ∷ ls) = line_digits l.0 l.1 >>= λ digits. ok_as (λ rest. digits ++ rest) (text_digits ls)
 
--- the refusal is that of the model, or the code was out of memory
+-- the refusal is that of the model
 abbrev pub RefusesCode : {A : Type 0} → Result A CodeFault → CodeRefusal → Type 0
 RefusesCode r (BadHex n) = r ≡ Err (Text.BadHex n)
 RefusesCode r TooLarge = r ≡ Err Text.TooLarge
-RefusesCode r NoMemory = ⊤
 
 -- a rejection of an input, by the verdicts that the input may have
 abbrev pub RejectsAs : (JobVerdict → Type 0) → Rejection → Type 0

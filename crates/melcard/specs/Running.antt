@@ -13,14 +13,14 @@ use Rattle.mc_filter.specs.declared.status.Status.TheVariants.{Done}
 use Rattle.melcard.specs.Verdicts.{Whole, Refusal, Plays}
 use Rattle.mc_filter.specs.Statuses.{IsWritten}
 use Rattle.mc_filter.specs.Outside.{Outside}
-use Rattle.melcard.specs.Statuses.{CardOutside, IsDue, IsPlayed, IsReading, TakesAtMost}
+use Rattle.melcard.specs.Statuses.{CardOutside, IsDue, IsPlayed, IsReading, TakesAtMost, TakesUntilShort}
 
 -- why a job was not done: a line that refuses its input, one call of its source that failed, or out of memory, in which
 -- case none did
 abbrev pub RejectsJob : Job → Outside → Rejection → Type 0
 RejectsJob job a (rejection.Refusal line) = IsDue job a (Refusal line.items)
 RejectsJob job a rejection.ReadFault = IsReading job × (a.input.faults ≡ one_more a.input_old.faults) × TakesAtMost job a
-RejectsJob job a rejection.NoMemory = (a.input.faults ≡ a.input_old.faults) × TakesAtMost job a
+RejectsJob job a rejection.NoMemory = (a.input.faults ≡ a.input_old.faults) × TakesUntilShort job a
 
 -- the deck that an input spells was played
 pub record PlaysInput (t : Reporting) (s : Status) (a : CardOutside) : Type 0 where

@@ -19,6 +19,7 @@ use Rattle.mc_filter.specs.Statuses.{status_after_writing, IsWritten}
 use Rattle.mc_filter.specs.Outside.{outside, AllStands, Completes, IsRead, IsWhole, JobSays, NoJobSays, Outside, SaysDone, SaysNoForm, SaysNoMemory, SaysReadFault, Untouched}
 use Rattle.melcard.specs.declared.job.Job.{Job}
 use Rattle.melcard.specs.declared.job.Job.TheVariants as job
+use Rattle.melcard.specs.declared.job.Form.TheVariants.{Listing}
 use Rattle.melcard.specs.declared.job.Reporting.{Reporting}
 use Rattle.melcard.specs.declared.job.Reporting.TheVariants.{Transcript, Trace}
 use Rattle.melcard.specs.Jobs.{usage}
@@ -59,6 +60,12 @@ abbrev pub TakesAtMost : Job → Outside → Type 0
 TakesAtMost (job.Generate n) a = Untouched a
 TakesAtMost (job.Play t) a = TookLimited a.input_old a.input
 TakesAtMost (job.Write f) a = TookLimited a.input_old a.input
+
+-- the bytes that a job has taken from its source when it is out of memory: a listing none, since all its memory is taken
+-- before
+abbrev pub TakesUntilShort : Job → Outside → Type 0
+TakesUntilShort (job.Write Listing) a = Untouched a
+TakesUntilShort job a = TakesAtMost job a
 
 -- ---- what was done
 
@@ -115,7 +122,7 @@ MelcardReadFault Kept job a = IsReading job × SaysReadFault (TakesAtMost job a.
 
 -- out of memory, and the device is unchanged
 abbrev pub MelcardNoMemory : Type 0 → Job → CardOutside → Type 0
-MelcardNoMemory Kept job a = SaysNoMemory (TakesAtMost job a.streams) a.streams × Kept
+MelcardNoMemory Kept job a = SaysNoMemory (TakesUntilShort job a.streams) a.streams × Kept
 
 -- the usage line was written, and the device is unchanged
 abbrev pub MelcardNoForm : Type 0 → CardOutside → Status → Type 0

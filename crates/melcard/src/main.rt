@@ -8,7 +8,9 @@ mod code;
 mod decks;
 mod form;
 mod job;
+mod listing;
 mod program;
+mod room;
 mod rows;
 mod running;
 #[cfg(test)]

@@ -17,6 +17,7 @@ ghost use Rattle.mc_script.specs.StepCounts.{CountsDeck};
 
 use crate::form::text_of;
 use crate::job::{Form, Job, Reporting, job_of};
+use crate::room::room_for;
 use mc_base::Steps;
 use mc_deck::{Deck, generate};
 use mc_filter::{Rejection, Status, deck_of, ended, number, read_input, reject};
@@ -101,8 +102,9 @@ fn write<S: Source, T: Sink>(
         (RejectsJob (job.Write form) (outside S.Source T.Sink input.old input.new out.old out.new)) }
     ensures out { IfErr result (λ e. out.new ≡ out.old) }
 {
+    let room = room_for(alloc, form)?;
     let bytes = read_input(alloc, input)?;
-    let text = text_of(alloc, form, bytes.as_slice())?;
+    let text = text_of(alloc, form, room, bytes.as_slice())?;
     Ok(ended(Status::Done, put_all(out, text.as_slice())))
 }
 
@@ -177,7 +179,8 @@ pub fn melcard<S: Source, T: Sink, N: Bench, L: Ledger>(
     // 4: a call of the sink failed, and a front of the text that is due was written.
     ensures write_fault { result ≡ 4 → MelcardSays (dev.new ≡ dev.old) status.WriteFault (job_of words.now)
         (card_outside S.Source T.Sink N.Bench input.old input.new out.old out.new dev.old dev.new steps.old steps.new) }
-    // 5: out of memory before the first byte was written, and the device is unchanged.
+    // 5: out of memory before the first byte was written, for a listing before the first was read, and the device is
+    // unchanged.
     ensures memory { result ≡ 5 → MelcardSays (dev.new ≡ dev.old) status.NoMemory (job_of words.now)
         (card_outside S.Source T.Sink N.Bench input.old input.new out.old out.new dev.old dev.new steps.old steps.new) }
     // There is no other status.

@@ -11,17 +11,17 @@ returns-in_err-digits-clause-refused c =
 
 pub returns-in_default-clause-refused : goal.returns-in_default-clause-refused
 returns-in_default-clause-refused c =
-    let bytes = bytes_found (λ v. v.items) c.in_ok-code.field-0 None c.as_slice.result.now c.in_ok-digits.digits.items c.in_default.is c.as_slice.ensures.value c.in_ok-code.ensures in
+    let bytes = bytes_found (λ v. v.items) c.bytes_of.result None c.as_slice.result.now c.in_ok-digits.digits.items c.in_default.is c.as_slice.ensures.value c.bytes_of.ensures in
     code_odd c.args.text.now c.in_ok-digits.digits.items c.in_ok-digits.lines c.in_ok-digits.ensures.digits c.in_ok-digits.ensures.lines bytes
 
 pub returns-then-len-gt-MOST_CODE-clause-refused : goal.returns-then-len-gt-MOST_CODE-clause-refused
 returns-then-len-gt-MOST_CODE-clause-refused c =
-    let bytes = bytes_found (λ v. v.items) c.in_ok-code.field-0 (Some c.in-Some.code) c.as_slice.result.now c.in_ok-digits.digits.items c.in-Some.is c.as_slice.ensures.value c.in_ok-code.ensures in
+    let bytes = bytes_found (λ v. v.items) c.bytes_of.result (Some c.in-Some.code) c.as_slice.result.now c.in_ok-digits.digits.items c.in-Some.is c.as_slice.ensures.value c.bytes_of.ensures in
     let over : most_code < length c.in-Some.code.items = omega arith in
     code_large c.args.text.now c.in_ok-digits.digits.items c.in_ok-digits.lines c.in_ok-digits.ensures.digits c.in_ok-digits.ensures.lines c.in-Some.code.items bytes over
 
 pub returns-clause-code : goal.returns-clause-code
 returns-clause-code c =
-    let bytes = bytes_found (λ v. v.items) c.in_ok-code.field-0 (Some c.in-Some.code) c.as_slice.result.now c.in_ok-digits.digits.items c.in-Some.is c.as_slice.ensures.value c.in_ok-code.ensures in
+    let bytes = bytes_found (λ v. v.items) c.bytes_of.result (Some c.in-Some.code) c.as_slice.result.now c.in_ok-digits.digits.items c.in-Some.is c.as_slice.ensures.value c.bytes_of.ensures in
     let fits : length c.in-Some.code.items ≤ most_code = omega arith in
     code_fits c.args.text.now c.in_ok-digits.digits.items c.in_ok-digits.lines c.in_ok-digits.ensures.digits c.in_ok-digits.ensures.lines c.in-Some.code.items bytes fits

@@ -10,7 +10,7 @@ returns-clause-done g c =
     let to = sunk g.T.Sink c.put_all.new.sink in
     let said = c.put_all.ensures in
     let text = c.in_ok-text.text.items in
-    let is = subst (λ (t : List ℕ). IsTextOf c.args.form t (Whole text)) c.as_slice.ensures.value c.in_ok-text.ensures in
+    let is = subst (λ (t : List ℕ). IsTextOf c.args.form t (Whole text)) c.as_slice.ensures.value c.in_ok-text.ensures.text in
     record {
       text = text;
       due = inr (record { input = c.in_ok-bytes.bytes.items; read = c.in_ok-bytes.ensures.read; is = is });
