@@ -4,3 +4,4 @@ mod FirstLemmas
 mod WordLemmas
 mod DepthLemmas
 mod HaltLemmas
+mod StepLemmas

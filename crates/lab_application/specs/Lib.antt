@@ -1,4 +1,5 @@
 pub mod Shadows
+pub mod ApplicationSteps
 pub mod Finding
 pub mod Names
 pub mod Texts
