@@ -1,12 +1,12 @@
 -- What a search keeps while it makes tries.
-use Rattle.std.proofs.Common.{◌≡◌, ◌≢◌, ℕ, zero, suc, ◌+◌, ◌<◌, ◌≤◌, Bool, true, arith, append-nil, length-append, List, [], ◌∷◌, ◌++◌, length, map, Option, Some, None, Result, Ok, Err, IfOk, OnOk, refl, sym, ap, subst, ◌∙◌, slice_get}
+use Rattle.std.proofs.Common.{◌≡◌, ◌≢◌, ℕ, zero, suc, ◌<◌, ◌≤◌, Bool, true, arith, append-nil, length-append, List, [], ◌∷◌, ◌++◌, length, map, Option, Some, None, Result, Ok, Err, IfOk, OnOk, refl, sym, ap, subst, ◌∙◌, slice_get}
 use Rattle.std.specs.Prelude.{false, is_some, nat_lt}
 use Rattle.std.specs.List.{AllByRecursion}
 use Rattle.law_histories.specs.model_text.specs.Text.{ok_as}
 use Rattle.law_histories.specs.law_explore.specs.Rules as rule
 use Rattle.law_histories.specs.law_explore.specs.States as model
 use Rattle.law_histories.specs.law_explore.specs.States.{is_known, play_of, state_in}
-use Rattle.law_histories.specs.law_explore.specs.Search.{Node, Round, HaltedRound, Tally, with_new, with_reached}
+use Rattle.law_histories.specs.law_explore.specs.Search.{Node, Round, Tally, with_new, with_reached}
 use Rattle.law_histories.specs.law_explore.specs.Tries.{Manner as TryManner, Try, allowances_after, outcome, recovery, step_of}
 use Rattle.lab_key.specs.declared.kept.Rosters.{Rosters}
 use Rattle.lab_key.specs.declared.state.CardState.{CardState}

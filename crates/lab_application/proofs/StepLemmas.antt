@@ -1,26 +1,37 @@
 -- The steps of a move that is recorded and tried, of the moves from some states, and of a whole exploration.
-use Rattle.std.specs.Prelude.{◌≡◌, ℕ, zero, suc, ◌+◌, ◌*◌, ◌<◌, ◌≤◌, List, [], ◌∷◌, ◌++◌, drop, length, map, slice_get, take, Option, Some, None, refl}
+use Rattle.std.specs.Prelude.{◌≡◌, ℕ, zero, suc, ◌+◌, ◌*◌, ◌<◌, ◌≤◌, true, List, [], ◌∷◌, ◌++◌, drop, length, map, slice_get, take, Some, refl}
 use Rattle.std.specs.List.{AllByRecursion}
 use Rattle.std.proofs.Common.{arith, ap, length-append, sym, subst, ◌∙◌}
 use Rattle.std.proofs.Math.Nat.{add-mul, mul-le-mul_right, one-mul}
 use Rattle.law_histories.specs.model_play.specs.DeckGrammar.{DeckLine}
 use Rattle.law_histories.specs.law_explore.specs.Rules as rule
-use Rattle.law_histories.specs.law_explore.specs.States.{CardState}
-use Rattle.law_histories.specs.law_explore.specs.Search.{Node, first_state}
-use Rattle.law_histories.specs.law_explore.specs.Tries.{Try, tries_with}
-use Rattle.lab_search.specs.Rounds.{Depth, Holds, KeepsNode}
+use Rattle.law_histories.specs.model_play.specs.Family.{is_running}
+use Rattle.law_histories.specs.model_play.specs.Play.{Live, Running, Unpowered, Muted}
+use Rattle.law_histories.specs.law_explore.specs.States.{CardState, play_of}
+use Rattle.law_histories.specs.law_explore.specs.Search.{Node}
+use Rattle.law_histories.specs.law_explore.specs.Tries.{cuts_from, manners, tries_with, writes_of}
+use Rattle.lab_search.specs.Rounds.{Holds, KeepsNode}
 use Rattle.lab_search.specs.ExplorationSteps.{most_of_deck, most_of_move, most_of_tries, plays_of_cuts}
 use Rattle.lab_search.specs.declared.endings.Start.{Start}
 use Rattle.lab_search.specs.declared.rounds.Search.{Search}
 use Rattle.lab_search.proofs.AlikeLemmas.{alike_length, drop_at}
-use Rattle.lab_search.proofs.StepCountLemmas.{more_plays, one_play, within_plays}
 use Rattle.lab_record.specs.RecordSteps.{most_of_chronicle}
 use Rattle.lab_application.specs.ApplicationSteps.{first_of, led_by_tries, most_of_moves, most_of_states, most_of_tried, most_states, IsReachable, IsSameCard, SearchSteps, TakesSteps}
 use Rattle.lab_application.specs.Finding.{states_in, AreReachable, Grows}
-use Rattle.lab_application.specs.Shadows.{counting, shadow}
+use Rattle.lab_application.specs.Shadows.{shadow}
 use Rattle.lab_application.specs.Starts.{StartsWith}
 
 -- ---- plays of the same steps
+
+-- some plays of the same steps
+within_plays : (n k s old new : ℕ) → n ≤ k → new ≤ old + n * s → new ≤ old + k * s
+within_plays n k s old new le h = let e = mul-le-mul_right s le in omega (arith, h, e)
+
+one_play : (s old new : ℕ) → new ≤ old + s → new ≤ old + 1 * s
+one_play s old new h = let e = one-mul s in omega (arith, h, e)
+
+more_plays : (n k s old mid new : ℕ) → mid ≤ old + n * s → new ≤ mid + k * s → new ≤ old + (n + k) * s
+more_plays n k s old mid new first second = let e = add-mul n k s in omega (arith, first, second, e)
 
 pub no_play : (s old : ℕ) → old ≤ old + 0 * s
 no_play s old = omega arith
@@ -67,6 +78,38 @@ fills_one s old new h = within_plays 1 2 s old new (omega arith) (one_play s old
 pub fills_two : (s old mid new : ℕ) → mid ≤ old + s → new ≤ mid + s → new ≤ old + 2 * s
 fills_two s old mid new first second = more_plays 1 1 s old mid new (one_play s old mid first) (one_play s mid new second)
 
+-- ---- a move
+
+count_of_cuts : (k n : ℕ) → length (cuts_from k n) ≡ 3 * n
+count_of_cuts k zero = refl
+count_of_cuts k (suc n) = let rest = count_of_cuts (k + 1) n in omega (arith, rest)
+
+map_length : {X Y : Type 0} (f : X → Y) (xs : List X) → length (map f xs) ≡ length xs
+map_length f [] = refl
+map_length f (x ∷ xs) = ap suc (map_length f xs)
+
+running_manners : (v : Live) (n : ℕ) → is_running v ≡ true → length (manners v n) ≡ 1 + 3 * n
+running_manners (Running x) n h = let e = count_of_cuts 1 n in omega (arith, e)
+running_manners Unpowered n h = absurd (cc h)
+running_manners Muted n h = absurd (cc h)
+
+count_of_tries : (c : CardState) (m : rule.Move) → length (tries_with c m) ≡ length (manners c.live (writes_of (play_of c) m))
+count_of_tries c m = map_length (λ w. record { move = m; manner = w }) (manners c.live (writes_of (play_of c) m))
+
+-- the move whole, and no more
+pub whole_steps : (c : CardState) (m : rule.Move) (old new : ℕ) → new ≤ old + most_of_move c m → new ≤ old + most_of_tries c m
+whole_steps c m old new h = within_plays 1 (length (tries_with c m) + 1) (most_of_move c m) old new (omega arith) (one_play (most_of_move c m) old new h)
+
+-- the move whole, and its cuts
+pub tries_steps : (c : CardState) (m : rule.Move) (old mid new : ℕ) → is_running c.live ≡ true → mid ≤ old + most_of_move c m → new ≤ mid + plays_of_cuts (writes_of (play_of c) m) * most_of_move c m
+    → new ≤ old + most_of_tries c m
+tries_steps c m old mid new runs first second =
+    let s = most_of_move c m in
+    let n = writes_of (play_of c) m in
+    let count = count_of_tries c m in
+    let many = running_manners c.live n runs in
+    within_plays (1 + (3 * n + 1)) (length (tries_with c m) + 1) s old new (omega (arith, count, many)) (more_plays 1 (3 * n + 1) s old mid new (one_play s old mid first) second)
+
 -- a move that was recorded, and tried
 pub recorded_alone : (c : CardState) (m : rule.Move) (old new : ℕ) → new ≤ old + most_of_move c m → new ≤ old + most_of_tried c m
 recorded_alone c m old new h = within_plays 1 (length (tries_with c m) + 2) (most_of_move c m) old new (omega arith) (one_play (most_of_move c m) old new h)
@@ -78,6 +121,13 @@ recorded_tried c m old mid new first tries =
     within_plays (1 + (n + 1)) (n + 2) s old new (omega arith) (more_plays 1 (n + 1) s old mid new (one_play s old mid first) tries)
 
 -- ---- sums that are left
+
+-- one more of a sum was done
+pub sum_more : (left here rest old all now new : ℕ) → left ≡ here + rest → now + left ≤ old + all → new ≤ now + here → new + rest ≤ old + all
+sum_more left here rest old all now new is before step = omega (arith, is, before, step)
+
+pub sum_within : (left here rest old all now new : ℕ) → left ≡ here + rest → now + left ≤ old + all → new ≤ now + here → new ≤ old + all
+sum_within left here rest old all now new is before step = omega (arith, is, before, step)
 
 pub moves_from : (ms : List rule.Move) (i : ℕ) (m : rule.Move) (c : CardState) → slice_get ms i ≡ Some m → most_of_moves (drop i ms) c ≡ most_of_tried c m + most_of_moves (drop (i + 1) ms) c
 moves_from ms i m c h = ap (λ (xs : List rule.Move). most_of_moves xs c) (drop_at ms i m h)

@@ -1,8 +1,6 @@
-use Rattle.std.proofs.Common.{ℕ, arith, ap, refl, sym, subst, ◌∙◌}
-use Rattle.law_histories.specs.model_play.specs.DeckGrammar.{DeckLine}
+use Rattle.std.proofs.Common.{ℕ, arith, ap, sym, subst}
 use Rattle.law_histories.specs.model_play.specs.Play.{AfterPower}
 use Rattle.law_histories.specs.law_explore.specs.States.{play_of}
-use Rattle.mc_deck.specs.Lines.{line_of}
 use Rattle.mc_script.specs.Players.{IsPlayerAt}
 use Rattle.lab_record.specs.RecordSteps.{most_of_line}
 use Rattle.lab_search.specs.Shown.{settled_play}

@@ -1,4 +1,4 @@
-use Rattle.std.proofs.Common.{arith, refl, subst, Option}
+use Rattle.std.proofs.Common.{◌≤◌, arith, refl, subst, Option}
 use Rattle.lab_search.specs.Rounds.{Depth}
 use Rattle.lab_application.specs.declared.attempts.Halt.{Halt}
 use Rattle.lab_application.specs.Finding.{ComesTo}
@@ -70,7 +70,7 @@ loop-done-preserved g c =
           let within = c.loop-done.invariant.within in
           let shadows = shadows_are c.args.moves.now ls ms n h in
           let to = to_nodes ls ms n limit c.loop-done.from _ c.loop-done.steps c.len-to.result c.loop-done.search k at in
-          let order = omega (arith, within, at) in
+          let order : c.loop-done.from ≤ c.len-to.result = omega (arith, within, at) in
           let d : Depth = record { rules = shadow ms n; most = limit; from = 0 } in
           let more = comes_none d k.nodes c.in_ok-halt.halt c.try_states.new.search c.in_default.is (c.in_ok-halt.ensures.comes d k.nodes k.holds order to shadows) in
           steps_next ls ms n limit c.loop-done.from c.len-to.result c.args.steps.now c.loop-done.steps c.try_states.new.steps c.loop-done.search c.try_states.new.search more.all k to more.grew more.holds (c.try_states.ensures.steps d k.nodes k.holds order to shadows);
