@@ -89,7 +89,8 @@ fn checked(alloc: Global, text: &[u8]) -> Result<Vec<u8>, Rejection>
 pub fn text_of(alloc: Global, form: Form, room: Room, input: &[u8]) -> Result<Vec<u8>, Rejection>
     requires input { length input.now ≤ input_limit }
     requires room { form ≡ Listing → HasRoom room }
-    ensures text { MatchResult result (λ t. IsTextOf form input.now (Whole t.items)) (RejectsAs (IsTextOf form input.now)) }
+    ensures text { MatchResult result (λ t. IsTextOf form input.now (Whole t.items))
+        (RejectsAs (IsTextOf form input.now)) }
     ensures memory { form ≡ Listing → IfErr result (λ e. e ≢ NoMemory) }
 {
     match form {
