@@ -1,4 +1,3 @@
 pub mod Sim
-pub mod Probe
 pub mod Tape
 pub mod Taped

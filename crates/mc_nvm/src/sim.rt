@@ -4,16 +4,18 @@ ghost use Rattle.mc_nvm.specs.Sim.{blank_sim, Sound, answer_to, next_due, after_
 
 use crate::device::{Bench, Nvm};
 use crate::fuse::{Due, Fuse, nearer, next};
-use mc_base::{NoMemory, Stop, Word};
+use mc_base::{NoMemory, Steps, Stop, Word};
 use std::alloc::Global;
-use std::marker::Model;
+use std::marker::{Model, PhantomData};
+use std::sync::ledger::Ledger;
 
 /// The word that a blank device holds in every place.
 const BLANK: Word = [0xFF; 8];
 
-/// A device in memory, with a fuse of either kind. No write fails but by a fuse, and no tape is recorded.
+/// A device in memory, with a fuse of either kind, whose reads are steps of the ledger `L`. No write fails but by a fuse,
+/// and no tape is recorded.
 #[derive(Drop)]
-pub struct SimNvm {
+pub struct SimNvm<L: Ledger> {
     words: Vec<Word>,
     on: bool,
     cuts: u64,
@@ -25,9 +27,10 @@ pub struct SimNvm {
     poked: u64,
     arms: u64,
     wears: u64,
+    ledger: PhantomData<L>,
 }
 
-impl Model for SimNvm {
+impl<L: Ledger> Model for SimNvm<L> {
     ghost use Rattle.mc_nvm.specs.Sim.{Sim, sim_of, Sound};
 
     ghost Value = { Sim };
@@ -37,14 +40,14 @@ impl Model for SimNvm {
     ghost invariant = { λ a. Sound (sim_of a) };
 }
 
-impl SimNvm {
+impl<L: Ledger> SimNvm<L> {
     /// Creates a blank device of 256 to 16,384 words: every byte is FF, power is off, there is no fuse, and every
     /// count is 0.
     ///
     /// # Errors
     ///
     /// Returns `NoMemory` if the system is out of memory.
-    pub fn new(alloc: Global, words: u32) -> Result<SimNvm, NoMemory>
+    pub fn new(alloc: Global, words: u32) -> Result<SimNvm<L>, NoMemory>
         requires low { 256 ≤ words }
         requires high { words ≤ 16384 }
         ensures { IfOk result (λ device. device ≡ blank_sim words) }
@@ -61,6 +64,7 @@ impl SimNvm {
             poked: 0,
             arms: 0,
             wears: 0,
+            ledger: PhantomData,
         })
     }
 
@@ -80,6 +84,15 @@ impl SimNvm {
         self.poked = 0;
         self.arms = 0;
         self.wears = 0;
+    }
+
+    /// Returns the word at a place below the length, as whoever owns this memory looks at it: it is no read of a card,
+    /// and no step counts it.
+    pub fn word(&self, at: u32) -> Word
+        requires { at < length self.now.words }
+        ensures { result ≡ slice_index_or self.now.words at [] }
+    {
+        self.words[at as usize]
     }
 
     /// Writes one word. With `refused` the write fails by itself and leaves eight zero bytes, but the fuse of `arm`
@@ -135,7 +148,9 @@ impl SimNvm {
     }
 }
 
-impl Nvm for SimNvm {
+impl<L: Ledger> Nvm for SimNvm<L> {
+    type Meter = L;
+
     ghost use Rattle.mc_nvm.specs.Sim.{sim_state, SimWrote, sim_obeys};
 
     ghost state = { sim_state };
@@ -159,7 +174,8 @@ impl Nvm for SimNvm {
         self.words.len() as u32
     }
 
-    fn read(&self, at: u32) -> Word {
+    fn read(&self, at: u32, steps: &mut Steps<L>) -> Word {
+        steps.tick();
         self.words[at as usize]
     }
 
@@ -168,7 +184,7 @@ impl Nvm for SimNvm {
     }
 }
 
-impl Bench for SimNvm {
+impl<L: Ledger> Bench for SimNvm<L> {
     ghost use Rattle.mc_nvm.specs.Sim.{sim_bench, sim_burns};
 
     ghost bench = { sim_bench };
