@@ -4,6 +4,7 @@ pub mod AlikeEffects
 pub mod Alike
 pub mod Kept
 pub mod FetchLemmas
+pub mod CostLemmas
 pub mod RunLemmas
 pub mod ActLemmas
 pub mod EndLemmas

@@ -1,5 +1,6 @@
 pub mod Alike
 pub mod Chains
+pub mod Costs
 pub mod Frames
 pub mod Lone
 pub mod Places

@@ -1,5 +1,5 @@
 // The bytes that primitives read from segments.
-ghost use Rattle.std.specs.Prelude.{◌≡◌, ◌%◌, ◌≤◌, ◌<◌, ◌∷◌, false, length};
+ghost use Rattle.std.specs.Prelude.{◌≡◌, ◌+◌, ◌%◌, ◌≤◌, ◌<◌, ◌∷◌, false, length};
 ghost use Rattle.model_machine.specs.Modes.{ecb};
 ghost use Rattle.model_machine.specs.Frame.{is_outside};
 ghost use Rattle.model_machine.specs.Primitives as model;
@@ -11,6 +11,7 @@ ghost use Rattle.mc_prims.specs.Table.{cipher_of, block_under_key};
 use crate::ciphers::Way;
 use crate::table::Cipher;
 use mc_bank::Bank;
+use mc_base::Steps;
 use mc_segs::{Frame, Public, load};
 use model_machine::Abend;
 use std::marker::Model;
@@ -42,12 +43,15 @@ impl Block {
         public: &Public,
         at: u16,
         len: u8,
+        steps: &mut Steps<B::Meter>,
     ) -> Result<Block, Abend>
         requires runs { CanRun B.Bank bank.now frame.now }
-        ensures { ReadsBytes result (frame_on_bank B.Bank bank.now frame.now) public.now at len }
+        ensures bytes { ReadsBytes result (frame_on_bank B.Bank bank.now frame.now) public.now at len }
+        ensures rises { steps.old ≤ steps.new }
+        ensures reads { steps.new ≤ steps.old + 33 }
     {
         let mut bytes = [0; 255];
-        load(bank, frame, public, at, &mut bytes[..len as usize])?;
+        load(bank, frame, public, at, &mut bytes[..len as usize], steps)?;
         Ok(Block { bytes, len })
     }
 
@@ -110,11 +114,14 @@ pub fn reach<B: Bank>(
     public: &Public,
     at: u16,
     len: u8,
+    steps: &mut Steps<B::Meter>,
 ) -> Result<(), Abend>
     requires runs { CanRun B.Bank bank.now frame.now }
-    ensures { IfDue result (is_outside (frame_on_bank B.Bank bank.now frame.now) at len) Abend.A03 }
+    ensures abend { IfDue result (is_outside (frame_on_bank B.Bank bank.now frame.now) at len) Abend.A03 }
+    ensures rises { steps.old ≤ steps.new }
+    ensures reads { steps.new ≤ steps.old + 33 }
 {
-    Block::read(bank, frame, public, at, len)?;
+    Block::read(bank, frame, public, at, len, steps)?;
     Ok(())
 }
 
@@ -129,15 +136,18 @@ pub fn read_count<B: Bank>(
     frame: &Frame,
     public: &Public,
     at: u16,
+    steps: &mut Steps<B::Meter>,
 ) -> Result<(u8, u16), Abend>
     requires runs { CanRun B.Bank bank.now frame.now }
     requires room { length frame.now.frame.fixed ≤ 4096 }
-    ensures { ReadsCount result (frame_on_bank B.Bank bank.now frame.now) public.now at }
+    ensures count { ReadsCount result (frame_on_bank B.Bank bank.now frame.now) public.now at }
+    ensures rises { steps.old ≤ steps.new }
+    ensures reads { steps.new ≤ steps.old + 1 }
 {
     // No segment holds the address FFFF: the static segment ends at 1000, and DT is at most 8200.
     let _top = frame.dt();
     let mut count = [0];
-    load(bank, frame, public, at, &mut count)?;
+    load(bank, frame, public, at, &mut count, steps)?;
     Ok((count[0], at + 1))
 }
 

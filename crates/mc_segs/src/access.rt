@@ -13,6 +13,7 @@ use crate::protection::{commit_static, keep_static};
 use crate::public::Public;
 use mc_apdu::model_machine::Abend;
 use mc_bank::Bank;
+use mc_base::Steps;
 
 /// PB, the address of the first public byte.
 const PUBLIC: u16 = 0xC000;
@@ -95,6 +96,7 @@ pub fn load<B: Bank>(
     public: &Public,
     at: u16,
     into: &mut [u8],
+    steps: &mut Steps<B::Meter>,
 ) -> Result<(), Abend>
     requires runs { CanRun B.Bank bank.now frame.now }
     ensures abend { IfDue result (model.is_outside (frame_on_bank B.Bank bank.now frame.now) at
@@ -103,12 +105,14 @@ pub fn load<B: Bank>(
         ≡ model.bytes_at (frame_on_bank B.Bank bank.now frame.now) public.now at
         (length into.old)) }
     ensures unchanged { OnErr result (into.new ≡ into.old) }
+    ensures rises { steps.old ≤ steps.new }
+    ensures reads { 8 * steps.new ≤ 8 * steps.old + (length into.old + 14) }
 {
     if into.is_empty() {
         return Ok(());
     }
     match place_of(frame, at, into.len()) {
-        Some(Place::Static(i)) => read_static(bank, frame, i, into),
+        Some(Place::Static(i)) => read_static(bank, frame, i, into, steps),
         Some(Place::Dynamic(i)) => read(&frame.dynamic, i, into),
         Some(Place::Public(i)) => read(&public.bytes, i, into),
         None => return Err(Abend::A03),
@@ -119,13 +123,21 @@ pub fn load<B: Bank>(
 /// Reads static bytes: those of the bank, and over them the pending words. Separate from the other segments,
 /// whose bytes are copied in place.
 #[inline(never)]
-pub fn read_static<B: Bank>(bank: &B, frame: &Frame, at: u16, into: &mut [u8])
+pub fn read_static<B: Bank>(
+    bank: &B,
+    frame: &Frame,
+    at: u16,
+    into: &mut [u8],
+    steps: &mut Steps<B::Meter>,
+)
     requires runs { CanRun B.Bank bank.now frame.now }
     requires range { at + length into.old ≤ length frame.now.frame.fixed }
-    ensures { into.new ≡ take (length into.old)
+    ensures bytes { into.new ≡ take (length into.old)
         (drop at (model.static_bytes (frame_on_bank B.Bank bank.now frame.now))) }
+    ensures rises { steps.old ≤ steps.new }
+    ensures reads { 8 * steps.new ≤ 8 * steps.old + (length into.old + 14) }
 {
-    bank.fixed(frame.slot, at, into);
+    bank.fixed(frame.slot, at, into, steps);
     for (number, word) in frame.pending.list() {
         overlay(into, at as usize, 8 * *number as usize, word);
     }
@@ -158,17 +170,20 @@ pub fn store<B: Bank>(
     public: &mut Public,
     at: u16,
     from: &[u8],
+    steps: &mut Steps<B::Meter>,
 ) -> Result<(), Halt>
     requires runs { CanRun B.Bank bank.old frame.old }
     requires low { 1 ≤ length from.now }
     requires high { length from.now ≤ 255 }
-    ensures { Stores B.Bank (scene bank.old bank.new frame.old frame.new public.old public.new) at
+    ensures stores { Stores B.Bank (scene bank.old bank.new frame.old frame.new public.old public.new) at
         (length from.now)
         (model.write_effect (frame_on_bank B.Bank bank.old frame.old) public.old at from.now) result }
+    ensures rises { steps.old ≤ steps.new }
+    ensures reads { 8 * steps.new ≤ 8 * steps.old + (length from.now + 14) }
 {
     match place_of(frame, at, from.len()) {
-        Some(Place::Static(i)) if frame.protected => keep_static(bank, frame, i, from)?,
-        Some(Place::Static(i)) => commit_static(bank, frame, i, from)?,
+        Some(Place::Static(i)) if frame.protected => keep_static(bank, frame, i, from, steps)?,
+        Some(Place::Static(i)) => commit_static(bank, frame, i, from, steps)?,
         Some(Place::Dynamic(i)) => write(&mut frame.dynamic, i, from),
         Some(Place::Public(i)) => write(&mut public.bytes, i, from),
         None => return Err(Halt::Abend(Abend::A03)),

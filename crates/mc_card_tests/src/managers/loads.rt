@@ -7,7 +7,6 @@ use arrayvec::ArrayVec;
 use mc_bank::Bank;
 use mc_base::Steps;
 use mc_manager::Manager;
-use std::sync::ledger::Ledger;
 
 const DONE: Want = Want::Status(0x9000);
 
@@ -32,10 +31,10 @@ fn open(code: u16, init: u8) -> ArrayVec<u8, 1031> {
 
 /// Returns whether an application whose name is A0000000 and one byte is loaded, each section in pieces of
 /// this length.
-pub fn loads<B: Bank, L: Ledger>(
+pub fn loads<B: Bank>(
     manager: &mut Manager,
     bank: &mut B,
-    steps: &mut Steps<L>,
+    steps: &mut Steps<B::Meter>,
     name: u8,
     code: &[u8],
     init: &[u8],
@@ -61,10 +60,10 @@ pub fn loads<B: Bank, L: Ledger>(
 }
 
 // Whether a section is loaded by the commands with this INS, in pieces of this length.
-fn fills<B: Bank, L: Ledger>(
+fn fills<B: Bank>(
     manager: &mut Manager,
     bank: &mut B,
-    steps: &mut Steps<L>,
+    steps: &mut Steps<B::Meter>,
     ins: u8,
     section: &[u8],
     piece: usize,
@@ -94,11 +93,7 @@ fn fills<B: Bank, L: Ledger>(
 
 /// Returns whether a card of 32 applications has no room for one more until one of them, A000000009, is
 /// deleted.
-pub fn is_full<B: Bank, L: Ledger>(
-    manager: &mut Manager,
-    bank: &mut B,
-    steps: &mut Steps<L>,
-) -> bool
+pub fn is_full<B: Bank>(manager: &mut Manager, bank: &mut B, steps: &mut Steps<B::Meter>) -> bool
     requires going { (B.state bank.old).stopped ≡ false }
     requires fits { ManagerFits (view_of B.Bank bank.old) manager.old }
 {

@@ -7,7 +7,6 @@ use mc_bank::{Bank, Slot};
 use mc_base::{Aid, Steps};
 use mc_manager::{Manager, Routed};
 use std::alloc::Global;
-use std::sync::ledger::Ledger;
 
 /// The result that a command is to have.
 #[derive(Clone, Copy, Debug, PartialEq, Eq)]
@@ -23,10 +22,10 @@ pub enum Want {
 }
 
 /// Returns whether a command has the result that it is to have.
-pub fn comes_to<B: Bank, L: Ledger>(
+pub fn comes_to<B: Bank>(
     manager: &mut Manager,
     bank: &mut B,
-    steps: &mut Steps<L>,
+    steps: &mut Steps<B::Meter>,
     command: &[u8],
     want: Want,
 ) -> bool
@@ -62,11 +61,11 @@ fn is_fresh(reply: &Reply, want: Want) -> bool {
 
 /// Returns the number of the first row whose command, in hexadecimal, does not have the result that it is to
 /// have, or `None` if there is none.
-pub fn first_wrong<B: Bank, L: Ledger>(
+pub fn first_wrong<B: Bank>(
     alloc: Global,
     manager: &mut Manager,
     bank: &mut B,
-    steps: &mut Steps<L>,
+    steps: &mut Steps<B::Meter>,
     rows: &[(&'static str, Want)],
 ) -> Option<usize>
     requires going { (B.state bank.old).stopped ≡ false }
@@ -86,43 +85,48 @@ pub fn first_wrong<B: Bank, L: Ledger>(
 }
 
 /// Returns the static bytes of an application that has eight, or `None`.
-pub fn fixed_of<B: Bank>(bank: &B, name: &[u8]) -> Option<[u8; 8]>
+pub fn fixed_of<B: Bank>(bank: &B, name: &[u8], steps: &mut Steps<B::Meter>) -> Option<[u8; 8]>
     requires { (B.state bank.now).stopped ≡ false }
 {
-    let slot = slot_of(bank, name)?;
-    if bank.facts(slot).sizes.fixed != 8 {
+    let slot = slot_of(bank, name, steps)?;
+    if bank.facts(slot, steps).sizes.fixed != 8 {
         return None;
     }
     let mut fixed = [0xFF; 8];
-    bank.fixed(slot, 0, &mut fixed);
+    bank.fixed(slot, 0, &mut fixed, steps);
     Some(fixed)
 }
 
 /// Returns the access list of an application, or `None` if it is not on the card.
-pub fn deny_of<B: Bank>(bank: &B, name: &[u8]) -> Option<u16>
+pub fn deny_of<B: Bank>(bank: &B, name: &[u8], steps: &mut Steps<B::Meter>) -> Option<u16>
     requires { (B.state bank.now).stopped ≡ false }
 {
-    Some(bank.facts(slot_of(bank, name)?).sizes.deny)
+    Some(bank.facts(slot_of(bank, name, steps)?, steps).sizes.deny)
 }
 
 /// Returns whether an application has this code.
-pub fn has_code<B: Bank>(bank: &B, name: &[u8], code: &[u8; 1024]) -> bool
+pub fn has_code<B: Bank>(
+    bank: &B,
+    name: &[u8],
+    code: &[u8; 1024],
+    steps: &mut Steps<B::Meter>,
+) -> bool
     requires { (B.state bank.now).stopped ≡ false }
 {
-    let Some(slot) = slot_of(bank, name) else {
+    let Some(slot) = slot_of(bank, name, steps) else {
         return false;
     };
-    if bank.facts(slot).sizes.code != 1024 {
+    if bank.facts(slot, steps).sizes.code != 1024 {
         return false;
     }
     let mut found = [0; 1024];
-    bank.code(slot, 0, &mut found);
+    bank.code(slot, 0, &mut found, steps);
     found == *code
 }
 
-fn slot_of<B: Bank>(bank: &B, name: &[u8]) -> Option<Slot>
+fn slot_of<B: Bank>(bank: &B, name: &[u8], steps: &mut Steps<B::Meter>) -> Option<Slot>
     requires { (B.state bank.now).stopped ≡ false }
     ensures { IfSome result (λ slot. IsSome (B.named bank.now slot)) }
 {
-    bank.find(&Aid::new(name)?)
+    bank.find(&Aid::new(name)?, steps)
 }

@@ -1,16 +1,19 @@
 // A device in memory that counts its reads.
-use mc_base::{Stop, Word};
+use mc_base::{Steps, Stop, Word};
 use mc_nvm::{Nvm, SimNvm};
 use std::cell::Cell;
+use std::sync::ledger::Ledger;
 
 /// A device that counts its reads in a cell.
 #[derive(Drop)]
-pub struct Counting<'a> {
-    pub device: SimNvm,
+pub struct Counting<'a, L: Ledger> {
+    pub device: SimNvm<L>,
     pub reads: &'a Cell<u32>,
 }
 
-impl<'a> Nvm for Counting<'a> {
+impl<'a, L: Ledger> Nvm for Counting<'a, L> {
+    type Meter = L;
+
     ghost use Rattle.mc_nvm.specs.Sim.{sim_state, SimWrote, sim_obeys};
 
     ghost state = { λ d. sim_state d.device };
@@ -33,9 +36,9 @@ impl<'a> Nvm for Counting<'a> {
         self.device.len()
     }
 
-    fn read(&self, at: u32) -> Word {
+    fn read(&self, at: u32, steps: &mut Steps<L>) -> Word {
         self.reads.set(self.reads.get().saturating_add(1));
-        self.device.read(at)
+        self.device.read(at, steps)
     }
 
     fn write(&mut self, at: u32, word: Word) -> Result<(), Stop> {

@@ -61,7 +61,12 @@ const ROWS: &[Row] = &[
 const ROOT_1: u64 = 0x4D454C0120000083;
 
 // The first power-up with another result.
-fn first_other(alloc: Global, row: &Row) -> Result<Option<usize>, NoMemory> {
+fn first_other<L: Ledger>(alloc: Global, blank: Blank, row: &Row) -> Result<Option<usize>, NoMemory>
+    requires name { blank.name ≡ L.name }
+    requires parts { blank.parts ≡ L.parts }
+    requires some { 0 < blank.parts }
+{
+    let mut steps = Steps::<L>::new(blank);
     let (words, ups) = row;
     let mut device = SimNvm::new(alloc, DEVICE_WORDS)?;
     format(&mut device);
@@ -69,13 +74,17 @@ fn first_other(alloc: Global, row: &Row) -> Result<Option<usize>, NoMemory> {
     for (at, number) in *words {
         set_number(&mut device, *at, *number);
     }
-    Ok(other_power(&mut device, ups))
+    Ok(other_power(&mut device, ups, &mut steps))
 }
 
-fn other_power(device: &mut SimNvm, ups: &[(u16, Word, Power)]) -> Option<usize> {
+fn other_power<L: Ledger>(
+    device: &mut SimNvm<L>,
+    ups: &[(u16, Word, Power)],
+    steps: &mut Steps<L>,
+) -> Option<usize> {
     for (i, (k, fill, due)) in ups.iter().enumerate() {
         stop_at(device, Stop::Off, *k, *fill);
-        if power_up(device) != *due {
+        if power_up(device, steps) != *due {
             return Some(i);
         }
     }
@@ -86,7 +95,11 @@ fn other_power(device: &mut SimNvm, ups: &[(u16, Word, Power)]) -> Option<usize>
 #[test]
 fn migrations(rt: HostRuntime) -> Result<(), Fail> {
     for (i, row) in ROWS.iter().enumerate() {
-        assert_eq!(rt; first_other(rt.alloc(), row)?, None, "row {i}");
+        assert_eq!(rt;
+            first_other::<Brand>(rt.alloc(), Blank::new(1), row)?,
+            None,
+            "row {i}"
+        );
     }
     Ok(())
 }
@@ -134,19 +147,24 @@ struct Seen {
     version: u64,
 }
 
-fn observe(device: &mut SimNvm, image: &Image, stops: Stops) -> Seen {
+fn observe<L: Ledger>(
+    device: &mut SimNvm<L>,
+    image: &Image,
+    stops: Stops,
+    steps: &mut Steps<L>,
+) -> Seen {
     restore(device, image);
     stop_at(device, stops.stop, stops.first, stops.left);
-    let first = power_up(device);
+    let first = power_up(device, steps);
     stop_at(device, stops.stop, stops.second, stops.then);
-    let second = power_up(device);
-    let third = power_up(device);
+    let second = power_up(device, steps);
+    let third = power_up(device, steps);
     Seen {
         first,
         second,
         third,
-        shown: show(device, APPS),
-        version: number_at(device, 0) / 0x100000000 % 0x100,
+        shown: show(device, APPS, steps),
+        version: number_at(device, 0, steps) / 0x100000000 % 0x100,
     }
 }
 
@@ -206,18 +224,23 @@ fn first_stops<L: Ledger>(
     format(&mut device);
     let _made = play(&mut device, LOADS, &mut steps);
     set_number(&mut device, 0, 0x4D454C0101000083);
-    let image = image_of(&device);
+    let image = image_of(&device, &mut steps);
     let mut taped = TapeNvm::new(alloc, 256, 64, &[])?;
     restore(&mut taped, &image);
-    let _whole = power_up(&mut taped);
-    let other = other_stops(&mut device, &image, &taped);
+    let _whole = power_up(&mut taped, &mut steps);
+    let other = other_stops(&mut device, &image, &taped, &mut steps);
     Ok((writes_of(&taped), other))
 }
 
-fn other_stops(device: &mut SimNvm, image: &Image, taped: &TapeNvm) -> Option<(Stops, Seen)> {
+fn other_stops<L: Ledger>(
+    device: &mut SimNvm<L>,
+    image: &Image,
+    taped: &TapeNvm<L>,
+    steps: &mut Steps<L>,
+) -> Option<(Stops, Seen)> {
     for first in 1..7 {
         for left in [ZERO, OPEN_1, OPEN_2, due_word(taped, first)] {
-            if let Some(other) = both_ways(device, image, first, left, taped) {
+            if let Some(other) = both_ways(device, image, first, left, taped, steps) {
                 return Some(other);
             }
         }
@@ -226,12 +249,13 @@ fn other_stops(device: &mut SimNvm, image: &Image, taped: &TapeNvm) -> Option<(S
 }
 
 // A power cut and a failed write as the first stop, and each second one.
-fn both_ways(
-    device: &mut SimNvm,
+fn both_ways<L: Ledger>(
+    device: &mut SimNvm<L>,
     image: &Image,
     first: u16,
     left: Word,
-    taped: &TapeNvm,
+    taped: &TapeNvm<L>,
+    steps: &mut Steps<L>,
 ) -> Option<(Stops, Seen)> {
     for stop in [Stop::Off, Stop::Worn] {
         let stops = Stops {
@@ -241,7 +265,7 @@ fn both_ways(
             second: 0,
             then: ZERO,
         };
-        if let Some(other) = second_stops(device, image, stops, taped) {
+        if let Some(other) = second_stops(device, image, stops, taped, steps) {
             return Some(other);
         }
     }
@@ -249,11 +273,12 @@ fn both_ways(
 }
 
 // Each second stop after one first stop.
-fn second_stops(
-    device: &mut SimNvm,
+fn second_stops<L: Ledger>(
+    device: &mut SimNvm<L>,
     image: &Image,
     first: Stops,
-    taped: &TapeNvm,
+    taped: &TapeNvm<L>,
+    steps: &mut Steps<L>,
 ) -> Option<(Stops, Seen)> {
     let due = due_writes(first.first, first.left);
     for second in 0..=due {
@@ -264,7 +289,7 @@ fn second_stops(
                 then,
                 ..first
             };
-            let seen = observe(device, image, stops);
+            let seen = observe(device, image, stops, steps);
             if seen != by_rule(stops) {
                 return Some((stops, seen));
             }

@@ -15,7 +15,7 @@ use crate::stores::counting::Counting;
 use mc_bank::{Bank, Slot};
 use mc_base::{Aid, NoMemory, Steps};
 use mc_blocks::{first_fit, fits_room, free_plan, take_plan};
-use mc_nvm::{Bench, DEVICE_WORDS, Nvm, Probe, SimNvm};
+use mc_nvm::{Bench, DEVICE_WORDS, Nvm, SimNvm};
 use mc_store::Store;
 use std::alloc::Global;
 use std::cell::Cell;
@@ -51,12 +51,12 @@ struct Plans {
 }
 
 // The reads of a load and of a deletion.
-fn count_reads<B: Bank, L: Ledger>(
+fn count_reads<B: Bank>(
     bank: &mut B,
     loaded: &Unit,
     deleted: &Unit,
     reads: &Cell<u32>,
-    steps: &mut Steps<L>,
+    steps: &mut Steps<B::Meter>,
 ) -> Option<Reads>
     requires going { (B.state bank.old).stopped ≡ false }
 {
@@ -65,18 +65,18 @@ fn count_reads<B: Bank, L: Ledger>(
     reads.set(0);
     let site = bank.open(&sizes, steps).ok()?;
     let open = reads.get();
-    fill(bank, &site, loaded).ok()?;
-    if bank.find(&aid).is_some() {
+    fill(bank, &site, loaded, steps).ok()?;
+    if bank.find(&aid, steps).is_some() {
         return None;
     }
     reads.set(0);
-    bank.create(&site, &aid).ok()?;
+    bank.create(&site, &aid, steps).ok()?;
     let create = reads.get();
-    let made = slot_of(bank, &loaded.name)?;
-    let bytes = count_fetches(bank, made, reads)?;
-    let slot = slot_of(bank, &deleted.name)?;
+    let made = slot_of(bank, &loaded.name, steps)?;
+    let bytes = count_fetches(bank, made, reads, steps)?;
+    let slot = slot_of(bank, &deleted.name, steps)?;
     reads.set(0);
-    bank.delete(slot).ok()?;
+    bank.delete(slot, steps).ok()?;
     Some(Reads {
         open,
         create,
@@ -86,23 +86,28 @@ fn count_reads<B: Bank, L: Ledger>(
 }
 
 // The reads of bytes of an application with at least nine bytes of code and two static bytes.
-fn count_fetches<B: Bank>(bank: &B, slot: Slot, reads: &Cell<u32>) -> Option<Fetches>
+fn count_fetches<B: Bank>(
+    bank: &B,
+    slot: Slot,
+    reads: &Cell<u32>,
+    steps: &mut Steps<B::Meter>,
+) -> Option<Fetches>
     requires going { (B.state bank.now).stopped ≡ false }
     requires there { IsSome (B.named bank.now slot) }
 {
-    let sizes = bank.facts(slot).sizes;
+    let sizes = bank.facts(slot, steps).sizes;
     if sizes.code < 9 || sizes.fixed < 2 {
         return None;
     }
     let mut window = [0; 6];
     reads.set(0);
-    bank.code(slot, 1, &mut window);
+    bank.code(slot, 1, &mut window, steps);
     let one = reads.get();
     reads.set(0);
-    bank.code(slot, 3, &mut window);
+    bank.code(slot, 3, &mut window, steps);
     let two = reads.get();
     reads.set(0);
-    bank.fixed(slot, 0, &mut window[..2]);
+    bank.fixed(slot, 0, &mut window[..2], steps);
     Some(Fetches {
         one,
         two,
@@ -111,7 +116,7 @@ fn count_fetches<B: Bank>(bank: &B, slot: Slot, reads: &Cell<u32>) -> Option<Fet
 }
 
 // A device of 8,192 words with an empty card and power.
-fn empty_card(alloc: Global) -> Result<SimNvm, NoMemory>
+fn empty_card<L: Ledger>(alloc: Global) -> Result<SimNvm<L>, NoMemory>
     ensures { IfOk result (λ device. (sim_state device).on ≡ true) }
 {
     let mut device = SimNvm::new(alloc, DEVICE_WORDS)?;
@@ -120,11 +125,12 @@ fn empty_card(alloc: Global) -> Result<SimNvm, NoMemory>
     Ok(device)
 }
 
-// The reads on a card after some changes.
+// The reads on a card with `count` applications, after some of them are deleted.
 fn reads_over<L: Ledger>(
     alloc: Global,
     blank: Blank,
-    rows: &[(Change, Came)],
+    count: u8,
+    deleted: &[u8],
 ) -> Result<Option<Reads>, NoMemory>
     requires name { blank.name ≡ L.name }
     requires parts { blank.parts ≡ L.parts }
@@ -136,31 +142,36 @@ fn reads_over<L: Ledger>(
         device: empty_card(alloc)?,
         reads: &reads,
     };
-    let Ok((mut store, _)) = Store::power_up(device) else {
+    let Ok((mut store, _)) = Store::power_up(device, &mut steps) else {
         return Ok(None);
     };
-    let seen = reads_of(&mut store, rows, &reads, &mut steps);
+    let seen = reads_of(alloc, &mut store, count, deleted, &reads, &mut steps)?;
     let _device = store.into_dev();
     Ok(seen)
 }
 
-fn reads_of<B: Bank, L: Ledger>(
+fn reads_of<B: Bank>(
+    alloc: Global,
     bank: &mut B,
-    rows: &[(Change, Came)],
+    count: u8,
+    deleted: &[u8],
     reads: &Cell<u32>,
-    steps: &mut Steps<L>,
-) -> Option<Reads>
+    steps: &mut Steps<B::Meter>,
+) -> Result<Option<Reads>, NoMemory>
     requires going { (B.state bank.old).stopped ≡ false }
 {
-    let _last = slot_of_twentieth(bank, rows, steps)?;
-    count_reads(bank, &chained(33), &chained(20), reads, steps)
+    let rows = chain_of(alloc, count, deleted)?;
+    match slot_of_twentieth(bank, rows.as_slice(), steps) {
+        Some(_) => Ok(count_reads(bank, &chained(33), &chained(20), reads, steps)),
+        None => Ok(None),
+    }
 }
 
 // Makes changes, and returns the slot of the twentieth application.
-fn slot_of_twentieth<B: Bank, L: Ledger>(
+fn slot_of_twentieth<B: Bank>(
     bank: &mut B,
     rows: &[(Change, Came)],
-    steps: &mut Steps<L>,
+    steps: &mut Steps<B::Meter>,
 ) -> Option<Slot>
     requires going { (B.state bank.old).stopped ≡ false }
     ensures going { IfSome result (λ slot. (B.state bank.new).stopped ≡ false) }
@@ -169,14 +180,29 @@ fn slot_of_twentieth<B: Bank, L: Ledger>(
     if make_all(bank, rows, steps) != Went::Through {
         return None;
     }
-    slot_of(bank, &chained(20).name)
+    slot_of(bank, &chained(20).name, steps)
 }
 
-// The reads of the search and of the plans on such cards.
+// Loads twenty applications, deletes some of them, and returns the slot of the twentieth.
+fn slot_among<B: Bank>(
+    alloc: Global,
+    bank: &mut B,
+    deleted: &[u8],
+    steps: &mut Steps<B::Meter>,
+) -> Result<Option<Slot>, NoMemory>
+    requires going { (B.state bank.old).stopped ≡ false }
+    ensures going { IfOk result (λ r. IfSome r (λ slot. (B.state bank.new).stopped ≡ false)) }
+    ensures there { IfOk result (λ r. IfSome r (λ slot. IsSome (B.named bank.new slot))) }
+{
+    let rows = chain_of(alloc, 20, deleted)?;
+    Ok(slot_of_twentieth(bank, rows.as_slice(), steps))
+}
+
+// The reads of the search and of the plans on a card with twenty applications, after some of them are deleted.
 fn plans_over<L: Ledger>(
     alloc: Global,
     blank: Blank,
-    rows: &[(Change, Came)],
+    deleted: &[u8],
 ) -> Result<Option<Plans>, NoMemory>
     requires name { blank.name ≡ L.name }
     requires parts { blank.parts ≡ L.parts }
@@ -188,10 +214,10 @@ fn plans_over<L: Ledger>(
         device: empty_card(alloc)?,
         reads: &reads,
     };
-    let Ok((mut store, _)) = Store::power_up(device) else {
+    let Ok((mut store, _)) = Store::power_up(device, &mut steps) else {
         return Ok(None);
     };
-    match slot_of_twentieth(&mut store, rows, &mut steps) {
+    match slot_among(alloc, &mut store, deleted, &mut steps)? {
         Some(slot) => Ok(count_plans(store, slot, &reads, &mut steps)),
         None => {
             let _device = store.into_dev();
@@ -201,7 +227,7 @@ fn plans_over<L: Ledger>(
 }
 
 fn count_plans<L: Ledger>(
-    store: Store<Counting<'_>>,
+    store: Store<Counting<'_, L>>,
     slot: Slot,
     reads: &Cell<u32>,
     steps: &mut Steps<L>,
@@ -215,11 +241,11 @@ fn count_plans<L: Ledger>(
 }
 
 // The reads on words that are a card with a used block at this place.
-fn plans_of<N: Nvm, L: Ledger>(
+fn plans_of<N: Nvm>(
     device: &N,
     block: u16,
     reads: &Cell<u32>,
-    steps: &mut Steps<L>,
+    steps: &mut Steps<N::Meter>,
 ) -> Option<Plans>
     requires closed { look (N.state device.now).words ≡ Closed }
     requires laid { IsWellLaid (N.state device.now).words }
@@ -228,13 +254,13 @@ fn plans_of<N: Nvm, L: Ledger>(
     let _size = device.len();
     fits_room();
     reads.set(0);
-    let place = first_fit(&Probe::new(device), 13, steps)?;
+    let place = first_fit(device, 13, steps)?;
     let search = reads.get();
     reads.set(0);
-    let _taken = take_plan(device, place, 13);
+    let _taken = take_plan(device, place, 13, steps);
     let take = reads.get();
     reads.set(0);
-    let _freed = free_plan(device, block);
+    let _freed = free_plan(device, block, steps);
     Some(Plans {
         place,
         search,
@@ -243,16 +269,14 @@ fn plans_of<N: Nvm, L: Ledger>(
     })
 }
 
-// The reads on a card with `count` applications, after some of them are deleted.
+// The reads on a card, with steps of their own.
 fn store_reads(alloc: Global, count: u8, deleted: &[u8]) -> Result<Option<Reads>, NoMemory> {
-    let rows = chain_of(alloc, count, deleted)?;
-    reads_over::<Brand>(alloc, Blank::new(1), rows.as_slice())
+    reads_over::<Brand>(alloc, Blank::new(1), count, deleted)
 }
 
-// The reads of plans on a card with twenty applications, after some of them are deleted.
+// The reads of plans on a card, with steps of their own.
 fn plan_reads(alloc: Global, deleted: &[u8]) -> Result<Option<Plans>, NoMemory> {
-    let rows = chain_of(alloc, 20, deleted)?;
-    plans_over::<Brand>(alloc, Blank::new(1), rows.as_slice())
+    plans_over::<Brand>(alloc, Blank::new(1), deleted)
 }
 
 const CARDS: &[(u8, &[u8], u32)] = &[
