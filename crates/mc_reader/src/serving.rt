@@ -23,16 +23,15 @@ use mc_nvm::Bench;
 use mc_script::{Answer, Player, Silent};
 use mc_streams::{Sink, WriteFault};
 use std::alloc::Global;
-use std::sync::ledger::Ledger;
 
 /// The length of the longest frame in bytes.
 const LONGEST_FRAME: usize = 65_535;
 
 // Plays the line of a request, if it has one.
-fn play_request<N: Bench, L: Ledger>(
+fn play_request<N: Bench>(
     player: &mut Player<N>,
     request: &Request<'_>,
-    steps: &mut Steps<L>,
+    steps: &mut Steps<N::Meter>,
 ) -> Option<Answer>
     requires playing { IsPlaying N.Bench player.old }
     requires good { IsGoodRequest request.now }
@@ -47,12 +46,12 @@ fn play_request<N: Bench, L: Ledger>(
 }
 
 // Serves one frame: plays its line and writes its answer. It may switch power on or off.
-fn serve_frame<N: Bench, T: Sink, L: Ledger>(
+fn serve_frame<N: Bench, T: Sink>(
     player: &mut Player<N>,
     powered: &mut bool,
     frame: &[u8],
     out: &mut T,
-    steps: &mut Steps<L>,
+    steps: &mut Steps<N::Meter>,
 ) -> Result<(), WriteFault>
     requires { IsPlaying N.Bench player.old }
     ensures serves { (s : State) (n : ℕ) → IsPlayerAt N.Bench player.old s
@@ -69,12 +68,12 @@ fn serve_frame<N: Bench, T: Sink, L: Ledger>(
 }
 
 // Serves frames up to the end of the input, or up to a fault. The card has no power before them.
-fn serve_frames<H: Host, T: Sink, N: Bench, L: Ledger>(
+fn serve_frames<H: Host, T: Sink, N: Bench>(
     player: &mut Player<N>,
     input: &mut H,
     out: &mut T,
     room: &mut [u8],
-    steps: &mut Steps<L>,
+    steps: &mut Steps<N::Meter>,
 ) -> Result<(), ServeError>
     requires playing { IsPlaying N.Bench player.old }
     requires room { length room.old ≡ 65535 }
@@ -119,13 +118,13 @@ fn serve_frames<H: Host, T: Sink, N: Bench, L: Ledger>(
 ///
 /// Returns why the session ended before the end of its input. If it is out of memory, nothing was read,
 /// played or written.
-pub fn serve<H: Host, T: Sink, N: Bench, L: Ledger>(
+pub fn serve<H: Host, T: Sink, N: Bench>(
     alloc: Global,
     deck: &Deck,
     input: &mut H,
     out: &mut T,
     dev: &mut N,
-    steps: &mut Steps<L>,
+    steps: &mut Steps<N::Meter>,
 ) -> Result<(), ServeError>
     requires { IsUnfused (N.bench dev.old) }
     // Out of memory, nothing was read, played or written.

@@ -20,20 +20,19 @@ use mc_base::Steps;
 use mc_deck::Deck;
 use mc_nvm::Bench;
 use mc_streams::{Sink, WriteFault};
-use std::sync::ledger::Ledger;
 
 /// Plays a deck on a device before a reporter, up to the first line whose text is not wholly written. That line is
 /// played whole.
-pub fn play_lines<N: Bench, R: Reporter, L: Ledger>(
+pub fn play_lines<N: Bench, R: Reporter>(
     deck: &Deck,
     device: N,
     reporter: &mut R,
-    steps: &mut Steps<L>,
+    steps: &mut Steps<N::Meter>,
 ) -> N
     requires fuses { IsUnfused (N.bench device) }
     requires fault { (R.log reporter.old).fault ≡ None }
     // The lines are the steps of a play, and what is written is their text, as the reporter writes it.
-    ensures plays { CountsFrom (R.text reporter.old) (start (N.state device).words) deck.now
+    ensures plays { CountsFrom (R.looks reporter.old) (R.text reporter.old) (start (N.state device).words) deck.now
         (bench_at N.Bench device) (R.log reporter.old).out (write_result (R.log reporter.new).fault)
         (bench_at N.Bench result) (R.log reporter.new).out steps.old steps.new }
     ensures image { IsImage (N.state device).words }
@@ -47,7 +46,7 @@ pub fn play_lines<N: Bench, R: Reporter, L: Ledger>(
     for i in 0..deck.len() {
         let (number, line) = deck.line(i);
         let answer = player.line(&line, reporter, steps);
-        reporter.report(number, &player, &answer);
+        reporter.report(number, &player, &answer, steps);
         if reporter.ended().is_err() {
             return player.into_dev();
         }
@@ -64,11 +63,11 @@ pub fn play_lines<N: Bench, R: Reporter, L: Ledger>(
 /// # Errors
 ///
 /// Returns the fault of the sink.
-pub fn play<N: Bench, T: Sink, L: Ledger>(
+pub fn play<N: Bench, T: Sink>(
     deck: &Deck,
     dev: &mut N,
     out: &mut T,
-    steps: &mut Steps<L>,
+    steps: &mut Steps<N::Meter>,
 ) -> Result<(), WriteFault>
     requires { IsUnfused (N.bench dev.old) }
     // The lines are played in order, up to the first whose text is not wholly written. The words, the power, the calls
@@ -77,9 +76,9 @@ pub fn play<N: Bench, T: Sink, L: Ledger>(
         (record { taken = T.taken out.old; faults = T.faults out.old }) result
         (bench_at N.Bench dev.new)
         (record { taken = T.taken out.new; faults = T.faults out.new }) }
-    // Each executed instruction is one step, and the search of an OPEN for room takes at most two more than the card
-    // has gaps. A line that a stop hits makes no more steps than the whole line.
-    ensures steps { CountsDeck plain_text deck.now (bench_at N.Bench dev.old)
+    // Each executed instruction is one step, and so is each word that is read. A line that a stop hits makes no more
+    // steps than the whole line may.
+    ensures steps { CountsDeck 0 plain_text deck.now (bench_at N.Bench dev.old)
         (record { taken = T.taken out.old; faults = T.faults out.old }) result
         (bench_at N.Bench dev.new)
         (record { taken = T.taken out.new; faults = T.faults out.new }) steps.old steps.new }
@@ -97,11 +96,11 @@ pub fn play<N: Bench, T: Sink, L: Ledger>(
 /// # Errors
 ///
 /// Returns the fault of the sink.
-pub fn trace<N: Bench, T: Sink, L: Ledger>(
+pub fn trace<N: Bench, T: Sink>(
     deck: &Deck,
     dev: &mut N,
     out: &mut T,
-    steps: &mut Steps<L>,
+    steps: &mut Steps<N::Meter>,
 ) -> Result<(), WriteFault>
     requires { IsUnfused (N.bench dev.old) }
     // The lines are played in order, up to the first whose text is not wholly written. The words, the power, the calls
@@ -110,9 +109,9 @@ pub fn trace<N: Bench, T: Sink, L: Ledger>(
         (record { taken = T.taken out.old; faults = T.faults out.old }) result
         (bench_at N.Bench dev.new)
         (record { taken = T.taken out.new; faults = T.faults out.new }) }
-    // Each executed instruction is one step, and the search of an OPEN for room takes at most two more than the card
-    // has gaps. A line that a stop hits makes no more steps than the whole line.
-    ensures steps { CountsDeck traced_text deck.now (bench_at N.Bench dev.old)
+    // Each executed instruction is one step, and so is each word that is read. A line that a stop hits makes no more
+    // steps than the whole line may.
+    ensures steps { CountsDeck 0 traced_text deck.now (bench_at N.Bench dev.old)
         (record { taken = T.taken out.old; faults = T.faults out.old }) result
         (bench_at N.Bench dev.new)
         (record { taken = T.taken out.new; faults = T.faults out.new }) steps.old steps.new }
@@ -131,11 +130,11 @@ pub fn trace<N: Bench, T: Sink, L: Ledger>(
 /// # Errors
 ///
 /// Returns the fault of the sink.
-pub fn summarise<N: Bench, T: Sink, L: Ledger>(
+pub fn summarise<N: Bench, T: Sink>(
     deck: &Deck,
     dev: &mut N,
     out: &mut T,
-    steps: &mut Steps<L>,
+    steps: &mut Steps<N::Meter>,
 ) -> Result<(), WriteFault>
     requires fuses { IsUnfused (N.bench dev.old) }
     requires dumps { DumpsLast deck.now }
@@ -145,9 +144,9 @@ pub fn summarise<N: Bench, T: Sink, L: Ledger>(
         (record { taken = T.taken out.old; faults = T.faults out.old }) result
         (bench_at N.Bench dev.new)
         (record { taken = T.taken out.new; faults = T.faults out.new }) }
-    // Each executed instruction is one step, and the search of an OPEN for room takes at most two more than the card
-    // has gaps. A line that a stop hits makes no more steps than the whole line.
-    ensures steps { CountsSum summary deck.now (bench_at N.Bench dev.old)
+    // Each executed instruction is one step, and so is each word that is read. A line that a stop hits makes no more
+    // steps than the whole line may.
+    ensures steps { CountsSum 0 summary deck.now (bench_at N.Bench dev.old)
         (record { taken = T.taken out.old; faults = T.faults out.old }) result
         (bench_at N.Bench dev.new)
         (record { taken = T.taken out.new; faults = T.faults out.new }) steps.old steps.new }
