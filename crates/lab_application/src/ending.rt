@@ -26,6 +26,7 @@ use mc_script::JobFault;
 use mc_streams::{Sink, WriteFault};
 use prove_events::{On, Rules};
 use std::alloc::Global;
+use std::sync::ledger::Ledger;
 
 /// Writes that the deck itself breaks a rule.
 ///
@@ -78,8 +79,8 @@ fn kept_as(depth: Option<u32>) -> Explored
 /// # Errors
 ///
 /// Returns `WriteFault` if the sink fails.
-pub fn report_kept<T: Sink>(
-    search: &Search,
+pub fn report_kept<T: Sink, L: Ledger>(
+    search: &Search<L>,
     rules: &Rules<'_>,
     depth: Option<u32>,
     out: &mut T,
@@ -116,9 +117,9 @@ fn put_way<T: Sink>(
 }
 
 // Writes a broken rule, and the statements that lead there by a last step.
-fn report_broken<T: Sink>(
+fn report_broken<T: Sink, L: Ledger>(
     alloc: Global,
-    search: &Search,
+    search: &Search<L>,
     moves: &Exploration<'_>,
     rules: &Rules<'_>,
     start: Start,
@@ -143,9 +144,9 @@ fn report_broken<T: Sink>(
 /// # Errors
 ///
 /// Returns `NoMemory` if it is out of memory, and `WriteFault` if the sink fails.
-pub fn report_halt<T: Sink>(
+pub fn report_halt<T: Sink, L: Ledger>(
     alloc: Global,
-    search: &Search,
+    search: &Search<L>,
     moves: &Exploration<'_>,
     rules: &Rules<'_>,
     start: Start,

@@ -12,9 +12,14 @@ use lab_search::{Laboratory, put_card};
 use mc_base::{Aid, NoMemory};
 use mc_script::{Live, Player};
 use std::alloc::Global;
+use std::sync::ledger::Ledger;
 
 // The static bytes of the application with a name on a device, or `None` if it is not there.
-fn statics_on(alloc: Global, device: &BranchNvm, aid: &Aid) -> Result<Option<Vec<u8>>, NoMemory>
+fn statics_on<L: Ledger>(
+    alloc: Global,
+    device: &BranchNvm<L>,
+    aid: &Aid,
+) -> Result<Option<Vec<u8>>, NoMemory>
     requires { words_fault device.now.device.words ≡ None }
 {
     let applications = read_applications(alloc, device)?;
@@ -28,9 +33,9 @@ fn statics_on(alloc: Global, device: &BranchNvm, aid: &Aid) -> Result<Option<Vec
 }
 
 // The static bytes of the application with a name on a device, or `None` if no card runs there or it is not there.
-fn statics_of(
+fn statics_of<L: Ledger>(
     alloc: Global,
-    device: &BranchNvm,
+    device: &BranchNvm<L>,
     live: &Live,
     aid: &Aid,
 ) -> Result<Option<Vec<u8>>, NoMemory>
@@ -45,9 +50,9 @@ fn statics_of(
 
 // The static bytes of the application with a name on the device of a player, or `None` if no card runs there or it is not
 // there.
-fn statics_at(
+fn statics_at<L: Ledger>(
     alloc: Global,
-    player: &mut Player<BranchNvm>,
+    player: &mut Player<BranchNvm<L>>,
     live: &Live,
     aid: &Aid,
 ) -> Result<Option<Vec<u8>>, NoMemory>
@@ -63,9 +68,9 @@ fn statics_at(
 /// # Errors
 ///
 /// Returns `NoMemory` if it is out of memory.
-pub fn statics_in(
+pub fn statics_in<L: Ledger>(
     alloc: Global,
-    laboratory: &mut Laboratory,
+    laboratory: &mut Laboratory<L>,
     rosters: &Rosters,
     state: &CardState,
     aid: &Aid,

@@ -4,6 +4,7 @@
 
 mod application;
 mod applications;
+mod blocks;
 mod branch;
 mod growth;
 mod places;

@@ -17,5 +17,5 @@ pub mod EndingLemmas
 mod PathLemmas
 pub mod HaltLemmas
 pub mod StartLemmas
-mod StepCountLemmas
+pub mod StepCountLemmas
 mod DepthLemmas

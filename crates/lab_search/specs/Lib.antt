@@ -9,4 +9,5 @@ pub mod Beginnings
 pub mod Tallies
 pub mod Rounds
 pub mod ExplorationSteps
+pub mod StepRows
 pub mod Endings

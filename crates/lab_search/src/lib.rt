@@ -11,6 +11,7 @@ mod making;
 mod playing;
 mod report;
 mod rounds;
+mod rows;
 mod search;
 mod tally;
 mod trying;

@@ -14,6 +14,7 @@ ghost use Rattle.lab_rules.specs.Moves.{move_deck};
 ghost use Rattle.lab_rules.specs.Meanings.{IsMove};
 ghost use Rattle.mc_script.specs.Players.{answer_value, device_of};
 ghost use Rattle.mc_script.specs.Benches.{CountsLine, IsPlayerAt, IsPlaying};
+ghost use Rattle.mc_script.specs.StepCounts.{answer_reads, most_of_line, most_of_power, text_reads};
 ghost use Rattle.lab_search.specs.Playing.{FailsNot};
 ghost use Rattle.lab_search.specs.Benches.{CountsAs, IsLiveAfter, MadeAs, PlaysAs};
 ghost use Rattle.lab_search.specs.ExplorationSteps.{most_of_move};
@@ -31,7 +32,6 @@ use mc_deck::Line;
 use mc_nvm::Bench;
 use mc_script::{Answer, Live, Player, Text, add_result, was_cut};
 use std::alloc::Global;
-use std::sync::ledger::Ledger;
 
 /// A move of a deck, and for each `on` line whether it applies to the move.
 #[derive(Clone, Copy)]
@@ -42,11 +42,11 @@ pub struct Candidate<'a> {
 }
 
 /// Puts a state back on a player before its first line: sets the budget, powers up, and puts back what ran.
-pub fn restore<N: Bench, L: Ledger>(
+pub fn restore<N: Bench>(
     player: &mut Player<N>,
     budget: &Budget,
     saved: &Live,
-    steps: &mut Steps<L>,
+    steps: &mut Steps<N::Meter>,
 )
     requires start { IsPlayerAt N.Bench player.old (start (N.state (device_of player.old)).words) }
     requires steady { (N.bench (device_of player.old)).steady ≡ true }
@@ -55,7 +55,8 @@ pub fn restore<N: Bench, L: Ledger>(
     ensures at { (b : Base) (l : play.Live) → IsShown (N.state (device_of player.old)).words saved.now b l
         → IsPlayerAt N.Bench player.new (AfterPower (settled_play b l budget.now)) }
     ensures steady { (N.bench (device_of player.new)).steady ≡ true }
-    ensures steps { steps.new ≤ steps.old }
+    // At most the steps of a power-up.
+    ensures steps { steps.new ≤ steps.old + most_of_power }
     ensures keeps_device { N.same (device_of player.old) (device_of player.new) }
 {
     let _set = play(player, &budget.line(), steps);
@@ -64,7 +65,7 @@ pub fn restore<N: Bench, L: Ledger>(
 }
 
 // Arms the cut of a move that is cut.
-fn arm<N: Bench, L: Ledger>(player: &mut Player<N>, manner: Manner, steps: &mut Steps<L>)
+fn arm<N: Bench>(player: &mut Player<N>, manner: Manner, steps: &mut Steps<N::Meter>)
     requires { IsPlaying N.Bench player.old }
     ensures playing { IsPlaying N.Bench player.new }
     ensures at { (s : State) (n : ℕ) → CountsWrite manner → IsPlayerAt N.Bench player.old s
@@ -83,7 +84,7 @@ fn arm<N: Bench, L: Ledger>(player: &mut Player<N>, manner: Manner, steps: &mut 
 }
 
 // Arms a cut.
-fn arm_cut<N: Bench, L: Ledger>(player: &mut Player<N>, k: u32, fill: Fill, steps: &mut Steps<L>)
+fn arm_cut<N: Bench>(player: &mut Player<N>, k: u32, fill: Fill, steps: &mut Steps<N::Meter>)
     requires playing { IsPlaying N.Bench player.old }
     requires some { 1 ≤ k }
     ensures playing { IsPlaying N.Bench player.new }
@@ -99,13 +100,13 @@ fn arm_cut<N: Bench, L: Ledger>(player: &mut Player<N>, k: u32, fill: Fill, step
 }
 
 // Powers a card up after a move that was cut.
-fn recover<N: Bench, L: Ledger>(player: &mut Player<N>, manner: Manner, steps: &mut Steps<L>)
+fn recover<N: Bench>(player: &mut Player<N>, manner: Manner, steps: &mut Steps<N::Meter>)
     requires { IsPlaying N.Bench player.old }
     ensures playing { IsPlaying N.Bench player.new }
     ensures at { (s : State) (n : ℕ) → IsPlayerAt N.Bench player.old s
         → (N.bench (device_of player.old)).steady ≡ true → FailsNot (armed_stop_in s)
         → IsPlayerAt N.Bench player.new (recovery n (manner_value manner) s) }
-    ensures steps { steps.new ≤ steps.old }
+    ensures steps { steps.new ≤ steps.old + most_of_power }
     ensures keeps_device { N.same (device_of player.old) (device_of player.new) }
 {
     match manner {
@@ -127,23 +128,29 @@ fn is_missed(manner: Manner, answer: &Option<Answer>) -> bool
 }
 
 // Writes the result of a line, as a transcript has it after its number and a blank.
-fn put_result<N: Bench>(text: &mut Text, player: &Player<N>, answer: &Option<Answer>)
+fn put_result<N: Bench>(
+    text: &mut Text,
+    player: &Player<N>,
+    answer: &Option<Answer>,
+    steps: &mut Steps<N::Meter>,
+)
     requires { IsPlaying N.Bench player.now }
     ensures text { text.new.items ≡ result_text (option_map (answer_value N.state player.now) answer.now) }
     ensures short { array_vec_len text.new ≤ 8210 }
+    ensures reads { steps.new ≤ steps.old + answer_reads answer.now }
 {
     text.clear();
     if let Some(answer) = answer {
-        add_result(text, player, answer);
+        add_result(text, player, answer, steps);
     }
 }
 
 // Plays a move, and counts the executed instructions that its `on` lines match.
-fn play_move<N: Bench, L: Ledger>(
+fn play_move<N: Bench>(
     player: &mut Player<N>,
     candidate: &Candidate<'_>,
     counts: &mut [u64],
-    steps: &mut Steps<L>,
+    steps: &mut Steps<N::Meter>,
 ) -> Option<Answer>
     requires { IsPlaying N.Bench player.old }
     ensures playing { IsPlaying N.Bench player.new }
@@ -153,7 +160,9 @@ fn play_move<N: Bench, L: Ledger>(
         → CountsAs N.Bench candidate.now.ons.now candidate.now.applies.now player.old l counts.old
         counts.new }
     ensures steps { (l : DeckLine) → candidate.now.chosen.now.deck ≡ move_deck l
-        → CountsLine N.Bench player.old l result steps.old steps.new }
+        → CountsLine N.Bench 0 player.old l result steps.old steps.new }
+    ensures text { (l : DeckLine) → candidate.now.chosen.now.deck ≡ move_deck l
+        → answer_reads result ≤ text_reads l }
     ensures keeps_device { N.same (device_of player.old) (device_of player.new) }
 {
     let line = candidate.chosen.line();
@@ -169,13 +178,13 @@ fn play_move<N: Bench, L: Ledger>(
 
 // Makes a move in a manner from the state that a player is at, and writes the text of its result. Returns whether it was
 // made, which a cut that hits no write is not.
-fn make<N: Bench, L: Ledger>(
+fn make<N: Bench>(
     player: &mut Player<N>,
     candidate: &Candidate<'_>,
     manner: Manner,
     counts: &mut [u64],
     text: &mut Text,
-    steps: &mut Steps<L>,
+    steps: &mut Steps<N::Meter>,
 ) -> bool
     requires { IsPlaying N.Bench player.old }
     ensures playing { IsPlaying N.Bench player.new }
@@ -186,13 +195,13 @@ fn make<N: Bench, L: Ledger>(
         text.new.items player.new result }
     ensures steps { (c : model.CardState) (m : rule.Move) → IsPlayerAt N.Bench player.old (play_of c)
         → (N.bench (device_of player.old)).steady ≡ true → IsMove candidate.now.chosen.now m → CanCut c manner
-        → steps.new ≤ steps.old + most_of_move c m }
+        → steps.new ≤ steps.old + (most_of_line 0 (play_of c) m.line + most_of_power) }
     ensures short { array_vec_len text.new ≤ 8210 }
     ensures keeps_device { N.same (device_of player.old) (device_of player.new) }
 {
     arm(player, manner, steps);
     let answer = play_move(player, candidate, counts, steps);
-    put_result(text, player, &answer);
+    put_result(text, player, &answer, steps);
     if is_missed(manner, &answer) {
         return false;
     }
@@ -221,7 +230,7 @@ fn live_after<N: Bench>(
 /// # Errors
 ///
 /// Returns `NoMemory` if it is out of memory.
-pub fn try_on<N: Bench, L: Ledger>(
+pub fn try_on<N: Bench>(
     alloc: Global,
     player: &mut Player<N>,
     budget: &Budget,
@@ -230,7 +239,7 @@ pub fn try_on<N: Bench, L: Ledger>(
     manner: Manner,
     counts: &mut [u64],
     text: &mut Text,
-    steps: &mut Steps<L>,
+    steps: &mut Steps<N::Meter>,
 ) -> Result<Option<Live>, NoMemory>
     requires start { IsPlayerAt N.Bench player.old (start (N.state (device_of player.old)).words) }
     requires steady { (N.bench (device_of player.old)).steady ≡ true }
@@ -240,7 +249,7 @@ pub fn try_on<N: Bench, L: Ledger>(
         → c.budget ≡ budget.now → IsMove candidate.now.chosen.now m → is_card_line m.line ≡ true → CanCut c manner
         → TriedAs c m manner candidate.now.ons.now candidate.now.applies.now counts.old counts.new text.new.items
         (N.state (device_of player.new)).words result }
-    // At most the steps of the move, made once.
+    // At most the steps of the move, made once, and of the power-ups before and after it.
     ensures steps { (c : model.CardState) (m : rule.Move)
         → IsShown (N.state (device_of player.old)).words saved.now c.base c.live
         → c.budget ≡ budget.now → IsMove candidate.now.chosen.now m → CanCut c manner

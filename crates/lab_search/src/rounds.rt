@@ -44,16 +44,16 @@ pub enum Attempt {
 /// A search: the most states, the laboratory and the rosters with which states are kept, the states in the order
 /// in which they were found, the last step to each but the first, and what the tries came to.
 #[derive(Drop)]
-pub struct Search {
+pub struct Search<L: Ledger> {
     pub limit: usize,
-    pub laboratory: Laboratory,
+    pub laboratory: Laboratory<L>,
     pub rosters: Rosters,
     pub states: IndexSet<CardState>,
     pub last_steps: Vec<Step>,
     pub tally: Tally,
 }
 
-impl Search {
+impl<L: Ledger> Search<L> {
     /// Returns a search that holds a first state, for a number of `on` lines.
     ///
     /// # Errors
@@ -62,11 +62,11 @@ impl Search {
     pub fn new(
         alloc: Global,
         limit: usize,
-        laboratory: Laboratory,
+        laboratory: Laboratory<L>,
         rosters: Rosters,
         first: CardState,
         ons: usize,
-    ) -> Result<Search, NoMemory>
+    ) -> Result<Search<L>, NoMemory>
         ensures holds { IfOk result (λ s. (r : rule.Rules) (c : model.CardState)
             → Kept laboratory rosters (names_in r) first c → length laboratory.counts.items ≡ length r.ons
             → Holds (record { rules = r; most = limit; from = 0 }) s (record { state = c; path = [] } ∷ [])) }
@@ -114,7 +114,7 @@ impl Search {
     }
 
     // Makes a try.
-    fn attempt<L: Ledger>(
+    fn attempt(
         &mut self,
         alloc: Global,
         candidate: &Candidate<'_>,
@@ -158,7 +158,7 @@ impl Search {
     }
 
     // Cuts a move at the write after the first `made` ones, with a fill.
-    fn cut_with<L: Ledger>(
+    fn cut_with(
         &mut self,
         alloc: Global,
         candidate: &Candidate<'_>,
@@ -189,7 +189,7 @@ impl Search {
     }
 
     // Cuts a move at the write after the first `made` ones, with each fill.
-    fn cut_at<L: Ledger>(
+    fn cut_at(
         &mut self,
         alloc: Global,
         candidate: &Candidate<'_>,
@@ -224,7 +224,7 @@ impl Search {
 
     // Cuts a move at each of its writes. Returns what ends the search, or `NoMemory` if the move makes
     // 4,294,967,295 writes or more, which no cut can count.
-    fn cut_all<L: Ledger>(
+    fn cut_all(
         &mut self,
         alloc: Global,
         candidate: &Candidate<'_>,
@@ -264,7 +264,7 @@ impl Search {
     }
 
     // Tries a move from a state: whole, and if a card runs cut at each of its writes.
-    fn try_move<L: Ledger>(
+    fn try_move(
         &mut self,
         alloc: Global,
         candidate: &Candidate<'_>,
@@ -296,7 +296,7 @@ impl Search {
     }
 
     // Tries each move from a state.
-    fn try_moves<L: Ledger>(
+    fn try_moves(
         &mut self,
         alloc: Global,
         exploration: &Exploration<'_>,
@@ -336,7 +336,7 @@ impl Search {
     /// # Errors
     ///
     /// Returns `NoMemory` if it is out of memory, and if there is no room for the number of tries.
-    pub fn try_states<L: Ledger>(
+    pub fn try_states(
         &mut self,
         alloc: Global,
         exploration: &Exploration<'_>,

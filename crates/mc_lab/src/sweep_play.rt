@@ -5,6 +5,7 @@ ghost use Rattle.law_explore.specs.model_play.specs.DeckGrammar.{DeckLine};
 ghost use Rattle.mc_deck.specs.Lines.{line_of, GoodLine};
 ghost use Rattle.mc_script.specs.Players.{device_of, statics_in, IsUnfused};
 ghost use Rattle.mc_script.specs.Benches.{CountsLine, IsPlaying};
+ghost use Rattle.mc_script.specs.StepCounts.{most_of_line, most_of_power};
 ghost use Rattle.mc_lab.specs.Sweeps.{state_on_blank};
 ghost use Rattle.law_explore.specs.model_device.specs.Bytes.{zeros};
 ghost use Rattle.mc_lab.specs.SweepBodies.{account_value, held_value, hit_in, state_at_place, CanCut, AccountFits};
@@ -13,7 +14,7 @@ ghost use Rattle.mc_lab.specs.declared.sweep_trial.TrialLines.TheVariants as tri
 ghost use Rattle.mc_lab.specs.SweepPlayers.{fault_in, most_in};
 ghost use Rattle.mc_lab.specs.SweepFronts.{HasPlayed, IsKeptAt};
 ghost use Rattle.mc_lab.specs.Benches.{CutOn, IsSteadyAt, LineOn, TrialOn};
-ghost use Rattle.mc_lab.specs.SweepSteps.{most_of_line, most_through};
+ghost use Rattle.mc_lab.specs.SweepSteps.{most_of_statics, most_through};
 
 use crate::sweep_account::{Account, Held};
 use crate::sweep_front::{Kept, play_front, play_on};
@@ -30,10 +31,11 @@ use std::sync::ledger::Ledger;
 
 /// A device in memory whose root is the words after some lines of a deck, what was kept of the play then, and the number
 /// of these lines. Lines are played anew on each trial from the last one on after which a card runs and no stop is armed.
+/// Reads of the device are steps of the ledger `L`.
 #[derive(Drop)]
-pub struct Laboratory {
+pub struct Laboratory<L: Ledger> {
     alloc: Global,
-    device: BranchNvm,
+    device: BranchNvm<L>,
     kept: Option<Kept>,
     played: usize,
 }
@@ -59,16 +61,16 @@ fn most_of(answer: &Option<Answer>) -> u16
 }
 
 /// Plays a line, and drops the record of its turns.
-pub fn play_line<N: Bench, L: Ledger>(
+pub fn play_line<N: Bench>(
     player: &mut Player<N>,
     line: &Line<'_>,
-    steps: &mut Steps<L>,
+    steps: &mut Steps<N::Meter>,
 ) -> Option<Answer>
     requires playing { IsPlaying N.Bench player.old }
     requires good { GoodLine (line_of line.now) }
     ensures on { (s : State) (n : ℕ) → IsSteadyAt N.Bench player.old s
         → LineOn N.Bench s (n, line_of line.now) result player.new }
-    ensures steps { CountsLine N.Bench player.old (line_of line.now) result steps.old steps.new }
+    ensures steps { CountsLine N.Bench 0 player.old (line_of line.now) result steps.old steps.new }
     ensures playing { IsPlaying N.Bench player.new }
     ensures size { length (N.state (device_of player.new)).words ≡ length (N.state (device_of player.old)).words }
     ensures keeps_device { N.same (device_of player.old) (device_of player.new) }
@@ -77,12 +79,12 @@ pub fn play_line<N: Bench, L: Ledger>(
 }
 
 // Plays a line with its write `k` cut, and returns whether it made that write.
-fn play_cut<N: Bench, L: Ledger>(
+fn play_cut<N: Bench>(
     player: &mut Player<N>,
     line: &Line<'_>,
     k: u32,
     fill: Word,
-    steps: &mut Steps<L>,
+    steps: &mut Steps<N::Meter>,
 ) -> bool
     requires playing { IsPlaying N.Bench player.old }
     requires good { GoodLine (line_of line.now) }
@@ -90,7 +92,7 @@ fn play_cut<N: Bench, L: Ledger>(
     ensures on { (s : State) (i n : ℕ) → IsSteadyAt N.Bench player.old s
         → CutOn N.Bench s (n, line_of line.now) i k fill result player.new }
     ensures steps { (s : State) → IsSteadyAt N.Bench player.old s
-        → steps.new ≤ steps.old + most_of_line s (line_of line.now) }
+        → steps.new ≤ steps.old + most_of_line 0 s (line_of line.now) }
     ensures playing { IsPlaying N.Bench player.new }
     ensures size { length (N.state (device_of player.new)).words ≡ length (N.state (device_of player.old)).words }
     ensures keeps_device { N.same (device_of player.old) (device_of player.new) }
@@ -102,13 +104,13 @@ fn play_cut<N: Bench, L: Ledger>(
 
 // Plays a line with its write `k` cut, and after it a power line with its write `again` cut, and returns
 // whether the power line made that write.
-fn play_twice<N: Bench, L: Ledger>(
+fn play_twice<N: Bench>(
     player: &mut Player<N>,
     line: &Line<'_>,
     k: u32,
     fill: Word,
     again: u32,
-    steps: &mut Steps<L>,
+    steps: &mut Steps<N::Meter>,
 ) -> bool
     requires playing { IsPlaying N.Bench player.old }
     requires good { GoodLine (line_of line.now) }
@@ -117,7 +119,7 @@ fn play_twice<N: Bench, L: Ledger>(
     ensures on { (front : List (ℕ × DeckLine)) (n : ℕ) → IsSteadyAt N.Bench player.old (state_on_blank front)
         → TrialOn N.Bench front (n, line_of line.now) (trial.Twice k fill again) result player.new }
     ensures steps { (s : State) → IsSteadyAt N.Bench player.old s
-        → steps.new ≤ steps.old + most_of_line s (line_of line.now) }
+        → steps.new ≤ steps.old + (most_of_line 0 s (line_of line.now) + most_of_power) }
     ensures size { length (N.state (device_of player.new)).words ≡ length (N.state (device_of player.old)).words }
     ensures keeps_device { N.same (device_of player.old) (device_of player.new) }
 {
@@ -126,11 +128,11 @@ fn play_twice<N: Bench, L: Ledger>(
 }
 
 // Plays the lines of a trial from its line on, and returns whether the last cut hit its line.
-fn play_trial_lines<N: Bench, L: Ledger>(
+fn play_trial_lines<N: Bench>(
     player: &mut Player<N>,
     line: &Line<'_>,
     trial: TrialLines,
-    steps: &mut Steps<L>,
+    steps: &mut Steps<N::Meter>,
 ) -> bool
     requires playing { IsPlaying N.Bench player.old }
     requires good { GoodLine (line_of line.now) }
@@ -138,7 +140,7 @@ fn play_trial_lines<N: Bench, L: Ledger>(
     ensures on { (front : List (ℕ × DeckLine)) (n : ℕ) → IsSteadyAt N.Bench player.old (state_on_blank front)
         → TrialOn N.Bench front (n, line_of line.now) trial result player.new }
     ensures steps { (s : State) → IsSteadyAt N.Bench player.old s
-        → steps.new ≤ steps.old + most_of_line s (line_of line.now) }
+        → steps.new ≤ steps.old + (most_of_line 0 s (line_of line.now) + most_of_power) }
     ensures size { length (N.state (device_of player.new)).words ≡ length (N.state (device_of player.old)).words }
     ensures keeps_device { N.same (device_of player.old) (device_of player.new) }
 {
@@ -154,14 +156,15 @@ fn play_trial_lines<N: Bench, L: Ledger>(
 }
 
 // The static bytes under a name, or `None` if it is absent or no card runs.
-fn held_now<N: Bench>(player: &Player<N>, name: &Aid) -> Held
+fn held_now<N: Bench>(player: &Player<N>, name: &Aid, steps: &mut Steps<N::Meter>) -> Held
     requires { IsPlaying N.Bench player.now }
-    ensures { held_value result ≡ statics_in N.state player.now name.now }
+    ensures value { held_value result ≡ statics_in N.state player.now name.now }
+    ensures reads { steps.new ≤ steps.old + most_of_statics 1 }
 {
-    let len = player.static_len(name)?;
+    let len = player.static_len(name, steps)?;
     let mut bytes = [0; 4096];
     let held = &mut bytes[..len as usize];
-    player.static_of(name, 0, held);
+    player.static_of(name, 0, held, steps);
     Some(kept(held))
 }
 
@@ -176,13 +179,19 @@ fn kept(bytes: &[u8]) -> ArrayVec<u8, 4096>
 }
 
 // Stores the static bytes under each name.
-fn take_held<N: Bench>(held: &mut [Held], player: &Player<N>, names: &[Aid])
+fn take_held<N: Bench>(
+    held: &mut [Held],
+    player: &Player<N>,
+    names: &[Aid],
+    steps: &mut Steps<N::Meter>,
+)
     requires playing { IsPlaying N.Bench player.now }
     requires room { length held.old ≡ length names.now }
     ensures held { map held_value held.new ≡ map (statics_in N.state player.now) names.now }
+    ensures reads { steps.new ≤ steps.old + most_of_statics (length names.now) }
 {
     for i in 0..names.len() {
-        held[i] = held_now(player, &names[i]);
+        held[i] = held_now(player, &names[i], steps);
     }
 }
 
@@ -192,83 +201,87 @@ fn take_down<N: Bench>(
     player: &Player<N>,
     answer: &Option<Answer>,
     names: &[Aid],
+    steps: &mut Steps<N::Meter>,
 )
     requires playing { IsPlaying N.Bench player.now }
     requires room { length into.old.held.items ≡ length names.now }
     ensures fault { into.new.fault ≡ fault_in answer.now }
     ensures held { map held_value into.new.held.items ≡ map (statics_in N.state player.now) names.now }
+    ensures reads { steps.new ≤ steps.old + most_of_statics (length names.now) }
 {
     into.fault = fault_of(answer);
-    take_held(into.held.as_mut_slice(), player, names);
+    take_held(into.held.as_mut_slice(), player, names, steps);
 }
 
 // One trial on a device with the words of the lines that were played: the lines before a line that were not played yet,
 // the lines of the trial from there on, and a power line without a cut.
-fn play_trial<N: Bench, L: Ledger>(
-    device: N,
+fn play_trial<N: Bench>(
+    device: &mut N,
     kept: &Option<Kept>,
     from: usize,
     place: &Place<'_>,
     trial: TrialLines,
     into: &mut Account,
-    steps: &mut Steps<L>,
-) -> (N, Played)
-    requires fuses { IsUnfused (N.bench device) }
-    requires steady { (N.bench device).steady ≡ true }
-    requires kept { IsKeptAt (N.state device).words kept.now (state_on_blank (take from place.now.deck.now)) }
+    steps: &mut Steps<N::Meter>,
+) -> Played
+    requires fuses { IsUnfused (N.bench device.old) }
+    requires steady { (N.bench device.old).steady ≡ true }
+    requires kept { IsKeptAt (N.state device.old).words kept.now (state_on_blank (take from place.now.deck.now)) }
     requires from { from ≤ place.now.at }
     requires at { IsPlace place.now }
     requires room { AccountFits into.old place.now }
     requires cuts { CanCut trial }
     ensures reported { account_value into.new ≡ state_at_place place.now trial }
-    ensures hit { result.1.hit ≡ hit_in place.now trial }
-    ensures few { IsRecoveryBound place.now trial result.1.most }
+    ensures hit { result.hit ≡ hit_in place.now trial }
+    ensures few { IsRecoveryBound place.now trial result.most }
     ensures steps { steps.new ≤ steps.old + most_through place.now }
     ensures room { AccountFits into.new place.now }
-    ensures keeps_device { N.same device result.0 }
+    ensures keeps_device { N.same device.old device.new }
 {
-    let mut player = play_front(device, kept, place.deck, from, place.at, steps);
+    let mut player = play_front(&mut *device, kept, place.deck, from, place.at, steps);
     let (_number, line) = place.deck.line(place.at);
     let hit = play_trial_lines(&mut player, &line, trial, steps);
     let answer = play_line(&mut player, &Line::Power, steps);
-    take_down(into, &player, &answer, place.names);
+    take_down(into, &player, &answer, place.names, steps);
     let most = most_of(&answer);
-    (player.into_dev(), Played { hit, most })
+    let _device = player.into_dev();
+    Played { hit, most }
 }
 
 // Plays the lines before a line that were not played yet, and then the line with its write `k` cut. Returns whether it
 // made that write.
-fn play_reach<N: Bench, L: Ledger>(
-    device: N,
+fn play_reach<N: Bench>(
+    device: &mut N,
     kept: &Option<Kept>,
     from: usize,
     place: &Place<'_>,
     k: u32,
-    steps: &mut Steps<L>,
-) -> (N, bool)
-    requires fuses { IsUnfused (N.bench device) }
-    requires steady { (N.bench device).steady ≡ true }
-    requires kept { IsKeptAt (N.state device).words kept.now (state_on_blank (take from place.now.deck.now)) }
+    steps: &mut Steps<N::Meter>,
+) -> bool
+    requires fuses { IsUnfused (N.bench device.old) }
+    requires steady { (N.bench device.old).steady ≡ true }
+    requires kept { IsKeptAt (N.state device.old).words kept.now (state_on_blank (take from place.now.deck.now)) }
     requires from { from ≤ place.now.at }
     requires at { IsPlace place.now }
     requires low { 1 ≤ k }
-    ensures hit { result.1 ≡ hit_in place.now (trial.Cut k (zeros 8)) }
+    ensures hit { result ≡ hit_in place.now (trial.Cut k (zeros 8)) }
     ensures steps { steps.new ≤ steps.old + most_through place.now }
-    ensures keeps_device { N.same device result.0 }
+    ensures keeps_device { N.same device.old device.new }
 {
-    let mut player = play_front(device, kept, place.deck, from, place.at, steps);
+    let mut player = play_front(&mut *device, kept, place.deck, from, place.at, steps);
     let (_number, line) = place.deck.line(place.at);
     let hit = play_cut(&mut player, &line, k, [0; 8], steps);
-    (player.into_dev(), hit)
+    let _device = player.into_dev();
+    hit
 }
 
-impl Laboratory {
+impl<L: Ledger> Laboratory<L> {
     /// Returns a laboratory with room for its device, of which no line was played.
     ///
     /// # Errors
     ///
     /// Returns `NoMemory` if it is out of memory.
-    pub fn new(alloc: Global) -> Result<Laboratory, NoMemory>
+    pub fn new(alloc: Global) -> Result<Laboratory<L>, NoMemory>
         ensures { IfOk result (λ l. HasPlayed l []) }
     {
         let device = BranchNvm::new(alloc)?;
@@ -281,10 +294,12 @@ impl Laboratory {
     }
 }
 
-impl Trials for Laboratory {
+impl<L: Ledger> Trials for Laboratory<L> {
+    type Meter = L;
+
     ghost has_played = { HasPlayed };
 
-    fn report<L: Ledger>(
+    fn report(
         &mut self,
         place: &Place<'_>,
         trial: TrialLines,
@@ -292,7 +307,7 @@ impl Trials for Laboratory {
         steps: &mut Steps<L>,
     ) -> Played {
         self.device.return_to_root();
-        let (_device, played) = play_trial(
+        play_trial(
             &mut self.device,
             &self.kept,
             self.played,
@@ -300,21 +315,19 @@ impl Trials for Laboratory {
             trial,
             into,
             steps,
-        );
-        played
+        )
     }
 
-    fn reaches<L: Ledger>(&mut self, place: &Place<'_>, k: u32, steps: &mut Steps<L>) -> bool {
+    fn reaches(&mut self, place: &Place<'_>, k: u32, steps: &mut Steps<L>) -> bool {
         self.device.return_to_root();
-        let (_device, hit) = play_reach(&mut self.device, &self.kept, self.played, place, k, steps);
-        hit
+        play_reach(&mut self.device, &self.kept, self.played, place, k, steps)
     }
 
-    fn advance<L: Ledger>(&mut self, place: &Place<'_>, steps: &mut Steps<L>) {
+    fn advance(&mut self, place: &Place<'_>, steps: &mut Steps<L>) {
         // bounds the number of lines, so that the next one has a number
         let _count = place.deck.len();
         self.device.return_to_root();
-        let (_device, kept) = play_on(
+        let kept = play_on(
             self.alloc,
             &mut self.device,
             &self.kept,
