@@ -1,5 +1,6 @@
 pub mod RecordLemmas
 pub mod WatchLemmas
+pub mod StepLemmas
 pub mod FullTurnLemmas
 pub mod ListLemmas
 pub mod RowLemmas

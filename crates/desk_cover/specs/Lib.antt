@@ -4,5 +4,6 @@ pub mod Sections
 pub mod Counting
 pub mod Plays
 pub mod Looking
+pub mod Looks
 pub mod Known
 pub mod Tracing

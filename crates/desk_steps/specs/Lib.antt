@@ -5,4 +5,5 @@ pub mod Statements
 pub mod Lines
 pub mod Moments
 pub mod Turning
+pub mod Looks
 pub mod Recorded

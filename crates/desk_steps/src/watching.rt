@@ -3,6 +3,7 @@ ghost use Rattle.std.specs.Prelude.{[]};
 ghost use Rattle.mc_script.specs.Watching.{Watches};
 ghost use Rattle.desk_steps.specs.Moments.{moment, Moment};
 ghost use Rattle.desk_steps.specs.Recorded.{recorded_none, recorded_on, Recorded};
+ghost use Rattle.desk_steps.specs.Looks.{recorder_looks};
 
 use crate::looking::{running_aid, source_of};
 use crate::recording::Recorder;
@@ -13,12 +14,13 @@ use mc_machine::Outcome;
 use mc_nvm::Nvm;
 use mc_script::{Runner, Watcher, run_watched};
 use mc_streams::Sink;
-use std::sync::ledger::Ledger;
 
 impl<'s, 'o, T: Sink> Watcher for Recorder<'s, 'o, T> {
     ghost Seen = { Moment };
 
     ghost seen = { moment };
+
+    ghost looks = { λ q. recorder_looks q.sections.now };
 
     ghost watched = { Recorded T.Sink };
 
@@ -26,20 +28,20 @@ impl<'s, 'o, T: Sink> Watcher for Recorder<'s, 'o, T> {
 
     ghost onward = { recorded_on T.Sink };
 
-    fn turn<N: Nvm, L: Ledger>(
+    fn turn<N: Nvm>(
         &mut self,
         card: &mut Card<N>,
         into: &mut Outcome,
-        steps: &mut Steps<L>,
+        steps: &mut Steps<N::Meter>,
     ) -> Result<BriefTurn, Stop> {
-        let Some(aid) = running_aid(card) else {
+        let Some(aid) = running_aid(card, steps) else {
             return card.brief_turn(into, steps);
         };
-        let section = running_section(card, self.sections);
-        self.look_before(card, aid);
+        let section = running_section(card, self.sections, steps);
+        self.look_before(card, aid, steps);
         let turn = card.brief_turn(into, steps)?;
         let source = source_of(self.sections, section, turn.at);
-        self.after_turn(card, &aid, &turn, source);
+        self.after_turn(card, &aid, &turn, source, steps);
         Ok(turn)
     }
 }
@@ -47,17 +49,19 @@ impl<'s, 'o, T: Sink> Watcher for Recorder<'s, 'o, T> {
 impl<'s, 'o, T: Sink> Runner for Recorder<'s, 'o, T> {
     ghost reported = { Watches moment (Recorded T.Sink) };
 
+    ghost looks = { λ q. recorder_looks q.sections.now };
+
     ghost silent = { λ c. recorded_none T.Sink };
 
     ghost onward = { λ c d q r s. recorded_on T.Sink q r s [] [] };
 
-    fn run<N: Nvm, L: Ledger>(
+    fn run<N: Nvm>(
         &mut self,
         card: &mut Card<N>,
         bytes: &[u8],
         budget: u32,
         into: &mut Outcome,
-        steps: &mut Steps<L>,
+        steps: &mut Steps<N::Meter>,
     ) -> Result<(), Stop> {
         run_watched(self, card, bytes, budget, into, steps)
     }
