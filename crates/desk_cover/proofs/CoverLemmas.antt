@@ -15,12 +15,9 @@ use Rattle.desk_draft.specs.FullTurns.{FullTurn, turns_of_step}
 use Rattle.desk_draft.specs.Listings.{CodeLine, Source}
 use Rattle.desk_draft.specs.Coverage.{coverage, covered_lines}
 use Rattle.mc_script.specs.Plays.{Bench, Played}
-use Rattle.mc_script.specs.StepCounts.{PlayedSteps, PlaySteps}
-use Rattle.mc_script.proofs.StepPlayLemmas.{with_texts}
 use Rattle.desk_cover.specs.declared.covering.Counter.{Counter}
 use Rattle.desk_cover.specs.declared.lcov.LineCount.{LineCount}
 use Rattle.desk_cover.specs.Counting.{AreAtMost, Counted, lines_after, most_count, new_line, new_lines}
-use Rattle.desk_cover.specs.Looks.{section_looks}
 use Rattle.desk_cover.specs.Plays.{CountsPlay, CoversDeck}
 use Rattle.desk_cover.specs.Records.{record_text}
 use Rattle.desk_cover.proofs.CountLemmas.{AreCounts, new_covered}
@@ -62,11 +59,8 @@ covers_deck name ss ls a x result b c y z q r old new lines sections counts puts
     let put : Puts x text result z = rw (← taken, ← faults) puts in
     let laws : HoldsOf m (plays (start m) ls counts.worn) = play_law ls m counts.worn counts.played.possible in
     let are : AreLines (plays (start m) ls counts.worn) = played_bytes (start m) ls counts.worn bytes in
-    let looks = section_looks ss in
-    let counted : PlayedSteps looks (plays (start m) ls counts.worn) old new = subst (λ (zs : List Source). PlayedSteps (section_looks zs) (plays (start m) ls counts.worn) old new) sections counts.steps in
-    let steps : PlaySteps looks (plays (start m) ls counts.worn) old new = with_texts looks (start m) ls counts.worn old new new counted (omega arith) (omega arith) in
     record {
       text = text;
-      sums = record { deck = record { worn = counts.worn; played = played; laws = laws; few = laws.few image are; ready = laws.ready image are; text = put }; steps = steps };
+      sums = record { deck = record { worn = counts.worn; played = played; laws = laws; few = laws.few image are; ready = laws.ready image are; text = put }; steps = counts.steps };
       covers = λ fits. record_covers name ss (plays (start m) ls counts.worn) q r lines sections counts.counted fits;
     }

@@ -1,6 +1,5 @@
 pub mod RecordLemmas
 pub mod WatchLemmas
-pub mod StepLemmas
 pub mod FullTurnLemmas
 pub mod ListLemmas
 pub mod RowLemmas

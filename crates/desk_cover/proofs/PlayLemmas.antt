@@ -12,14 +12,13 @@ use Rattle.mc_script.specs.Players.{IsPlayerAt}
 use Rattle.mc_script.specs.Lines.{LineDone, bench_of}
 use Rattle.mc_script.specs.Plays.{Bench, Played}
 use Rattle.mc_script.specs.Runs.{sent_by}
-use Rattle.mc_script.specs.StepCounts.{CountsLine, LineSteps, PlayedSteps}
+use Rattle.mc_script.specs.StepCounts.{CountsLine, PlaySteps}
 use Rattle.mc_script.specs.Watching.{Watches}
 use Rattle.mc_script.proofs.LinedLemmas.{at_stands}
 use Rattle.mc_script.proofs.PlayLemmas.{played_none, played_on, plays_none, plays_on}
 use Rattle.mc_script.proofs.StepPlayLemmas.{step_counts, steps_as, steps_none, steps_then}
 use Rattle.desk_cover.specs.declared.covering.Counter.{Counter}
 use Rattle.desk_cover.specs.Counting.{Counted, counted_none, counted_on}
-use Rattle.desk_cover.specs.Looks.{section_looks}
 use Rattle.desk_cover.specs.Plays.{CountsPlay}
 use Rattle.desk_cover.specs.Watching.{full_turn_of}
 use Rattle.desk_cover.proofs.SentLemmas.{sent_shown}
@@ -32,8 +31,8 @@ module _ {N : Type 0} (state : N → DeviceState) (bench : N → BenchState) whe
     pub at : IsPlayerAt state bench p here
     pub done : List FullTurn
     pub counted : Counted q done r
-    pub rest : (ws : List (Option FailedWrite)) (b : Bench) (new : ℕ) → Played here left ws (bench_of state bench p) b → PlayedSteps (section_looks q.sections.now) (plays here left ws) now new
-        → (vs : List (Option FailedWrite)) × Played s ls vs a b × PlayedSteps (section_looks q.sections.now) (plays s ls vs) old new × (flat_map turns_of_step (plays s ls vs) ≡ done ++ flat_map turns_of_step (plays here left ws))
+    pub rest : (ws : List (Option FailedWrite)) (b : Bench) (new : ℕ) → Played here left ws (bench_of state bench p) b → PlaySteps (plays here left ws) now new
+        → (vs : List (Option FailedWrite)) × Played s ls vs a b × PlaySteps (plays s ls vs) old new × (flat_map turns_of_step (plays s ls vs) ≡ done ++ flat_map turns_of_step (plays here left ws))
 
   -- before the first line all lines are left, with what the counter has
   pub counting_start : (s : State) (ls : List (ℕ × DeckLine)) (p : Player N) (q : Counter) (old : ℕ) → IsPlayerAt state bench p s → Counting s ls (bench_of state bench p) q old ls p q old
@@ -49,15 +48,13 @@ module _ {N : Type 0} (state : N → DeviceState) (bench : N → BenchState) whe
 
   -- a line that was counted leaves those after it
   pub counting_on : (s : State) (ls : List (ℕ × DeckLine)) (a : Bench) (q : Counter) (left : List (ℕ × DeckLine)) (n : ℕ) (l : DeckLine) (p v : Player N) (before after : Counter) (answer : Option Answer) (old now new : ℕ) → Counting s ls a q old ((n, l) ∷ left) p before now
-      → LineDone state bench (Watches full_turn_of Counted (sent_by state p l)) p l before after answer v → CountsLine state bench (section_looks before.sections.now) p l answer now new → Counting s ls a q old left v after new
+      → LineDone state bench (Watches full_turn_of Counted (sent_by state p l)) p l before after answer v → CountsLine state bench p l answer now new → Counting s ls a q old left v after new
   counting_on s ls a q left n l p v before after answer old now new h done counts =
       let line = done h.here n h.at in
       let w = line.0 in
       let t = step h.here (n, l) w in
       let end = line.1.stepped in
-      let looks = section_looks q.sections.now in
-      let counted : LineSteps looks h.here l answer now new = subst (λ (k : ℕ). LineSteps k h.here l answer now new) (ap section_looks h.counted.sections) (counts h.here h.at) in
-      let steps = step_counts state looks v h.here (n, l) w answer now new end.answers counted in
+      let steps = step_counts state v h.here (n, l) w answer now new end.answers (counts h.here h.at) in
       let more : Counted before (turns_of_step t) after = subst (λ (ts : List FullTurn). Counted before ts after) (sent_shown state bench p h.here (n, l) w h.at) line.1.reports in
       record {
         here = t.after;

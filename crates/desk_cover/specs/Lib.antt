@@ -4,6 +4,5 @@ pub mod Sections
 pub mod Counting
 pub mod Plays
 pub mod Looking
-pub mod Looks
 pub mod Known
 pub mod Tracing

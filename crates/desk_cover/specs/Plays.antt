@@ -10,25 +10,24 @@ use Rattle.desk_draft.specs.Coverage.{coverage}
 use Rattle.mc_script.specs.declared.job.JobFault.{JobFault}
 use Rattle.mc_script.specs.declared.job.JobFault.TheVariants as fault
 use Rattle.mc_script.specs.Plays.{Bench, Played}
-use Rattle.mc_script.specs.StepCounts.{PlayedSteps, CountsSum}
+use Rattle.mc_script.specs.StepCounts.{PlaySteps, CountsSum}
 use Rattle.desk_cover.specs.declared.covering.Counter.{Counter}
 use Rattle.desk_cover.specs.Counting.{Counted, most_count}
-use Rattle.desk_cover.specs.Looks.{section_looks}
 
 -- ---- counts
 
--- all lines were played from a state before a counter, which counted their turns; it writes no text of a line
+-- all lines were played from a state before a counter, which counted their turns
 pub record CountsPlay (s : State) (ls : List (ℕ × DeckLine)) (a b : Bench) (q r : Counter) (old new : ℕ) : Type 0 where
   pub worn : List (Option FailedWrite)
   pub played : Played s ls worn a b
-  pub steps : PlayedSteps (section_looks q.sections.now) (plays s ls worn) old new
+  pub steps : PlaySteps (plays s ls worn) old new
   pub counted : Counted q (flat_map turns_of_step (plays s ls worn)) r
 
 -- A deck was played, and a text put: the record of the play for a file, under the sections of a draft, unless more turns
 -- ran than can be counted.
 pub record CoversDeck (name : List ℕ) (ss : List Source) (ls : List (ℕ × DeckLine)) (a : Bench) (x : Sunk) (result : Result (Unit {0}) WriteFault) (b : Bench) (y : Sunk) (old new : ℕ) : Type 0 where
   pub text : List ℕ
-  pub sums : CountsSum (section_looks ss) (λ ts. text) ls a x result b y old new
+  pub sums : CountsSum (λ ts. text) ls a x result b y old new
   pub covers : let ts = plays (start a.device.words) ls sums.deck.worn in length (flat_map turns_of_step ts) ≤ most_count → text ≡ coverage name ss ts
 
 -- nothing was played, and nothing written

@@ -16,7 +16,6 @@ ghost use Rattle.mc_script.specs.declared.job.JobFault.TheVariants as fault;
 ghost use Rattle.desk_cover.specs.Watching.{full_turn_of};
 ghost use Rattle.desk_cover.specs.Plays.{CountsPlay, CoversBy};
 ghost use Rattle.desk_cover.specs.Counting.{Counted, counted_none, counted_on, holds_by, line_by, line_risen, lines_by, new_line, new_lines, risen, took_by};
-ghost use Rattle.desk_cover.specs.Looks.{section_looks};
 
 use crate::following::{Follower, run_followed};
 use crate::known::Known;
@@ -33,6 +32,7 @@ use mc_nvm::{Bench, Nvm};
 use mc_script::{JobFault, Player, Runner};
 use mc_streams::{Sink, WriteFault};
 use std::alloc::{AllocError, Global};
+use std::sync::ledger::Ledger;
 
 // The condition of a number, `None` for one that always holds or has its target on the stack.
 fn condition_in(number: u8) -> Option<u8>
@@ -210,8 +210,6 @@ impl<'s, 'o> Follower for Counter<'s, 'o> {
 
     ghost seen = { full_turn_of };
 
-    ghost looks = { λ q. 0 };
-
     ghost watched = { Counted };
 
     ghost sources = { λ q. q.sections.now };
@@ -222,12 +220,12 @@ impl<'s, 'o> Follower for Counter<'s, 'o> {
 
     ghost stays = { λ q r ts h. h.sections };
 
-    fn turn<N: Nvm>(
+    fn turn<N: Nvm, L: Ledger>(
         &mut self,
         card: &mut Card<N>,
         known: &Known,
         into: &mut Outcome,
-        steps: &mut Steps<N::Meter>,
+        steps: &mut Steps<L>,
     ) -> Result<BriefTurn, Stop> {
         let turn = card.brief_turn(into, steps)?;
         self.count(known.section(), &turn);
@@ -238,19 +236,17 @@ impl<'s, 'o> Follower for Counter<'s, 'o> {
 impl<'s, 'o> Runner for Counter<'s, 'o> {
     ghost reported = { Watches full_turn_of Counted };
 
-    ghost looks = { λ q. section_looks q.sections.now };
-
     ghost silent = { λ c. counted_none };
 
     ghost onward = { λ c d q r s. counted_on q r s [] [] };
 
-    fn run<N: Nvm>(
+    fn run<N: Nvm, L: Ledger>(
         &mut self,
         card: &mut Card<N>,
         bytes: &[u8],
         budget: u32,
         into: &mut Outcome,
-        steps: &mut Steps<N::Meter>,
+        steps: &mut Steps<L>,
     ) -> Result<(), Stop> {
         let sections = self.sections;
         run_followed(self, sections, card, bytes, budget, into, steps)
@@ -258,11 +254,11 @@ impl<'s, 'o> Runner for Counter<'s, 'o> {
 }
 
 // Plays a deck on a device before a counter.
-fn count_lines<N: Bench>(
+fn count_lines<N: Bench, L: Ledger>(
     deck: &Deck,
     device: N,
     counter: &mut Counter<'_, '_>,
-    steps: &mut Steps<N::Meter>,
+    steps: &mut Steps<L>,
 ) -> N
     requires { IsUnfused (N.bench device) }
     ensures counts { CountsPlay (start (N.state device).words) deck.now
@@ -290,14 +286,14 @@ fn count_lines<N: Bench>(
 /// # Errors
 ///
 /// Returns `NoMemory` if out of memory, before the first line is played, or the fault of the sink.
-pub fn cover<N: Bench, T: Sink>(
+pub fn cover<N: Bench, T: Sink, L: Ledger>(
     alloc: Global,
     name: &[u8],
     sections: &Sections<'_>,
     deck: &Deck,
     dev: &mut N,
     out: &mut T,
-    steps: &mut Steps<N::Meter>,
+    steps: &mut Steps<L>,
 ) -> Result<(), JobFault>
     requires { IsUnfused (N.bench dev.old) }
     // All lines of the deck are played in order, and what is written is the record of the play under the sections of

@@ -6,10 +6,9 @@ ghost use Rattle.mc_machine.specs.Turns.{brief_result};
 ghost use Rattle.mc_card.specs.Parts.{card_in, device_in, due, IsReadyCard, IsRunning, RunsChain};
 ghost use Rattle.mc_card.specs.Ends.{outcome_or_stop, ChainTurned};
 ghost use Rattle.mc_script.specs.Runs.{RanAndReported, sent_to};
-ghost use Rattle.mc_script.specs.StepCounts.{instructions, StepsOf, command_reads, TurnSteps};
+ghost use Rattle.mc_script.specs.StepCounts.{command_search, instructions, StepsOf};
 ghost use Rattle.mc_script.specs.Watching.{IsWide, Watches, WatchesTurn};
 ghost use Rattle.desk_cover.specs.Known.{Knows};
-ghost use Rattle.desk_cover.specs.Looks.{section_looks};
 
 use crate::known::Known;
 use crate::sections::Sections;
@@ -17,6 +16,7 @@ use mc_base::{Steps, Stop};
 use mc_card::{BriefTurn, Card};
 use mc_machine::Outcome;
 use mc_nvm::Nvm;
+use std::sync::ledger::Ledger;
 
 /// Watches the turns of the applications of a play, as `mc_script`'s `Watcher` does, by which section of a draft runs.
 ///
@@ -28,9 +28,6 @@ pub trait Follower {
 
     /// What is seen of the turn of a chain, if this many instructions are left of the budget.
     ghost seen: { ℕ → Chain → Self.Seen };
-
-    /// The most words by which it looks at the card in each turn, beside those by which a section is looked for.
-    ghost looks: { Self → ℕ };
 
     /// The follower before and after it recorded what is seen of some turns, in order.
     ghost watched: { Self → List Self.Seen → Self → Type 0 };
@@ -45,12 +42,12 @@ pub trait Follower {
     /// # Errors
     ///
     /// Returns the `Stop` of the write that stopped; nothing is recorded of its turn.
-    fn turn<N: Nvm>(
+    fn turn<N: Nvm, L: Ledger>(
         &mut self,
         card: &mut Card<N>,
         known: &Known,
         into: &mut Outcome,
-        steps: &mut Steps<N::Meter>,
+        steps: &mut Steps<L>,
     ) -> Result<BriefTurn, Stop>
         requires running { IsRunning N.state card.old }
         requires known { Knows N.state card.old (sources self.old) known.now }
@@ -59,8 +56,7 @@ pub trait Follower {
         ensures watches { (ch : Chain) (left : ℕ) → RunsChain N.state card.old ch left → IsWide ch
             → WatchesTurn Self.seen Self.watched left ch (brief_result result into.new) self.old self.new }
         ensures steps { (ch : Chain) (left : ℕ) → RunsChain N.state card.old ch left
-            → TurnSteps (Self.looks self.old) (turn_of left ch) steps.old steps.new }
-        ensures looks { Self.looks self.new ≡ Self.looks self.old }
+            → steps.new ≡ steps.old + (turn_of left ch).count }
         ensures keeps_device { N.same (device_in card.old) (device_in card.new) };
 
     /// Without turns nothing is recorded.
@@ -80,14 +76,14 @@ pub trait Follower {
 /// # Errors
 ///
 /// Returns the `Stop` of the write that stopped, whose turn the follower does not record.
-pub fn run_followed<N: Nvm, W: Follower>(
+pub fn run_followed<N: Nvm, W: Follower, L: Ledger>(
     follower: &mut W,
     sections: &Sections<'_>,
     card: &mut Card<N>,
     bytes: &[u8],
     budget: u32,
     into: &mut Outcome,
-    steps: &mut Steps<N::Meter>,
+    steps: &mut Steps<L>,
 ) -> Result<(), Stop>
     requires ready { IsReadyCard N.state card.old }
     requires some { 1 ≤ budget }
@@ -97,24 +93,21 @@ pub fn run_followed<N: Nvm, W: Follower>(
         card.old (due N.state card.old bytes.now budget) (outcome_or_stop result into.new) card.new follower.old
         follower.new }
     ensures steps { StepsOf (instructions (due N.state card.old bytes.now budget).turns)
-        (command_reads (W.looks follower.old + section_looks sections.now) (card_in N.state card.old) bytes.now
-        (due N.state card.old bytes.now budget).turns) (is_err result) steps.old steps.new }
-    ensures looks { W.looks follower.new ≡ W.looks follower.old }
-    ensures sources { W.sources follower.new ≡ W.sources follower.old }
+        (command_search (card_in N.state card.old) bytes.now) (is_err result) steps.old steps.new }
     ensures keeps_device { N.same (device_in card.old) (device_in card.new) }
 {
     if let Some(outcome) = card.begin(bytes, budget, steps)? {
         *into = outcome;
         return Ok(());
     }
-    let mut known = Known::new(card, sections, steps);
+    let mut known = Known::new(card, sections);
     let mut left = budget;
     'turns: loop {
         let turn = follower.turn(card, &known, into, steps)?;
         if turn.end.is_some() {
             return Ok(());
         }
-        known.follow(card, sections, steps);
+        known.follow(card, sections);
         left -= 1;
     }
 }

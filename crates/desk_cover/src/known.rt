@@ -1,5 +1,5 @@
 // What is known of the application that runs a command, from turn to turn.
-ghost use Rattle.std.specs.Prelude.{◌≡◌, ◌≤◌, ℕ, length, IfSome, ◌+◌};
+ghost use Rattle.std.specs.Prelude.{◌≡◌, ◌≤◌, ℕ, length, IfSome};
 ghost use Rattle.mc_base.specs.model_device.specs.Limits.{most_code};
 ghost use Rattle.mc_arith.specs.model_machine.specs.Chain.{Chain as ModelChain};
 ghost use Rattle.desk_draft.specs.FullTurns.{running_code};
@@ -8,12 +8,10 @@ ghost use Rattle.desk_cover.specs.Looking.{section_at};
 ghost use Rattle.desk_cover.specs.Known.{IsKnownAfter, Knows};
 ghost use Rattle.desk_cover.specs.Sections.{index_of};
 ghost use Rattle.desk_cover.specs.Watching.{FrameRuns, IsWatched, code_on, name_in};
-ghost use Rattle.desk_cover.specs.Looks.{section_reads};
 
 use crate::looking::{name_of, section_of};
 use crate::sections::Sections;
 use arrayvec::ArrayVec;
-use mc_base::Steps;
 use mc_card::Card;
 use mc_nvm::Nvm;
 use mc_segs::Frame;
@@ -28,40 +26,27 @@ pub struct Known {
 }
 
 // Returns what is known of the application of a frame.
-fn known_of<N: Nvm>(
-    card: &Card<N>,
-    frame: &Frame,
-    sections: &Sections<'_>,
-    steps: &mut Steps<N::Meter>,
-) -> Known
+fn known_of<N: Nvm>(card: &Card<N>, frame: &Frame, sections: &Sections<'_>) -> Known
     requires { FrameRuns N.state card.now frame.now }
     ensures name { result.name.items ≡ name_in N.state card.now frame.now }
     ensures section { result.section ≡ index_of 0 sections.now (name_in N.state card.now frame.now)
         (code_on N.state card.now frame.now) }
     ensures short { IfSome (section_at sections.now result.section) (λ s. length s.code ≤ most_code) }
-    ensures rises { steps.old ≤ steps.new }
-    ensures reads { steps.new ≤ steps.old + (4 + section_reads sections.now) }
 {
     Known {
-        name: name_of(card.bank(), frame.slot(), steps),
-        section: section_of(card, frame, sections, steps),
+        name: name_of(card.bank(), frame.slot()),
+        section: section_of(card, frame, sections),
     }
 }
 
 impl Known {
     /// Returns what is known of the application that runs on a card.
-    pub fn new<N: Nvm>(
-        card: &Card<N>,
-        sections: &Sections<'_>,
-        steps: &mut Steps<N::Meter>,
-    ) -> Known
+    pub fn new<N: Nvm>(card: &Card<N>, sections: &Sections<'_>) -> Known
         requires { IsRunning N.state card.now }
-        ensures value { Knows N.state card.now sections.now result }
-        ensures rises { steps.old ≤ steps.new }
-        ensures reads { steps.new ≤ steps.old + (4 + section_reads sections.now) }
+        ensures { Knows N.state card.now sections.now result }
     {
         match card.chain() {
-            Some(chain) => known_of(card, chain.running(), sections, steps),
+            Some(chain) => known_of(card, chain.running(), sections),
             None => Known {
                 name: ArrayVec::new(),
                 section: None,
@@ -85,41 +70,26 @@ impl Known {
     }
 
     // Becomes what is known of the application of a frame that runs after a turn.
-    fn follow_frame<N: Nvm>(
-        &mut self,
-        card: &Card<N>,
-        frame: &Frame,
-        sections: &Sections<'_>,
-        steps: &mut Steps<N::Meter>,
-    )
+    fn follow_frame<N: Nvm>(&mut self, card: &Card<N>, frame: &Frame, sections: &Sections<'_>)
         requires { FrameRuns N.state card.now frame.now }
-        ensures value { IsKnownAfter sections.now (name_in N.state card.now frame.now)
-            (code_on N.state card.now frame.now) self.old self.new }
-        ensures rises { steps.old ≤ steps.new }
-        ensures reads { steps.new ≤ steps.old + (8 + section_reads sections.now) }
+        ensures { IsKnownAfter sections.now (name_in N.state card.now frame.now) (code_on N.state card.now frame.now)
+            self.old self.new }
     {
-        let name = name_of(card.bank(), frame.slot(), steps);
+        let name = name_of(card.bank(), frame.slot());
         if name.as_slice() != self.name.as_slice() {
-            *self = known_of(card, frame, sections, steps);
+            *self = known_of(card, frame, sections);
         }
     }
 
     /// Becomes what is known of the application that runs after a turn, if one runs: the section is looked for only if
     /// its name is another one.
-    pub fn follow<N: Nvm>(
-        &mut self,
-        card: &Card<N>,
-        sections: &Sections<'_>,
-        steps: &mut Steps<N::Meter>,
-    )
+    pub fn follow<N: Nvm>(&mut self, card: &Card<N>, sections: &Sections<'_>)
         requires { IsWatched N.state card.now }
-        ensures value { (ch : ModelChain) (left : ℕ) → RunsChain N.state card.now ch left
+        ensures { (ch : ModelChain) (left : ℕ) → RunsChain N.state card.now ch left
             → IsKnownAfter sections.now ch.frame.name (running_code ch) self.old self.new }
-        ensures rises { steps.old ≤ steps.new }
-        ensures reads { steps.new ≤ steps.old + (8 + section_reads sections.now) }
     {
         if let Some(chain) = card.chain() {
-            self.follow_frame(card, chain.running(), sections, steps);
+            self.follow_frame(card, chain.running(), sections);
         }
     }
 }

@@ -1,5 +1,5 @@
 // What a watcher finds of a card between two turns: the section that runs, its stack, and the place of its operand.
-ghost use Rattle.std.specs.Prelude.{◌≡◌, ◌-◌, ◌≤◌, ℕ, true, false, cond, List, [], Some, length, take, bytes_eq, option_map, IsSome, IfSome, ◌+◌, ◌*◌};
+ghost use Rattle.std.specs.Prelude.{◌≡◌, ◌-◌, ◌≤◌, ℕ, true, false, cond, List, [], Some, length, take, bytes_eq, option_map, IsSome, IfSome};
 ghost use Rattle.mc_base.specs.model_device.specs.Limits.{most_code};
 ghost use Rattle.mc_arith.specs.model_machine.specs.Frame.{dynamic_end, floor, Frame as ModelFrame};
 ghost use Rattle.mc_arith.specs.model_machine.specs.Chain.{Chain as ModelChain, Follows};
@@ -11,13 +11,11 @@ ghost use Rattle.mc_card.specs.Parts.{IsRunning, RunsChain};
 ghost use Rattle.desk_cover.specs.Sections.{index_of, is_of};
 ghost use Rattle.desk_cover.specs.Looking.{IsPlace, IsScene, LiesAfter, Shows, bytes_there, operand_after, place_in, place_pair, section_at, span_in, span_value, stack_after};
 ghost use Rattle.desk_cover.specs.Watching.{FrameRuns, IsWatched, code_on, frame_in, name_in};
-ghost use Rattle.desk_cover.specs.Looks.{section_reads};
 
 use crate::sections::{Section, Sections};
 use crate::span::{Span, span_of};
 use arrayvec::ArrayVec;
 use mc_bank::{Bank, Slot};
-use mc_base::Steps;
 use mc_card::{Card, Chain};
 use mc_isa::decode;
 use mc_nvm::Nvm;
@@ -44,21 +42,19 @@ pub struct After {
 }
 
 // Whether the code of an application is this, which is as long.
-fn has_code<B: Bank>(bank: &B, slot: Slot, code: &[u8], steps: &mut Steps<B::Meter>) -> bool
+fn has_code<B: Bank>(bank: &B, slot: Slot, code: &[u8]) -> bool
     requires going { (B.state bank.now).stopped ≡ false }
     requires there { IsSome (B.named bank.now slot) }
     requires size { length code.now ≡ length (app_of (B.state bank.now).apps (B.named bank.now slot)).code }
     requires most { length code.now ≤ 65535 }
-    ensures value { result ≡ bytes_eq (app_of (B.state bank.now).apps (B.named bank.now slot)).code code.now }
-    ensures rises { steps.old ≤ steps.new }
-    ensures reads { 8 * steps.new ≤ 8 * steps.old + (length code.now + 7) }
+    ensures { result ≡ bytes_eq (app_of (B.state bank.now).apps (B.named bank.now slot)).code code.now }
 {
     let mut bytes = [0; PIECE];
     let mut at = 0;
     while at < code.len() {
         let count = (code.len() - at).min(PIECE);
         let piece = &mut bytes[..count];
-        bank.code(slot, at as u16, piece, steps);
+        bank.code(slot, at as u16, piece);
         if &*piece != &code[at..at + count] {
             return false;
         }
@@ -68,47 +64,33 @@ fn has_code<B: Bank>(bank: &B, slot: Slot, code: &[u8], steps: &mut Steps<B::Met
 }
 
 // Whether a frame runs a section: its application has the section's name and code.
-fn runs<B: Bank>(
-    bank: &B,
-    frame: &Frame,
-    section: &Section<'_>,
-    steps: &mut Steps<B::Meter>,
-) -> bool
+fn runs<B: Bank>(bank: &B, frame: &Frame, section: &Section<'_>) -> bool
     requires { CanRun B.Bank bank.now frame.now }
     ensures value { result ≡ is_of (name_or (B.named bank.now frame.now.slot))
         (app_of (B.state bank.now).apps (B.named bank.now frame.now.slot)).code section.now }
     ensures short { result ≡ true → length section.now.code ≤ most_code }
-    ensures rises { steps.old ≤ steps.new }
-    ensures reads { steps.new ≤ steps.old + 1028 }
 {
     let code = section.code();
-    let facts = bank.facts(frame.slot(), steps);
+    let facts = bank.facts(frame.slot());
     if !section.has_name(facts.aid.bytes()) {
         return false;
     }
     if frame.code_len() as usize != code.len() {
         return false;
     }
-    has_code(bank, frame.slot(), code, steps)
+    has_code(bank, frame.slot(), code)
 }
 
 /// Returns the index of the first section that a frame runs, or `None` if it runs none.
-pub fn section_of<N: Nvm>(
-    card: &Card<N>,
-    frame: &Frame,
-    sections: &Sections<'_>,
-    steps: &mut Steps<N::Meter>,
-) -> Option<usize>
+pub fn section_of<N: Nvm>(card: &Card<N>, frame: &Frame, sections: &Sections<'_>) -> Option<usize>
     requires { FrameRuns N.state card.now frame.now }
     ensures value { result ≡ index_of 0 sections.now (name_in N.state card.now frame.now)
         (code_on N.state card.now frame.now) }
     ensures short { IfSome (section_at sections.now result) (λ s. length s.code ≤ most_code) }
-    ensures rises { steps.old ≤ steps.new }
-    ensures reads { steps.new ≤ steps.old + section_reads sections.now }
 {
     let all = sections.all();
     for i in 0..all.len() {
-        if runs(card.bank(), frame, &all[i], steps) {
+        if runs(card.bank(), frame, &all[i]) {
             return Some(i);
         }
     }
@@ -116,20 +98,14 @@ pub fn section_of<N: Nvm>(
 }
 
 /// Returns the index of the first section that the running frame of a card runs, or `None` if it runs none.
-pub fn running_section<N: Nvm>(
-    card: &Card<N>,
-    sections: &Sections<'_>,
-    steps: &mut Steps<N::Meter>,
-) -> Option<usize>
+pub fn running_section<N: Nvm>(card: &Card<N>, sections: &Sections<'_>) -> Option<usize>
     requires { IsRunning N.state card.now }
     ensures value { (ch : ModelChain) (left : ℕ) → RunsChain N.state card.now ch left
         → result ≡ index_of 0 sections.now ch.frame.name (running_code ch) }
     ensures short { IfSome (section_at sections.now result) (λ s. length s.code ≤ most_code) }
-    ensures rises { steps.old ≤ steps.new }
-    ensures reads { steps.new ≤ steps.old + section_reads sections.now }
 {
     match card.chain() {
-        Some(chain) => section_of(card, chain.running(), sections, steps),
+        Some(chain) => section_of(card, chain.running(), sections),
         None => None,
     }
 }
@@ -173,15 +149,13 @@ fn put_stack(frame: &Frame, into: &mut ArrayVec<u8, 512>)
 }
 
 /// Returns the name of the application of a slot.
-pub fn name_of<B: Bank>(bank: &B, slot: Slot, steps: &mut Steps<B::Meter>) -> ArrayVec<u8, 16>
+pub fn name_of<B: Bank>(bank: &B, slot: Slot) -> ArrayVec<u8, 16>
     requires going { (B.state bank.now).stopped ≡ false }
     requires there { IsSome (B.named bank.now slot) }
-    ensures value { result.items ≡ name_or (B.named bank.now slot) }
-    ensures rises { steps.old ≤ steps.new }
-    ensures reads { steps.new ≤ steps.old + 4 }
+    ensures { result.items ≡ name_or (B.named bank.now slot) }
 {
     let mut name = ArrayVec::new();
-    name.try_extend_from_slice(bank.facts(slot, steps).aid.bytes())
+    name.try_extend_from_slice(bank.facts(slot).aid.bytes())
         .unwrap();
     name
 }
@@ -249,14 +223,11 @@ fn put_bytes<N: Nvm>(
     chain: &Chain,
     place: &Option<(Place, u8)>,
     into: &mut ArrayVec<u8, 255>,
-    steps: &mut Steps<N::Meter>,
 )
     requires { FrameRuns N.state card.now chain.now.running }
-    ensures value { IfSome place.now (λ p. lies_in_segment chain.now.running.frame chain.now.public p.0 p.1 ≡ true)
+    ensures { IfSome place.now (λ p. lies_in_segment chain.now.running.frame chain.now.public p.0 p.1 ≡ true)
         → into.new.items ≡ bytes_there (frame_in N.state card.now chain.now.running) chain.now.public
         (option_map place_pair place.now) }
-    ensures rises { steps.old ≤ steps.new }
-    ensures reads { steps.new ≤ steps.old + 33 }
 {
     into.clear();
     let Some((place, size)) = place else {
@@ -264,14 +235,7 @@ fn put_bytes<N: Nvm>(
     };
     let mut bytes = [0; 255];
     let piece = &mut bytes[..*size as usize];
-    if look(
-        card.bank(),
-        chain.running(),
-        chain.public(),
-        *place,
-        piece,
-        steps,
-    ) {
+    if look(card.bank(), chain.running(), chain.public(), *place, piece) {
         into.try_extend_from_slice(piece).unwrap();
     }
 }
@@ -300,35 +264,20 @@ impl After {
     }
 
     // Becomes the operand and the stack of the frame that runs.
-    fn take_running<N: Nvm>(
-        &mut self,
-        card: &Card<N>,
-        chain: &Chain,
-        scene: &Scene,
-        steps: &mut Steps<N::Meter>,
-    )
+    fn take_running<N: Nvm>(&mut self, card: &Card<N>, chain: &Chain, scene: &Scene)
         requires { FrameRuns N.state card.now chain.now.running }
         ensures operand { IfSome scene.now.place
             (λ p. lies_in_segment chain.now.running.frame chain.now.public p.0 p.1 ≡ true)
             → self.new.operand.items ≡ bytes_there (frame_in N.state card.now chain.now.running) chain.now.public
             (option_map place_pair scene.now.place) }
         ensures stack { self.new.stack.items ≡ stack_of chain.now.running.frame }
-        ensures rises { steps.old ≤ steps.new }
-        ensures reads { steps.new ≤ steps.old + 33 }
     {
-        put_bytes(card, chain, &scene.place, &mut self.operand, steps);
+        put_bytes(card, chain, &scene.place, &mut self.operand);
         put_stack(chain.running(), &mut self.stack);
     }
 
     // Becomes the operand and the stack of the frame that a scene is of, by the frame that runs after a turn.
-    fn take_chain<N: Nvm>(
-        &mut self,
-        card: &Card<N>,
-        chain: &Chain,
-        scene: &Scene,
-        dt: u16,
-        steps: &mut Steps<N::Meter>,
-    )
+    fn take_chain<N: Nvm>(&mut self, card: &Card<N>, chain: &Chain, scene: &Scene, dt: u16)
         requires { FrameRuns N.state card.now chain.now.running }
         ensures operand { IfSome scene.now.place
             (λ p. lies_in_segment chain.now.running.frame chain.now.public p.0 p.1 ≡ true)
@@ -338,12 +287,10 @@ impl After {
         ensures stack { self.new.stack.items
             ≡ cond (bytes_eq (name_in N.state card.now chain.now.running) scene.now.name.items)
             (stack_of chain.now.running.frame) (take (dt - scene.now.floor) scene.now.stack.items) }
-        ensures rises { steps.old ≤ steps.new }
-        ensures reads { steps.new ≤ steps.old + 37 }
     {
-        let name = name_of(card.bank(), chain.running().slot(), steps);
+        let name = name_of(card.bank(), chain.running().slot());
         if name.as_slice() == scene.name.as_slice() {
-            self.take_running(card, chain, scene, steps);
+            self.take_running(card, chain, scene);
         } else {
             self.take_left(scene, dt);
         }
@@ -351,24 +298,16 @@ impl After {
 
     /// Becomes the operand's bytes and the stack of a frame after a turn, by what was kept of it before the turn and
     /// by its DT after it. It is written in place to avoid copying it.
-    pub fn take<N: Nvm>(
-        &mut self,
-        card: &Card<N>,
-        scene: &Scene,
-        dt: u16,
-        steps: &mut Steps<N::Meter>,
-    )
+    pub fn take<N: Nvm>(&mut self, card: &Card<N>, scene: &Scene, dt: u16)
         requires { IsWatched N.state card.now }
         ensures operand { (f : ModelFrame) (code : List ℕ) (next : Follows) → IsScene scene.now f (Some code)
             → Shows N.state card.now next → LiesAfter (place_in f (span_in f code)) next
             → self.new.operand.items ≡ operand_after f (place_in f (span_in f code)) next }
         ensures stack { (f : ModelFrame) (code : List ℕ) (next : Follows) → IsScene scene.now f (Some code)
             → Shows N.state card.now next → self.new.stack.items ≡ stack_after f dt next }
-        ensures rises { steps.old ≤ steps.new }
-        ensures reads { steps.new ≤ steps.old + 37 }
     {
         match card.chain() {
-            Some(chain) => self.take_chain(card, chain, scene, dt, steps),
+            Some(chain) => self.take_chain(card, chain, scene, dt),
             None => self.take_left(scene, dt),
         }
     }

@@ -13,13 +13,12 @@ ghost use Rattle.mc_text.specs.Texts.{sunk};
 ghost use Rattle.mc_script.specs.Players.{answer_value, IsUnfused};
 ghost use Rattle.mc_script.specs.Benches.{bench_at, IsPlaying};
 ghost use Rattle.mc_script.specs.Plays.{PlaysDeck};
-ghost use Rattle.mc_script.specs.StepCounts.{CountsDeck, answer_reads};
+ghost use Rattle.mc_script.specs.StepCounts.{CountsDeck};
 ghost use Rattle.mc_script.specs.Watching.{seen_of, Watches};
 ghost use Rattle.mc_script.specs.Writers.{write_result};
 ghost use Rattle.desk_cover.specs.Looking.{section_at};
 ghost use Rattle.desk_cover.specs.Tracing.{line_pair, line_value, log_of, same_after, same_itself, same_texts, same_traced, state_part_of, traced_none, traced_on, turn_text, Adds, IsSameTracer, Traced};
 ghost use Rattle.desk_cover.specs.Watching.{full_turn_of};
-ghost use Rattle.desk_cover.specs.Looks.{section_looks};
 
 use crate::following::{Follower, run_followed};
 use crate::known::Known;
@@ -36,6 +35,7 @@ use mc_script::{Answer, Player, Reporter, Runner, Text, gather_result, play_line
 use mc_streams::{Sink, WriteFault};
 use mc_text::{add, add_decimal, add_hex, put};
 use mc_trace::line_of_brief;
+use std::sync::ledger::Ledger;
 
 /// The number of bytes of the stack that are shown.
 const SHOWN: usize = 8;
@@ -180,21 +180,13 @@ impl<'s, 'o, T: Sink> Tracer<'s, 'o, T> {
     }
 
     // Writes the result of a line, if it has one.
-    fn put_result<N: Bench>(
-        &mut self,
-        number: u32,
-        player: &Player<N>,
-        answer: &Option<Answer>,
-        steps: &mut Steps<N::Meter>,
-    )
+    fn put_result<N: Bench>(&mut self, number: u32, player: &Player<N>, answer: &Option<Answer>)
         requires { IsPlaying N.Bench player.now }
-        ensures value { Adds T.Sink self.old
+        ensures { Adds T.Sink self.old
             (line_text number (option_map (answer_value N.state player.now) answer.now)) self.new }
-        ensures rises { steps.old ≤ steps.new }
-        ensures reads { steps.new ≤ steps.old + answer_reads answer.now }
     {
         if let Some(answer) = answer {
-            gather_result(&mut self.text, number, player, answer, steps);
+            gather_result(&mut self.text, number, player, answer);
             self.write_gathered();
         }
     }
@@ -204,8 +196,6 @@ impl<'s, 'o, T: Sink> Follower for Tracer<'s, 'o, T> {
     ghost Seen = { FullTurn };
 
     ghost seen = { full_turn_of };
-
-    ghost looks = { λ q. 37 };
 
     ghost watched = { Traced T.Sink };
 
@@ -217,12 +207,12 @@ impl<'s, 'o, T: Sink> Follower for Tracer<'s, 'o, T> {
 
     ghost stays = { λ q r ts h. h.sections };
 
-    fn turn<N: Nvm>(
+    fn turn<N: Nvm, L: Ledger>(
         &mut self,
         card: &mut Card<N>,
         known: &Known,
         into: &mut Outcome,
-        steps: &mut Steps<N::Meter>,
+        steps: &mut Steps<L>,
     ) -> Result<BriefTurn, Stop> {
         let section = known.section();
         self.scene
@@ -230,7 +220,7 @@ impl<'s, 'o, T: Sink> Follower for Tracer<'s, 'o, T> {
         let turn = card.brief_turn(into, steps)?;
         match line_at(self.sections, section, turn.at) {
             Some(line) => {
-                self.after.take(card, &self.scene, turn.dt, steps);
+                self.after.take(card, &self.scene, turn.dt);
                 self.put_turn(&turn, &line);
             }
             None => self.write(line_of_brief(&turn).as_slice()),
@@ -242,19 +232,17 @@ impl<'s, 'o, T: Sink> Follower for Tracer<'s, 'o, T> {
 impl<'s, 'o, T: Sink> Runner for Tracer<'s, 'o, T> {
     ghost reported = { Watches full_turn_of (Traced T.Sink) };
 
-    ghost looks = { λ q. 37 + section_looks q.sections.now };
-
     ghost silent = { λ c. traced_none T.Sink };
 
     ghost onward = { λ c d q r s. traced_on T.Sink q r s [] [] };
 
-    fn run<N: Nvm>(
+    fn run<N: Nvm, L: Ledger>(
         &mut self,
         card: &mut Card<N>,
         bytes: &[u8],
         budget: u32,
         into: &mut Outcome,
-        steps: &mut Steps<N::Meter>,
+        steps: &mut Steps<L>,
     ) -> Result<(), Stop> {
         let sections = self.sections;
         run_followed(self, sections, card, bytes, budget, into, steps)
@@ -276,14 +264,8 @@ impl<'s, 'o, T: Sink> Reporter for Tracer<'s, 'o, T> {
 
     ghost texts = { same_texts };
 
-    fn report<N: Bench>(
-        &mut self,
-        number: u32,
-        player: &Player<N>,
-        answer: &Option<Answer>,
-        steps: &mut Steps<N::Meter>,
-    ) {
-        self.put_result(number, player, answer, steps);
+    fn report<N: Bench>(&mut self, number: u32, player: &Player<N>, answer: &Option<Answer>) {
+        self.put_result(number, player, answer);
     }
 
     fn ended(&self) -> Result<(), WriteFault> {
@@ -301,12 +283,12 @@ impl<'s, 'o, T: Sink> Reporter for Tracer<'s, 'o, T> {
 /// # Errors
 ///
 /// Returns the fault of the sink.
-pub fn trace<N: Bench, T: Sink>(
+pub fn trace<N: Bench, T: Sink, L: Ledger>(
     sections: &Sections<'_>,
     deck: &Deck,
     dev: &mut N,
     out: &mut T,
-    steps: &mut Steps<N::Meter>,
+    steps: &mut Steps<L>,
 ) -> Result<(), WriteFault>
     requires { IsUnfused (N.bench dev.old) }
     // The lines are played in order, up to the first whose text is not wholly written. The words, the power, the calls
@@ -315,9 +297,9 @@ pub fn trace<N: Bench, T: Sink>(
     ensures plays { PlaysDeck (trace_text sections.now) deck.now
         (bench_at N.Bench dev.old) (sunk T.Sink out.old) result
         (bench_at N.Bench dev.new) (sunk T.Sink out.new) }
-    // Each executed instruction is one step, and so is each word that is read, also by a look at the card for what a
-    // line of the trace shows. A line that a stop hits makes no more steps than the whole line may.
-    ensures steps { CountsDeck (37 + section_looks sections.now) (trace_text sections.now) deck.now
+    // Each executed instruction is one step, and the search of an OPEN for room takes at most two more than the card
+    // has gaps. A line that a stop hits makes no more steps than the whole line.
+    ensures steps { CountsDeck (trace_text sections.now) deck.now
         (bench_at N.Bench dev.old) (sunk T.Sink out.old) result
         (bench_at N.Bench dev.new) (sunk T.Sink out.new) steps.old steps.new }
 {

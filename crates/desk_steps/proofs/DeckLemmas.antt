@@ -13,11 +13,9 @@ use Rattle.mc_streams.specs.declared.sink.Sink.{Ghosts}
 use Rattle.mc_text.specs.Texts.{sunk, Puts, Sunk}
 use Rattle.desk_draft.specs.Listings.{Source}
 use Rattle.mc_script.specs.Plays.{Bench, Played}
-use Rattle.mc_script.specs.StepCounts.{PlaySteps}
 use Rattle.desk_json.specs.Sheets.{written_by, HoldsBy}
 use Rattle.desk_json.proofs.SheetLemmas.{holds_none, holds_whole}
 use Rattle.desk_steps.specs.declared.recording.Recorder.{Recorder}
-use Rattle.desk_steps.specs.Looks.{recorder_looks}
 use Rattle.desk_steps.specs.Recorded.{RecordsPlay, ShowsSteps, StepsDeck}
 
 module _ {T : Type 0} (sink : Ghosts T) where
@@ -34,9 +32,8 @@ module _ {T : Type 0} (sink : Ghosts T) where
       let did : Puts x records.text result z = rw (← taken, ← faults) done in
       let laws : HoldsOf m (plays (start m) ls records.worn) = play_law ls m records.worn records.played.possible in
       let are : AreLines (plays (start m) ls records.worn) = played_bytes (start m) ls records.worn bytes in
-      let steps : PlaySteps (recorder_looks ss) (plays (start m) ls records.worn) old new = subst (λ (zs : List Source). PlaySteps (recorder_looks zs) (plays (start m) ls records.worn) old new) sections records.steps in
       record {
         text = records.text;
-        sums = record { deck = record { worn = records.worn; played = played; laws = laws; few = laws.few image are; ready = laws.ready image are; text = did }; steps = steps };
+        sums = record { deck = record { worn = records.worn; played = played; laws = laws; few = laws.few image are; ready = laws.ready image are; text = did }; steps = records.steps };
         shows = subst (λ (zs : List Source). ShowsSteps zs script (plays (start m) ls records.worn) records.text) sections records.shows;
       }

@@ -1,5 +1,5 @@
 -- The loop that plays a deck before a recorder.
-use Rattle.std.proofs.Common.{◌≡◌, inl, inr, ℕ, ◌+◌, ◌<◌, ◌≤◌, List, [], ◌∷◌, ◌++◌, Option, None, refl, arith, sym, ap, subst, ◌∙◌, append_assoc, append-nil}
+use Rattle.std.proofs.Common.{◌≡◌, inl, inr, ℕ, ◌<◌, List, [], ◌∷◌, ◌++◌, Option, None, refl, arith, sym, ap, subst, ◌∙◌, append_assoc, append-nil}
 use Rattle.std.specs.Prelude.{length, option_map, take}
 use Rattle.law_steps.specs.model_device.specs.Device.{DeviceState, BenchState}
 use Rattle.law_steps.specs.model_machine.specs.Chain.{Chain}
@@ -15,15 +15,14 @@ use Rattle.mc_script.specs.Players.{answer_value, IsPlayerAt}
 use Rattle.mc_script.specs.Lines.{LineDone, bench_of}
 use Rattle.mc_script.specs.Plays.{Bench, Played}
 use Rattle.mc_script.specs.Runs.{sent_by}
-use Rattle.mc_script.specs.StepCounts.{answer_reads, text_reads, CountsLine, LineSteps, PlaySteps}
+use Rattle.mc_script.specs.StepCounts.{CountsLine, PlaySteps}
 use Rattle.mc_script.specs.Watching.{Watches, seen_of}
 use Rattle.mc_script.proofs.LinedLemmas.{at_stands}
 use Rattle.mc_script.proofs.PlayLemmas.{played_none, played_on, plays_none, plays_on}
-use Rattle.mc_script.proofs.StepPlayLemmas.{text_counts, steps_as, steps_none, steps_then}
+use Rattle.mc_script.proofs.StepPlayLemmas.{step_counts, steps_as, steps_none, steps_then}
 use Rattle.desk_steps.specs.declared.recording.Recorder.{Recorder}
 use Rattle.desk_steps.specs.Guards.{all_clear}
 use Rattle.desk_steps.specs.Lines.{line_text}
-use Rattle.desk_steps.specs.Looks.{recorder_looks}
 use Rattle.desk_steps.specs.Moments.{Moment, command_of, moment, moments_of_step}
 use Rattle.desk_steps.specs.Recorded.{first_text, kept_after, kept_in, kept_of, kept_parts, lines_by, lines_of, puts_as, puts_from, puts_none, puts_on, AllRoomy, IsStoppedFrame, Kept, PutsText, Recorded, RecordsPlay, ShowsStep, ShowsSteps, StoppedBy, WaitsFirst}
 use Rattle.desk_steps.specs.Statements.{statement_at}
@@ -41,8 +40,8 @@ module _ {T : Type 0} (sink : Ghosts T) {N : Type 0} (state : N → DeviceState)
     pub text : List ℕ
     pub adds : PutsText sink q text r
     pub sections : r.sections.now ≡ q.sections.now
-    pub rest : (ws : List (Option FailedWrite)) (b : Bench) (new : ℕ) → Played here left ws (bench_of state bench p) b → PlaySteps (recorder_looks q.sections.now) (plays here left ws) now new
-        → (vs : List (Option FailedWrite)) × Played s ls vs a b × PlaySteps (recorder_looks q.sections.now) (plays s ls vs) old new × ((more : List ℕ) → ShowsSteps q.sections.now script (plays here left ws) more → ShowsSteps q.sections.now script (plays s ls vs) (text ++ more))
+    pub rest : (ws : List (Option FailedWrite)) (b : Bench) (new : ℕ) → Played here left ws (bench_of state bench p) b → PlaySteps (plays here left ws) now new
+        → (vs : List (Option FailedWrite)) × Played s ls vs a b × PlaySteps (plays s ls vs) old new × ((more : List ℕ) → ShowsSteps q.sections.now script (plays here left ws) more → ShowsSteps q.sections.now script (plays s ls vs) (text ++ more))
 
   -- before the first line all lines are left, with what the recorder has
   pub recording_start : (s : State) (ls : List (ℕ × DeckLine)) (p : Player N) (q : Recorder T) (old : ℕ) → IsPlayerAt state bench p s → Recording s ls (bench_of state bench p) q old ls p q old
@@ -112,18 +111,16 @@ module _ {T : Type 0} (sink : Ghosts T) {N : Type 0} (state : N → DeviceState)
       )
 
   -- a line that was recorded leaves those after it
-  pub recording_on : (s : State) (ls : List (ℕ × DeckLine)) (a : Bench) (q : Recorder T) (left : List (ℕ × DeckLine)) (n : ℕ) (l : DeckLine) (p v : Player N) (before begun after last : Recorder T) (answer : Option Answer) (statement frame : List ℕ) (old now mid new : ℕ) → Recording s ls a q old ((n, l) ∷ left) p before now → statement ≡ statement_at n script
-      → begun.out ≡ before.out → begun.fault ≡ before.fault → BeginsLine before.sections.now l begun → LineDone state bench (Watches moment (Recorded sink) (sent_by state p l)) p l begun after answer v → CountsLine state bench (recorder_looks begun.sections.now) p l answer now mid
-      → mid ≤ new → new ≤ mid + answer_reads answer → answer_reads answer ≤ text_reads l → StoppedBy after frame → PutsText sink after (frame ++ line_text n statement (option_map (answer_value state v) answer)) last → last.sections.now ≡ after.sections.now → Recording s ls a q old left v last new
-  recording_on s ls a q left n l p v before begun after last answer statement frame old now mid new h words out fault begins done counts rises reads few stopped adds kept =
+  pub recording_on : (s : State) (ls : List (ℕ × DeckLine)) (a : Bench) (q : Recorder T) (left : List (ℕ × DeckLine)) (n : ℕ) (l : DeckLine) (p v : Player N) (before begun after last : Recorder T) (answer : Option Answer) (statement frame : List ℕ) (old now new : ℕ) → Recording s ls a q old ((n, l) ∷ left) p before now → statement ≡ statement_at n script
+      → begun.out ≡ before.out → begun.fault ≡ before.fault → BeginsLine before.sections.now l begun → LineDone state bench (Watches moment (Recorded sink) (sent_by state p l)) p l begun after answer v → CountsLine state bench p l answer now new
+      → StoppedBy after frame → PutsText sink after (frame ++ line_text n statement (option_map (answer_value state v) answer)) last → last.sections.now ≡ after.sections.now → Recording s ls a q old left v last new
+  recording_on s ls a q left n l p v before begun after last answer statement frame old now new h words out fault begins done counts stopped adds kept =
       let line = done h.here n h.at in
       let w = line.0 in
       let t = step h.here (n, l) w in
       let end = line.1.stepped in
       let ss : List Source = q.sections.now in
-      let looks = recorder_looks ss in
-      let counted : LineSteps looks h.here l answer now mid = subst (λ (k : ℕ). LineSteps k h.here l answer now mid) (ap recorder_looks (begins.sections ∙ h.sections)) (counts h.here h.at) in
-      let steps = text_counts state looks v h.here (n, l) w answer now mid new end.answers counted rises reads few in
+      let steps = step_counts state v h.here (n, l) w answer now new end.answers (counts h.here h.at) in
       let did : Recorded sink begun (moments_of_step t) after = subst (λ (ts : List Moment). Recorded sink begun ts after) (moments_shown state bench p h.here (n, l) w h.at) line.1.reports in
       let begun_on : BeginsLine ss l begun = record { sections = begins.sections ∙ h.sections; turns = begins.turns; first = begins.first; command = begins.command; opens = begins.opens; guards = begins.guards; writes = begins.writes } in
       let shown = line_shown ss h.here (n, l) w p begun after last statement frame (option_map (answer_value state v) answer) h.at words begun_on stopped did end.answers adds in

@@ -5,5 +5,4 @@ pub mod Statements
 pub mod Lines
 pub mod Moments
 pub mod Turning
-pub mod Looks
 pub mod Recorded

@@ -21,7 +21,6 @@ use Rattle.law_steps.specs.Writes.{IsRoomy, called_waits, moves_in, turn_moves, 
 use Rattle.desk_steps.specs.declared.recording.Recorder.{Recorder}
 use Rattle.desk_steps.specs.declared.shot.Shot.{Shot}
 use Rattle.desk_steps.specs.Counted.{count_after, writes_after}
-use Rattle.desk_steps.specs.Looks.{recorder_looks}
 use Rattle.desk_steps.specs.Lines.{Found, frame_text, line_text, turn_text}
 use Rattle.desk_steps.specs.Moments.{Moment, command_of, full_of, moments_of_step}
 use Rattle.desk_steps.specs.Shots.{frame_changes}
@@ -145,7 +144,7 @@ ShowsSteps ss deck (t ∷ ts) text = (one : List ℕ) × (rest : List ℕ) × Sh
 -- written, or a proper front of it if the sink failed.
 pub record StepsDeck (ss : List Source) (script : List ℕ) (ls : List (ℕ × DeckLine)) (a : Bench) (x : Sunk) (result : Result (Unit {0}) WriteFault) (b : Bench) (y : Sunk) (old new : ℕ) : Type 0 where
   pub text : List ℕ
-  pub sums : CountsSum (recorder_looks ss) (λ ts. text) ls a x result b y old new
+  pub sums : CountsSum (λ ts. text) ls a x result b y old new
   pub shows : ShowsSteps ss script (plays (start a.device.words) ls sums.deck.worn) text
 
 -- ---- the laws of lines
@@ -321,7 +320,7 @@ module _ {T : Type 0} (sink : Ghosts T) where
   pub record RecordsPlay (script : List ℕ) (s : State) (ls : List (ℕ × DeckLine)) (a b : Bench) (q r : Recorder T) (old new : ℕ) : Type 0 where
     pub worn : List (Option FailedWrite)
     pub played : Played s ls worn a b
-    pub steps : PlaySteps (recorder_looks q.sections.now) (plays s ls worn) old new
+    pub steps : PlaySteps (plays s ls worn) old new
     pub text : List ℕ
     pub adds : PutsText sink q text r
     pub shows : ShowsSteps q.sections.now script (plays s ls worn) text

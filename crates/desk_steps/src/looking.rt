@@ -1,5 +1,5 @@
 // The application that runs on a card, and the source line of a place of its code.
-ghost use Rattle.std.specs.Prelude.{◌≡◌, ℕ, option_map, Some, ◌+◌, ◌≤◌};
+ghost use Rattle.std.specs.Prelude.{◌≡◌, ℕ, option_map, Some};
 ghost use Rattle.law_steps.specs.model_machine.specs.Chain.{Chain as ModelChain};
 ghost use Rattle.desk_draft.specs.Verdicts.{source_line};
 ghost use Rattle.mc_card.specs.Parts.{RunsChain};
@@ -8,20 +8,18 @@ ghost use Rattle.desk_cover.specs.Watching.{IsWatched};
 
 use desk_cover::Sections;
 use mc_bank::Bank;
-use mc_base::{Aid, Steps};
+use mc_base::Aid;
 use mc_card::Card;
 use mc_nvm::Nvm;
 
 /// Returns the name of the application that runs on a card, or `None` if no command runs.
 #[tactic(auto, using(desk_cover::proofs::WatchLemmas::watched_chain))]
-pub fn running_aid<N: Nvm>(card: &Card<N>, steps: &mut Steps<N::Meter>) -> Option<Aid>
+pub fn running_aid<N: Nvm>(card: &Card<N>) -> Option<Aid>
     requires { IsWatched N.state card.now }
-    ensures value { (ch : ModelChain) (left : ℕ) → RunsChain N.state card.now ch left → result ≡ Some ch.frame.name }
-    ensures rises { steps.old ≤ steps.new }
-    ensures reads { steps.new ≤ steps.old + 4 }
+    ensures { (ch : ModelChain) (left : ℕ) → RunsChain N.state card.now ch left → result ≡ Some ch.frame.name }
 {
     match card.chain() {
-        Some(chain) => Some(card.bank().facts(chain.running().slot(), steps).aid),
+        Some(chain) => Some(card.bank().facts(chain.running().slot()).aid),
         None => None,
     }
 }

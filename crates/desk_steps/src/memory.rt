@@ -1,5 +1,5 @@
 // What is kept of the frames of a play between two turns: their bytes, their protection and the device writes.
-ghost use Rattle.std.specs.Prelude.{◌≡◌, ◌≤◌, ℕ, bytes_eq, get_or, length, slice_set, take, false, IsSome, Some, [], ◌+◌};
+ghost use Rattle.std.specs.Prelude.{◌≡◌, ◌≤◌, ℕ, bytes_eq, get_or, length, slice_set, take, false, IsSome, Some, []};
 ghost use Rattle.law_steps.specs.model_device.specs.Bytes.{lookup};
 ghost use Rattle.mc_bank.specs.Bank.{app_of};
 ghost use Rattle.law_steps.specs.model_machine.specs.Chain.{depth_of, turn_of, Chain as ModelChain, Follows};
@@ -22,7 +22,7 @@ use crate::shot::Shot;
 use crate::writes::{device_writes, turn_words};
 use arrayvec::ArrayVec;
 use mc_bank::Bank;
-use mc_base::{Aid, Steps};
+use mc_base::Aid;
 use mc_card::{BriefTurn, Card, Chain};
 use mc_deck::Line;
 use mc_isa::Ins;
@@ -81,7 +81,7 @@ fn set_exit(shot: &mut Shot, ins: &Ins)
 }
 
 // Takes the shot of the running frame of a card.
-fn take_running<N: Nvm>(shot: &mut Shot, card: &Card<N>, chain: &Chain, steps: &mut Steps<N::Meter>)
+fn take_running<N: Nvm>(shot: &mut Shot, card: &Card<N>, chain: &Chain)
     requires { FrameRuns N.state card.now chain.now.running }
     ensures lb { shot.new.lb ≡ chain.now.running.frame.lb }
     ensures dt { shot.new.dt ≡ chain.now.running.frame.dt }
@@ -91,20 +91,16 @@ fn take_running<N: Nvm>(shot: &mut Shot, card: &Card<N>, chain: &Chain, steps: &
     ensures whole { length chain.now.public ≡ 1041 }
     ensures reading { 512 ≤ length chain.now.running.frame.dyn
         → shot_reading shot.new ≡ reading_of (frame_in N.state card.now chain.now.running) chain.now.public }
-    ensures rises { steps.old ≤ steps.new }
-    ensures reads { steps.new ≤ steps.old + 582 }
 {
-    shot.take(card.bank(), chain.running(), chain.public(), steps);
+    shot.take(card.bank(), chain.running(), chain.public());
 }
 
 // Whether the running frame of a card is of the application of a name.
-fn is_named<N: Nvm>(card: &Card<N>, chain: &Chain, aid: &Aid, steps: &mut Steps<N::Meter>) -> bool
+fn is_named<N: Nvm>(card: &Card<N>, chain: &Chain, aid: &Aid) -> bool
     requires { FrameRuns N.state card.now chain.now.running }
-    ensures value { result ≡ bytes_eq (name_in N.state card.now chain.now.running) aid.now }
-    ensures rises { steps.old ≤ steps.new }
-    ensures reads { steps.new ≤ steps.old + 4 }
+    ensures { result ≡ bytes_eq (name_in N.state card.now chain.now.running) aid.now }
 {
-    let facts = card.bank().facts(chain.running().slot(), steps);
+    let facts = card.bank().facts(chain.running().slot());
     facts.aid.bytes() == aid.bytes()
 }
 
@@ -170,7 +166,7 @@ impl Memory {
 
     /// Takes the shot of the running frame before a turn.
     #[tactic(auto, using(desk_cover::proofs::WatchLemmas::watched_chain))]
-    pub fn look_before<N: Nvm>(&mut self, card: &Card<N>, steps: &mut Steps<N::Meter>)
+    pub fn look_before<N: Nvm>(&mut self, card: &Card<N>)
         requires { IsWatched N.state card.now }
         ensures command { self.new.command.items ≡ self.old.command.items }
         ensures opens { self.new.opens ≡ self.old.opens }
@@ -178,24 +174,16 @@ impl Memory {
         ensures writes { self.new.writes ≡ self.old.writes }
         ensures before { (ch : ModelChain) (left : ℕ) → RunsChain N.state card.now ch left
             → IsBefore self.new.before ch }
-        ensures rises { steps.old ≤ steps.new }
-        ensures reads { steps.new ≤ steps.old + 582 }
     {
         if let Some(chain) = card.chain() {
-            take_running(&mut self.before, card, chain, steps);
+            take_running(&mut self.before, card, chain);
         }
     }
 
     // Takes the shot after a turn that did not end its frame, whose application has a name. Returns whether another
     // frame runs.
     #[tactic(auto, using(desk_cover::proofs::WatchLemmas::watched_chain))]
-    fn look_running<N: Nvm>(
-        &mut self,
-        card: &Card<N>,
-        aid: &Aid,
-        dt: u16,
-        steps: &mut Steps<N::Meter>,
-    ) -> bool
+    fn look_running<N: Nvm>(&mut self, card: &Card<N>, aid: &Aid, dt: u16) -> bool
         requires { IsWatched N.state card.now }
         ensures command { self.new.command.items ≡ self.old.command.items }
         ensures opens { self.new.opens ≡ self.old.opens }
@@ -207,14 +195,12 @@ impl Memory {
         ensures reading { (next : Follows) → Shows N.state card.now next → IsWideNext next
             → shot_reading self.new.after ≡ shown_reading next aid.now (shot_reading self.old.after) dt }
         ensures called { (next : Follows) → Shows N.state card.now next → result ≡ is_other next aid.now }
-        ensures rises { steps.old ≤ steps.new }
-        ensures reads { steps.new ≤ steps.old + 586 }
     {
         let Some(chain) = card.chain() else {
             return false;
         };
-        if is_named(card, chain, aid, steps) {
-            take_running(&mut self.after, card, chain, steps);
+        if is_named(card, chain, aid) {
+            take_running(&mut self.after, card, chain);
             return false;
         }
         self.after.lower(dt);
@@ -222,13 +208,7 @@ impl Memory {
     }
 
     // Takes the shot after a turn that ended its frame with an instruction that exits.
-    fn look_exit<N: Nvm>(
-        &mut self,
-        card: &Card<N>,
-        aid: &Aid,
-        ins: &Ins,
-        steps: &mut Steps<N::Meter>,
-    )
+    fn look_exit<N: Nvm>(&mut self, card: &Card<N>, aid: &Aid, ins: &Ins)
         requires { IsUp N.state card.now }
         ensures command { self.new.command.items ≡ self.old.command.items }
         ensures opens { self.new.opens ≡ self.old.opens }
@@ -241,22 +221,14 @@ impl Memory {
               fixed = (app_of (card_in N.state card.now).apps (Some aid.now)).fixed;
               public = exit_public ins.now self.old.after.public;
             } }
-        ensures rises { steps.old ≤ steps.new }
-        ensures reads { steps.new ≤ steps.old + 1167 }
     {
-        self.after.take_kept(card, aid, steps);
+        self.after.take_kept(card, aid);
         set_exit(&mut self.after, ins);
     }
 
     /// Takes the shot after a turn of the frame that ran it, whose application has a name. Returns whether the turn
     /// called another frame.
-    pub fn look_after<N: Nvm>(
-        &mut self,
-        card: &Card<N>,
-        aid: &Aid,
-        turn: &BriefTurn,
-        steps: &mut Steps<N::Meter>,
-    ) -> bool
+    pub fn look_after<N: Nvm>(&mut self, card: &Card<N>, aid: &Aid, turn: &BriefTurn) -> bool
         requires up { IsUp N.state card.now }
         requires watched { IsWatched N.state card.now }
         ensures command { self.new.command.items ≡ self.old.command.items }
@@ -268,19 +240,17 @@ impl Memory {
             → IsBefore self.old.before ch → aid.now ≡ ch.frame.name → IsAfter self.new.after n ch }
         ensures called { (n : ℕ) (ch : ModelChain) → WasTurn N.state card.now n ch turn.now
             → aid.now ≡ ch.frame.name → result ≡ is_deeper (depth_of ch) (turn_of n ch).follows }
-        ensures rises { steps.old ≤ steps.new }
-        ensures reads { steps.new ≤ steps.old + 1167 }
     {
         self.after.copy(&self.before);
         if abend_of(turn.end).is_some() {
-            self.after.take_kept(card, aid, steps);
+            self.after.take_kept(card, aid);
             return false;
         }
         if let Some(ins) = exit_of(turn) {
-            self.look_exit(card, aid, &ins, steps);
+            self.look_exit(card, aid, &ins);
             return false;
         }
-        self.look_running(card, aid, turn.dt, steps)
+        self.look_running(card, aid, turn.dt)
     }
 
     // Keeps the words that wait after a turn, and returns the number of device writes of the turn.

@@ -1,5 +1,5 @@
 // The play of a deck as JSON Lines.
-ghost use Rattle.std.specs.Prelude.{◌≡◌, ◌≤◌, ◌++◌, ℕ, List, [], codes, option_map, Some, ◌+◌};
+ghost use Rattle.std.specs.Prelude.{◌≡◌, ◌≤◌, ◌++◌, ℕ, List, [], codes, option_map, Some};
 ghost use Rattle.std.specs.List.{AllByRecursion};
 ghost use Rattle.arrayvec.specs.ArrayVec.{array_vec_len};
 ghost use Rattle.law_steps.specs.model_device.specs.Device.{IsImage};
@@ -13,7 +13,6 @@ ghost use Rattle.desk_json.specs.Json.{characters};
 ghost use Rattle.desk_json.specs.Sheets.{Adds, PutsOn};
 ghost use Rattle.desk_steps.specs.Lines.{line_keys, line_text, result_key};
 ghost use Rattle.desk_steps.specs.Recorded.{PutsText, RecordsPlay, StepsDeck, StoppedBy};
-ghost use Rattle.mc_script.specs.StepCounts.{answer_reads};
 
 use crate::recording::Recorder;
 use crate::statements::Statements;
@@ -25,33 +24,25 @@ use mc_deck::Deck;
 use mc_nvm::Bench;
 use mc_script::{Answer, Player, Text, add_result};
 use mc_streams::{Sink, WriteFault};
+use std::sync::ledger::Ledger;
 
 // The text of a result of a player.
-fn result_of<N: Bench>(player: &Player<N>, answer: &Answer, steps: &mut Steps<N::Meter>) -> Text
+fn result_of<N: Bench>(player: &Player<N>, answer: &Answer) -> Text
     requires { IsPlaying N.Bench player.now }
     ensures text { result.items ≡ text_of_result (answer_value N.state player.now answer.now) }
     ensures short { array_vec_len result ≤ 8210 }
-    ensures rises { steps.old ≤ steps.new }
-    ensures reads { steps.new ≤ steps.old + answer_reads (Some answer.now) }
 {
     let mut text = ArrayVec::new();
-    add_result(&mut text, player, answer, steps);
+    add_result(&mut text, player, answer);
     text
 }
 
 // Adds a result of a player.
-fn add_given<N: Bench, T: Sink>(
-    sheet: &mut Sheet<'_, T>,
-    player: &Player<N>,
-    answer: &Answer,
-    steps: &mut Steps<N::Meter>,
-)
+fn add_given<N: Bench, T: Sink>(sheet: &mut Sheet<'_, T>, player: &Player<N>, answer: &Answer)
     requires { IsPlaying N.Bench player.now }
-    ensures value { Adds T.Sink sheet.old (result_key (Some (answer_value N.state player.now answer.now))) sheet.new }
-    ensures rises { steps.old ≤ steps.new }
-    ensures reads { steps.new ≤ steps.old + answer_reads (Some answer.now) }
+    ensures { Adds T.Sink sheet.old (result_key (Some (answer_value N.state player.now answer.now))) sheet.new }
 {
-    let text = result_of(player, answer, steps);
+    let text = result_of(player, answer);
     sheet.add(b",\"result\":\"");
     sheet.add(text.as_slice());
     sheet.add(b"\"");
@@ -62,16 +53,12 @@ fn add_answer<N: Bench, T: Sink>(
     sheet: &mut Sheet<'_, T>,
     player: &Player<N>,
     answer: &Option<Answer>,
-    steps: &mut Steps<N::Meter>,
 )
     requires { IsPlaying N.Bench player.now }
-    ensures value { Adds T.Sink sheet.old (result_key (option_map (answer_value N.state player.now) answer.now))
-        sheet.new }
-    ensures rises { steps.old ≤ steps.new }
-    ensures reads { steps.new ≤ steps.old + answer_reads answer.now }
+    ensures { Adds T.Sink sheet.old (result_key (option_map (answer_value N.state player.now) answer.now)) sheet.new }
 {
     if let Some(answer) = answer {
-        add_given(sheet, player, answer, steps);
+        add_given(sheet, player, answer);
     }
 }
 
@@ -100,17 +87,14 @@ fn put_line<N: Bench, T: Sink>(
     statement: &[u8],
     player: &Player<N>,
     answer: &Option<Answer>,
-    steps: &mut Steps<N::Meter>,
 )
     requires { IsPlaying N.Bench player.now }
     ensures adds { Adds T.Sink sheet.old (line_text number statement.now
         (option_map (answer_value N.state player.now) answer.now)) sheet.new }
     ensures text { sheet.new.text.items ≡ [] }
-    ensures rises { steps.old ≤ steps.new }
-    ensures reads { steps.new ≤ steps.old + answer_reads answer.now }
 {
     add_line(sheet, number, statement);
-    add_answer(sheet, player, answer, steps);
+    add_answer(sheet, player, answer);
     sheet.end_line();
 }
 
@@ -122,16 +106,13 @@ fn write_line<N: Bench, T: Sink>(
     statement: &[u8],
     player: &Player<N>,
     answer: &Option<Answer>,
-    steps: &mut Steps<N::Meter>,
 ) -> Option<WriteFault>
     requires { IsPlaying N.Bench player.now }
-    ensures value { PutsOn fault (sunk T.Sink out.old) (line_text number statement.now
+    ensures { PutsOn fault (sunk T.Sink out.old) (line_text number statement.now
         (option_map (answer_value N.state player.now) answer.now)) result (sunk T.Sink out.new) }
-    ensures rises { steps.old ≤ steps.new }
-    ensures reads { steps.new ≤ steps.old + answer_reads answer.now }
 {
     let mut sheet = Sheet::new(&mut *out, fault);
-    put_line(&mut sheet, number, statement, player, answer, steps);
+    put_line(&mut sheet, number, statement, player, answer);
     sheet.fault()
 }
 
@@ -143,15 +124,12 @@ fn record_line<N: Bench, T: Sink>(
     statement: &[u8],
     player: &Player<N>,
     answer: &Option<Answer>,
-    steps: &mut Steps<N::Meter>,
 )
     requires { IsPlaying N.Bench player.now }
     ensures puts { (frame : List ℕ) × StoppedBy recorder.old frame × PutsText T.Sink recorder.old
         (frame ++ line_text number statement.now
         (option_map (answer_value N.state player.now) answer.now)) recorder.new }
     ensures sections { recorder.new.sections.now ≡ recorder.old.sections.now }
-    ensures rises { steps.old ≤ steps.new }
-    ensures reads { steps.new ≤ steps.old + answer_reads answer.now }
 {
     recorder.end_turns();
     recorder.fault = write_line(
@@ -161,17 +139,16 @@ fn record_line<N: Bench, T: Sink>(
         statement,
         player,
         answer,
-        steps,
     );
 }
 
 // Plays a deck, whose text is `text`, on a device before a recorder.
-fn play_lines<N: Bench, T: Sink>(
+fn play_lines<N: Bench, T: Sink, L: Ledger>(
     deck: &Deck,
     text: &[u8],
     device: N,
     recorder: &mut Recorder<'_, '_, T>,
-    steps: &mut Steps<N::Meter>,
+    steps: &mut Steps<L>,
 ) -> N
     requires { IsUnfused (N.bench device) }
     ensures records { RecordsPlay T.Sink text.now (start (N.state device).words) deck.now
@@ -190,7 +167,7 @@ fn play_lines<N: Bench, T: Sink>(
         recorder.begin_line(&line);
         let answer = player.line(&line, recorder, steps);
         let statement = statements.statement(number);
-        record_line(recorder, number, statement, &player, &answer, steps);
+        record_line(recorder, number, statement, &player, &answer);
     }
     player.into_dev()
 }
@@ -203,13 +180,13 @@ fn play_lines<N: Bench, T: Sink>(
 /// # Errors
 ///
 /// Returns the fault of the sink.
-pub fn put_steps<N: Bench, T: Sink>(
+pub fn put_steps<N: Bench, T: Sink, L: Ledger>(
     sections: &Sections<'_>,
     text: &[u8],
     deck: &Deck,
     dev: &mut N,
     out: &mut T,
-    steps: &mut Steps<N::Meter>,
+    steps: &mut Steps<L>,
 ) -> Result<(), WriteFault>
     requires { IsUnfused (N.bench dev.old) }
     // All lines of the deck are played in order. The text has a line for each of them, in order, with its number, its

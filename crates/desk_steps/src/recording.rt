@@ -1,5 +1,5 @@
 // The lines of frames and turns, as a recorder writes them.
-ghost use Rattle.std.specs.Prelude.{◌≡◌, ◌≤◌, length, ℕ, Option, [], ◌++◌, codes, get_or, slice_set, Some, None, true, false, IfSome, ◌+◌};
+ghost use Rattle.std.specs.Prelude.{◌≡◌, ◌≤◌, length, ℕ, Option, [], ◌++◌, codes, get_or, slice_set, Some, None, true, false, IfSome};
 ghost use Rattle.law_steps.specs.model_machine.specs.Code.{Shaped};
 ghost use Rattle.law_steps.specs.model_machine.specs.Chain.{depth_of, turn_of, Chain as ModelChain, Follows};
 ghost use Rattle.mc_card.specs.Parts.{IsUp, RunsChain};
@@ -25,7 +25,7 @@ use crate::memory::Memory;
 use crate::shot::Shot;
 use desk_cover::Sections;
 use desk_json::Sheet;
-use mc_base::{Aid, Steps};
+use mc_base::Aid;
 use mc_card::{BriefTurn, Card};
 use mc_deck::Line;
 use mc_nvm::Nvm;
@@ -220,16 +220,14 @@ impl<'s, 'o, T: Sink> Recorder<'s, 'o, T> {
     }
 
     /// Looks at the card before a turn of an application.
-    pub fn look_before<N: Nvm>(&mut self, card: &Card<N>, aid: Aid, steps: &mut Steps<N::Meter>)
+    pub fn look_before<N: Nvm>(&mut self, card: &Card<N>, aid: Aid)
         requires { IsWatched N.state card.now }
         ensures quiet { IsQuiet self.old self.new }
         ensures first { self.new.first ≡ Some aid }
         ensures before { (ch : ModelChain) (left : ℕ) → RunsChain N.state card.now ch left
             → IsBefore self.new.memory.before ch }
-        ensures rises { steps.old ≤ steps.new }
-        ensures reads { steps.new ≤ steps.old + 582 }
     {
-        self.memory.look_before(card, steps);
+        self.memory.look_before(card);
         self.first = Some(aid);
     }
 
@@ -259,7 +257,7 @@ impl<'s, 'o, T: Sink> Recorder<'s, 'o, T> {
     }
 
     // Writes the line of a frame that another one called, which runs now.
-    fn begin_called<N: Nvm>(&mut self, card: &Card<N>, depth: u8, steps: &mut Steps<N::Meter>)
+    fn begin_called<N: Nvm>(&mut self, card: &Card<N>, depth: u8)
         requires { IsWatched N.state card.now }
         ensures adds { (c : ModelChain) (left : ℕ) → RunsChain N.state card.now c left → 512 ≤ length c.frame.dyn
             → 2 ≤ depth → PutsText T.Sink self.old
@@ -270,12 +268,10 @@ impl<'s, 'o, T: Sink> Recorder<'s, 'o, T> {
         ensures opens { self.new.memory.opens ≡ slice_set self.old.memory.opens (frame_place depth) false }
         ensures guards { self.new.memory.guards ≡ slice_set self.old.memory.guards (frame_place depth) [] }
         ensures writes { self.new.memory.writes ≡ self.old.memory.writes }
-        ensures rises { steps.old ≤ steps.new }
-        ensures reads { steps.new ≤ steps.old + 586 }
     {
-        self.memory.look_before(card, steps);
+        self.memory.look_before(card);
         self.memory.begin_frame(depth);
-        if let Some(aid) = running_aid(card, steps) {
+        if let Some(aid) = running_aid(card) {
             self.fault = write_called(self.out, self.fault, depth, &aid, &self.memory);
         }
     }
@@ -326,13 +322,7 @@ impl<'s, 'o, T: Sink> Recorder<'s, 'o, T> {
     }
 
     // Looks at the card after a turn of an application, and returns whether the turn called another frame.
-    fn look_after<N: Nvm>(
-        &mut self,
-        card: &Card<N>,
-        aid: &Aid,
-        turn: &BriefTurn,
-        steps: &mut Steps<N::Meter>,
-    ) -> bool
+    fn look_after<N: Nvm>(&mut self, card: &Card<N>, aid: &Aid, turn: &BriefTurn) -> bool
         requires up { IsUp N.state card.now }
         requires watched { IsWatched N.state card.now }
         ensures quiet { IsQuiet self.old self.new }
@@ -341,29 +331,18 @@ impl<'s, 'o, T: Sink> Recorder<'s, 'o, T> {
             → IsBefore self.old.memory.before ch → aid.now ≡ ch.frame.name → IsAfter self.new.memory.after n ch }
         ensures called { (n : ℕ) (ch : ModelChain) → WasTurn N.state card.now n ch turn.now
             → aid.now ≡ ch.frame.name → result ≡ is_deeper (depth_of ch) (turn_of n ch).follows }
-        ensures rises { steps.old ≤ steps.new }
-        ensures reads { steps.new ≤ steps.old + 1167 }
     {
-        self.memory.look_after(card, aid, turn, steps)
+        self.memory.look_after(card, aid, turn)
     }
 
     // Records the frame that a turn at a depth called, if it called one.
-    fn after_call<N: Nvm>(
-        &mut self,
-        card: &Card<N>,
-        called: bool,
-        depth: u8,
-        steps: &mut Steps<N::Meter>,
-    )
+    fn after_call<N: Nvm>(&mut self, card: &Card<N>, called: bool, depth: u8)
         requires { IsWatched N.state card.now }
-        ensures value { (next : Follows) → Shows N.state card.now next → IsWideNext next → IsOneDeeper depth next
+        ensures { (next : Follows) → Shows N.state card.now next → IsWideNext next → IsOneDeeper depth next
             → 1 ≤ depth → called ≡ is_deeper depth next → CallsNext T.Sink self.old depth next self.new }
-        ensures sections { self.new.sections.now ≡ self.old.sections.now }
-        ensures rises { steps.old ≤ steps.new }
-        ensures reads { steps.new ≤ steps.old + 586 }
     {
         if called {
-            self.begin_called(card, depth.saturating_add(1), steps);
+            self.begin_called(card, depth.saturating_add(1));
         }
     }
 
@@ -375,22 +354,18 @@ impl<'s, 'o, T: Sink> Recorder<'s, 'o, T> {
         aid: &Aid,
         turn: &BriefTurn,
         source: Option<u32>,
-        steps: &mut Steps<N::Meter>,
     )
         requires up { IsUp N.state card.now }
         requires watched { IsWatched N.state card.now }
         requires shaped { IfSome turn.now.ins Shaped }
-        ensures value { (n : ℕ) (ch : ModelChain) → WasTurn N.state card.now n ch turn.now
+        ensures { (n : ℕ) (ch : ModelChain) → WasTurn N.state card.now n ch turn.now
             → IsBefore self.old.memory.before ch → aid.now ≡ ch.frame.name → 512 ≤ length ch.frame.dyn
             → RecordsTurn T.Sink self.old source (moment n ch) self.new }
-        ensures sections { self.new.sections.now ≡ self.old.sections.now }
-        ensures rises { steps.old ≤ steps.new }
-        ensures reads { steps.new ≤ steps.old + 1753 }
     {
-        let called = self.look_after(card, aid, turn, steps);
+        let called = self.look_after(card, aid, turn);
         self.begin_first(aid);
         self.write_turn(aid, turn, source);
-        self.after_call(card, called, turn.depth, steps);
+        self.after_call(card, called, turn.depth);
         self.first = None;
     }
 }

@@ -1,5 +1,5 @@
 // The bytes that a frame reads between two turns.
-ghost use Rattle.std.specs.Prelude.{◌≡◌, ◌+◌, ◌-◌, ◌≤◌, length, take, IsSome, Some, ◌*◌};
+ghost use Rattle.std.specs.Prelude.{◌≡◌, ◌+◌, ◌-◌, ◌≤◌, length, take, IsSome, Some};
 ghost use Rattle.law_steps.specs.model_machine.specs.Frame.{dynamic_base, static_bytes, with_la, with_sw};
 ghost use Rattle.law_steps.specs.model_device.specs.Bytes.{bytes2, lookup, splice};
 ghost use Rattle.mc_bank.specs.Bank.{app_of};
@@ -10,7 +10,7 @@ ghost use Rattle.law_steps.specs.Spans.{look_register, look_resolve};
 ghost use Rattle.desk_steps.specs.Shots.{dynamics, look_of, shot_byte, shot_number, shot_reading, statics};
 
 use mc_bank::Bank;
-use mc_base::{Aid, Steps, bytes_of};
+use mc_base::{Aid, bytes_of};
 use mc_card::Card;
 use mc_nvm::Nvm;
 use mc_segs::{Frame, Place, Public, look};
@@ -34,56 +34,24 @@ pub struct Shot {
 }
 
 // Reads all static bytes of a frame.
-fn read_static<B: Bank>(
-    bank: &B,
-    frame: &Frame,
-    public: &Public,
-    into: &mut [u8],
-    len: usize,
-    steps: &mut Steps<B::Meter>,
-)
+fn read_static<B: Bank>(bank: &B, frame: &Frame, public: &Public, into: &mut [u8], len: usize)
     requires runs { CanRun B.Bank bank.now frame.now }
     requires size { len ≡ length frame.now.frame.fixed }
     requires room { len ≤ length into.old }
-    ensures value { take len into.new ≡ take (length (frame_on_bank B.Bank bank.now frame.now).fixed)
+    ensures { take len into.new ≡ take (length (frame_on_bank B.Bank bank.now frame.now).fixed)
         (static_bytes (frame_on_bank B.Bank bank.now frame.now)) }
-    ensures rises { steps.old ≤ steps.new }
-    ensures reads { 8 * steps.new ≤ 8 * steps.old + (len + 14) }
 {
-    let _whole = look(
-        bank,
-        frame,
-        public,
-        Place::Static(0),
-        &mut into[..len],
-        steps,
-    );
+    let _whole = look(bank, frame, public, Place::Static(0), &mut into[..len]);
 }
 
 // Reads the dynamic bytes of a frame below DT.
-fn read_dynamic<B: Bank>(
-    bank: &B,
-    frame: &Frame,
-    public: &Public,
-    into: &mut [u8],
-    len: usize,
-    steps: &mut Steps<B::Meter>,
-)
+fn read_dynamic<B: Bank>(bank: &B, frame: &Frame, public: &Public, into: &mut [u8], len: usize)
     requires runs { CanRun B.Bank bank.now frame.now }
     requires most { len ≤ 512 }
     requires room { len ≤ length into.old }
-    ensures value { 512 ≤ length frame.now.frame.dyn → take len into.new ≡ take len frame.now.frame.dyn }
-    ensures rises { steps.old ≤ steps.new }
-    ensures reads { 8 * steps.new ≤ 8 * steps.old + (len + 14) }
+    ensures { 512 ≤ length frame.now.frame.dyn → take len into.new ≡ take len frame.now.frame.dyn }
 {
-    let _whole = look(
-        bank,
-        frame,
-        public,
-        Place::Dynamic(0),
-        &mut into[..len],
-        steps,
-    );
+    let _whole = look(bank, frame, public, Place::Dynamic(0), &mut into[..len]);
 }
 
 // Writes a number in two bytes.
@@ -123,13 +91,7 @@ impl Shot {
     }
 
     /// Becomes the shot of a frame.
-    pub fn take<B: Bank>(
-        &mut self,
-        bank: &B,
-        frame: &Frame,
-        public: &Public,
-        steps: &mut Steps<B::Meter>,
-    )
+    pub fn take<B: Bank>(&mut self, bank: &B, frame: &Frame, public: &Public)
         requires { CanRun B.Bank bank.now frame.now }
         ensures lb { self.new.lb ≡ frame.now.frame.lb }
         ensures dt { self.new.dt ≡ frame.now.frame.dt }
@@ -139,23 +101,20 @@ impl Shot {
         ensures whole { length public.now ≡ 1041 }
         ensures reading { 512 ≤ length frame.now.frame.dyn
             → shot_reading self.new ≡ reading_of (frame_on_bank B.Bank bank.now frame.now) public.now }
-        ensures rises { steps.old ≤ steps.new }
-        ensures reads { steps.new ≤ steps.old + 582 }
     {
         let dt = frame.dt();
-        let len = bank.facts(frame.slot(), steps).sizes.fixed;
+        let len = bank.facts(frame.slot()).sizes.fixed;
         self.lb = frame.lb();
         self.dt = dt;
         self.fixed_len = len;
         self.dynamic = [0; 512];
-        read_static(bank, frame, public, &mut self.fixed, len as usize, steps);
+        read_static(bank, frame, public, &mut self.fixed, len as usize);
         read_dynamic(
             bank,
             frame,
             public,
             &mut self.dynamic,
             (dt - DYNAMIC) as usize,
-            steps,
         );
         self.public.copy_from_slice(public.bytes());
     }
@@ -170,18 +129,16 @@ impl Shot {
     }
 
     /// Has the static bytes that a card keeps of the application of a name.
-    pub fn take_kept<N: Nvm>(&mut self, card: &Card<N>, aid: &Aid, steps: &mut Steps<N::Meter>)
+    pub fn take_kept<N: Nvm>(&mut self, card: &Card<N>, aid: &Aid)
         requires { IsUp N.state card.now }
         ensures lb { self.new.lb ≡ self.old.lb }
         ensures reading { IsSome (lookup (card_in N.state card.now).apps aid.now)
             → shot_reading self.new ≡ record (shot_reading self.old)
             { fixed = (app_of (card_in N.state card.now).apps (Some aid.now)).fixed } }
-        ensures rises { steps.old ≤ steps.new }
-        ensures reads { steps.new ≤ steps.old + 1167 }
     {
-        if let Some(len) = card.static_len(aid, steps) {
+        if let Some(len) = card.static_len(aid) {
             self.fixed_len = len;
-            card.static_of(aid, 0, &mut self.fixed[..len as usize], steps);
+            card.static_of(aid, 0, &mut self.fixed[..len as usize]);
         }
     }
 

@@ -35,15 +35,15 @@ use Rattle.lab_application.proofs.WordLemmas.{explored_by, explored_failed, expl
 -- ---- searches
 
 -- what a search that ended has found, by the code's search
-abbrev round_of : {L : Type 0} → Rules → Search L → Round
+abbrev round_of : Rules → Search → Round
 round_of r s = record { known = []; fresh = []; count = length s.states.keys; tries = s.tally.tries; heard = heard_from 0 r.ons.items s.tally.heard.items }
 
 -- a search that ends after a depth
-abbrev pub ended : {L : Type 0} → Rules → Search L → Ending → Found
+abbrev pub ended : Rules → Search → Ending → Found
 ended r s e = search_end e (round_of r s)
 
 -- the text of the end of a search that broke no rule
-pub kept_is : {L : Type 0} (r : Rules) (s : Search L) (how : List ℕ) → kept_text_of r s how ≡ kept_text (round_of r s) how
+pub kept_is : (r : Rules) (s : Search) (how : List ℕ) → kept_text_of r s how ≡ kept_text (round_of r s) how
 kept_is r s how = ap (λ t. t ++ sums_text (length s.states.keys) s.tally.tries how) (silent_is 0 r.ons.items s.tally.heard.items)
 
 ending_more : (r : Rules) (ms : List rule.Move) (k depth n : ℕ) (news : List ℕ) (e : Ending) → IsEndingFrom r ms (k + 1) depth news e → IsEndingFrom r ms k depth (n ∷ news) e
@@ -66,7 +66,7 @@ text_whole : (r : Rules) (ms : List rule.Move) (depth : ℕ) (z : State) (a c : 
 text_whole r ms depth z a c result q found h = record { search = q; found = found; explored = h }
 
 module _ (r : Rules) (ls : List (ℕ × DeckLine)) (ms : List rule.Move) (n most depth : ℕ) where
-  abbrev pub Left : {L : Type 0} → ℕ → Search L → Sunk → Sunk → Type 0
+  abbrev pub Left : ℕ → Search → Sunk → Sunk → Type 0
   Left done s a b = DepthsLeft r ls ms n most depth done s a b
 
   abbrev z : State
@@ -76,18 +76,18 @@ module _ (r : Rules) (ls : List (ℕ × DeckLine)) (ms : List rule.Move) (n most
   d = record { rules = shadow ms n; most = most; from = 0 }
 
   -- the search begins
-  pub left_first : {L : Type 0} (s : Search L) (w : Start) (a : Sunk) → StartsWith ls ms n most s w → Left 0 s a a
+  pub left_first : (s : Search) (w : Start) (a : Sunk) → StartsWith ls ms n most s w → Left 0 s a a
   left_first s w a h = record { nodes = h.node ∷ []; holds = h.holds; rest = λ q result c found x. text_whole r ms depth z a c result q found x }
 
   -- out of memory within a depth
-  pub left_stops : {L : Type 0} (done : ℕ) (s : Search L) (a b : Sunk) (result : Result Explored JobFault) → done < depth → Left done s a b → IsErr result → IsErrAnd result (λ y. y ≡ fault.NoMemory) → IsAppExplored r ms depth z a result b
+  pub left_stops : (done : ℕ) (s : Search) (a b : Sunk) (result : Result Explored JobFault) → done < depth → Left done s a b → IsErr result → IsErrAnd result (λ y. y ≡ fault.NoMemory) → IsAppExplored r ms depth z a result b
   left_stops done s a b result below k i y =
       k.rest (ended r s (TooMany (done + 1))) result b
       (record { few = omega (arith, below); ending = omega arith; heard = (s.tally.heard.items, refl) })
       (explored_err b b _ _ result fault.NoMemory i y (nothing_yet b _))
 
   -- a depth with one state too many, or with a broken rule
-  pub left_halts : {L : Type 0} (done : ℕ) (s u : Search L) (a b c : Sunk) (h : Halt) (result : Result Explored JobFault) → done < depth → Left done s a b → Reports r u z ms (done + 1) h b result c → IsAppExplored r ms depth z a result c
+  pub left_halts : (done : ℕ) (s u : Search) (a b c : Sunk) (h : Halt) (result : Result Explored JobFault) → done < depth → Left done s a b → Reports r u z ms (done + 1) h b result c → IsAppExplored r ms depth z a result c
   left_halts done s u a b c halt.Full result below k h =
       k.rest (ended r u (TooMany (done + 1))) result c
       (record { few = omega (arith, below); ending = omega arith; heard = (u.tally.heard.items, refl) })
@@ -100,7 +100,7 @@ module _ (r : Rules) (ls : List (ℕ × DeckLine)) (ms : List rule.Move) (n most
       (explored_by b c _ (Broken name path) explored.Broken result refl (put_as b c result (ap (broken_text name) (sym (way_is z h.0 h.1))) h.3) h.4)
 
   -- the line of a depth fails
-  pub left_fails : {L : Type 0} (done new : ℕ) (s u : Search L) (a b c : Sunk) (result : Result Explored JobFault) → done < depth → Left done s a b → IsErr result → IsErrAnd result (λ y. y ≡ fault.WriteFault) → Fails b (depth_line (done + 1) new) c
+  pub left_fails : (done new : ℕ) (s u : Search) (a b c : Sunk) (result : Result Explored JobFault) → done < depth → Left done s a b → IsErr result → IsErrAnd result (λ y. y ≡ fault.WriteFault) → Fails b (depth_line (done + 1) new) c
       → IsAppExplored r ms depth z a result c
   left_fails done new s u a b c result below k i y f =
       let q = ended r u (TooMany (done + 2)) in
@@ -108,7 +108,7 @@ module _ (r : Rules) (ls : List (ℕ × DeckLine)) (ms : List rule.Move) (n most
       k.rest (with_depth new q) result c (found_more r ms done depth new q ended_next) (explored_failed (done + 1) z new q b c result i y f)
 
   -- a depth without new states is the last
-  pub left_last : {L : Type 0} (done new : ℕ) (s u : Search L) (a b m c : Sunk) (result : Result Explored JobFault) → done < depth → Left done s a b → new ≡ 0 → Writes b (depth_line (done + 1) new) m
+  pub left_last : (done new : ℕ) (s u : Search) (a b m c : Sunk) (result : Result Explored JobFault) → done < depth → Left done s a b → new ≡ 0 → Writes b (depth_line (done + 1) new) m
       → IsPut m (kept_text_of r u (how_text None)) result c → IfOk result (λ e. e ≡ kept_as None) → IsAppExplored r ms depth z a result c
   left_last done new s u a b m c result below k none w put is =
       let q = ended r u All in
@@ -121,7 +121,7 @@ module _ (r : Rules) (ls : List (ℕ × DeckLine)) (ms : List rule.Move) (n most
       (explored_then (done + 1) z new q b m c result w (explored_by m c _ All explored.All result refl (put_as m c result (kept_is r u (how_text None)) put) is))
 
   -- a depth with new states
-  pub left_next : {L : Type 0} (done new : ℕ) (s u : Search L) (a b m : Sunk) → (k : Left done s a b) → HoldsMore d k.nodes u → Writes b (depth_line (done + 1) new) m → Left (done + 1) u a m
+  pub left_next : (done new : ℕ) (s u : Search) (a b m : Sunk) → (k : Left done s a b) → HoldsMore d k.nodes u → Writes b (depth_line (done + 1) new) m → Left (done + 1) u a m
   left_next done new s u a b m k h w =
       record {
         nodes = h.all;
@@ -130,7 +130,7 @@ module _ (r : Rules) (ls : List (ℕ × DeckLine)) (ms : List rule.Move) (n most
       }
 
   -- all depths are done
-  pub left_end : {L : Type 0} (done : ℕ) (s : Search L) (a b c : Sunk) (result : Result Explored JobFault) → Left done s a b → done ≡ depth → IsPut b (kept_text_of r s (how_text (Some depth))) result c → IfOk result (λ e. e ≡ kept_as (Some depth))
+  pub left_end : (done : ℕ) (s : Search) (a b c : Sunk) (result : Result Explored JobFault) → Left done s a b → done ≡ depth → IsPut b (kept_text_of r s (how_text (Some depth))) result c → IfOk result (λ e. e ≡ kept_as (Some depth))
       → IsAppExplored r ms depth z a result c
   left_end done s a b c result k e put is =
       k.rest (ended r s (AtDepth depth)) result c
@@ -138,12 +138,12 @@ module _ (r : Rules) (ls : List (ℕ × DeckLine)) (ms : List rule.Move) (n most
       (explored_by b c _ (AtDepth depth) explored.Partial result refl (put_as b c result (kept_is r s (how_text (Some depth))) put) is)
 
   -- the states of a depth can be tried
-  pub left_can : {L : Type 0} (done from to : ℕ) (s : Search L) (a b : Sunk) (c : MoveRules) → (k : Left done s a b) → AreShadows c (shadow ms n) → from ≤ to → to ≡ length s.states.keys → CanTryFrom s c from to
+  pub left_can : (done from to : ℕ) (s : Search) (a b : Sunk) (c : MoveRules) → (k : Left done s a b) → AreShadows c (shadow ms n) → from ≤ to → to ≡ length s.states.keys → CanTryFrom s c from to
   left_can done from to s a b c k shadows within at =
       (d, k.nodes, k.holds, within, at ∙ alike_length (KeepsNode (shadow ms n) s) s.states.keys k.nodes k.holds.kept, shadows)
 
   -- what the tries of a depth come to
-  pub left_comes : {L : Type 0} (done from to : ℕ) (s u : Search L) (a b : Sunk) (c : MoveRules) (o : Option Halt) → (k : Left done s a b) → AreShadows c (shadow ms n) → from ≤ to → to ≡ length s.states.keys
+  pub left_comes : (done from to : ℕ) (s u : Search) (a b : Sunk) (c : MoveRules) (o : Option Halt) → (k : Left done s a b) → AreShadows c (shadow ms n) → from ≤ to → to ≡ length s.states.keys
       → ((e : Depth) (ns : List Node) → Holds e s ns → from ≤ to → to ≡ length ns → AreShadows c e.rules → ComesTo e ns o u) → ComesTo d k.nodes o u
   left_comes done from to s u a b c o k shadows within at f =
       f d k.nodes k.holds within (at ∙ alike_length (KeepsNode (shadow ms n) s) s.states.keys k.nodes k.holds.kept) shadows

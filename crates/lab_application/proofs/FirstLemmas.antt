@@ -24,7 +24,7 @@ moves_alone ls ms = record { lines = ls; rules = counting ms }
 pub alone : (x : Exploration) (ls : List (ℕ × DeckLine)) (ms : List rule.Move) → AreMovesOf x ls ms → IsExplorationOf x (moves_alone ls ms)
 alone x ls ms h = record { deck = h.deck; rules = h.rules; cards = h.cards }
 
-pub starts_with : {L : Type 0} (x : Exploration) (ls : List (ℕ × DeckLine)) (ms : List rule.Move) (most n : ℕ) (b : Beginning L) (first : CardState) (s : Search L) (z : Start) → Begins b (moves_alone ls ms)
+pub starts_with : (x : Exploration) (ls : List (ℕ × DeckLine)) (ms : List rule.Move) (most n : ℕ) (b : Beginning) (first : CardState) (s : Search) (z : Start) → Begins b (moves_alone ls ms)
     → first.card ≡ b.first.card → first.runs ≡ b.first.runs → length first.allowances.items ≡ suc n
     → ((r : rule.Rules) (c : model.CardState) → Kept b.laboratory b.rosters (names_in r) first c → length b.laboratory.counts.items ≡ length r.ons → Holds (record { rules = r; most = most; from = 0 }) s (record { state = c; path = [] } ∷ []))
     → z.lead ≡ b.lead → z.ran ≡ (b.first.runs && not b.lead.power) → StartsWith ls ms n most s z

@@ -44,17 +44,17 @@ path_of moves steps ns h (suc most) (suc i) w n at =
 -- ---- reports
 
 -- the last try and the ones before it
-pub breaks_of_moves : {L : Type 0} (d : Depth) (ns : List Node) (r : Step) (s : Search L) → (b : BreaksAt d ns r s) → AllByRecursion (IsOfMoves d.rules.moves) (b.last ∷ b.before.path)
+pub breaks_of_moves : (d : Depth) (ns : List Node) (r : Step) (s : Search) → (b : BreaksAt d ns r s) → AllByRecursion (IsOfMoves d.rules.moves) (b.last ∷ b.before.path)
 breaks_of_moves d ns r s b = ((r.chosen, b.is.move), path_of d.rules.moves s.last_steps.items b.all b.holds.reached r.before r.before (omega arith) b.before b.found)
 
-breaks_by_halt : {L : Type 0} (d : Depth) (ns : List Node) (h : Halt) (x : Break) (r : Step) (s : Search L) → h ≡ halt.Broken x r → ComesTo d ns (Some h) s → BreaksAt d ns r s
+breaks_by_halt : (d : Depth) (ns : List Node) (h : Halt) (x : Break) (r : Step) (s : Search) → h ≡ halt.Broken x r → ComesTo d ns (Some h) s → BreaksAt d ns r s
 breaks_by_halt d ns h x r s e k = let at = subst (λ (y : Halt). ComesTo d ns (Some y) s) e k in at
 
-pub reports_full : {L : Type 0} (r : Rules) (s : Search L) (z : State) (ms : List rule.Move) (depth : ℕ) (h : Halt) (a b : Sunk) (result : Result Explored JobFault) → h ≡ halt.Full → IsPut a (kept_text_of r s (how_text (Some depth))) result b
+pub reports_full : (r : Rules) (s : Search) (z : State) (ms : List rule.Move) (depth : ℕ) (h : Halt) (a b : Sunk) (result : Result Explored JobFault) → h ≡ halt.Full → IsPut a (kept_text_of r s (how_text (Some depth))) result b
     → IfOk result (λ e. e ≡ explored.Partial) → Reports r s z ms depth h a result b
 reports_full r s z ms depth h a b result e put is = subst (λ (y : Halt). Reports r s z ms depth y a result b) (sym e) (put, is)
 
-pub reports_broken : {L : Type 0} (rules : Rules) (s : Search L) (z : State) (x : rule.Rules) (d : Depth) (ns : List Node) (depth : ℕ) (h : Halt) (b : Break) (r : Step) (a c : Sunk) (result : Result Explored JobFault) → h ≡ halt.Broken b r → d.rules ≡ x
+pub reports_broken : (rules : Rules) (s : Search) (z : State) (x : rule.Rules) (d : Depth) (ns : List Node) (depth : ℕ) (h : Halt) (b : Break) (r : Step) (a c : Sunk) (result : Result Explored JobFault) → h ≡ halt.Broken b r → d.rules ≡ x
     → ComesTo d ns (Some h) s
     → ((all : List Node) (n : Node) (t : Try) → IsFrom d s all n r.before → IsTry d.rules.moves r t → IsPut a (broken_text (broken_name rules b) (statements_to z (reverse (t ∷ n.path)))) result c)
     → IfOk result (λ e. e ≡ explored.Broken) → Reports rules s z x.moves depth h a result c

@@ -130,7 +130,7 @@ not_broken rs h c m w name e =
     absurd (cc (sym (ap (λ (x : Result (List (List ℕ × ℕ)) (List ℕ)). ok_as (λ a. state_in (recovery m.number (manner_value w) t.after) a) x) all.1) ∙ e))
 
 -- a try of `on` lines that reduce no allowance breaks none
-pub never_broken : {L : Type 0} (lab : Laboratory L) (r : Rosters) (names : List (List ℕ)) (held : List (List ℕ × ℕ)) (os : List OnRule) (rs : List rule.OnRule) (c : CardState) (m : rule.Move) (w : Manner) (t : Tried) (i : ℕ)
+pub never_broken : (lab : Laboratory) (r : Rosters) (names : List (List ℕ)) (held : List (List ℕ × ℕ)) (os : List OnRule) (rs : List rule.OnRule) (c : CardState) (m : rule.Move) (w : Manner) (t : Tried) (i : ℕ)
     → AlikeLists (IsOn held) os rs → SpendNothing os → TryIs lab r names rs c m w t → t ≡ tried.Broken i → ⊥
 never_broken lab r names held os rs c m w tried.NotHit i ons k h e = absurd (cc e)
 never_broken lab r names held os rs c m w (tried.Reached y) i ons k h e = absurd (cc e)

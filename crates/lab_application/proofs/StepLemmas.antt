@@ -2,23 +2,36 @@
 use Rattle.std.specs.Prelude.{◌≡◌, ℕ, zero, suc, ◌+◌, ◌*◌, ◌<◌, ◌≤◌, true, List, [], ◌∷◌, ◌++◌, drop, length, map, slice_get, take, Some, refl}
 use Rattle.std.specs.List.{AllByRecursion}
 use Rattle.std.proofs.Common.{arith, ap, length-append, sym, subst, ◌∙◌}
+use Rattle.std.proofs.Math.Nat.{add-mul, mul-le-mul_right, one-mul}
 use Rattle.law_histories.specs.model_play.specs.DeckGrammar.{DeckLine}
 use Rattle.law_histories.specs.law_explore.specs.Rules as rule
-use Rattle.law_histories.specs.law_explore.specs.States.{CardState}
+use Rattle.law_histories.specs.model_play.specs.Family.{is_running}
+use Rattle.law_histories.specs.model_play.specs.Play.{Live, Running, Unpowered, Muted}
+use Rattle.law_histories.specs.law_explore.specs.States.{CardState, play_of}
 use Rattle.law_histories.specs.law_explore.specs.Search.{Node}
+use Rattle.law_histories.specs.law_explore.specs.Tries.{cuts_from, manners, tries_with, writes_of}
 use Rattle.lab_search.specs.Rounds.{Holds, KeepsNode}
-use Rattle.lab_search.specs.ExplorationSteps.{most_of_beginning, most_of_tries, plays_of_cuts}
+use Rattle.lab_search.specs.ExplorationSteps.{most_of_deck, most_of_move, most_of_tries, plays_of_cuts}
 use Rattle.lab_search.specs.declared.endings.Start.{Start}
 use Rattle.lab_search.specs.declared.rounds.Search.{Search}
 use Rattle.lab_search.proofs.AlikeLemmas.{alike_length, drop_at}
-use Rattle.lab_search.proofs.StepCountLemmas.{more_plays, one_play, within_plays}
 use Rattle.lab_record.specs.RecordSteps.{most_of_chronicle}
-use Rattle.lab_application.specs.ApplicationSteps.{first_of, led_by_tries, most_of_course, most_of_moves, most_of_states, most_of_tried, most_states, IsReachable, IsSameCard, SearchSteps, TakesSteps}
+use Rattle.lab_application.specs.ApplicationSteps.{first_of, led_by_tries, most_of_moves, most_of_states, most_of_tried, most_states, IsReachable, IsSameCard, SearchSteps, TakesSteps}
 use Rattle.lab_application.specs.Finding.{states_in, AreReachable, Grows}
 use Rattle.lab_application.specs.Shadows.{shadow}
 use Rattle.lab_application.specs.Starts.{StartsWith}
 
 -- ---- plays of the same steps
+
+-- some plays of the same steps
+within_plays : (n k s old new : ℕ) → n ≤ k → new ≤ old + n * s → new ≤ old + k * s
+within_plays n k s old new le h = let e = mul-le-mul_right s le in omega (arith, h, e)
+
+one_play : (s old new : ℕ) → new ≤ old + s → new ≤ old + 1 * s
+one_play s old new h = let e = one-mul s in omega (arith, h, e)
+
+more_plays : (n k s old mid new : ℕ) → mid ≤ old + n * s → new ≤ mid + k * s → new ≤ old + (n + k) * s
+more_plays n k s old mid new first second = let e = add-mul n k s in omega (arith, first, second, e)
 
 pub no_play : (s old : ℕ) → old ≤ old + 0 * s
 no_play s old = omega arith
@@ -67,22 +80,54 @@ fills_two s old mid new first second = more_plays 1 1 s old mid new (one_play s 
 
 -- ---- a move
 
--- the first of two parts
-first_part : (a b old new : ℕ) → new ≤ old + a → new ≤ old + (a + b)
-first_part a b old new h = omega (arith, h)
+count_of_cuts : (k n : ℕ) → length (cuts_from k n) ≡ 3 * n
+count_of_cuts k zero = refl
+count_of_cuts k (suc n) = let rest = count_of_cuts (k + 1) n in omega (arith, rest)
 
--- and both
-both_parts : (a b old mid new : ℕ) → mid ≤ old + a → new ≤ mid + b → new ≤ old + (a + b)
-both_parts a b old mid new h k = omega (arith, h, k)
+map_length : {X Y : Type 0} (f : X → Y) (xs : List X) → length (map f xs) ≡ length xs
+map_length f [] = refl
+map_length f (x ∷ xs) = ap suc (map_length f xs)
+
+running_manners : (v : Live) (n : ℕ) → is_running v ≡ true → length (manners v n) ≡ 1 + 3 * n
+running_manners (Running x) n h = let e = count_of_cuts 1 n in omega (arith, e)
+running_manners Unpowered n h = absurd (cc h)
+running_manners Muted n h = absurd (cc h)
+
+count_of_tries : (c : CardState) (m : rule.Move) → length (tries_with c m) ≡ length (manners c.live (writes_of (play_of c) m))
+count_of_tries c m = map_length (λ w. record { move = m; manner = w }) (manners c.live (writes_of (play_of c) m))
+
+-- the move whole, and no more
+pub whole_steps : (c : CardState) (m : rule.Move) (old new : ℕ) → new ≤ old + most_of_move c m → new ≤ old + most_of_tries c m
+whole_steps c m old new h = within_plays 1 (length (tries_with c m) + 1) (most_of_move c m) old new (omega arith) (one_play (most_of_move c m) old new h)
+
+-- the move whole, and its cuts
+pub tries_steps : (c : CardState) (m : rule.Move) (old mid new : ℕ) → is_running c.live ≡ true → mid ≤ old + most_of_move c m → new ≤ mid + plays_of_cuts (writes_of (play_of c) m) * most_of_move c m
+    → new ≤ old + most_of_tries c m
+tries_steps c m old mid new runs first second =
+    let s = most_of_move c m in
+    let n = writes_of (play_of c) m in
+    let count = count_of_tries c m in
+    let many = running_manners c.live n runs in
+    within_plays (1 + (3 * n + 1)) (length (tries_with c m) + 1) s old new (omega (arith, count, many)) (more_plays 1 (3 * n + 1) s old mid new (one_play s old mid first) second)
 
 -- a move that was recorded, and tried
-pub recorded_alone : (c : CardState) (m : rule.Move) (old new : ℕ) → new ≤ old + most_of_course c m → new ≤ old + most_of_tried c m
-recorded_alone c m old new h = first_part (most_of_course c m) (most_of_tries c m) old new h
+pub recorded_alone : (c : CardState) (m : rule.Move) (old new : ℕ) → new ≤ old + most_of_move c m → new ≤ old + most_of_tried c m
+recorded_alone c m old new h = within_plays 1 (length (tries_with c m) + 2) (most_of_move c m) old new (omega arith) (one_play (most_of_move c m) old new h)
 
-pub recorded_tried : (c : CardState) (m : rule.Move) (old mid new : ℕ) → mid ≤ old + most_of_course c m → new ≤ mid + most_of_tries c m → new ≤ old + most_of_tried c m
-recorded_tried c m old mid new first tries = both_parts (most_of_course c m) (most_of_tries c m) old mid new first tries
+pub recorded_tried : (c : CardState) (m : rule.Move) (old mid new : ℕ) → mid ≤ old + most_of_move c m → new ≤ mid + most_of_tries c m → new ≤ old + most_of_tried c m
+recorded_tried c m old mid new first tries =
+    let n = length (tries_with c m) in
+    let s = most_of_move c m in
+    within_plays (1 + (n + 1)) (n + 2) s old new (omega arith) (more_plays 1 (n + 1) s old mid new (one_play s old mid first) tries)
 
 -- ---- sums that are left
+
+-- one more of a sum was done
+pub sum_more : (left here rest old all now new : ℕ) → left ≡ here + rest → now + left ≤ old + all → new ≤ now + here → new + rest ≤ old + all
+sum_more left here rest old all now new is before step = omega (arith, is, before, step)
+
+pub sum_within : (left here rest old all now new : ℕ) → left ≡ here + rest → now + left ≤ old + all → new ≤ now + here → new ≤ old + all
+sum_within left here rest old all now new is before step = omega (arith, is, before, step)
 
 pub moves_from : (ms : List rule.Move) (i : ℕ) (m : rule.Move) (c : CardState) → slice_get ms i ≡ Some m → most_of_moves (drop i ms) c ≡ most_of_tried c m + most_of_moves (drop (i + 1) ms) c
 moves_from ms i m c h = ap (λ (xs : List rule.Move). most_of_moves xs c) (drop_at ms i m h)
@@ -113,7 +158,7 @@ take_extended (n ∷ ns) more = ap (λ (xs : List Node). n ∷ xs) (take_extende
 -- ---- a search
 
 -- the moves were tried from the first nodes of a search
-pub record StepsTo {L : Type 0} (ls : List (ℕ × DeckLine)) (ms : List rule.Move) (n limit from old now : ℕ) (s : Search L) : Type 0 where
+pub record StepsTo (ls : List (ℕ × DeckLine)) (ms : List rule.Move) (n limit from old now : ℕ) (s : Search) : Type 0 where
   pub nodes : List Node
   pub holds : Holds (record { rules = shadow ms n; most = limit; from = 0 }) s nodes
   pub within : from ≤ length nodes
@@ -122,7 +167,7 @@ pub record StepsTo {L : Type 0} (ls : List (ℕ × DeckLine)) (ms : List rule.Mo
   pub steps : now ≤ old + most_of_states ms (states_in (take from nodes))
 
 -- as many nodes as states
-pub to_nodes : {L : Type 0} (ls : List (ℕ × DeckLine)) (ms : List rule.Move) (n limit from old now to : ℕ) (s : Search L) → (h : StepsTo ls ms n limit from old now s) → to ≡ length s.states.keys → to ≡ length h.nodes
+pub to_nodes : (ls : List (ℕ × DeckLine)) (ms : List rule.Move) (n limit from old now to : ℕ) (s : Search) → (h : StepsTo ls ms n limit from old now s) → to ≡ length s.states.keys → to ≡ length h.nodes
 to_nodes ls ms n limit from old now to s h at = at ∙ alike_length (KeepsNode (shadow ms n) s) s.states.keys h.nodes h.holds.kept
 
 room_for : (limit : ℕ) → (1 ≤ most_states limit) × (limit ≤ most_states limit)
@@ -137,7 +182,7 @@ reachable_first : (ls : List (ℕ × DeckLine)) (ms : List rule.Move) (n : Node)
 reachable_first ls ms n same =
     ([], tt, same ∙ sym (ap (λ (c : CardState). record c { allowances = (n.state).allowances }) (tries_none (first_of ls ms))))
 
-pub steps_first : {L : Type 0} (ls : List (ℕ × DeckLine)) (ms : List rule.Move) (n limit old : ℕ) (s : Search L) (z : Start) → StartsWith ls ms n limit s z → StepsTo ls ms n limit 0 old old s
+pub steps_first : (ls : List (ℕ × DeckLine)) (ms : List rule.Move) (n limit old : ℕ) (s : Search) (z : Start) → StartsWith ls ms n limit s z → StepsTo ls ms n limit 0 old old s
 steps_first ls ms n limit old s z h =
     let room = (room_for limit).0 in
     record {
@@ -165,18 +210,18 @@ search_steps ls ms limit old new ns few reachable steps =
     }
 
 -- a depth ended the search
-pub steps_depth : {L : Type 0} (ls : List (ℕ × DeckLine)) (ms : List rule.Move) (n limit from old now new : ℕ) (s : Search L) → (h : StepsTo ls ms n limit from old now s) → new ≤ now + most_of_states ms (states_in (drop from h.nodes)) → SearchSteps ls ms limit old new
+pub steps_depth : (ls : List (ℕ × DeckLine)) (ms : List rule.Move) (n limit from old now new : ℕ) (s : Search) → (h : StepsTo ls ms n limit from old now s) → new ≤ now + most_of_states ms (states_in (drop from h.nodes)) → SearchSteps ls ms limit old new
 steps_depth ls ms n limit from old now new s h here = search_steps ls ms limit old new h.nodes h.few h.reachable (depth_all ms h.nodes from old now new h.steps here)
 
 -- no depth is left
-pub steps_last : {L : Type 0} (ls : List (ℕ × DeckLine)) (ms : List rule.Move) (n limit from old now : ℕ) (s : Search L) → StepsTo ls ms n limit from old now s → SearchSteps ls ms limit old now
+pub steps_last : (ls : List (ℕ × DeckLine)) (ms : List rule.Move) (n limit from old now : ℕ) (s : Search) → StepsTo ls ms n limit from old now s → SearchSteps ls ms limit old now
 steps_last ls ms n limit from old now s h =
     let split = states_split ms h.nodes from in
     let before = h.steps in
     search_steps ls ms limit old now h.nodes h.few h.reachable (omega (arith, split, before))
 
 -- a depth went on
-pub steps_next : {L : Type 0} (ls : List (ℕ × DeckLine)) (ms : List rule.Move) (n limit from to old now new : ℕ) (s u : Search L) (all : List Node) → (h : StepsTo ls ms n limit from old now s) → to ≡ length h.nodes
+pub steps_next : (ls : List (ℕ × DeckLine)) (ms : List rule.Move) (n limit from to old now new : ℕ) (s u : Search) (all : List Node) → (h : StepsTo ls ms n limit from old now s) → to ≡ length h.nodes
     → Grows (record { rules = shadow ms n; most = limit; from = 0 }) h.nodes all → Holds (record { rules = shadow ms n; most = limit; from = 0 }) u all
     → new ≤ now + most_of_states ms (states_in (drop from h.nodes)) → StepsTo ls ms n limit to old new u
 steps_next ls ms n limit from to old now new s u all h at grew holds here =
@@ -195,11 +240,11 @@ steps_next ls ms n limit from to old now new s u all h at grew holds here =
 -- ---- the whole
 
 -- the deck broke a rule, or an error came before the search
-pub takes_none : (ls : List (ℕ × DeckLine)) (ms : List rule.Move) (limit old new : ℕ) → new ≤ old + (most_of_chronicle ls + most_of_beginning ls) → TakesSteps ls ms limit old new
+pub takes_none : (ls : List (ℕ × DeckLine)) (ms : List rule.Move) (limit old new : ℕ) → new ≤ old + (most_of_chronicle ls + most_of_deck ls) → TakesSteps ls ms limit old new
 takes_none ls ms limit old new h = record { states = []; few = omega arith; reachable = tt; steps = omega (arith, h) }
 
 -- the deck was recorded and played, and the moves were tried
-pub takes_all : (ls : List (ℕ × DeckLine)) (ms : List rule.Move) (limit old mid new : ℕ) → mid ≤ old + (most_of_chronicle ls + most_of_beginning ls) → SearchSteps ls ms limit mid new → TakesSteps ls ms limit old new
+pub takes_all : (ls : List (ℕ × DeckLine)) (ms : List rule.Move) (limit old mid new : ℕ) → mid ≤ old + (most_of_chronicle ls + most_of_deck ls) → SearchSteps ls ms limit mid new → TakesSteps ls ms limit old new
 takes_all ls ms limit old mid new first h =
     let tried = h.steps in
     record { states = h.states; few = h.few; reachable = h.reachable; steps = omega (arith, first, tried) }

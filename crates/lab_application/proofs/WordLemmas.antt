@@ -114,7 +114,7 @@ put_as a b r e p = subst (λ (x : List ℕ). IsPut a x r b) e p
 
 -- ---- the end of a search that broke no rule
 
-module _ {L : Type 0} (r : Rules) (s : Search L) (used : List On) (heard : List Bool) where
+module _ (r : Rules) (s : Search) (used : List On) (heard : List Bool) where
   silent_used : used ≡ r.ons.items → heard ≡ s.tally.heard.items → silent_from 0 used heard ≡ silent_from 0 r.ons.items s.tally.heard.items
   silent_used e f = ap (λ (os : List On). silent_from 0 os heard) e ∙ ap (λ (hs : List Bool). silent_from 0 r.ons.items hs) f
 

@@ -5,10 +5,9 @@ use Rattle.law_histories.specs.model_play.specs.DeckGrammar.{DeckLine}
 use Rattle.law_histories.specs.law_explore.specs.Rules.{Move}
 use Rattle.law_histories.specs.law_explore.specs.States.{CardState, play_of, state_in}
 use Rattle.law_histories.specs.law_explore.specs.Search.{first_state}
-use Rattle.law_histories.specs.law_explore.specs.Tries.{Manner, Try, recovery, step_of}
-use Rattle.mc_script.specs.StepCounts.{most_of_power}
-use Rattle.lab_record.specs.RecordSteps.{most_of_chronicle, most_of_line}
-use Rattle.lab_search.specs.ExplorationSteps.{most_of_beginning, most_of_tries}
+use Rattle.law_histories.specs.law_explore.specs.Tries.{Manner, Try, recovery, step_of, tries_with}
+use Rattle.lab_record.specs.RecordSteps.{most_of_chronicle}
+use Rattle.lab_search.specs.ExplorationSteps.{most_of_deck, most_of_move}
 use Rattle.lab_application.specs.Shadows.{counting}
 
 -- ---- states
@@ -36,14 +35,10 @@ IsReachable c ms d = (ts : List Try) × AllByRecursion (λ t. (i : ℕ) × (slic
 
 -- ---- steps
 
--- the most steps of a move that is made once from a state and recorded: a power-up puts the state back
-abbrev pub most_of_course : CardState → Move → ℕ
-most_of_course c m = most_of_power + most_of_line (play_of c) m.line
-
 -- the most steps of a move that is tried from a state: it is played once to record it, once in each try, and once in a cut
 -- that hits no write
 abbrev pub most_of_tried : CardState → Move → ℕ
-most_of_tried c m = most_of_course c m + most_of_tries c m
+most_of_tried c m = (length (tries_with c m) + 2) * most_of_move c m
 
 -- the most steps of moves that are tried from a state
 abbrev pub most_of_moves : List Move → CardState → ℕ
@@ -73,10 +68,10 @@ pub record SearchSteps (ls : List (ℕ × DeckLine)) (ms : List Move) (limit old
   pub reachable : AllByRecursion (IsReachable (first_of ls ms) ms) states
   pub steps : new ≤ old + most_of_states ms states
 
--- The steps of an exploration: at most those of its deck, recorded and played, and of what leads on from its end, and those
--- of its moves, tried from states to which tries lead.
+-- The steps of an exploration: at most those of its deck, recorded and played, and of its moves, tried from states to which
+-- tries lead.
 pub record TakesSteps (ls : List (ℕ × DeckLine)) (ms : List Move) (limit old new : ℕ) : Type 0 where
   pub states : List CardState
   pub few : length states ≤ most_states limit
   pub reachable : AllByRecursion (IsReachable (first_of ls ms) ms) states
-  pub steps : new ≤ old + (most_of_chronicle ls + most_of_beginning ls + most_of_states ms states)
+  pub steps : new ≤ old + (most_of_chronicle ls + most_of_deck ls + most_of_states ms states)

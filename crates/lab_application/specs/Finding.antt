@@ -27,26 +27,26 @@ use Rattle.lab_application.specs.Shadows.{AreShadows}
 -- ---- searches
 
 -- a search keeps what another one kept, and has found the same states
-pub record IsSameSearch {L : Type 0} (s u : Search L) : Type 0 where
+pub record IsSameSearch (s u : Search) : Type 0 where
   pub keeps : KeepsKept s.laboratory s.rosters u.laboratory u.rosters
   pub room : u.limit ≡ s.limit
   pub states : u.states.keys ≡ s.states.keys
   pub steps : u.last_steps.items ≡ s.last_steps.items
 
 -- some state of the definition is kept as this one
-abbrev pub IsKept : {L : Type 0} → Laboratory L → Rosters → CardState → Type 0
+abbrev pub IsKept : Laboratory → Rosters → CardState → Type 0
 IsKept lab r s = (names : List (List ℕ)) × (c : model.CardState) × Kept lab r names s c
 
 -- a state that is kept, with these names, to which some try of a move leads from a state
-abbrev pub IsKeptFrom : {L : Type 0} → Search L → List (List ℕ) → model.CardState → rule.Move → CardState → Type 0
+abbrev pub IsKeptFrom : Search → List (List ℕ) → model.CardState → rule.Move → CardState → Type 0
 IsKeptFrom s names b m x = (c : model.CardState) × IsLedTo b m c × Kept s.laboratory s.rosters names x c
 
 -- what is reached by tries of a move is kept
-abbrev pub AreKeptFrom : {L : Type 0} → Search L → List (List ℕ) → model.CardState → rule.Move → List Reached → Type 0
+abbrev pub AreKeptFrom : Search → List (List ℕ) → model.CardState → rule.Move → List Reached → Type 0
 AreKeptFrom s names b m rs = AllByRecursion (λ r. IsKeptFrom s names b m r.state) rs
 
 -- a move was made in a manner from a node, and what it reached is kept; or its cut hit no write
-abbrev pub IsReachedFrom : {L : Type 0} → Depth → Search L → Node → rule.Move → Manner → Option Reached → Type 0
+abbrev pub IsReachedFrom : Depth → Search → Node → rule.Move → Manner → Option Reached → Type 0
 IsReachedFrom d s n m w None = IsMissed n.state m w
 IsReachedFrom d s n m w (Some r) = IsMade n.state m w × IsKeptFrom s (names_in d.rules) n.state m r.state
 
@@ -72,13 +72,13 @@ pub record Grows (d : Depth) (ns all : List Node) : Type 0 where
   pub reachable : (c : model.CardState) → AreReachable c d.rules.moves ns → AreReachable c d.rules.moves all
 
 -- a search holds nodes, and more after them
-pub record HoldsMore {L : Type 0} (d : Depth) (ns : List Node) (s : Search L) : Type 0 where
+pub record HoldsMore (d : Depth) (ns : List Node) (s : Search) : Type 0 where
   pub all : List Node
   pub grew : Grows d ns all
   pub holds : Holds d s all
 
 -- a rule is broken by a step from a node that a search holds
-pub record BreaksAt {L : Type 0} (d : Depth) (ns : List Node) (r : Step) (s : Search L) : Type 0 where
+pub record BreaksAt (d : Depth) (ns : List Node) (r : Step) (s : Search) : Type 0 where
   pub all : List Node
   pub grew : Grows d ns all
   pub holds : Holds d s all
@@ -88,7 +88,7 @@ pub record BreaksAt {L : Type 0} (d : Depth) (ns : List Node) (r : Step) (s : Se
   pub is : IsTry d.rules.moves r last
 
 -- tries came to this: a search that held some nodes goes on, or ends
-abbrev pub ComesTo : {L : Type 0} → Depth → List Node → Option Halt → Search L → Type 0
+abbrev pub ComesTo : Depth → List Node → Option Halt → Search → Type 0
 ComesTo d ns None s = HoldsMore d ns s
 ComesTo d ns (Some halt.Full) s = HoldsMore d ns s
 ComesTo d ns (Some (halt.Broken b r)) s = BreaksAt d ns r s
@@ -96,19 +96,19 @@ ComesTo d ns (Some (halt.Broken b r)) s = BreaksAt d ns r s
 -- ---- what can be tried
 
 -- a move can be cut at the device write after the first `made` ones, which it makes
-abbrev pub CanCutAt : {L : Type 0} → Search L → Candidate → ℕ → ℕ → ℕ → Type 0
+abbrev pub CanCutAt : Search → Candidate → ℕ → ℕ → ℕ → Type 0
 CanCutAt s c before chosen made =
     (d : Depth) × (ns : List Node) × (n : Node) × (m : rule.Move) × TriesMove d s ns n m c before chosen × (is_running n.state.live ≡ true) × (made < writes_of (play_of n.state) m)
 
 -- a cut of a move from a node, at the device write after the first `made` ones, reached this, which can be taken
-abbrev pub CanTakeCut : {L : Type 0} → Search L → Candidate → ℕ → ℕ → ℕ → CardState → Type 0
+abbrev pub CanTakeCut : Search → Candidate → ℕ → ℕ → ℕ → CardState → Type 0
 CanTakeCut s c before chosen made x =
     (d : Depth) × (ns : List Node) × (n : Node) × (m : rule.Move) × TriesMove d s ns n m c before chosen × (is_running n.state.live ≡ true) × IsKeptFrom s (names_in d.rules) n.state m x × (made < writes_of (play_of n.state) m)
 
 -- all moves of a deck can be tried from a node
-abbrev pub CanTryAll : {L : Type 0} → Search L → Rules → ℕ → Type 0
+abbrev pub CanTryAll : Search → Rules → ℕ → Type 0
 CanTryAll s rules before = (d : Depth) × (ns : List Node) × (n : Node) × IsFrom d s ns n before × AreShadows rules d.rules
 
 -- and from each of the nodes up to the last
-abbrev pub CanTryFrom : {L : Type 0} → Search L → Rules → ℕ → ℕ → Type 0
+abbrev pub CanTryFrom : Search → Rules → ℕ → ℕ → Type 0
 CanTryFrom s rules from to = (d : Depth) × (ns : List Node) × Holds d s ns × (from ≤ to) × (to ≡ length ns) × AreShadows rules d.rules

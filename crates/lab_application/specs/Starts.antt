@@ -11,7 +11,7 @@ use Rattle.lab_application.specs.ApplicationSteps.{first_of, IsSameCard}
 use Rattle.lab_application.specs.Shadows.{shadow}
 
 -- a search of a deck with these moves, and with n allowances, holds one node
-pub record StartsWith {L : Type 0} (ls : List (ℕ × DeckLine)) (ms : List rule.Move) (n most : ℕ) (s : Search L) (z : Start) : Type 0 where
+pub record StartsWith (ls : List (ℕ × DeckLine)) (ms : List rule.Move) (n most : ℕ) (s : Search) (z : Start) : Type 0 where
   pub node : Node
   pub first : IsSameCard node.state (first_of ls ms)
   pub holds : Holds (record { rules = shadow ms n; most = most; from = 0 }) s (node ∷ [])

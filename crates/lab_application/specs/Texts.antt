@@ -40,7 +40,7 @@ heard_from i [] hs = []
 heard_from i (o ∷ os) hs = (o.line, slice_index_or hs i true) ∷ heard_from (suc i) os hs
 
 -- the end of a search that broke no rule
-abbrev pub kept_text_of : {L : Type 0} → Rules → Search L → List ℕ → List ℕ
+abbrev pub kept_text_of : Rules → Search → List ℕ → List ℕ
 kept_text_of r s how = silent_from 0 r.ons.items s.tally.heard.items ++ sums_text (length s.states.keys) s.tally.tries how
 
 -- ---- tries
@@ -53,7 +53,7 @@ IsOfMoves ms t = (i : ℕ) × (slice_get ms i ≡ Some t.move)
 
 -- what is written of a search that ended within a depth, and what is returned: one state too many; or a rule that is broken,
 -- and the statements of tries of the moves
-abbrev pub Reports : {L : Type 0} → Rules → Search L → State → List rule.Move → ℕ → Halt → Sunk → Result Explored JobFault → Sunk → Type 0
+abbrev pub Reports : Rules → Search → State → List rule.Move → ℕ → Halt → Sunk → Result Explored JobFault → Sunk → Type 0
 Reports r s z ms depth halt.Full a result b = IsPut a (kept_text_of r s (how_text (Some depth))) result b × IfOk result (λ e. e ≡ explored.Partial)
 Reports r s z ms depth (halt.Broken x step) a result b =
     (t : Try) × (ts : List Try) × AllByRecursion (IsOfMoves ms) (t ∷ ts) × IsPut a (broken_text (broken_name r x) (statements_to z (reverse (t ∷ ts)))) result b × IfOk result (λ e. e ≡ explored.Broken)
@@ -87,7 +87,7 @@ pub record IsAppExplored (r : Rules) (ms : List rule.Move) (depth : ℕ) (z : St
 
 -- What is left to do of an exploration from a depth on: a search holds nodes, and what it still writes completes the text
 -- of the whole.
-pub record DepthsLeft {L : Type 0} (r : Rules) (ls : List (ℕ × DeckLine)) (ms : List rule.Move) (n most depth done : ℕ) (s : Search L) (a b : Sunk) : Type 0 where
+pub record DepthsLeft (r : Rules) (ls : List (ℕ × DeckLine)) (ms : List rule.Move) (n most depth done : ℕ) (s : Search) (a b : Sunk) : Type 0 where
   pub nodes : List model.Node
   pub holds : Holds (record { rules = shadow ms n; most = most; from = 0 }) s nodes
   pub rest : (q : Found) (result : Result Explored JobFault) (c : Sunk) → IsFoundFrom r ms done depth q

@@ -80,7 +80,7 @@ fn allowances_with(alloc: Global, amounts: &[u32], count: usize) -> Result<Vec<u
 }
 
 // The instructions that the last try did.
-fn turns_of<L: Ledger>(laboratory: &Laboratory<L>) -> u64 {
+fn turns_of(laboratory: &Laboratory) -> u64 {
     match laboratory.counts.as_slice() {
         [turns, ..] => *turns,
         [] => 0,
@@ -106,7 +106,7 @@ impl<'a> Attempt<'a> {
     /// Returns `NoMemory` if it is out of memory.
     pub fn make<L: Ledger>(
         &self,
-        search: &mut Search<L>,
+        search: &mut Search,
         manner: Manner,
         steps: &mut Steps<L>,
     ) -> Result<Option<Reached>, NoMemory>
@@ -117,7 +117,7 @@ impl<'a> Attempt<'a> {
         ensures made { IfOk result (λ o. (d : Depth) (ns : List Node) (n : Node) (m : rule.Move)
             → TriesMove d search.old ns n m self.now.candidate.now self.now.before self.now.chosen
             → CanCut n.state manner → IsReachedFrom d search.new n m manner o) }
-        // At most the steps of the move, made once, and of the power-ups before and after it.
+        // At most the steps of the move, made once.
         ensures steps { (d : Depth) (ns : List Node) (n : Node) (m : rule.Move)
             → TriesMove d search.old ns n m self.now.candidate.now self.now.before self.now.chosen
             → CanCut n.state manner → steps.new ≤ steps.old + most_of_move n.state m }
@@ -141,11 +141,7 @@ impl<'a> Attempt<'a> {
     }
 
     // Looks at a card that the move led to.
-    fn look<L: Ledger>(
-        &self,
-        search: &mut Search<L>,
-        state: CardState,
-    ) -> Result<Option<Reached>, NoMemory>
+    fn look(&self, search: &mut Search, state: CardState) -> Result<Option<Reached>, NoMemory>
         requires { IsKept search.old.laboratory search.old.rosters state }
         ensures same { OnOk result (IsSameSearch search.old search.new) }
         ensures reached { (names : List (List ℕ)) (c : model.CardState)
@@ -169,11 +165,7 @@ impl<'a> Attempt<'a> {
 
     // What is counted before the move, if the application is on both cards: between two lines each block is what it is to
     // be. Else it is what is counted of a new application.
-    fn standing<L: Ledger>(
-        &self,
-        search: &Search<L>,
-        stays: bool,
-    ) -> Result<(Standing, bool), NoMemory>
+    fn standing(&self, search: &Search, stays: bool) -> Result<(Standing, bool), NoMemory>
         requires { CanTryMove search.now self.now.candidate.now self.now.before self.now.chosen }
     {
         let rules = self.subject.rules;
@@ -191,9 +183,9 @@ impl<'a> Attempt<'a> {
 
     // Counts what happens in a try that came this far, and looks at the card that it leads to. Returns the amounts of the
     // allowances, or the rule that is broken.
-    fn count<L: Ledger>(
+    fn count(
         &self,
-        search: &mut Search<L>,
+        search: &mut Search,
         reached: &Option<Vec<u8>>,
         extent: Extent,
     ) -> Result<Result<Vec<u32>, Break>, NoMemory>
@@ -242,9 +234,9 @@ impl<'a> Attempt<'a> {
     /// # Errors
     ///
     /// Returns `NoMemory` if it is out of memory, and if there is no room for the number of tries.
-    pub fn take<L: Ledger>(
+    pub fn take(
         &self,
-        search: &mut Search<L>,
+        search: &mut Search,
         reached: &Reached,
         manner: Manner,
         extent: Extent,
@@ -264,9 +256,9 @@ impl<'a> Attempt<'a> {
     }
 
     // Keeps a card that was reached by a step, with these amounts of the allowances.
-    fn keep<L: Ledger>(
+    fn keep(
         &self,
-        search: &mut Search<L>,
+        search: &mut Search,
         reached: &CardState,
         amounts: &[u32],
         step: Step,

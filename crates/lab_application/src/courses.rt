@@ -9,9 +9,9 @@ ghost use Rattle.mc_script.specs.Players.{device_of};
 ghost use Rattle.mc_script.specs.Benches.{IsPlayerAt};
 ghost use Rattle.lab_key.specs.Shown.{IsShown, ShowsSome};
 ghost use Rattle.lab_rules.specs.Meanings.{IsMove};
+ghost use Rattle.lab_search.specs.ExplorationSteps.{most_of_move};
 ghost use Rattle.lab_search.specs.Kept.{root_of, Kept};
 ghost use Rattle.lab_search.specs.Rounds.{Depth, IsFrom};
-ghost use Rattle.lab_application.specs.ApplicationSteps.{most_of_course};
 ghost use Rattle.lab_application.specs.Finding.{IsKept, IsSameSearch};
 
 use crate::statics::statics_in;
@@ -29,14 +29,14 @@ use std::sync::ledger::Ledger;
 
 // Plays a line on a player before its first line from the card that its device shows, and returns what happens to the
 // application.
-fn course_on<N: Bench>(
+fn course_on<N: Bench, L: Ledger>(
     alloc: Global,
     player: &mut Player<N>,
     budget: &Budget,
     live: &Live,
     line: &Line<'_>,
     subject: Subject<'_>,
-    steps: &mut Steps<N::Meter>,
+    steps: &mut Steps<L>,
 ) -> Result<Course, NoMemory>
     requires start { IsPlayerAt N.Bench player.old (start (N.state (device_of player.old)).words) }
     requires steady { (N.bench (device_of player.old)).steady ≡ true }
@@ -44,7 +44,7 @@ fn course_on<N: Bench>(
     requires good { GoodLine (line_of line.now) }
     ensures steps { (c : model.CardState) (m : rule.Move)
         → IsShown (N.state (device_of player.old)).words live.now c.base c.live → c.budget ≡ budget.now
-        → line_of line.now ≡ m.line → steps.new ≤ steps.old + most_of_course c m }
+        → line_of line.now ≡ m.line → steps.new ≤ steps.old + most_of_move c m }
     ensures keeps_device { N.same (device_of player.old) (device_of player.new) }
 {
     restore(player, budget, live, steps);
@@ -54,7 +54,7 @@ fn course_on<N: Bench>(
 // What happens to the application while a move is made whole from a state, and its static bytes before it, if it is there.
 fn course_in<L: Ledger>(
     alloc: Global,
-    laboratory: &mut Laboratory<L>,
+    laboratory: &mut Laboratory,
     rosters: &Rosters,
     state: &CardState,
     subject: Subject<'_>,
@@ -67,7 +67,7 @@ fn course_in<L: Ledger>(
     ensures counts { OnOk result (length laboratory.new.counts.items ≡ length laboratory.old.counts.items) }
     ensures steps { (names : List (List ℕ)) (c : model.CardState) (m : rule.Move)
         → Kept laboratory.old rosters.now names state.now c → IsMove chosen.now m
-        → steps.new ≤ steps.old + most_of_course c m }
+        → steps.new ≤ steps.old + most_of_move c m }
 {
     let fixed = statics_in(alloc, laboratory, rosters, state, subject.aid)?;
     let Some(saved) = rosters.saved(state.card) else {
@@ -94,7 +94,7 @@ fn course_in<L: Ledger>(
 /// Returns `NoMemory` if it is out of memory.
 pub fn course_of<L: Ledger>(
     alloc: Global,
-    search: &mut Search<L>,
+    search: &mut Search,
     subject: Subject<'_>,
     chosen: &Move<'_>,
     before: usize,
@@ -102,9 +102,9 @@ pub fn course_of<L: Ledger>(
 ) -> Result<(Course, Option<Vec<u8>>), NoMemory>
     requires { (d : Depth) × (ns : List Node) × (n : Node) × IsFrom d search.old ns n before }
     ensures same { OnOk result (IsSameSearch search.old search.new) }
-    // At most the steps of the move, made once and recorded, and of the power-up before it.
+    // At most the steps of the move, made once.
     ensures steps { (d : Depth) (ns : List Node) (n : Node) (m : rule.Move) → IsFrom d search.old ns n before
-        → IsMove chosen.now m → steps.new ≤ steps.old + most_of_course n.state m }
+        → IsMove chosen.now m → steps.new ≤ steps.old + most_of_move n.state m }
 {
     let Some(state) = search.states.get_index(before) else {
         unreachable!()

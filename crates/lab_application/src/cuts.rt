@@ -42,7 +42,7 @@ impl<'a> Attempt<'a> {
     // Makes the move cut with eight bytes 00 at each of its device writes, in order.
     fn make_all<L: Ledger>(
         &self,
-        search: &mut Search<L>,
+        search: &mut Search,
         steps: &mut Steps<L>,
     ) -> Result<Vec<Reached>, NoMemory>
         requires can { CanCutMove search.old self.now.candidate.now self.now.before self.now.chosen }
@@ -77,7 +77,7 @@ impl<'a> Attempt<'a> {
     // Tries the move cut at a device write with a fill that was not made yet.
     fn try_fill<L: Ledger>(
         &self,
-        search: &mut Search<L>,
+        search: &mut Search,
         turns: &[u64],
         made: u32,
         fill: Fill,
@@ -108,7 +108,7 @@ impl<'a> Attempt<'a> {
     // Tries the move cut at a device write with each fill, of which the first was made.
     fn try_cut<L: Ledger>(
         &self,
-        search: &mut Search<L>,
+        search: &mut Search,
         turns: &[u64],
         made: u32,
         zeros: &Reached,
@@ -148,7 +148,7 @@ impl<'a> Attempt<'a> {
     // Tries the move cut at each of its device writes.
     fn try_cuts<L: Ledger>(
         &self,
-        search: &mut Search<L>,
+        search: &mut Search,
         steps: &mut Steps<L>,
     ) -> Result<Option<Halt>, NoMemory>
         requires can { CanCutMove search.old self.now.candidate.now self.now.before self.now.chosen }
@@ -182,7 +182,7 @@ impl<'a> Attempt<'a> {
     /// 4,294,967,295 device writes or more.
     pub fn try_all<L: Ledger>(
         &self,
-        search: &mut Search<L>,
+        search: &mut Search,
         steps: &mut Steps<L>,
     ) -> Result<Option<Halt>, NoMemory>
         requires can { CanTryMove search.old self.now.candidate.now self.now.before self.now.chosen }

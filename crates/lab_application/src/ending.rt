@@ -26,7 +26,6 @@ use mc_script::JobFault;
 use mc_streams::{Sink, WriteFault};
 use prove_events::{On, Rules};
 use std::alloc::Global;
-use std::sync::ledger::Ledger;
 
 /// Writes that the deck itself breaks a rule.
 ///
@@ -79,8 +78,8 @@ fn kept_as(depth: Option<u32>) -> Explored
 /// # Errors
 ///
 /// Returns `WriteFault` if the sink fails.
-pub fn report_kept<T: Sink, L: Ledger>(
-    search: &Search<L>,
+pub fn report_kept<T: Sink>(
+    search: &Search,
     rules: &Rules<'_>,
     depth: Option<u32>,
     out: &mut T,
@@ -117,9 +116,9 @@ fn put_way<T: Sink>(
 }
 
 // Writes a broken rule, and the statements that lead there by a last step.
-fn report_broken<T: Sink, L: Ledger>(
+fn report_broken<T: Sink>(
     alloc: Global,
-    search: &Search<L>,
+    search: &Search,
     moves: &Exploration<'_>,
     rules: &Rules<'_>,
     start: Start,
@@ -144,9 +143,9 @@ fn report_broken<T: Sink, L: Ledger>(
 /// # Errors
 ///
 /// Returns `NoMemory` if it is out of memory, and `WriteFault` if the sink fails.
-pub fn report_halt<T: Sink, L: Ledger>(
+pub fn report_halt<T: Sink>(
     alloc: Global,
-    search: &Search<L>,
+    search: &Search,
     moves: &Exploration<'_>,
     rules: &Rules<'_>,
     start: Start,

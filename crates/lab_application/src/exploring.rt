@@ -4,7 +4,7 @@ ghost use Rattle.law_histories.specs.model_play.specs.DeckGrammar.{DeckLine};
 ghost use Rattle.law_histories.specs.law_explore.specs.Rules as rule;
 ghost use Rattle.law_histories.specs.law_explore.specs.States.{play_of_deck};
 ghost use Rattle.mc_text.specs.Texts.{sunk};
-ghost use Rattle.lab_search.specs.ExplorationSteps.{most_of_beginning};
+ghost use Rattle.lab_search.specs.ExplorationSteps.{most_of_deck};
 ghost use Rattle.lab_application.specs.ApplicationSteps.{SearchSteps, TakesSteps};
 ghost use Rattle.lab_application.specs.Shadows.{AreMovesOf};
 ghost use Rattle.lab_application.specs.Starts.{StartsWith};
@@ -51,10 +51,10 @@ fn start<L: Ledger>(
     limit: usize,
     ons: usize,
     steps: &mut Steps<L>,
-) -> Result<(Search<L>, Start), NoMemory>
+) -> Result<(Search, Start), NoMemory>
     ensures starts { IfOk result (λ r. (ls : List (ℕ × DeckLine)) (ms : List rule.Move) → AreMovesOf moves.now ls ms
         → StartsWith ls ms (length amounts.now) limit r.0 r.1) }
-    ensures steps { steps.new ≤ steps.old + most_of_beginning moves.now.deck }
+    ensures steps { steps.new ≤ steps.old + most_of_deck moves.now.deck }
 {
     let Beginning {
         laboratory,
@@ -76,7 +76,7 @@ fn start<L: Ledger>(
 // Explores from a first state on.
 fn search_on<T: Sink, L: Ledger>(
     alloc: Global,
-    search: &mut Search<L>,
+    search: &mut Search,
     start: Start,
     moves: &Exploration<'_>,
     subject: Subject<'_>,
@@ -138,8 +138,8 @@ pub fn explore_within<T: Sink, L: Ledger>(
     ensures explored { (ls : List (ℕ × DeckLine)) (ms : List rule.Move) → AreMovesOf moves.now ls ms
         → IsAppExplored subject.entry.rules.now ms depth (play_of_deck ls) (sunk T.Sink out.old) result
         (sunk T.Sink out.new) }
-    // At most the steps of the deck, recorded and played, of what leads on from its end, and of its moves, tried from
-    // as many states as there is room for, to which tries lead.
+    // At most the steps of the deck, recorded and played, and of its moves, tried from as many states as there is room for, to
+    // which tries lead.
     ensures steps { (ls : List (ℕ × DeckLine)) (ms : List rule.Move) → AreMovesOf moves.now ls ms
         → TakesSteps ls ms limit steps.old steps.new }
 {
@@ -177,8 +177,8 @@ pub fn explore<T: Sink, L: Ledger>(
     ensures explored { (ls : List (ℕ × DeckLine)) (ms : List rule.Move) → AreMovesOf moves.now ls ms
         → IsAppExplored subject.entry.rules.now ms depth (play_of_deck ls) (sunk T.Sink out.old) result
         (sunk T.Sink out.new) }
-    // At most the steps of the deck, recorded and played, of what leads on from its end, and of its moves, tried from
-    // as many states as there is room for, to which tries lead.
+    // At most the steps of the deck, recorded and played, and of its moves, tried from as many states as there is room for, to
+    // which tries lead.
     ensures steps { (ls : List (ℕ × DeckLine)) (ms : List rule.Move) → AreMovesOf moves.now ls ms
         → TakesSteps ls ms 1000000 steps.old steps.new }
 {

@@ -19,7 +19,7 @@ use std::sync::ledger::Ledger;
 // Tries a move from a state.
 fn try_move<L: Ledger>(
     alloc: Global,
-    search: &mut Search<L>,
+    search: &mut Search,
     moves: &Exploration<'_>,
     subject: Subject<'_>,
     chosen: usize,
@@ -60,7 +60,7 @@ fn try_move<L: Ledger>(
 // Tries each move from a state.
 fn try_moves<L: Ledger>(
     alloc: Global,
-    search: &mut Search<L>,
+    search: &mut Search,
     moves: &Exploration<'_>,
     subject: Subject<'_>,
     before: usize,
@@ -88,7 +88,7 @@ fn try_moves<L: Ledger>(
 /// Returns `NoMemory` if it is out of memory, and if there is no room for the number of tries.
 pub fn try_states<L: Ledger>(
     alloc: Global,
-    search: &mut Search<L>,
+    search: &mut Search,
     moves: &Exploration<'_>,
     subject: Subject<'_>,
     from: usize,

@@ -12,14 +12,9 @@ use lab_search::{Laboratory, put_card};
 use mc_base::{Aid, NoMemory};
 use mc_script::{Live, Player};
 use std::alloc::Global;
-use std::sync::ledger::Ledger;
 
 // The static bytes of the application with a name on a device, or `None` if it is not there.
-fn statics_on<L: Ledger>(
-    alloc: Global,
-    device: &BranchNvm<L>,
-    aid: &Aid,
-) -> Result<Option<Vec<u8>>, NoMemory>
+fn statics_on(alloc: Global, device: &BranchNvm, aid: &Aid) -> Result<Option<Vec<u8>>, NoMemory>
     requires { words_fault device.now.device.words ≡ None }
 {
     let applications = read_applications(alloc, device)?;
@@ -33,9 +28,9 @@ fn statics_on<L: Ledger>(
 }
 
 // The static bytes of the application with a name on a device, or `None` if no card runs there or it is not there.
-fn statics_of<L: Ledger>(
+fn statics_of(
     alloc: Global,
-    device: &BranchNvm<L>,
+    device: &BranchNvm,
     live: &Live,
     aid: &Aid,
 ) -> Result<Option<Vec<u8>>, NoMemory>
@@ -50,9 +45,9 @@ fn statics_of<L: Ledger>(
 
 // The static bytes of the application with a name on the device of a player, or `None` if no card runs there or it is not
 // there.
-fn statics_at<L: Ledger>(
+fn statics_at(
     alloc: Global,
-    player: &mut Player<BranchNvm<L>>,
+    player: &mut Player<BranchNvm>,
     live: &Live,
     aid: &Aid,
 ) -> Result<Option<Vec<u8>>, NoMemory>
@@ -68,9 +63,9 @@ fn statics_at<L: Ledger>(
 /// # Errors
 ///
 /// Returns `NoMemory` if it is out of memory.
-pub fn statics_in<L: Ledger>(
+pub fn statics_in(
     alloc: Global,
-    laboratory: &mut Laboratory<L>,
+    laboratory: &mut Laboratory,
     rosters: &Rosters,
     state: &CardState,
     aid: &Aid,

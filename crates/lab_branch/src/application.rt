@@ -4,15 +4,12 @@ ghost use Rattle.mc_base.specs.model_device.specs.Bytes.{be2};
 ghost use Rattle.mc_base.specs.model_device.specs.Card.{name_at, app_at};
 ghost use Rattle.mc_store.specs.Slots.{IsUsedBlock};
 
-use crate::blocks::record_at;
-use crate::branch::BranchNvm;
 use crate::section::read_section;
 use mc_base::{NoMemory, number_of};
-use mc_blocks::{Record, name_of, words_of};
+use mc_blocks::{Record, name_of, read_record, words_of};
 use mc_nvm::Nvm;
 use std::alloc::Global;
 use std::marker::Model;
-use std::sync::ledger::Ledger;
 
 /// An application of a card: its name, the place of its block, its number of session bytes, its access list, and the
 /// bytes of its code, static segment, DIR and FCI.
@@ -61,17 +58,13 @@ impl Application {
     /// # Errors
     ///
     /// Returns `NoMemory` if it is out of memory.
-    pub fn read<L: Ledger>(
-        alloc: Global,
-        device: &BranchNvm<L>,
-        place: u32,
-    ) -> Result<Application, NoMemory>
-        requires { IsUsedBlock device.now.device.words place }
+    pub fn read<N: Nvm>(alloc: Global, device: &N, place: u32) -> Result<Application, NoMemory>
+        requires { IsUsedBlock (N.state device.now).words place }
         ensures { IfOk result (λ application. application
-            ≡ (name_at device.now.device.words place, app_at device.now.device.words place)) }
+            ≡ (name_at (N.state device.now).words place, app_at (N.state device.now).words place)) }
     {
         let _size = device.len();
-        let entry = record_at(device, place);
+        let entry = read_record(device, place);
         let sizes = sizes_of(&entry);
         let code = place + 5;
         let fixed = code + words_of(sizes.code);

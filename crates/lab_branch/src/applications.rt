@@ -7,13 +7,10 @@ ghost use Rattle.mc_store.specs.Slots.{IsUsedBlock};
 ghost use Rattle.lab_branch.specs.Applications.{place_of_name, with_block};
 
 use crate::application::Application;
-use crate::blocks::header_at;
-use crate::branch::BranchNvm;
 use mc_base::NoMemory;
-use mc_blocks::HEAP;
+use mc_blocks::{HEAP, read_header};
 use mc_nvm::Nvm;
 use std::alloc::Global;
-use std::sync::ledger::Ledger;
 
 /// Reads the applications of the card in the words of a device, which have no fault and no open journal. They come in
 /// the order of their names.
@@ -21,18 +18,15 @@ use std::sync::ledger::Ledger;
 /// # Errors
 ///
 /// Returns `NoMemory` if it is out of memory.
-pub fn read_applications<L: Ledger>(
-    alloc: Global,
-    device: &BranchNvm<L>,
-) -> Result<Vec<Application>, NoMemory>
-    requires { words_fault device.now.device.words ≡ None }
-    ensures { IfOk result (λ applications. applications.items ≡ (card_of device.now.device.words).apps) }
+pub fn read_applications<N: Nvm>(alloc: Global, device: &N) -> Result<Vec<Application>, NoMemory>
+    requires { words_fault (N.state device.now).words ≡ None }
+    ensures { IfOk result (λ applications. applications.items ≡ (card_of (N.state device.now).words).apps) }
 {
     let size = device.len();
     let mut applications = Vec::new(alloc);
     let mut place = HEAP;
     while place < size {
-        let header = header_at(device, place);
+        let header = read_header(device, place);
         add_block(alloc, device, place, header.used, &mut applications)?;
         place += header.words as u32;
     }
@@ -40,18 +34,18 @@ pub fn read_applications<L: Ledger>(
 }
 
 // Puts the application of a block among others, whose names are not its own, if the block is used.
-fn add_block<L: Ledger>(
+fn add_block<N: Nvm>(
     alloc: Global,
-    device: &BranchNvm<L>,
+    device: &N,
     place: u32,
     used: bool,
     applications: &mut Vec<Application>,
 ) -> Result<(), NoMemory>
-    requires block { used ≡ true → IsUsedBlock device.now.device.words place }
+    requires block { used ≡ true → IsUsedBlock (N.state device.now).words place }
     requires fresh { used ≡ true
-        → lookup applications.old.items (name_at device.now.device.words place) ≡ None }
+        → lookup applications.old.items (name_at (N.state device.now).words place) ≡ None }
     ensures { OnOk result (applications.new.items
-        ≡ with_block device.now.device.words used place applications.old.items) }
+        ≡ with_block (N.state device.now).words used place applications.old.items) }
 {
     if !used {
         return Ok(());

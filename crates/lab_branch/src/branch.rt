@@ -10,22 +10,21 @@ ghost use Rattle.lab_branch.specs.Branches.{differences_at, has_root_word, unles
 
 use crate::growth::push;
 use crate::places::Places;
-use mc_base::{NoMemory, Steps, Stop, Word};
+use mc_base::{NoMemory, Stop, Word};
 use mc_nvm::{Bench, DEVICE_WORDS, Nvm, SimNvm};
 use std::alloc::Global;
 use std::marker::Model;
-use std::sync::ledger::Ledger;
 
 /// A device in memory with a root, words to which it goes back at the cost of those that changed: it keeps a
-/// list of the places that were set since. Reads are steps of the ledger `L`; to look at the words takes none.
+/// list of the places that were set since.
 #[derive(Drop)]
-pub struct BranchNvm<L: Ledger> {
-    device: SimNvm<L>,
+pub struct BranchNvm {
+    device: SimNvm,
     root: Vec<Word>,
     changed: Places,
 }
 
-impl<L: Ledger> Model for BranchNvm<L> {
+impl Model for BranchNvm {
     ghost use Rattle.lab_branch.specs.Branches.{BranchState, IsBranch};
 
     ghost Value = { BranchState };
@@ -43,7 +42,7 @@ fn blank(alloc: Global, count: usize) -> Result<Vec<Word>, NoMemory>
 }
 
 // Copies the words of a device at some places, if it has them.
-fn copy_at<L: Ledger>(device: &SimNvm<L>, words: &mut [Word], places: &[u16])
+fn copy_at(device: &SimNvm, words: &mut [Word], places: &[u16])
     requires { length words.old ≡ length device.now.words }
     ensures len { length words.new ≡ length words.old }
     ensures words { (i : ℕ) → i < length device.now.words
@@ -53,14 +52,14 @@ fn copy_at<L: Ledger>(device: &SimNvm<L>, words: &mut [Word], places: &[u16])
     let count = device.len();
     for place in places {
         if (*place as u32) < count {
-            let word = device.word(*place as u32);
+            let word = device.read(*place as u32);
             words[*place as usize] = word;
         }
     }
 }
 
 // Copies the words of a device to words that differ from them at some places alone.
-fn copy_changed<L: Ledger>(device: &SimNvm<L>, words: &mut [Word], changed: &Places)
+fn copy_changed(device: &SimNvm, words: &mut [Word], changed: &Places)
     requires { IsBranch changed.now device.now.words words.old }
     ensures { words.new ≡ device.now.words }
 {
@@ -68,7 +67,7 @@ fn copy_changed<L: Ledger>(device: &SimNvm<L>, words: &mut [Word], changed: &Pla
 }
 
 // Sets the words of a device at some places, if it has them.
-fn put_at<L: Ledger>(device: &mut SimNvm<L>, words: &[Word], places: &[u16])
+fn put_at(device: &mut SimNvm, words: &[Word], places: &[u16])
     requires { length words.now ≡ length device.old.words }
     ensures len { length device.new.words ≡ length device.old.words }
     ensures words { (i : ℕ) → i < length device.old.words
@@ -86,13 +85,13 @@ fn put_at<L: Ledger>(device: &mut SimNvm<L>, words: &[Word], places: &[u16])
     }
 }
 
-impl<L: Ledger> BranchNvm<L> {
+impl BranchNvm {
     /// Returns a blank device of [`DEVICE_WORDS`] words, which are its root.
     ///
     /// # Errors
     ///
     /// Returns `NoMemory` if it is out of memory.
-    pub fn new(alloc: Global) -> Result<BranchNvm<L>, NoMemory>
+    pub fn new(alloc: Global) -> Result<BranchNvm, NoMemory>
         ensures { IfOk result (λ b. b ≡ blank_branch device_words) }
     {
         let device = SimNvm::new(alloc, DEVICE_WORDS)?;
@@ -148,18 +147,10 @@ impl<L: Ledger> BranchNvm<L> {
         ensures { result ≡ slice_index_or self.now.device.words place (zeros 8) }
     {
         if place < self.device.len() {
-            self.device.word(place)
+            self.device.read(place)
         } else {
             [0; 8]
         }
-    }
-
-    /// Returns the word at a place below the length.
-    pub(crate) fn word_at(&self, place: u32) -> Word
-        requires { place < length self.now.device.words }
-        ensures { result ≡ slice_index_or self.now.device.words place [] }
-    {
-        self.device.word(place)
     }
 
     /// Returns the words that differ from the root, each once with its place: laid over the root they are those of the
@@ -184,9 +175,9 @@ impl<L: Ledger> BranchNvm<L> {
 }
 
 // Adds the word of a device at a place to the differences, if it is another one than the root has there.
-fn add_difference<L: Ledger>(
+fn add_difference(
     differences: &mut Vec<(u16, Word)>,
-    device: &SimNvm<L>,
+    device: &SimNvm,
     root: &[Word],
     place: u16,
 ) -> Result<(), NoMemory>
@@ -199,7 +190,7 @@ fn add_difference<L: Ledger>(
     if (place as u32) >= device.len() {
         return Ok(());
     }
-    let word = device.word(place as u32);
+    let word = device.read(place as u32);
     if root[place as usize] == word {
         return Ok(());
     }
@@ -207,9 +198,9 @@ fn add_difference<L: Ledger>(
 }
 
 // Returns the words of a device at some places that differ from a root, each with its place.
-fn differences_at<L: Ledger>(
+fn differences_at(
     alloc: Global,
-    device: &SimNvm<L>,
+    device: &SimNvm,
     root: &[Word],
     places: &[u16],
 ) -> Result<Vec<(u16, Word)>, NoMemory>
@@ -224,9 +215,7 @@ fn differences_at<L: Ledger>(
     Ok(differences)
 }
 
-impl<L: Ledger> Nvm for BranchNvm<L> {
-    type Meter = L;
-
+impl Nvm for BranchNvm {
     ghost use Rattle.std.specs.Prelude.{◌≡◌, refl};
     ghost use Rattle.std.proofs.Common.{◌∙◌};
     ghost use Rattle.mc_nvm.specs.Sim.{sim_obeys};
@@ -252,8 +241,8 @@ impl<L: Ledger> Nvm for BranchNvm<L> {
         self.device.len()
     }
 
-    fn read(&self, at: u32, steps: &mut Steps<L>) -> Word {
-        self.device.read(at, steps)
+    fn read(&self, at: u32) -> Word {
+        self.device.read(at)
     }
 
     fn write(&mut self, at: u32, word: Word) -> Result<(), Stop> {
@@ -263,7 +252,7 @@ impl<L: Ledger> Nvm for BranchNvm<L> {
     }
 }
 
-impl<L: Ledger> Bench for BranchNvm<L> {
+impl Bench for BranchNvm {
     ghost use Rattle.mc_nvm.specs.Sim.{sim_burns};
     ghost use Rattle.lab_branch.specs.Branches.{branch_bench};
 

@@ -4,7 +4,6 @@
 
 mod application;
 mod applications;
-mod blocks;
 mod branch;
 mod growth;
 mod places;

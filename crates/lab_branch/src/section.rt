@@ -3,25 +3,23 @@ ghost use Rattle.std.specs.Prelude.{◌≡◌, ◌+◌, ◌≤◌, length, IfOk}
 ghost use Rattle.mc_base.specs.model_device.specs.Bytes.{up};
 ghost use Rattle.mc_base.specs.model_device.specs.Card.{section};
 
-use crate::branch::BranchNvm;
 use mc_base::NoMemory;
 use mc_nvm::Nvm;
 use std::alloc::Global;
-use std::sync::ledger::Ledger;
 
 /// Returns the first `count` bytes of the words of a device from word `first` on.
 ///
 /// # Errors
 ///
 /// Returns `NoMemory` if it is out of memory.
-pub fn read_section<L: Ledger>(
+pub fn read_section<N: Nvm>(
     alloc: Global,
-    device: &BranchNvm<L>,
+    device: &N,
     first: u32,
     count: u16,
 ) -> Result<Vec<u8>, NoMemory>
-    requires { first + up count 8 ≤ length device.now.device.words }
-    ensures { IfOk result (λ bytes. bytes.items ≡ section device.now.device.words first count) }
+    requires { first + up count 8 ≤ length (N.state device.now).words }
+    ensures { IfOk result (λ bytes. bytes.items ≡ section (N.state device.now).words first count) }
 {
     let _size = device.len();
     let mut left = count as usize;
@@ -29,7 +27,7 @@ pub fn read_section<L: Ledger>(
     let mut place = first;
     while left > 0 {
         let piece = left.min(8);
-        bytes.extend_from_slice(&device.word_at(place)[..piece])?;
+        bytes.extend_from_slice(&device.read(place)[..piece])?;
         left -= piece;
         place += 1;
     }

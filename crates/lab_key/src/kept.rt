@@ -11,7 +11,6 @@ use lab_branch::{BranchNvm, Roster};
 use mc_base::{NoMemory, Word};
 use mc_script::Live;
 use std::alloc::Global;
-use std::sync::ledger::Ledger;
 
 /// What puts a card back on a device: the words that differ from its root, each with its place, and what ran on them.
 #[derive(Clone, Copy)]
@@ -64,12 +63,7 @@ impl Rosters {
     /// # Errors
     ///
     /// Returns `NoMemory` if it is out of memory.
-    pub fn keep<L: Ledger>(
-        &mut self,
-        alloc: Global,
-        device: &BranchNvm<L>,
-        live: Live,
-    ) -> Result<usize, NoMemory>
+    pub fn keep(&mut self, alloc: Global, device: &BranchNvm, live: Live) -> Result<usize, NoMemory>
         requires { ShowsSome device.now.device.words live }
         // The card has this number.
         ensures of { (b : Base) (l : play.Live) → IsShown device.now.device.words live b l

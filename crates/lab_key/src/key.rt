@@ -10,11 +10,11 @@ ghost use Rattle.lab_key.specs.KeyOf.{KeyOf};
 
 use crate::session::SessionKey;
 use indexmap::IndexSet;
-use lab_branch::{Application, BranchNvm, Roster, read_applications, static_bytes};
+use lab_branch::{Application, Roster, read_applications, static_bytes};
 use mc_base::NoMemory;
+use mc_nvm::Nvm;
 use mc_script::Live;
 use std::alloc::Global;
-use std::sync::ledger::Ledger;
 
 /// The key of what runs on a device: no card, which may be mute after a failed write, or a card with its session state.
 #[derive(PartialEq, Eq, Hash, Drop)]
@@ -57,15 +57,15 @@ impl CardKey {
     /// # Errors
     ///
     /// Returns `NoMemory` if it is out of memory.
-    pub fn read<L: Ledger>(
+    pub fn read<N: Nvm>(
         alloc: Global,
-        device: &BranchNvm<L>,
+        device: &N,
         rosters: &mut IndexSet<Roster>,
         live: &Live,
     ) -> Result<CardKey, NoMemory>
-        requires { ShowsSome device.now.device.words live.now }
+        requires { ShowsSome (N.state device.now).words live.now }
         // It is the key of the base that the words hold, and of what was saved there.
-        ensures of { (b : Base) (l : play.Live) → IsShown device.now.device.words live.now b l
+        ensures of { (b : Base) (l : play.Live) → IsShown (N.state device.now).words live.now b l
             → IfOk result (λ key. KeyOf rosters.new.keys key b l) }
         // The keys that were read before stay those of their cards.
         ensures keeps { (key : CardKey) (b : Base) (l : play.Live) → KeyOf rosters.old.keys key b l
@@ -84,13 +84,13 @@ impl CardKey {
 }
 
 // Reads the applications of a card that runs, and none if no card does.
-fn applications_of<L: Ledger>(
+fn applications_of<N: Nvm>(
     alloc: Global,
-    device: &BranchNvm<L>,
+    device: &N,
     live: &Live,
 ) -> Result<Vec<Application>, NoMemory>
-    requires { IsReadable device.now.device.words live.now }
-    ensures { IfOk result (λ applications. applications.items ≡ apps_on device.now.device.words live.now) }
+    requires { IsReadable (N.state device.now).words live.now }
+    ensures { IfOk result (λ applications. applications.items ≡ apps_on (N.state device.now).words live.now) }
 {
     match live {
         Live::Running(_) => read_applications(alloc, device),
@@ -115,13 +115,9 @@ fn number_of(rosters: &mut IndexSet<Roster>, roster: Roster) -> Result<usize, No
 
 impl LiveKey {
     // Reads the key of what runs on a device.
-    fn read<L: Ledger>(
-        alloc: Global,
-        device: &BranchNvm<L>,
-        live: &Live,
-    ) -> Result<LiveKey, NoMemory>
-        requires { IsReadable device.now.device.words live.now }
-        ensures { IfOk result (λ key. live_value key ≡ live_on device.now.device.words live.now) }
+    fn read<N: Nvm>(alloc: Global, device: &N, live: &Live) -> Result<LiveKey, NoMemory>
+        requires { IsReadable (N.state device.now).words live.now }
+        ensures { IfOk result (λ key. live_value key ≡ live_on (N.state device.now).words live.now) }
     {
         match live {
             Live::Running(saved) => Ok(LiveKey::Running(SessionKey::read(alloc, device, saved)?)),

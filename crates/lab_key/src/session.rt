@@ -5,7 +5,7 @@ ghost use Rattle.mc_manager.specs.ManagerState.{FitsLoad, open_of, got_at, selec
 ghost use Rattle.mc_card.specs.Saved.{FitsWords, session_state_on, view_of_words, device_with};
 ghost use Rattle.lab_key.specs.Sessions.{session_value, selected_value, load_value, boxed_value, IsCard};
 
-use lab_branch::{BranchNvm, read_section};
+use lab_branch::read_section;
 use mc_bank::Part;
 use mc_base::NoMemory;
 use mc_card::SavedSession;
@@ -13,7 +13,6 @@ use mc_manager::Load;
 use mc_nvm::Nvm;
 use mc_store::part_place;
 use std::alloc::Global;
-use std::sync::ledger::Ledger;
 
 /// A selection: the name of its application, and the session bytes.
 #[derive(PartialEq, Eq, Hash, Drop)]
@@ -54,14 +53,14 @@ impl SessionKey {
     /// # Errors
     ///
     /// Returns `NoMemory` if it is out of memory.
-    pub fn read<L: Ledger>(
+    pub fn read<N: Nvm>(
         alloc: Global,
-        device: &BranchNvm<L>,
+        device: &N,
         saved: &SavedSession,
     ) -> Result<SessionKey, NoMemory>
-        requires card { IsCard device.now.device.words }
-        requires fits { FitsWords device.now.device.words saved.now }
-        ensures { IfOk result (λ key. session_value key ≡ session_state_on device.now.device.words saved.now) }
+        requires card { IsCard (N.state device.now).words }
+        requires fits { FitsWords (N.state device.now).words saved.now }
+        ensures { IfOk result (λ key. session_value key ≡ session_state_on (N.state device.now).words saved.now) }
     {
         Ok(SessionKey {
             selected: selected_of(alloc, saved)?,
@@ -85,15 +84,15 @@ fn selected_of(alloc: Global, saved: &SavedSession) -> Result<Option<SelectedKey
 }
 
 // Reads the key of the open load of a session state.
-fn load_of<L: Ledger>(
+fn load_of<N: Nvm>(
     alloc: Global,
-    device: &BranchNvm<L>,
+    device: &N,
     saved: &SavedSession,
 ) -> Result<Option<Box<LoadKey>>, NoMemory>
-    requires card { IsCard device.now.device.words }
-    requires fits { FitsWords device.now.device.words saved.now }
+    requires card { IsCard (N.state device.now).words }
+    requires fits { FitsWords (N.state device.now).words saved.now }
     ensures { IfOk result (λ key. option_map boxed_value key
-        ≡ load_in (store_site_bytes (device_with device.now.device.words)) saved.now.manager) }
+        ≡ load_in (store_site_bytes (device_with (N.state device.now).words)) saved.now.manager) }
 {
     match saved.load() {
         Some(load) => Ok(Some(boxed(alloc, LoadKey::read(alloc, device, load)?)?)),
@@ -113,15 +112,11 @@ fn boxed(alloc: Global, load: LoadKey) -> Result<Box<LoadKey>, NoMemory>
 
 impl LoadKey {
     // Reads the key of an open load.
-    fn read<L: Ledger>(
-        alloc: Global,
-        device: &BranchNvm<L>,
-        load: &Load,
-    ) -> Result<LoadKey, NoMemory>
-        requires card { IsCard device.now.device.words }
-        requires fits { FitsLoad (view_of_words device.now.device.words) load.now }
+    fn read<N: Nvm>(alloc: Global, device: &N, load: &Load) -> Result<LoadKey, NoMemory>
+        requires card { IsCard (N.state device.now).words }
+        requires fits { FitsLoad (view_of_words (N.state device.now).words) load.now }
         ensures { IfOk result (λ key. load_value key
-            ≡ open_of (store_site_bytes (device_with device.now.device.words)) load.now) }
+            ≡ open_of (store_site_bytes (device_with (N.state device.now).words)) load.now) }
     {
         let site = load.site();
         let sizes = site.sizes();
@@ -143,16 +138,16 @@ impl LoadKey {
 }
 
 // Reads the bytes that a section of an open load has received.
-fn read_part<L: Ledger>(
+fn read_part<N: Nvm>(
     alloc: Global,
-    device: &BranchNvm<L>,
+    device: &N,
     load: &Load,
     part: Part,
 ) -> Result<Vec<u8>, NoMemory>
-    requires card { IsCard device.now.device.words }
-    requires fits { FitsLoad (view_of_words device.now.device.words) load.now }
+    requires card { IsCard (N.state device.now).words }
+    requires fits { FitsLoad (view_of_words (N.state device.now).words) load.now }
     ensures { IfOk result (λ bytes. bytes.items
-        ≡ got_at (store_site_bytes (device_with device.now.device.words)) load.now part) }
+        ≡ got_at (store_site_bytes (device_with (N.state device.now).words)) load.now part) }
 {
     let _size = device.len();
     let first = part_place(part, &load.site().sizes(), load.site().place());

@@ -1,41 +1,67 @@
 -- The steps of lines that are played, and of a deck that is recorded.
-use Rattle.std.specs.Prelude.{◌≡◌, ◌≢◌, ℕ, zero, suc, ◌+◌, ◌*◌, ◌<◌, ◌≤◌, ◌&&◌, Bool, true, false, List, [], ◌∷◌, ◌++◌, drop, length, slice_get, take, Option, Some, None, Result, Ok, Err, OnOk, refl}
+use Rattle.std.specs.Prelude.{◌≡◌, ◌≢◌, ℕ, zero, suc, ◌+◌, ◌*◌, ◌<◌, ◌≤◌, ◌&&◌, Bool, true, false, List, [], ◌∷◌, ◌++◌, drop, is_some, length, slice_get, take, Option, Some, None, Result, Ok, Err, OnOk, refl}
 use Rattle.std.proofs.Common.{arith, ap, sym, subst, ◌∙◌}
 use Rattle.std.proofs.Math.Nat.{add-mul, mul-le-mul_right, one-mul}
 use Rattle.mc_base.specs.model_device.specs.Device.{BenchState, DeviceState, blank_words, device_words}
-use Rattle.mc_apdu.specs.model_machine.specs.Chain.{Chain, Turn, turn_of}
+use Rattle.mc_base.specs.model_device.specs.PowerUp.{Base, OnCard, AtFault}
+use Rattle.mc_bank.specs.model_card.specs.Commands.{command}
+use Rattle.mc_apdu.specs.model_machine.specs.Apdu.{apdu_read}
+use Rattle.mc_apdu.specs.model_machine.specs.Chain.{Turn}
 use Rattle.lab_match.specs.model_play.specs.DeckGrammar.{DeckLine}
 use Rattle.lab_match.specs.model_play.specs.DeckGrammar as line
-use Rattle.lab_match.specs.model_play.specs.Play.{FailedWrite, State, BeforePower, AfterPower, armed_stop_in, moves_of, start, steady_at, step}
+use Rattle.lab_match.specs.model_play.specs.Play.{FailedWrite, Live, Running, Unpowered, Muted, State, BeforePower, AfterPower, armed_stop_in, moves_of, start, steady_at, step}
 use Rattle.mc_deck.specs.Lines.{line_of}
 use Rattle.mc_deck.specs.declared.line.Line.{Line}
-use Rattle.mc_machine.specs.Costs.{CountsTurn}
+use Rattle.mc_deck.specs.declared.line.Line.TheVariants as Line
 use Rattle.mc_nvm.specs.Sim.{Sim, blank_sim, sim_bench, sim_state}
 use Rattle.mc_script.specs.declared.answer.Answer.{Answer}
 use Rattle.mc_script.specs.declared.player.Player.{Player}
 use Rattle.mc_script.specs.Lines.{LineDone}
 use Rattle.mc_script.specs.Players.{device_of, IsPlayerAt, IsPlaying}
-use Rattle.mc_script.specs.StepCounts.{CountsLine, TurnSteps}
-use Rattle.mc_script.proofs.StepLemmas.{turn_steps}
-use Rattle.lab_record.specs.RecordSteps.{armed_by, armed_in, is_replayed, most_of_chronicle, most_of_end, most_of_last, most_of_line, most_of_lines, most_of_look, most_of_silent, most_recorded, most_up_to, plays_again, plays_of_stop, state_after, steady_step, IsSteadyAt}
+use Rattle.mc_script.specs.StepCounts.{instructions_on, search_on, CountsLine}
+use Rattle.lab_record.specs.RecordSteps.{armed_by, armed_in, is_replayed, most_of_chronicle, most_of_line, most_of_lines, most_recorded, plays_again, plays_of_stop, state_after, steady_step, IsSteadyAt}
 
--- ---- a cut
+-- ---- lines without steps
+
+no_power : (live : Live) (base : Base) (b : ℕ) → instructions_on live base b line.Power + search_on live base line.Power ≡ 0
+no_power (Running session_state) (OnCard c) b = refl
+no_power (Running session_state) (AtFault cause p) b = refl
+no_power Unpowered base b = refl
+no_power Muted base b = refl
+
+-- a power line makes no steps
+pub power_free : (s : State) → most_of_line s line.Power ≡ 0
+power_free (BeforePower m b a) = refl
+power_free (AfterPower w) = no_power w.live w.base w.budget
+
+no_cut : (live : Live) (base : Base) (b k : ℕ) (fill : List ℕ) → instructions_on live base b (line.Cut k fill) + search_on live base (line.Cut k fill) ≡ 0
+no_cut (Running session_state) (OnCard c) b k fill = refl
+no_cut (Running session_state) (AtFault cause p) b k fill = refl
+no_cut Unpowered base b k fill = refl
+no_cut Muted base b k fill = refl
+
+-- a line that arms a cut makes none
+pub cut_free : (s : State) (k : ℕ) (fill : List ℕ) → most_of_line s (line.Cut k fill) ≡ 0
+cut_free (BeforePower m b a) k fill = refl
+cut_free (AfterPower w) k fill = no_cut w.live w.base w.budget k fill
+
+no_idle : (live : Live) (base : Base) (b : ℕ) → instructions_on live base b (line.Sent (line.Apdu (0 ∷ []))) + search_on live base (line.Sent (line.Apdu (0 ∷ []))) ≡ 0
+unfolding command apdu_read
+no_idle (Running session_state) (OnCard c) b = refl
+no_idle (Running session_state) (AtFault cause p) b = refl
+no_idle Unpowered base b = refl
+no_idle Muted base b = refl
+
+-- a command that is too short makes none
+pub idle_free : (s : State) → most_of_line s (line.Sent (line.Apdu (0 ∷ []))) ≡ 0
+idle_free (BeforePower m b a) = refl
+idle_free (AfterPower w) = no_idle w.live w.base w.budget
 
 -- a line has the steps under a cut that it has without
 pub cut_same : (s : State) (n k : ℕ) (fill : List ℕ) (l : DeckLine) → most_of_line (steady_step s (n, line.Cut k fill)).after l ≡ most_of_line s l
 unfolding step
 cut_same (BeforePower m b a) n k fill l = refl
 cut_same (AfterPower w) n k fill l = refl
-
--- ---- turns
-
--- a turn before which the name of the application was looked at
-pub looked_turn : (n : ℕ) (ch : Chain) (old mid new : ℕ) → old ≤ mid → mid ≤ old + 4 → CountsTurn (turn_of n ch) mid new → TurnSteps 4 (turn_of n ch) old new
-looked_turn n ch old mid new rises reads h =
-    let turn = turn_steps n ch mid new h in
-    let least = turn.least in
-    let most = turn.most in
-    record { least = omega (arith, rises, least); most = omega (arith, reads, most) }
 
 -- ---- one more line
 
@@ -67,22 +93,22 @@ most_none : (s : State) → most_of_lines s [] ≡ 0
 unfolding most_of_lines
 most_none s = refl
 
-most_on : (s : State) (l : ℕ × DeckLine) (ls : List (ℕ × DeckLine)) → most_of_lines s (l ∷ ls) ≡ most_of_silent s l.1 + most_of_lines (steady_step s l).after ls
+most_on : (s : State) (l : ℕ × DeckLine) (ls : List (ℕ × DeckLine)) → most_of_lines s (l ∷ ls) ≡ most_of_line s l.1 + most_of_lines (steady_step s l).after ls
 unfolding most_of_lines
 most_on s l ls = refl
 
-most_append : (s : State) (ls : List (ℕ × DeckLine)) (l : ℕ × DeckLine) → most_of_lines s (ls ++ l ∷ []) ≡ most_of_lines s ls + most_of_silent (state_after s ls) l.1
+most_append : (s : State) (ls : List (ℕ × DeckLine)) (l : ℕ × DeckLine) → most_of_lines s (ls ++ l ∷ []) ≡ most_of_lines s ls + most_of_line (state_after s ls) l.1
 most_append s [] l =
     let on = most_on s l [] in
     let none = most_none (steady_step s l).after in
     let first = most_none s in
-    let at = ap (λ (t : State). most_of_silent t l.1) (after_none s) in
+    let at = ap (λ (t : State). most_of_line t l.1) (after_none s) in
     omega (arith, on, none, first, at)
 most_append s (x ∷ ls) l =
     let all = most_on s x (ls ++ l ∷ []) in
     let rest = most_append (steady_step s x).after ls l in
     let on = most_on s x ls in
-    let at = ap (λ (t : State). most_of_silent t l.1) (after_on s x ls) in
+    let at = ap (λ (t : State). most_of_line t l.1) (after_on s x ls) in
     omega (arith, all, rest, on, at)
 
 armed_none : (a : Option ℕ) → armed_in a [] ≡ a
@@ -103,16 +129,8 @@ pub after_next : (s : State) (ls : List (ℕ × DeckLine)) (i : ℕ) (l : ℕ ×
 after_next s ls i l here = ap (state_after s) (take_one i ls l here) ∙ after_append s (take i ls) l
 
 -- their steps
-pub most_next : (s : State) (ls : List (ℕ × DeckLine)) (i : ℕ) (l : ℕ × DeckLine) → slice_get ls i ≡ Some l → most_of_lines s (take (i + 1) ls) ≡ most_of_lines s (take i ls) + most_of_silent (state_after s (take i ls)) l.1
+pub most_next : (s : State) (ls : List (ℕ × DeckLine)) (i : ℕ) (l : ℕ × DeckLine) → slice_get ls i ≡ Some l → most_of_lines s (take (i + 1) ls) ≡ most_of_lines s (take i ls) + most_of_line (state_after s (take i ls)) l.1
 most_next s ls i l here = ap (most_of_lines s) (take_one i ls l here) ∙ most_append s (take i ls) l
-
-up_to_is : (s : State) (ls : List (ℕ × DeckLine)) (i : ℕ) → most_up_to s ls i ≡ most_of_lines s (take i ls) + most_of_last (state_after s (take i ls)) (slice_get ls i)
-unfolding most_up_to
-up_to_is s ls i = refl
-
--- those of the lines up to one that is recorded
-pub most_recorded_at : (s : State) (ls : List (ℕ × DeckLine)) (i : ℕ) (l : ℕ × DeckLine) → slice_get ls i ≡ Some l → most_up_to s ls i ≡ most_of_lines s (take i ls) + most_of_line (state_after s (take i ls)) l.1
-most_recorded_at s ls i l here = up_to_is s ls i ∙ ap (λ (o : Option (ℕ × DeckLine)). most_of_lines s (take i ls) + most_of_last (state_after s (take i ls)) o) here
 
 -- the stop that they armed last
 pub armed_next : (ls : List (ℕ × DeckLine)) (i : ℕ) (l : ℕ × DeckLine) → slice_get ls i ≡ Some l → armed_in None (take (i + 1) ls) ≡ armed_by (armed_in None (take i ls)) l.1
@@ -153,20 +171,16 @@ module _ {N : Type 0} (state : N → DeviceState) (bench : N → BenchState) whe
         steady = d.1.stepped.played.counts.counts.steady ∙ h.steady;
       }
 
-  -- the steps of one of which nothing is recorded
-  pub silent_most : (p : Player N) (l : DeckLine) (a : Option Answer) (old new : ℕ) → CountsLine state bench 0 p l a old new → (s : State) → IsPlayerAt state bench p s → new ≤ old + most_of_silent s l
-  silent_most p l a old new counts s at = (counts s at).most
-
-  -- those of one that is recorded
-  pub line_most : (p : Player N) (l : DeckLine) (a : Option Answer) (old new : ℕ) → CountsLine state bench 4 p l a old new → (s : State) → IsPlayerAt state bench p s → new ≤ old + most_of_line s l
+  -- its steps
+  pub line_most : (p : Player N) (l : DeckLine) (a : Option Answer) (old new : ℕ) → CountsLine state bench p l a old new → (s : State) → IsPlayerAt state bench p s → new ≤ old + most_of_line s l
   line_most p l a old new counts s at = (counts s at).most
 
-  -- those of one that are few in each state
-  pub few_steps : (p : Player N) (f : State → ℕ) (few old new : ℕ) → ((s : State) → IsPlayerAt state bench p s → new ≤ old + f s) → ((s : State) → f s ≤ few) → IsPlaying state bench p → new ≤ old + few
-  few_steps p f few old new most within h =
+  -- those of a line without steps
+  pub free_line : (p : Player N) (l : DeckLine) (old new : ℕ) → ((s : State) → IsPlayerAt state bench p s → new ≤ old + most_of_line s l) → ((s : State) → most_of_line s l ≡ 0) → IsPlaying state bench p → new ≤ old
+  free_line p l old new most free h =
       let m = most h.0 h.1 in
-      let w = within h.0 in
-      omega (arith, m, w)
+      let none = free h.0 in
+      omega (arith, m, none)
 
 -- ---- plays of the same steps
 
@@ -199,21 +213,17 @@ stop_cuts (Some j) k s old mid new is whole cuts =
     let many : 1 + (k + 147) ≡ j + 148 = omega (arith, same) in
     subst (λ (i : ℕ). new ≤ old + i * s) many (omega (arith, whole, cuts, e, one))
 
--- a line that was played again, and then looked at
-pub plays_some : (b : Bool) (a : Option ℕ) (here look s old mid late new : ℕ) → b ≡ true → mid ≤ old + here → late ≤ mid + plays_of_stop a * s → new ≤ late + look → new ≤ old + (here + look) + plays_again b a * s
-plays_some true a here look s old mid late new is line more looks = omega (arith, line, more, looks)
-plays_some false a here look s old mid late new is line more looks = absurd (cc is)
+-- a line that was played again, or was not
+pub plays_some : (b : Bool) (a : Option ℕ) (here s old mid new : ℕ) → b ≡ true → mid ≤ old + here → new ≤ mid + plays_of_stop a * s → new ≤ old + here + plays_again b a * s
+plays_some true a here s old mid new is line more = omega (arith, line, more)
+plays_some false a here s old mid new is line more = absurd (cc is)
 
--- one that was not
-pub plays_none : (k here look old mid new : ℕ) → mid ≤ old + here → new ≤ mid + look → new ≤ old + (here + look) + k
-plays_none k here look old mid new line looks = omega (arith, line, looks)
-
-pub no_look : (look new : ℕ) → new ≤ new + look
-no_look look new = omega arith
+pub plays_none : (k here old new : ℕ) → new ≤ old + here → new ≤ old + here + k
+plays_none k here old new line = omega (arith, line)
 
 -- ---- a deck
 
--- what is left of the lines of a deck from one on
+-- what is left of a deck from a line on
 abbrev pub left_of : List (ℕ × DeckLine) → ℕ → ℕ
 left_of ls i =
     let s = start (blank_words device_words) in
@@ -221,42 +231,40 @@ left_of ls i =
 
 recorded_on : (before : ℕ) (a : Option ℕ) (s : State) (l : ℕ × DeckLine) (ls : List (ℕ × DeckLine))
     → most_recorded before a s (l ∷ ls)
-    ≡ most_of_line s l.1 + most_of_look + plays_again (is_replayed (steady_step s l)) a * (before + most_of_line s l.1) + most_recorded (before + most_of_silent s l.1) (armed_by a l.1) (steady_step s l).after ls
+    ≡ most_of_line s l.1 + plays_again (is_replayed (steady_step s l)) a * (before + most_of_line s l.1) + most_recorded (before + most_of_line s l.1) (armed_by a l.1) (steady_step s l).after ls
 unfolding most_recorded
 recorded_on before a s l ls = refl
 
-chronicle_is : (ls : List (ℕ × DeckLine)) → most_of_chronicle ls ≡ most_recorded 0 None (start (blank_words device_words)) ls + most_of_end
+chronicle_is : (ls : List (ℕ × DeckLine)) → most_of_chronicle ls ≡ most_recorded 0 None (start (blank_words device_words)) ls
 unfolding most_of_chronicle
 chronicle_is ls = refl
 
--- before the first line all are left, and the power-up
-pub left_all : (ls : List (ℕ × DeckLine)) → left_of ls 0 + most_of_end ≡ most_of_chronicle ls
+-- before the first line all is left
+pub left_all : (ls : List (ℕ × DeckLine)) → left_of ls 0 ≡ most_of_chronicle ls
 left_all ls =
     let s = start (blank_words device_words) in
-    ap (λ (n : ℕ). most_recorded n (armed_in None (take 0 ls)) (state_after s (take 0 ls)) ls + most_of_end) (most_first s ls)
-    ∙ ap (λ (a : Option ℕ). most_recorded 0 a (state_after s (take 0 ls)) ls + most_of_end) (armed_first ls)
-    ∙ ap (λ (t : State). most_recorded 0 None t ls + most_of_end) (after_first s ls)
+    ap (λ (n : ℕ). most_recorded n (armed_in None (take 0 ls)) (state_after s (take 0 ls)) ls) (most_first s ls)
+    ∙ ap (λ (a : Option ℕ). most_recorded 0 a (state_after s (take 0 ls)) ls) (armed_first ls)
+    ∙ ap (λ (t : State). most_recorded 0 None t ls) (after_first s ls)
     ∙ sym (chronicle_is ls)
 
 -- a line, and what is left after it
 pub left_next : (ls : List (ℕ × DeckLine)) (i : ℕ) (l : ℕ × DeckLine) → slice_get ls i ≡ Some l
     → (let s = state_after (start (blank_words device_words)) (take i ls) in
-    left_of ls i ≡ most_of_line s l.1 + most_of_look + plays_again (is_replayed (steady_step s l)) (armed_in None (take i ls)) * most_up_to (start (blank_words device_words)) ls i + left_of ls (i + 1))
+    left_of ls i ≡ most_of_line s l.1 + plays_again (is_replayed (steady_step s l)) (armed_in None (take i ls)) * most_of_lines (start (blank_words device_words)) (take (i + 1) ls) + left_of ls (i + 1))
 left_next ls i l here =
     let z = start (blank_words device_words) in
     let before = most_of_lines z (take i ls) in
     let a = armed_in None (take i ls) in
     let s = state_after z (take i ls) in
     let rest = drop (i + 1) ls in
-    let m = most_of_line s l.1 + most_of_look in
+    let m = most_of_line s l.1 in
     let again = plays_again (is_replayed (steady_step s l)) a in
-    let through = most_up_to z ls i in
     ap (λ (xs : List (ℕ × DeckLine)). most_recorded before a s xs) (drop_at ls i l here)
     ∙ recorded_on before a s l rest
-    ∙ ap (λ (n : ℕ). m + again * n + most_recorded (before + most_of_silent s l.1) (armed_by a l.1) (steady_step s l).after rest) (sym (most_recorded_at z ls i l here))
-    ∙ ap (λ (n : ℕ). m + again * through + most_recorded n (armed_by a l.1) (steady_step s l).after rest) (sym (most_next z ls i l here))
-    ∙ ap (λ (b : Option ℕ). m + again * through + most_recorded (most_of_lines z (take (i + 1) ls)) b (steady_step s l).after rest) (sym (armed_next ls i l here))
-    ∙ ap (λ (t : State). m + again * through + most_recorded (most_of_lines z (take (i + 1) ls)) (armed_in None (take (i + 1) ls)) t rest) (sym (after_next z ls i l here))
+    ∙ ap (λ (n : ℕ). m + again * n + most_recorded n (armed_by a l.1) (steady_step s l).after rest) (sym (most_next z ls i l here))
+    ∙ ap (λ (b : Option ℕ). m + again * most_of_lines z (take (i + 1) ls) + most_recorded (most_of_lines z (take (i + 1) ls)) b (steady_step s l).after rest) (sym (armed_next ls i l here))
+    ∙ ap (λ (t : State). m + again * most_of_lines z (take (i + 1) ls) + most_recorded (most_of_lines z (take (i + 1) ls)) (armed_in None (take (i + 1) ls)) t rest) (sym (after_next z ls i l here))
 
 -- ---- a device in memory
 

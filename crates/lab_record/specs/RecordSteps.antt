@@ -1,14 +1,13 @@
--- The most steps of a deck that is recorded: each line once, with a look at the static bytes after it, the lines up to one
--- that a stop hit again, whole and for each device write up to 147 after that of the stop, and at its end a command that
--- drops a stop and a power-up with a look. A step is an executed instruction, or a word that is read of the device.
-use Rattle.std.specs.Prelude.{◌≡◌, ℕ, ◌+◌, ◌*◌, Bool, true, false, ◌&&◌, List, [], ◌∷◌, is_some, slice_get, take, Option, Some, None}
+-- The most steps of a deck that is recorded: each line once, and the lines up to one that a stop hit again, whole and for
+-- each device write up to the stop.
+use Rattle.std.specs.Prelude.{◌≡◌, ℕ, ◌+◌, ◌*◌, Bool, true, false, ◌&&◌, List, [], ◌∷◌, is_some, Option, Some, None}
 use Rattle.mc_base.specs.model_device.specs.Device.{BenchState, DeviceState, blank_words, device_words}
 use Rattle.lab_match.specs.model_play.specs.DeckGrammar.{DeckLine}
 use Rattle.lab_match.specs.model_play.specs.DeckGrammar as line
 use Rattle.lab_match.specs.model_play.specs.Play.{State, Step, armed_stop_in, moves_of, start, steady_at, step}
 use Rattle.mc_script.specs.declared.player.Player.{Player}
 use Rattle.mc_script.specs.Players.{device_of, IsPlayerAt}
-use Rattle.mc_script.specs.StepCounts.{instructions_in, most_of_manager, most_of_power, reads_in}
+use Rattle.mc_script.specs.StepCounts.{instructions_in, search_in}
 use Rattle.lab_record.specs.Courses.{is_stop, passed_command}
 
 -- ---- lines on a device that refuses just the writes of `fail` lines
@@ -29,36 +28,14 @@ pub record IsSteadyAt {N : Type 0} (state : N → DeviceState) (bench : N → Be
 
 -- ---- steps
 
--- the most steps of a line in a state of which nothing is recorded: one for each of its instructions, and the words that it
--- reads
-abbrev pub most_of_silent : State → DeckLine → ℕ
-most_of_silent s l = instructions_in s l + reads_in 0 s l
-
--- the most steps of a line that is recorded: in each turn the name of the application is looked at, which reads four words
+-- the most steps of a line in a state: one for each of its instructions, and those of its search for room
 abbrev pub most_of_line : State → DeckLine → ℕ
-most_of_line s l = instructions_in s l + reads_in 4 s l
+most_of_line s l = instructions_in s l + search_in s l
 
--- the most steps of lines that are played from a state, of which nothing is recorded
+-- the most steps of lines that are played from a state
 unfoldable pub most_of_lines : State → List (ℕ × DeckLine) → ℕ
 most_of_lines s [] = 0
-most_of_lines s (l ∷ ls) = most_of_silent s l.1 + most_of_lines (steady_step s l).after ls
-
--- the most steps of a line that is recorded, if there is one
-abbrev pub most_of_last : State → Option (ℕ × DeckLine) → ℕ
-most_of_last s None = 0
-most_of_last s (Some l) = most_of_line s l.1
-
--- the most steps of the lines up to the one with a number, of which that one is recorded
-unfoldable pub most_up_to : State → List (ℕ × DeckLine) → ℕ → ℕ
-most_up_to s ls i = most_of_lines s (take i ls) + most_of_last (state_after s (take i ls)) (slice_get ls i)
-
--- the most words that a look at the static bytes of an application reads: 329 for their length, and 838 for 4,096 of them
-abbrev pub most_of_look : ℕ
-most_of_look = 1167
-
--- the most steps after the last line: a command that is too short drops a stop, and a power-up is recorded
-abbrev pub most_of_end : ℕ
-most_of_end = most_of_manager + (most_of_power + most_of_look)
+most_of_lines s (l ∷ ls) = most_of_line s l.1 + most_of_lines (steady_step s l).after ls
 
 -- ---- lines that are played again
 
@@ -90,16 +67,15 @@ plays_again false a = 0
 
 -- ---- decks
 
--- The most steps of lines that are recorded, after lines of `before` steps that armed this stop last. Those before a line
--- are played again with nothing recorded.
+-- the most steps of lines that are recorded, after lines of `before` steps that armed this stop last
 unfoldable pub most_recorded : ℕ → Option ℕ → State → List (ℕ × DeckLine) → ℕ
 most_recorded before a s [] = 0
 most_recorded before a s (l ∷ ls) =
     let t = steady_step s l in
-    let here = most_of_line s l.1 in
-    here + most_of_look + plays_again (is_replayed t) a * (before + here) + most_recorded (before + most_of_silent s l.1) (armed_by a l.1) t.after ls
+    let through = before + most_of_line s l.1 in
+    most_of_line s l.1 + plays_again (is_replayed t) a * through + most_recorded through (armed_by a l.1) t.after ls
 
--- the most steps of a deck that is recorded on a blank device, with a power-up at its end
+-- the most steps of a deck that is recorded on a blank device
 unfoldable pub most_of_chronicle : List (ℕ × DeckLine) → ℕ
 unfolding most_recorded
-most_of_chronicle ls = most_recorded 0 None (start (blank_words device_words)) ls + most_of_end
+most_of_chronicle ls = most_recorded 0 None (start (blank_words device_words)) ls

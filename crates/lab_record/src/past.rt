@@ -5,8 +5,7 @@ ghost use Rattle.lab_match.specs.model_play.specs.DeckGrammar.{DeckLine};
 ghost use Rattle.lab_match.specs.model_play.specs.Play.{State, start};
 ghost use Rattle.mc_script.specs.Benches.{IsPlaying};
 ghost use Rattle.lab_record.specs.Benches.{IsSteadyAt};
-ghost use Rattle.lab_record.specs.RecordSteps.{armed_in, is_replayed, most_of_chronicle, most_of_end, most_of_line, most_of_look, most_up_to, plays_again, plays_of_stop, steady_step};
-ghost use Rattle.mc_script.specs.StepCounts.{most_of_manager};
+ghost use Rattle.lab_record.specs.RecordSteps.{armed_in, is_replayed, most_of_chronicle, most_of_line, most_of_lines, plays_again, plays_of_stop, steady_step};
 
 use crate::playing::{play_before, play_line};
 use crate::recording::{Played, play_recorded};
@@ -70,20 +69,20 @@ fn armed_for(deck: &Deck, i: usize) -> Option<ArmedStop>
 }
 
 // Plays the lines of a deck before one, and that one with its device write `k` cut.
-fn replay_on<N: Bench>(
+fn replay_on<N: Bench, L: Ledger>(
     alloc: Global,
     player: &mut Player<N>,
     deck: &Deck,
     i: usize,
     k: u32,
     subject: Subject<'_>,
-    steps: &mut Steps<N::Meter>,
+    steps: &mut Steps<L>,
 ) -> Result<Played, NoMemory>
     requires playing { IsPlaying N.Bench player.old }
     requires cut { 1 ≤ k }
     requires there { i < length deck.now }
     ensures steps { (s : State) → IsSteadyAt N.Bench player.old s
-        → steps.new ≤ steps.old + most_up_to s deck.now i }
+        → steps.new ≤ steps.old + most_of_lines s (take (i + 1) deck.now) }
 {
     play_before(player, deck, i, steps);
     play_line(player, &Line::Cut { k, fill: [0; 8] }, steps);
@@ -101,7 +100,8 @@ fn replay<L: Ledger>(
 ) -> Result<Played, NoMemory>
     requires cut { 1 ≤ k }
     requires there { i < length deck.now }
-    ensures steps { steps.new ≤ steps.old + most_up_to (start (blank_words device_words)) deck.now i }
+    ensures steps { steps.new
+        ≤ steps.old + most_of_lines (start (blank_words device_words)) (take (i + 1) deck.now) }
 {
     let mut player = Player::new(SimNvm::new(alloc, DEVICE_WORDS)?);
     replay_on(alloc, &mut player, deck, i, k, subject, steps)
@@ -120,7 +120,7 @@ fn turns_before<L: Ledger>(
     requires { i < length deck.now }
     // One play for each device write up to 147 after that of the stop.
     ensures steps { steps.new
-        ≤ steps.old + (k + 147) * most_up_to (start (blank_words device_words)) deck.now i }
+        ≤ steps.old + (k + 147) * most_of_lines (start (blank_words device_words)) (take (i + 1) deck.now) }
 {
     let mut turns = Vec::new(alloc);
     for write in 0..k.saturating_add(MOST_WRITES) {
@@ -144,7 +144,7 @@ fn stopped<L: Ledger>(
 ) -> Result<(Course, Extent), NoMemory>
     requires { i < length deck.now }
     ensures steps { steps.new ≤ steps.old + plays_of_stop (armed_in None (take i deck.now))
-        * most_up_to (start (blank_words device_words)) deck.now i }
+        * most_of_lines (start (blank_words device_words)) (take (i + 1) deck.now) }
 {
     let whole = replay(alloc, deck, i, u32::MAX, subject, steps)?;
     let durable = match armed_for(deck, i) {
@@ -172,16 +172,14 @@ fn statics_of<N: Bench>(
     alloc: Global,
     player: &Player<N>,
     subject: Subject<'_>,
-    steps: &mut Steps<N::Meter>,
 ) -> Result<Option<Vec<u8>>, NoMemory>
     requires { IsPlaying N.Bench player.now }
-    ensures reads { steps.new ≤ steps.old + most_of_look }
 {
-    let Some(count) = player.static_len(subject.aid, steps) else {
+    let Some(count) = player.static_len(subject.aid) else {
         return Ok(None);
     };
     let mut fixed = vec![in alloc; 0; count as usize]?;
-    player.static_of(subject.aid, 0, fixed.as_mut_slice(), steps);
+    player.static_of(subject.aid, 0, fixed.as_mut_slice());
     Ok(Some(fixed))
 }
 
@@ -218,43 +216,41 @@ impl<'a> Past<'a> {
         player: &Player<N>,
         course: &Course,
         extent: Extent,
-        steps: &mut Steps<N::Meter>,
     ) -> Result<Option<Break>, NoMemory>
         requires { IsPlaying N.Bench player.now }
-        ensures reads { steps.new ≤ steps.old + most_of_look }
     {
         let broken = self.count(course, extent);
         if broken.is_some() || player.card().is_none() {
             return Ok(broken);
         }
-        let fixed = statics_of(alloc, player, self.subject, steps)?;
+        let fixed = statics_of(alloc, player, self.subject)?;
         self.look(alloc, fixed)
     }
 
     // Plays the line of a deck with a number, and counts it.
-    fn play<N: Bench>(
+    fn play<N: Bench, L: Ledger>(
         &mut self,
         alloc: Global,
         player: &mut Player<N>,
         deck: &Deck,
         i: usize,
-        steps: &mut Steps<N::Meter>,
+        steps: &mut Steps<L>,
     ) -> Result<Option<Break>, NoMemory>
         requires playing { IsPlaying N.Bench player.old }
         requires there { i < length deck.now }
         ensures playing { IsPlaying N.Bench player.new }
         ensures at { OnOk result ((s : State) (l : ℕ × DeckLine) → IsSteadyAt N.Bench player.old s
             → slice_get deck.now i ≡ Some l → IsSteadyAt N.Bench player.new (steady_step s l).after) }
-        // Those of the line, of a look at what it left, and of the plays of the lines up to it if a stop hit it.
+        // Those of the line, and of the plays of the lines up to it if a stop hit it.
         ensures steps { (s : State) (l : ℕ × DeckLine) → IsSteadyAt N.Bench player.old s
-            → slice_get deck.now i ≡ Some l → steps.new ≤ steps.old + (most_of_line s l.1 + most_of_look)
+            → slice_get deck.now i ≡ Some l → steps.new ≤ steps.old + most_of_line s l.1
             + plays_again (is_replayed (steady_step s l)) (armed_in None (take i deck.now))
-            * most_up_to (start (blank_words device_words)) deck.now i }
+            * most_of_lines (start (blank_words device_words)) (take (i + 1) deck.now) }
     {
         let played = play_recorded(alloc, player, &deck.line(i).1, self.subject, steps)?;
         if played.is_stopped && played.has_begun {
             let (course, extent) = stopped(alloc, deck, i, &played, self.subject, steps)?;
-            return self.add(alloc, player, &course, extent, steps);
+            return self.add(alloc, player, &course, extent);
         }
         let extent = if played.is_stopped {
             Extent::Stopped {
@@ -264,34 +260,33 @@ impl<'a> Past<'a> {
         } else {
             Extent::Whole
         };
-        self.add(alloc, player, &played.course, extent, steps)
+        self.add(alloc, player, &played.course, extent)
     }
 
     // Powers up a card that does not run, as an exploration begins.
-    fn power<N: Bench>(
+    fn power<N: Bench, L: Ledger>(
         &mut self,
         alloc: Global,
         player: &mut Player<N>,
-        steps: &mut Steps<N::Meter>,
+        steps: &mut Steps<L>,
     ) -> Result<Option<Break>, NoMemory>
         requires { IsPlaying N.Bench player.old }
-        ensures steps { steps.new ≤ steps.old + most_of_end }
+        ensures steps { steps.new ≤ steps.old }
     {
         drop_stop(player, steps);
         if player.card().is_some() {
             return Ok(None);
         }
         let played = play_recorded(alloc, player, &Line::Power, self.subject, steps)?;
-        self.add(alloc, player, &played.course, Extent::Whole, steps)
+        self.add(alloc, player, &played.course, Extent::Whole)
     }
 }
 
 // Drops a stop that is armed for the next card line.
-fn drop_stop<N: Bench>(player: &mut Player<N>, steps: &mut Steps<N::Meter>)
+fn drop_stop<N: Bench, L: Ledger>(player: &mut Player<N>, steps: &mut Steps<L>)
     requires { IsPlaying N.Bench player.old }
     ensures playing { IsPlaying N.Bench player.new }
-    // A command that is too short executes nothing, and reads no more than one of the manager may.
-    ensures steps { steps.new ≤ steps.old + most_of_manager }
+    ensures steps { steps.new ≤ steps.old }
 {
     if !player.is_armed() {
         return;
@@ -300,12 +295,12 @@ fn drop_stop<N: Bench>(player: &mut Player<N>, steps: &mut Steps<N::Meter>)
 }
 
 // Plays a deck, and returns the amounts of the allowances after it, or the first rule that is broken.
-fn chronicle_on<N: Bench>(
+fn chronicle_on<N: Bench, L: Ledger>(
     alloc: Global,
     player: &mut Player<N>,
     deck: &Deck,
     subject: Subject<'_>,
-    steps: &mut Steps<N::Meter>,
+    steps: &mut Steps<L>,
 ) -> Result<Result<Vec<u32>, Break>, NoMemory>
     requires { IsPlaying N.Bench player.old }
     ensures steps { IsSteadyAt N.Bench player.old (start (blank_words device_words))
@@ -338,9 +333,8 @@ pub fn chronicle<L: Ledger>(
     subject: Subject<'_>,
     steps: &mut Steps<L>,
 ) -> Result<Result<Vec<u32>, Break>, NoMemory>
-    // Those of the deck, with a look at the static bytes after each line, for each line that a stop hit those of the
-    // lines up to it, whole and for each device write up to the stop, with those of one atomic write after it, and those
-    // of a power-up at the end.
+    // Those of the deck, and for each line that a stop hit those of the lines up to it, whole and for each device write
+    // up to the stop, with those of one atomic write after it.
     ensures steps { steps.new ≤ steps.old + most_of_chronicle deck.now }
 {
     let mut player = Player::new(SimNvm::new(alloc, DEVICE_WORDS)?);

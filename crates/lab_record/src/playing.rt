@@ -5,33 +5,34 @@ ghost use Rattle.mc_deck.specs.Lines.{line_of, GoodLine};
 ghost use Rattle.mc_script.specs.Players.{device_of};
 ghost use Rattle.mc_script.specs.Benches.{IsPlayerAt, IsPlaying};
 ghost use Rattle.lab_record.specs.Benches.{IsSteadyAt};
-ghost use Rattle.lab_record.specs.RecordSteps.{most_of_lines, most_of_silent, state_after, steady_step};
+ghost use Rattle.lab_record.specs.RecordSteps.{most_of_line, most_of_lines, state_after, steady_step};
 
 use mc_base::Steps;
 use mc_deck::{Deck, Line};
 use mc_nvm::Bench;
 use mc_script::{Player, Silent};
+use std::sync::ledger::Ledger;
 
 /// Plays a line, and records nothing.
-pub fn play_line<N: Bench>(player: &mut Player<N>, line: &Line<'_>, steps: &mut Steps<N::Meter>)
+pub fn play_line<N: Bench, L: Ledger>(player: &mut Player<N>, line: &Line<'_>, steps: &mut Steps<L>)
     requires playing { IsPlaying N.Bench player.old }
     requires good { GoodLine (line_of line.now) }
     ensures playing { IsPlaying N.Bench player.new }
     ensures at { (s : State) (n : ℕ) → IsSteadyAt N.Bench player.old s
         → IsSteadyAt N.Bench player.new (steady_step s (n, line_of line.now)).after }
     ensures steps { (s : State) → IsPlayerAt N.Bench player.old s
-        → steps.new ≤ steps.old + most_of_silent s (line_of line.now) }
+        → steps.new ≤ steps.old + most_of_line s (line_of line.now) }
     ensures keeps_device { N.same (device_of player.old) (device_of player.new) }
 {
     let _answer = player.line(line, &mut Silent, steps);
 }
 
 /// Plays the lines of a deck before the one with a number, or all if it has no such line.
-pub fn play_before<N: Bench>(
+pub fn play_before<N: Bench, L: Ledger>(
     player: &mut Player<N>,
     deck: &Deck,
     i: usize,
-    steps: &mut Steps<N::Meter>,
+    steps: &mut Steps<L>,
 )
     requires { IsPlaying N.Bench player.old }
     ensures playing { IsPlaying N.Bench player.new }

@@ -1,5 +1,5 @@
 // What the instructions of a line do to what is counted of an application, recorded.
-ghost use Rattle.std.specs.Prelude.{◌≡◌, ◌+◌, ◌≤◌, ◌∷◌, ℕ, [], bytes_eq, false, slice_get, true, IfSome, OnOk};
+ghost use Rattle.std.specs.Prelude.{◌≡◌, ◌≤◌, ◌∷◌, ℕ, [], bytes_eq, false, slice_get, true, IfSome, OnOk};
 ghost use Rattle.mc_apdu.specs.model_machine.specs.Chain.{Chain};
 ghost use Rattle.mc_apdu.specs.model_machine.specs.Code.{Shaped};
 ghost use Rattle.mc_card.specs.Parts.{IsRunning, RunsChain};
@@ -22,6 +22,7 @@ use mc_script::{Runner, Watcher, run_watched};
 use mc_segs::Abend;
 use prove_events::{Amount, Effect, Rules};
 use std::alloc::Global;
+use std::sync::ledger::Ledger;
 
 /// Records what the instructions of a line do to what is counted of an application.
 #[derive(Drop)]
@@ -44,15 +45,12 @@ pub struct Recorder<'a> {
 }
 
 // Whether the next instruction is one of the application with a name.
-fn is_own<N: Nvm>(card: &Card<N>, aid: &Aid, steps: &mut Steps<N::Meter>) -> bool
+fn is_own<N: Nvm>(card: &Card<N>, aid: &Aid) -> bool
     requires { IsRunning N.state card.now }
-    ensures value { (ch : Chain) (left : ℕ) → RunsChain N.state card.now ch left
-        → result ≡ bytes_eq ch.frame.name aid.now }
-    ensures rises { steps.old ≤ steps.new }
-    ensures reads { steps.new ≤ steps.old + 4 }
+    ensures { (ch : Chain) (left : ℕ) → RunsChain N.state card.now ch left → result ≡ bytes_eq ch.frame.name aid.now }
 {
     match card.chain() {
-        Some(chain) => is_named(card.bank(), chain.running(), aid, steps),
+        Some(chain) => is_named(card.bank(), chain.running(), aid),
         None => false,
     }
 }
@@ -348,21 +346,19 @@ impl<'a> Watcher for Recorder<'a> {
 
     ghost seen = { sight };
 
-    ghost looks = { λ q. 4 };
-
     ghost watched = { Recorded };
 
     ghost silent = { recorded_none };
 
     ghost onward = { recorded_on };
 
-    fn turn<N: Nvm>(
+    fn turn<N: Nvm, L: Ledger>(
         &mut self,
         card: &mut Card<N>,
         into: &mut Outcome,
-        steps: &mut Steps<N::Meter>,
+        steps: &mut Steps<L>,
     ) -> Result<BriefTurn, Stop> {
-        let own = is_own(card, self.aid, steps);
+        let own = is_own(card, self.aid);
         self.look_at(own, public_of(card));
         let turn = card.brief_turn(into, steps)?;
         self.see_turn(&turn, own);
@@ -378,19 +374,17 @@ impl<'a> Runner for Recorder<'a> {
 
     ghost reported = { Watches sight Recorded };
 
-    ghost looks = { λ q. 4 };
-
     ghost silent = { λ c. recorded_none };
 
     ghost onward = { λ c d q r s. recorded_on q r s [] [] };
 
-    fn run<N: Nvm>(
+    fn run<N: Nvm, L: Ledger>(
         &mut self,
         card: &mut Card<N>,
         bytes: &[u8],
         budget: u32,
         into: &mut Outcome,
-        steps: &mut Steps<N::Meter>,
+        steps: &mut Steps<L>,
     ) -> Result<(), Stop> {
         run_watched(self, card, bytes, budget, into, steps)
     }

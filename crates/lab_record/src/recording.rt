@@ -29,6 +29,7 @@ use mc_nvm::Bench;
 use mc_script::{Answer, Live, Player, Text, add_result};
 use prove_events::{Event, On};
 use std::alloc::Global;
+use std::sync::ledger::Ledger;
 
 /// A line that was played: what happened to the application as far as it came, whether a stop hit it, the turns that were
 /// taken, and whether its command was passed to an application.
@@ -101,17 +102,14 @@ fn ended_lines<N: Bench>(
     ons: &[On],
     command: &[u8],
     player: &Player<N>,
-    steps: &mut Steps<N::Meter>,
 ) -> Result<Vec<usize>, NoMemory>
     requires { IsPlaying N.Bench player.now }
-    ensures lines { IfOk result (λ lines. lines.items
+    ensures { IfOk result (λ lines. lines.items
         ≡ answered_from 0 (hex_text command.now) (outcome_text (outcome_value player.now.outcome)) ons.now) }
-    // The text of an outcome reads nothing.
-    ensures reads { steps.new ≡ steps.old }
 {
     let command = hex_of(alloc, command)?;
     let mut text = Text::new();
-    add_result(&mut text, player, &Answer::Outcome, steps);
+    add_result(&mut text, player, &Answer::Outcome);
     answered(alloc, ons, command.as_slice(), text.as_slice())
 }
 
@@ -122,12 +120,10 @@ fn answer_lines<N: Bench>(
     command: Option<&[u8]>,
     player: &Player<N>,
     ended: bool,
-    steps: &mut Steps<N::Meter>,
 ) -> Result<Vec<usize>, NoMemory>
     requires { IsPlaying N.Bench player.now }
-    ensures lines { IfOk result (λ lines. lines.items
+    ensures { IfOk result (λ lines. lines.items
         ≡ answer_lines ons.now (option_map (λ b. b.now) command.entry) (ended_by ended player.now)) }
-    ensures reads { steps.new ≡ steps.old }
 {
     let Some(command) = command else {
         return Ok(Vec::new(alloc));
@@ -135,7 +131,7 @@ fn answer_lines<N: Bench>(
     if !ended {
         return Ok(Vec::new(alloc));
     }
-    ended_lines(alloc, ons, command, player, steps)
+    ended_lines(alloc, ons, command, player)
 }
 
 // The command of a line that reaches the application, by whether it is selected.
@@ -167,20 +163,18 @@ fn course_of<N: Bench>(
     was_selected: bool,
     ended: bool,
     deeds: Vec<Happening>,
-    steps: &mut Steps<N::Meter>,
 ) -> Result<Course, NoMemory>
     requires { IsPlaying N.Bench player.now }
-    ensures course { IfOk result (λ course. (s : State) → IsPlayerAt N.Bench player.now s
+    ensures { IfOk result (λ course. (s : State) → IsPlayerAt N.Bench player.now s
         → IsCourse subject.entry.rules.now (line_of line.now) was_selected (is_selected_in subject.entry.aid.now s)
         (ended_by ended player.now) (values_of deeds.items) course) }
-    ensures reads { steps.new ≡ steps.old }
 {
     let command = own_command(line, was_selected);
     let ons = subject.rules.ons.as_slice();
     let is_selected = is_selected(alloc, player, subject.aid)?;
     let done = is_done(player, ended);
     let lines = command_lines(alloc, ons, command)?;
-    let answer = answer_lines(alloc, ons, command, player, ended, steps)?;
+    let answer = answer_lines(alloc, ons, command, player, ended)?;
     let has_session = has_session(line, done, was_selected, is_selected);
     Ok(Course {
         command: lines,
@@ -196,12 +190,12 @@ fn course_of<N: Bench>(
 /// # Errors
 ///
 /// Returns `NoMemory` if it is out of memory.
-pub fn play_recorded<N: Bench>(
+pub fn play_recorded<N: Bench, L: Ledger>(
     alloc: Global,
     player: &mut Player<N>,
     line: &Line<'_>,
     subject: Subject<'_>,
-    steps: &mut Steps<N::Meter>,
+    steps: &mut Steps<L>,
 ) -> Result<Played, NoMemory>
     requires playing { IsPlaying N.Bench player.old }
     requires good { GoodLine (line_of line.now) }
@@ -216,7 +210,7 @@ pub fn play_recorded<N: Bench>(
     ensures recorded { IfOk result (λ p. (s : State) (n : ℕ) → IsSteadyAt N.Bench player.old s
         → IsSteadyAt N.Bench player.new (steady_step s (n, line_of line.now)).after
         × IsPlayed subject.entry.rules.now subject.entry.aid.now (steady_step s (n, line_of line.now)) p) }
-    // At most the steps of the line, played once, with a look at the application before each turn.
+    // At most the steps of the line, played once.
     ensures steps { (s : State) → IsPlayerAt N.Bench player.old s
         → steps.new ≤ steps.old + most_of_line s (line_of line.now) }
 {
@@ -236,7 +230,6 @@ pub fn play_recorded<N: Bench>(
         was_selected,
         ended,
         recorder.deeds,
-        steps,
     )?;
     Ok(Played {
         is_stopped: is_stopped(&answer),

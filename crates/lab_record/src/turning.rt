@@ -1,5 +1,5 @@
 // What is read of an instruction that was done.
-ghost use Rattle.std.specs.Prelude.{◌≡◌, ◌+◌, ◌≤◌, ◌==◌, ℕ, bytes_eq, drop, Option, option_map, IfOk, IfSome};
+ghost use Rattle.std.specs.Prelude.{◌≡◌, ◌≤◌, ◌==◌, ℕ, bytes_eq, drop, Option, option_map, IfOk, IfSome};
 ghost use Rattle.mc_apdu.specs.model_machine.specs.Code.{Shaped};
 ghost use Rattle.mc_isa.specs.model_text.specs.Text.{first_cut};
 ghost use Rattle.prove_events.specs.model_rules.specs.Keeping.{mode_of_primitive};
@@ -15,7 +15,7 @@ ghost use Rattle.prove_events.specs.declared.rules.Event.TheVariants as event;
 
 use crate::fitting::fitting;
 use mc_bank::Bank;
-use mc_base::{Aid, NoMemory, Steps};
+use mc_base::{Aid, NoMemory};
 use mc_card::BriefTurn;
 use mc_isa::Ins;
 use mc_prims::Primitive;
@@ -26,13 +26,11 @@ use prove_events::{Event, On};
 use std::alloc::Global;
 
 /// Returns whether a frame is one of the application with a name.
-pub fn is_named<B: Bank>(bank: &B, frame: &Frame, aid: &Aid, steps: &mut Steps<B::Meter>) -> bool
+pub fn is_named<B: Bank>(bank: &B, frame: &Frame, aid: &Aid) -> bool
     requires { CanRun B.Bank bank.now frame.now }
-    ensures value { result ≡ bytes_eq (name_or (B.named bank.now frame.now.slot)) aid.now }
-    ensures rises { steps.old ≤ steps.new }
-    ensures reads { steps.new ≤ steps.old + 4 }
+    ensures { result ≡ bytes_eq (name_or (B.named bank.now frame.now.slot)) aid.now }
 {
-    bank.facts(frame.slot(), steps).aid.bytes() == aid.bytes()
+    bank.facts(frame.slot()).aid.bytes() == aid.bytes()
 }
 
 // The mode of a primitive that sets the protection.

@@ -93,7 +93,7 @@ one_broken held (Some j) i amounts r e h = subst (λ (k : ℕ). Spent held k r) 
 -- ---- counts
 
 -- there is room for the counts of a candidate
-pub as_many : {L : Type 0} (lab : Laboratory L) (r : Rosters) (s : CardState) (x : Candidate) (w : Manner) → CanBeTried lab r s x w → length lab.counts.items ≡ length x.ons.now
+pub as_many : (lab : Laboratory) (r : Rosters) (s : CardState) (x : Candidate) (w : Manner) → CanBeTried lab r s x w → length lab.counts.items ≡ length x.ons.now
 as_many lab r s x w q = q.7 ∙ sym (alike_length (IsOn q.0) x.ons.now q.1 (q.5).ons)
 
 -- ---- outcomes
@@ -117,7 +117,7 @@ runs_shown m live.Muted l h = sym (ap is_running h)
 
 -- ---- what stays kept
 
-stays_kept : {L : Type 0} (lab u : Laboratory L) (r : Rosters) (names : List (List ℕ)) (s : CardState) (c : model.CardState) → root_of u ≡ root_of lab → u.budget ≡ lab.budget → Kept lab r names s c → Kept u r names s c
+stays_kept : (lab u : Laboratory) (r : Rosters) (names : List (List ℕ)) (s : CardState) (c : model.CardState) → root_of u ≡ root_of lab → u.budget ≡ lab.budget → Kept lab r names s c → Kept u r names s c
 stays_kept lab u r names s c root budget h =
     record {
       card = subst (λ (n : List (List ℕ)). IsKeptCard n r s.card c.base c.live) (sym root) h.card;
@@ -128,11 +128,11 @@ stays_kept lab u r names s c root budget h =
     }
 
 -- the same rosters on the same root keep what was kept
-pub keeps_there : {L : Type 0} (lab u : Laboratory L) (r : Rosters) → root_of u ≡ root_of lab → u.budget ≡ lab.budget → length u.counts.items ≡ length lab.counts.items → KeepsKept lab r u r
+pub keeps_there : (lab u : Laboratory) (r : Rosters) → root_of u ≡ root_of lab → u.budget ≡ lab.budget → length u.counts.items ≡ length lab.counts.items → KeepsKept lab r u r
 keeps_there lab u r root budget counts = record { kept = λ names s c h. stays_kept lab u r names s c root budget h; counts = counts }
 
 -- what was kept stays so if the rosters still have it
-pub keeps_more : {L : Type 0} (lab u : Laboratory L) (r q : Rosters) → root_of u ≡ root_of lab → u.budget ≡ lab.budget → length u.counts.items ≡ length lab.counts.items
+pub keeps_more : (lab u : Laboratory) (r q : Rosters) → root_of u ≡ root_of lab → u.budget ≡ lab.budget → length u.counts.items ≡ length lab.counts.items
     → ((n : ℕ) (c : Base) (l : play.Live) → IsKeptCard (root_of u) r n c l → IsKeptCard (root_of u) q n c l) → KeepsKept lab r u q
 keeps_more lab u r q root budget counts more =
     record {
@@ -149,11 +149,11 @@ keeps_more lab u r q root budget counts more =
     }
 
 -- a laboratory keeps what it has
-pub keeps_self : {L : Type 0} (lab : Laboratory L) (r : Rosters) → KeepsKept lab r lab r
+pub keeps_self : (lab : Laboratory) (r : Rosters) → KeepsKept lab r lab r
 keeps_self lab r = record { kept = λ names s c h. h; counts = refl }
 
 -- what stays kept over two changes stays kept
-pub keeps_then : {L : Type 0} (lab mid u : Laboratory L) (r p q : Rosters) → KeepsKept lab r mid p → KeepsKept mid p u q → KeepsKept lab r u q
+pub keeps_then : (lab mid u : Laboratory) (r p q : Rosters) → KeepsKept lab r mid p → KeepsKept mid p u q → KeepsKept lab r u q
 keeps_then lab mid u r p q h k = record { kept = λ names s c i. k.kept names s c (h.kept names s c i); counts = k.counts ∙ h.counts }
 
 -- ---- a card that is kept of a player
@@ -177,21 +177,21 @@ number_by p q t v n e f =
 -- ---- what a try came to
 
 -- a card that was kept stays one of the device
-pub of_device : {L : Type 0} (lab : Laboratory L) (r : Rosters) (names : List (List ℕ)) (s : CardState) (c : model.CardState) (m : rule.Move) (w : Manner) (a : List (List ℕ × ℕ)) (root : List (List ℕ)) → root ≡ root_of lab
+pub of_device : (lab : Laboratory) (r : Rosters) (names : List (List ℕ)) (s : CardState) (c : model.CardState) (m : rule.Move) (w : Manner) (a : List (List ℕ × ℕ)) (root : List (List ℕ)) → root ≡ root_of lab
     → play.is_card_line m.line ≡ true → Kept lab r names s c → IsOfDevice root (reached c m w a).base
 of_device lab r names s c m w a root same card h =
     subst (λ (n : List (List ℕ)). IsOfDevice n (reached c m w a).base) (sym same)
     (still_of_device (root_of lab) c.base (reached c m w a).base (move_follows c m (manner_value w) a card) h.card.device)
 
 -- a rule that is broken
-pub broken_is : {L : Type 0} (lab : Laboratory L) (r : Rosters) (held : List (List ℕ × ℕ)) (ons : List rule.OnRule) (c : model.CardState) (m : rule.Move) (w : Manner) (o : Option ℕ) (i : ℕ) (amounts : List ℕ)
+pub broken_is : (lab : Laboratory) (r : Rosters) (held : List (List ℕ × ℕ)) (ons : List rule.OnRule) (c : model.CardState) (m : rule.Move) (w : Manner) (o : Option ℕ) (i : ℕ) (amounts : List ℕ)
     → IsMade c m w → o ≡ Some i → AreSpent held o amounts (allowances_after ons m (tried_step c m w) c.allowances) → TryIs lab r (map (λ a. a.0) held) ons c m w (tried.Broken i)
 broken_is lab r held ons c m w o i amounts made e h =
     let s = one_broken held o i amounts (allowances_after ons m (tried_step c m w) c.allowances) e h in
     (made, (s.name, s.found, outcome_is ons c m w (Err s.name) s.is))
 
 -- a state that is reached
-pub reached_is : {L : Type 0} (lab u : Laboratory L) (r q : Rosters) (held : List (List ℕ × ℕ)) (ons : List rule.OnRule) (s t : CardState) (c : model.CardState) (m : rule.Move) (w : Manner) (o : Option ℕ) (words : List (List ℕ)) (v : Live)
+pub reached_is : (lab u : Laboratory) (r q : Rosters) (held : List (List ℕ × ℕ)) (ons : List rule.OnRule) (s t : CardState) (c : model.CardState) (m : rule.Move) (w : Manner) (o : Option ℕ) (words : List (List ℕ)) (v : Live)
     → u.budget ≡ lab.budget → Kept lab r (map (λ a. a.0) held) s c → o ≡ None → AreSpent held o t.allowances.items (allowances_after ons m (tried_step c m w) c.allowances)
     → TriedState c m w words (Some v) → t.runs ≡ runs_now v
     → ((a : List (List ℕ × ℕ)) → IsShown words v (reached c m w a).base (reached c m w a).live → IsKeptCard (root_of u) q t.card (reached c m w a).base (reached c m w a).live)
@@ -226,7 +226,7 @@ pub made_by : (c : model.CardState) (m : rule.Move) (w : Manner) (words : List (
 made_by c m w words o v e h = subst (λ (x : Option Live). TriedState c m w words x) e h
 
 -- what a move spends, by its try
-pub spends_by : {L : Type 0} (lab : Laboratory L) (r : Rosters) (held : List (List ℕ × ℕ)) (ons : List rule.OnRule) (s : CardState) (c : model.CardState) (m : rule.Move) (w : Manner) (x : Candidate) (text before counts amounts : List ℕ)
+pub spends_by : (lab : Laboratory) (r : Rosters) (held : List (List ℕ × ℕ)) (ons : List rule.OnRule) (s : CardState) (c : model.CardState) (m : rule.Move) (w : Manner) (x : Candidate) (text before counts amounts : List ℕ)
     (n : ℕ) → n ≡ length x.ons.now → Kept lab r (map (λ a. a.0) held) s c → IsCandidate held ons m x → text ≡ result_text (tried_step c m w).result
     → before ≡ counts_after_turns x.ons.now x.applies.now (shown_turns (tried_step c m w).turns (tried_step c m w).stop) (replicate n 0) → counts ≡ before → amounts ≡ s.allowances.items
     → SpendsFrom held c.allowances ons m (tried_step c m w) x text counts amounts

@@ -33,7 +33,7 @@ use Rattle.lab_search.proofs.RoundLemmas.{extends_more, extends_none, found_late
 -- ---- more nodes
 
 -- a search goes on from nodes that were found since
-pub later : {L : Type 0} (d : Depth) (ns all : List Node) (x : Result Round HaltedRound) (o : Option Halt) (s : Search L) → Extends ns all → Comes d all x o s → Comes d ns x o s
+pub later : (d : Depth) (ns all : List Node) (x : Result Round HaltedRound) (o : Option Halt) (s : Search) → Extends ns all → Comes d all x o s → Comes d ns x o s
 later d ns all (Ok r) None s e h = record { all = h.all; grew = extends_more ns all h.all e h.grew; holds = h.holds; round = h.round }
 later d ns all (Ok r) (Some k) s e h = absurd h
 later d ns all (Err f) None s e h = absurd h
@@ -41,19 +41,19 @@ later d ns all (Err f) (Some k) s e h =
     record { all = h.all; grew = extends_more ns all h.all e h.grew; holds = h.holds; halt = h.halt; count = h.count; tally = h.tally }
 
 -- tries of a move go on from nodes that were found since
-pub tries_later : {L : Type 0} (d : Depth) (s u : Search L) (ns all : List Node) (n : Node) (m : rule.Move) (c : Candidate) (i j : ℕ) → Extends ns all → Holds d u all → TriesMove d s ns n m c i j → TriesMove d u all n m c i j
+pub tries_later : (d : Depth) (s u : Search) (ns all : List Node) (n : Node) (m : rule.Move) (c : Candidate) (i j : ℕ) → Extends ns all → Holds d u all → TriesMove d s ns n m c i j → TriesMove d u all n m c i j
 tries_later d s u ns all n m c i j e h t =
     record { at = record { holds = h; found = found_later ns all i n e t.at.found }; candidate = t.candidate; place = t.place }
 
 -- ---- one after the other
 
 -- a search that ended does not go on
-pub halts : {L : Type 0} (d : Depth) (ns : List Node) (x : Result Round HaltedRound) (f : Round → Result Round HaltedRound) (k : Halt) (s : Search L) → Comes d ns x (Some k) s → Comes d ns (x >>= f) (Some k) s
+pub halts : (d : Depth) (ns : List Node) (x : Result Round HaltedRound) (f : Round → Result Round HaltedRound) (k : Halt) (s : Search) → Comes d ns x (Some k) s → Comes d ns (x >>= f) (Some k) s
 halts d ns (Ok r) f k s h = absurd h
 halts d ns (Err e) f k s h = h
 
 -- a search that goes on
-pub goes : {L : Type 0} (d : Depth) (ns : List Node) (x : Result Round HaltedRound) (f : Round → Result Round HaltedRound) (o : Option Halt) (s u : Search L) → Comes d ns x None s
+pub goes : (d : Depth) (ns : List Node) (x : Result Round HaltedRound) (f : Round → Result Round HaltedRound) (o : Option Halt) (s u : Search) → Comes d ns x None s
     → ((all : List Node) → Extends ns all → Holds d s all → Comes d all (f (round_in d (tally_of s) all)) o u) → Comes d ns (x >>= f) o u
 goes d ns (Err e) f o s u h g = absurd h
 goes d ns (Ok r) f o s u h g =
@@ -63,19 +63,19 @@ goes d ns (Ok r) f o s u h g =
 
 module _ (missed made : Type 0) (d : Depth) (ns : List Node) (n : Node) (r : Round) (ts us : List Try) where
   -- the first tries end or miss
-  pub first_ends : {L : Type 0} (a : Attempt) (s : Search L) → a ≢ attempt.GoesOn → Attempts missed made d ns r (tries_from d n ts r) a s → Attempts missed made d ns r (tries_from d n (ts ++ us) r) a s
+  pub first_ends : (a : Attempt) (s : Search) → a ≢ attempt.GoesOn → Attempts missed made d ns r (tries_from d n ts r) a s → Attempts missed made d ns r (tries_from d n (ts ++ us) r) a s
   first_ends attempt.NotHit s not h = h
   first_ends attempt.GoesOn s not h = absurd (not refl)
   first_ends (attempt.Halts k) s not h =
       (h.0, subst (λ (x : Result Round HaltedRound). Comes d ns x (Some k) s) (sym (tried_append d.most d.rules.ons n ts us r)) (halts d ns (tries_from d n ts r) (λ q. tries_from d n us q) k s h.1))
 
-  missed_never : {L : Type 0} (x : Result Round HaltedRound) (s u : Search L) → (made → missed → ⊥) → made → Comes d ns x None s
+  missed_never : (x : Result Round HaltedRound) (s u : Search) → (made → missed → ⊥) → made → Comes d ns x None s
       → ((all : List Node) → Extends ns all → Holds d s all → Attempts missed made d all (round_in d (tally_of s) all) (tries_from d n us (round_in d (tally_of s) all)) attempt.NotHit u) → ⊥
   missed_never (Err e) s u both m h g = absurd h
   missed_never (Ok q) s u both m h g = both m (g h.all h.grew h.holds).0
 
   -- the first tries go on
-  pub first_goes : {L : Type 0} (a : Attempt) (s u : Search L) → (made → missed → ⊥) → Attempts missed made d ns r (tries_from d n ts r) attempt.GoesOn s
+  pub first_goes : (a : Attempt) (s u : Search) → (made → missed → ⊥) → Attempts missed made d ns r (tries_from d n ts r) attempt.GoesOn s
       → ((all : List Node) → Extends ns all → Holds d s all → Attempts missed made d all (round_in d (tally_of s) all) (tries_from d n us (round_in d (tally_of s) all)) a u)
       → Attempts missed made d ns r (tries_from d n (ts ++ us) r) a u
   first_goes attempt.NotHit s u both h g = absurd (missed_never (tries_from d n ts r) s u both h.0 h.1 g)
@@ -87,23 +87,23 @@ module _ (missed made : Type 0) (d : Depth) (ns : List Node) (n : Node) (r : Rou
 -- ---- loops
 
 -- before the first try all that the search does lies ahead
-pub ahead_start : {L : Type 0} (d : Depth) (ns : List Node) (s : Search L) (f : Round → Result Round HaltedRound) → Holds d s ns → Ahead d ns s f (f (round_in d (tally_of s) ns))
+pub ahead_start : (d : Depth) (ns : List Node) (s : Search) (f : Round → Result Round HaltedRound) → Holds d s ns → Ahead d ns s f (f (round_in d (tally_of s) ns))
 ahead_start d ns s f h = record { all = ns; grew = extends_none ns; holds = h; same = refl }
 
 -- a try that goes on leaves what comes after it ahead
-pub ahead_goes : {L : Type 0} (d : Depth) (ns : List Node) (s u : Search L) (f g : Round → Result Round HaltedRound) (x whole : Result Round HaltedRound) → (a : Ahead d ns s f whole) → Comes d a.all x None u
+pub ahead_goes : (d : Depth) (ns : List Node) (s u : Search) (f g : Round → Result Round HaltedRound) (x whole : Result Round HaltedRound) → (a : Ahead d ns s f whole) → Comes d a.all x None u
     → f (round_in d (tally_of s) a.all) ≡ (x >>= g) → Ahead d ns u g whole
 ahead_goes d ns s u f g (Err e) whole a h i = absurd h
 ahead_goes d ns s u f g (Ok r) whole a h i =
     record { all = h.all; grew = extends_more ns a.all h.all a.grew h.grew; holds = h.holds; same = ap g (sym h.round) ∙ sym i ∙ a.same }
 
 -- what the last try came to is what the whole came to
-pub ahead_ends : {L : Type 0} (d : Depth) (ns : List Node) (s u : Search L) (f : Round → Result Round HaltedRound) (whole : Result Round HaltedRound) (o : Option Halt) → (a : Ahead d ns s f whole)
+pub ahead_ends : (d : Depth) (ns : List Node) (s u : Search) (f : Round → Result Round HaltedRound) (whole : Result Round HaltedRound) (o : Option Halt) → (a : Ahead d ns s f whole)
     → Comes d a.all (f (round_in d (tally_of s) a.all)) o u → Comes d ns whole o u
 ahead_ends d ns s u f whole o a h = later d ns a.all whole o u a.grew (subst (λ (x : Result Round HaltedRound). Comes d a.all x o u) a.same h)
 
 -- a try that halts is what the whole came to
-pub ahead_halts : {L : Type 0} (d : Depth) (ns : List Node) (s u : Search L) (f g : Round → Result Round HaltedRound) (x whole : Result Round HaltedRound) (k : Halt) → (a : Ahead d ns s f whole) → Comes d a.all x (Some k) u
+pub ahead_halts : (d : Depth) (ns : List Node) (s u : Search) (f g : Round → Result Round HaltedRound) (x whole : Result Round HaltedRound) (k : Halt) → (a : Ahead d ns s f whole) → Comes d a.all x (Some k) u
     → f (round_in d (tally_of s) a.all) ≡ (x >>= g) → Comes d ns whole (Some k) u
 ahead_halts d ns s u f g x whole k a h i =
     ahead_ends d ns s u f whole (Some k) a (subst (λ (y : Result Round HaltedRound). Comes d a.all y (Some k) u) (sym i) (halts d a.all x g k u h))
@@ -148,12 +148,12 @@ abbrev pub cut_of : rule.Move → ℕ → Fill → Try
 cut_of m made f = try_value m (manner.Cut made f)
 
 -- what cuts came to, by the number of the writes of the move
-abbrev pub CutsCome : {L : Type 0} → Depth → List Node → Node → rule.Move → ℕ → List Try → Round → Attempt → Search L → Type 0
+abbrev pub CutsCome : Depth → List Node → Node → rule.Move → ℕ → List Try → Round → Attempt → Search → Type 0
 CutsCome d ns n m made ts r a s =
     Attempts (writes_of (play_of n.state) m ≤ made) (made < writes_of (play_of n.state) m) d ns r (tries_from d n ts r) a s
 
 -- the first cut ends
-pub cut_ends : {L : Type 0} (d : Depth) (ns : List Node) (n : Node) (m : rule.Move) (made : ℕ) (r : Round) (a : Attempt) (s : Search L) → a ≢ attempt.GoesOn → CutsCome d ns n m made (cut_of m made fill.Zeros ∷ []) r a s
+pub cut_ends : (d : Depth) (ns : List Node) (n : Node) (m : rule.Move) (made : ℕ) (r : Round) (a : Attempt) (s : Search) → a ≢ attempt.GoesOn → CutsCome d ns n m made (cut_of m made fill.Zeros ∷ []) r a s
     → CutsCome d ns n m made (cuts_at m (made + 1)) r a s
 cut_ends d ns n m made r a s not h =
     first_ends (writes_of (play_of n.state) m ≤ made) (made < writes_of (play_of n.state) m) d ns n r (cut_of m made fill.Zeros ∷ []) (cut_of m made fill.Ones ∷ cut_of m made fill.Opening ∷ []) a s not h
@@ -162,7 +162,7 @@ never_both : (a b : ℕ) → a < b → b ≤ a → ⊥
 never_both a b h k = omega (arith, h, k)
 
 -- the first cut goes on, and the later ones come to something
-pub cut_goes : {L : Type 0} (d : Depth) (ns : List Node) (n : Node) (m : rule.Move) (made : ℕ) (r : Round) (a : Attempt) (s u : Search L) → CutsCome d ns n m made (cut_of m made fill.Zeros ∷ []) r attempt.GoesOn s
+pub cut_goes : (d : Depth) (ns : List Node) (n : Node) (m : rule.Move) (made : ℕ) (r : Round) (a : Attempt) (s u : Search) → CutsCome d ns n m made (cut_of m made fill.Zeros ∷ []) r attempt.GoesOn s
     → ((all : List Node) → Extends ns all → Holds d s all → CutsCome d all n m made (cut_of m made fill.Ones ∷ cut_of m made fill.Opening ∷ []) (round_in d (tally_of s) all) a u)
     → CutsCome d ns n m made (cuts_at m (made + 1)) r a u
 cut_goes d ns n m made r a s u h g =
@@ -170,13 +170,13 @@ cut_goes d ns n m made r a s u h g =
     (never_both made (writes_of (play_of n.state) m)) h g
 
 -- the second cut ends
-pub second_ends : {L : Type 0} (d : Depth) (ns : List Node) (n : Node) (m : rule.Move) (made : ℕ) (r : Round) (a : Attempt) (s : Search L) → a ≢ attempt.GoesOn → CutsCome d ns n m made (cut_of m made fill.Ones ∷ []) r a s
+pub second_ends : (d : Depth) (ns : List Node) (n : Node) (m : rule.Move) (made : ℕ) (r : Round) (a : Attempt) (s : Search) → a ≢ attempt.GoesOn → CutsCome d ns n m made (cut_of m made fill.Ones ∷ []) r a s
     → CutsCome d ns n m made (cut_of m made fill.Ones ∷ cut_of m made fill.Opening ∷ []) r a s
 second_ends d ns n m made r a s not h =
     first_ends (writes_of (play_of n.state) m ≤ made) (made < writes_of (play_of n.state) m) d ns n r (cut_of m made fill.Ones ∷ []) (cut_of m made fill.Opening ∷ []) a s not h
 
 -- the second cut goes on, and the third comes to something
-pub second_goes : {L : Type 0} (d : Depth) (ns : List Node) (n : Node) (m : rule.Move) (made : ℕ) (r : Round) (a : Attempt) (s u : Search L) → CutsCome d ns n m made (cut_of m made fill.Ones ∷ []) r attempt.GoesOn s
+pub second_goes : (d : Depth) (ns : List Node) (n : Node) (m : rule.Move) (made : ℕ) (r : Round) (a : Attempt) (s u : Search) → CutsCome d ns n m made (cut_of m made fill.Ones ∷ []) r attempt.GoesOn s
     → ((all : List Node) → Extends ns all → Holds d s all → CutsCome d all n m made (cut_of m made fill.Opening ∷ []) (round_in d (tally_of s) all) a u)
     → CutsCome d ns n m made (cut_of m made fill.Ones ∷ cut_of m made fill.Opening ∷ []) r a u
 second_goes d ns n m made r a s u h g =
@@ -184,7 +184,7 @@ second_goes d ns n m made r a s u h g =
     (never_both made (writes_of (play_of n.state) m)) h g
 
 -- cuts that came to what they are
-pub cuts_as : {L : Type 0} (d : Depth) (ns : List Node) (n : Node) (m : rule.Move) (made : ℕ) (ts : List Try) (r : Round) (a b : Attempt) (s : Search L) → a ≡ b → CutsCome d ns n m made ts r a s → CutsCome d ns n m made ts r b s
+pub cuts_as : (d : Depth) (ns : List Node) (n : Node) (m : rule.Move) (made : ℕ) (ts : List Try) (r : Round) (a b : Attempt) (s : Search) → a ≡ b → CutsCome d ns n m made ts r a s → CutsCome d ns n m made ts r b s
 cuts_as d ns n m made ts r a b s e h = subst (λ (x : Attempt). CutsCome d ns n m made ts r x s) e h
 
 -- ---- all cuts
@@ -197,12 +197,12 @@ less_none : (k : ℕ) → k - 0 ≡ k
 less_none k = omega arith
 
 -- before the first write all cuts are left
-pub cuts_start : {L : Type 0} (d : Depth) (ns : List Node) (n : Node) (m : rule.Move) (s : Search L) → Holds d s ns
+pub cuts_start : (d : Depth) (ns : List Node) (n : Node) (m : rule.Move) (s : Search) → Holds d s ns
     → Ahead d ns s (cuts_left d n m 0) (tries_from d n (tries_in m (cuts_from 1 (writes_of (play_of n.state) m))) (round_in d (tally_of s) ns))
 cuts_start d ns n m s h =
     record { all = ns; grew = extends_none ns; holds = h; same = ap (λ (k : ℕ). tries_from d n (tries_in m (cuts_from 1 k)) (round_in d (tally_of s) ns)) (less_none (writes_of (play_of n.state) m)) }
 
-module _ {L : Type 0} (d : Depth) (ns : List Node) (n : Node) (m : rule.Move) (made : ℕ) (s u : Search L) (whole : Result Round HaltedRound) (a : Ahead d ns s (cuts_left d n m made) whole) where
+module _ (d : Depth) (ns : List Node) (n : Node) (m : rule.Move) (made : ℕ) (s u : Search) (whole : Result Round HaltedRound) (a : Ahead d ns s (cuts_left d n m made) whole) where
   -- there is no write left
   pub cuts_done : (b : Attempt) → b ≡ attempt.NotHit → CutsCome d a.all n m made (cuts_at m (made + 1)) (round_in d (tally_of s) a.all) b u → Comes d ns whole None u
   cuts_done b e k =
@@ -226,7 +226,7 @@ module _ {L : Type 0} (d : Depth) (ns : List Node) (n : Node) (m : rule.Move) (m
 
 -- ---- a move
 
-whole_ends : {L : Type 0} (d : Depth) (ns : List Node) (n : Node) (m : rule.Move) (r : Round) (k : Halt) (s : Search L) (b : Bool) → is_running n.state.live ≡ b
+whole_ends : (d : Depth) (ns : List Node) (n : Node) (m : rule.Move) (r : Round) (k : Halt) (s : Search) (b : Bool) → is_running n.state.live ≡ b
     → Comes d ns (tries_from d n (try_value m manner.Whole ∷ []) r) (Some k) s → Comes d ns (tries_from d n (tries_with n.state m) r) (Some k) s
 whole_ends d ns n m r k s false e h =
     subst (λ (ws : List TryManner). Comes d ns (tries_from d n (tries_in m ws) r) (Some k) s) (sym (manners_still n.state.live (writes_of (play_of n.state) m) e)) h
@@ -238,20 +238,20 @@ whole_ends d ns n m r k s true e h =
     (subst (λ (x : Result Round HaltedRound). Comes d ns x (Some k) s) (sym (tried_append d.most d.rules.ons n first rest r)) (halts d ns (tries_from d n first r) (λ q. tries_from d n rest q) k s h))
 
 -- the move whole ends
-pub whole_halts : {L : Type 0} (d : Depth) (ns : List Node) (n : Node) (m : rule.Move) (r : Round) (a : Attempt) (k : Halt) (s : Search L) → a ≡ attempt.Halts k
+pub whole_halts : (d : Depth) (ns : List Node) (n : Node) (m : rule.Move) (r : Round) (a : Attempt) (k : Halt) (s : Search) → a ≡ attempt.Halts k
     → Attempts ⊥ ⊤ d ns r (tries_from d n (try_value m manner.Whole ∷ []) r) a s → Comes d ns (tries_from d n (tries_with n.state m) r) (Some k) s
 whole_halts d ns n m r a k s e h =
     let ends = subst (λ (x : Attempt). Attempts ⊥ ⊤ d ns r (tries_from d n (try_value m manner.Whole ∷ []) r) x s) e h in
     whole_ends d ns n m r k s (is_running n.state.live) refl ends.1
 
 -- the move whole goes on, and there is no more
-pub whole_only : {L : Type 0} (d : Depth) (ns : List Node) (n : Node) (m : rule.Move) (r : Round) (s : Search L) → is_running n.state.live ≡ false
+pub whole_only : (d : Depth) (ns : List Node) (n : Node) (m : rule.Move) (r : Round) (s : Search) → is_running n.state.live ≡ false
     → Comes d ns (tries_from d n (try_value m manner.Whole ∷ []) r) None s → Comes d ns (tries_from d n (tries_with n.state m) r) None s
 whole_only d ns n m r s e h =
     subst (λ (ws : List TryManner). Comes d ns (tries_from d n (tries_in m ws) r) None s) (sym (manners_still n.state.live (writes_of (play_of n.state) m) e)) h
 
 -- the move whole goes on, and its cuts come to something
-pub whole_then : {L : Type 0} (d : Depth) (ns : List Node) (n : Node) (m : rule.Move) (r : Round) (o : Option Halt) (s u : Search L) → is_running n.state.live ≡ true
+pub whole_then : (d : Depth) (ns : List Node) (n : Node) (m : rule.Move) (r : Round) (o : Option Halt) (s u : Search) → is_running n.state.live ≡ true
     → Comes d ns (tries_from d n (try_value m manner.Whole ∷ []) r) None s
     → ((all : List Node) → Extends ns all → Holds d s all → Comes d all (tries_from d n (tries_in m (cuts_from 1 (writes_of (play_of n.state) m))) (round_in d (tally_of s) all)) o u)
     → Comes d ns (tries_from d n (tries_with n.state m) r) o u
@@ -263,13 +263,13 @@ whole_then d ns n m r o s u e h g =
     (subst (λ (x : Result Round HaltedRound). Comes d ns x o u) (sym (tried_append d.most d.rules.ons n first rest r)) (goes d ns (tries_from d n first r) (λ q. tries_from d n rest q) o s u h g))
 
 -- what a whole move came to, if it did not end
-pub whole_goes : {L : Type 0} (d : Depth) (ns : List Node) (r : Round) (x : Result Round HaltedRound) (a : Attempt) (s : Search L) → ((k : Halt) → a ≢ attempt.Halts k) → Attempts ⊥ ⊤ d ns r x a s → Comes d ns x None s
+pub whole_goes : (d : Depth) (ns : List Node) (r : Round) (x : Result Round HaltedRound) (a : Attempt) (s : Search) → ((k : Halt) → a ≢ attempt.Halts k) → Attempts ⊥ ⊤ d ns r x a s → Comes d ns x None s
 whole_goes d ns r x attempt.NotHit s not h = absurd h.0
 whole_goes d ns r x attempt.GoesOn s not h = h.1
 whole_goes d ns r x (attempt.Halts k) s not h = absurd (not k refl)
 
 -- whether a card runs in a state, by what a search that goes on says of it
-pub runs_in : {L : Type 0} (d : Depth) (ns : List Node) (n : Node) (i : ℕ) (x : Result Round HaltedRound) (s : Search L) (b c : Bool) → slice_get ns i ≡ Some n
+pub runs_in : (d : Depth) (ns : List Node) (n : Node) (i : ℕ) (x : Result Round HaltedRound) (s : Search) (b c : Bool) → slice_get ns i ≡ Some n
     → ((all : List Node) → IsFrom d s all n i → b ≡ is_running n.state.live) → b ≡ c → Comes d ns x None s → is_running n.state.live ≡ c
 runs_in d ns n i (Err e) s b c f g h k = absurd k
 runs_in d ns n i (Ok r) s b c f g h k = sym (g k.all (record { holds = k.holds; found = found_later ns k.all i n k.grew f })) ∙ h
@@ -312,15 +312,15 @@ states_none d ns i r h = ap (λ (ms : List Node). round_of_states d.most d.rules
 
 -- ---- steps of a loop
 
-module _ {L : Type 0} (d : Depth) (ns : List Node) (s : Search L) (f : Round → Result Round HaltedRound) (whole : Result Round HaltedRound) (a : Ahead d ns s f whole) where
+module _ (d : Depth) (ns : List Node) (s : Search) (f : Round → Result Round HaltedRound) (whole : Result Round HaltedRound) (a : Ahead d ns s f whole) where
   -- a step ends
-  pub step_halts : (u : Search L) (g : Round → Result Round HaltedRound) (x : Result Round HaltedRound) (o : Option Halt) → f (round_in d (tally_of s) a.all) ≡ (x >>= g) → is_some o ≡ true → Comes d a.all x o u
+  pub step_halts : (u : Search) (g : Round → Result Round HaltedRound) (x : Result Round HaltedRound) (o : Option Halt) → f (round_in d (tally_of s) a.all) ≡ (x >>= g) → is_some o ≡ true → Comes d a.all x o u
       → Comes d ns whole o u
   step_halts u g x None i e h = absurd (cc e)
   step_halts u g x (Some k) i e h = ahead_halts d ns s u f g x whole k a h i
 
   -- a step goes on
-  pub step_goes : (u : Search L) (g : Round → Result Round HaltedRound) (x : Result Round HaltedRound) (o : Option Halt) → f (round_in d (tally_of s) a.all) ≡ (x >>= g) → is_some o ≡ false → Comes d a.all x o u
+  pub step_goes : (u : Search) (g : Round → Result Round HaltedRound) (x : Result Round HaltedRound) (o : Option Halt) → f (round_in d (tally_of s) a.all) ≡ (x >>= g) → is_some o ≡ false → Comes d a.all x o u
       → Ahead d ns u g whole
   step_goes u g x None i e h = ahead_goes d ns s u f g x whole a h i
   step_goes u g x (Some k) i e h = absurd (cc e)
@@ -356,18 +356,18 @@ candidate_at r e rows c i ms none row h same within chosen ons applies below is 
 -- ---- searches that go on
 
 -- the nodes of a search that goes on
-pub record IsGoing {L : Type 0} (d : Depth) (ns : List Node) (s : Search L) : Type 0 where
+pub record IsGoing (d : Depth) (ns : List Node) (s : Search) : Type 0 where
   pub all : List Node
   pub grew : Extends ns all
   pub holds : Holds d s all
 
 -- a search that did not halt goes on with its nodes
-pub going : {L : Type 0} (d : Depth) (ns : List Node) (x : Result Round HaltedRound) (s : Search L) → Comes d ns x None s → IsGoing d ns s
+pub going : (d : Depth) (ns : List Node) (x : Result Round HaltedRound) (s : Search) → Comes d ns x None s → IsGoing d ns s
 going d ns (Ok r) s h = record { all = h.all; grew = h.grew; holds = h.holds }
 going d ns (Err e) s h = absurd h
 
 -- a cut that goes on hit a write
-pub cut_went : {L : Type 0} (d : Depth) (ns : List Node) (n : Node) (m : rule.Move) (made : ℕ) (ts : List Try) (r : Round) (a : Attempt) (s : Search L) → a ≡ attempt.GoesOn → CutsCome d ns n m made ts r a s
+pub cut_went : (d : Depth) (ns : List Node) (n : Node) (m : rule.Move) (made : ℕ) (ts : List Try) (r : Round) (a : Attempt) (s : Search) → a ≡ attempt.GoesOn → CutsCome d ns n m made ts r a s
     → (made < writes_of (play_of n.state) m) × IsGoing d ns s
 cut_went d ns n m made ts r a s e h =
     let k = cuts_as d ns n m made ts r a attempt.GoesOn s e h in

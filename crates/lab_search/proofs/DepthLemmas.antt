@@ -26,7 +26,7 @@ use Rattle.lab_search.specs.Kept.{IsExplorationOf}
 use Rattle.lab_search.specs.Reports.{depth_line}
 use Rattle.lab_search.specs.Rounds.{round_in, tally_of, AreCandidates, CanTryStates, Comes, Depth, Ends, Extends, Holds, KeepsNode}
 use Rattle.lab_search.specs.Endings.{explored_as, text_from, DepthsAhead, Explores, IsExplored, IsPut}
-use Rattle.lab_search.specs.ExplorationSteps.{most_of_beginning, most_of_exploration, most_of_nodes}
+use Rattle.lab_search.specs.ExplorationSteps.{most_of_deck, most_of_exploration, most_of_nodes}
 use Rattle.lab_search.proofs.AlikeLemmas.{alike_length, drop_past}
 use Rattle.lab_search.proofs.EndingLemmas.{put_failed}
 use Rattle.lab_search.proofs.StepCountLemmas.{depth_more, depth_within, explores_first, most_left}
@@ -103,7 +103,7 @@ abbrev pub next_depth : rule.Rules → ℕ → List Node → Depth
 next_depth rules most ns = record { rules = rules; most = most; from = length ns }
 
 -- a search that holds the nodes of a depth holds them as the next depth begins
-pub holds_next : {L : Type 0} (rules : rule.Rules) (most from : ℕ) (s : Search L) (ns : List Node) → Holds (record { rules = rules; most = most; from = from }) s ns → Holds (next_depth rules most ns) s ns
+pub holds_next : (rules : rule.Rules) (most from : ℕ) (s : Search) (ns : List Node) → Holds (record { rules = rules; most = most; from = from }) s ns → Holds (next_depth rules most ns) s ns
 holds_next rules most from s ns h = record { room = h.room; within = omega arith; counts = h.counts; kept = h.kept; reached = h.reached }
 
 -- what is left, by the tries of a depth
@@ -121,7 +121,7 @@ left_step rules most depth done from tries ns h =
 -- ---- one depth
 
 -- a search that ended
-pub record Halted {L : Type 0} (d : Depth) (ns : List Node) (x : Result Round HaltedRound) (h : Halt) (s : Search L) : Type 0 where
+pub record Halted (d : Depth) (ns : List Node) (x : Result Round HaltedRound) (h : Halt) (s : Search) : Type 0 where
   pub end : HaltedRound
   pub is : x ≡ Err end
   pub ends : Ends d ns end h s
@@ -129,20 +129,20 @@ pub record Halted {L : Type 0} (d : Depth) (ns : List Node) (x : Result Round Ha
 halt_same : (k h : Halt) → Some k ≡ Some h → k ≡ h
 halt_same k h e = cc e
 
-halted_is : {L : Type 0} (d : Depth) (ns : List Node) (x : Result Round HaltedRound) (o : Option Halt) (h : Halt) (s : Search L) → o ≡ Some h → Comes d ns x o s → Halted d ns x h s
+halted_is : (d : Depth) (ns : List Node) (x : Result Round HaltedRound) (o : Option Halt) (h : Halt) (s : Search) → o ≡ Some h → Comes d ns x o s → Halted d ns x h s
 halted_is d ns (Ok r) None h s e c = absurd (cc e)
 halted_is d ns (Ok r) (Some k) h s e c = absurd c
 halted_is d ns (Err y) None h s e c = absurd c
 halted_is d ns (Err y) (Some k) h s e c = record { end = y; is = refl; ends = subst (λ (z : Halt). Ends d ns y z s) (halt_same k h e) c }
 
 -- a search that went on
-pub record Went {L : Type 0} (d : Depth) (ns : List Node) (x : Result Round HaltedRound) (s : Search L) : Type 0 where
+pub record Went (d : Depth) (ns : List Node) (x : Result Round HaltedRound) (s : Search) : Type 0 where
   pub all : List Node
   pub grew : Extends ns all
   pub holds : Holds d s all
   pub is : x ≡ Ok (round_in d (tally_of s) all)
 
-went_is : {L : Type 0} (d : Depth) (ns : List Node) (x : Result Round HaltedRound) (o : Option Halt) (s : Search L) → o ≡ None → Comes d ns x o s → Went d ns x s
+went_is : (d : Depth) (ns : List Node) (x : Result Round HaltedRound) (o : Option Halt) (s : Search) → o ≡ None → Comes d ns x o s → Went d ns x s
 went_is d ns (Ok r) None s e c = record { all = c.all; grew = c.grew; holds = c.holds; is = ap Ok c.round }
 went_is d ns (Ok r) (Some k) s e c = absurd c
 went_is d ns (Err y) None s e c = absurd c
@@ -157,15 +157,15 @@ some_left n ms e h k = h (e ∙ ap length k)
 
 -- What is left of an exploration, and its steps: those that were made and the most of those that are left are at most
 -- those of the whole.
-pub record DepthsLeft {L : Type 0} (x : rule.Exploration) (most depth done from : ℕ) (s : Search L) (a b : Sunk) (old now : ℕ) : Type 0 where
+pub record DepthsLeft (x : rule.Exploration) (most depth done from : ℕ) (s : Search) (a b : Sunk) (old now : ℕ) : Type 0 where
   pub ahead : DepthsAhead x most depth done from s a b
   pub steps : now + most_left x.rules most depth done from (tally_of s) ahead.nodes ≤ old + most_of_exploration most depth x
 
 -- the tries of the nodes of a depth
-abbrev pub depth_round : {L : Type 0} → rule.Rules → ℕ → ℕ → Search L → List Node → Result Round HaltedRound
+abbrev pub depth_round : rule.Rules → ℕ → ℕ → Search → List Node → Result Round HaltedRound
 depth_round rules most from s ns = round_of_states most rules (drop from ns) (round_in (next_depth rules most ns) (tally_of s) ns)
 
-module _ {L : Type 0} (x : rule.Exploration) (most depth done from : ℕ) (s u : Search L) (a b : Sunk) (k : DepthsAhead x most depth done from s a b) (below : done < depth) where
+module _ (x : rule.Exploration) (most depth done from : ℕ) (s u : Search) (a b : Sunk) (k : DepthsAhead x most depth done from s a b) (below : done < depth) where
   -- a depth ends the search
   pub depth_halts : (o : Option Halt) (h : Halt) (r : Result Explored JobFault) (c : Sunk) → o ≡ Some h → Comes (next_depth x.rules most k.nodes) k.nodes (depth_round x.rules most from s k.nodes) o u
       → ((e : HaltedRound) → Ends (next_depth x.rules most k.nodes) k.nodes e h u → Explores x.rules.ons (done + 1) (play_of_deck x.lines) (search_end (ending_of e.halt (done + 1)) e.count e.tally) b r c)
@@ -273,8 +273,8 @@ unfolding search_from
 from_start most depth rules c = refl
 
 -- the search begins
-pub depth_first : {L : Type 0} (x : rule.Exploration) (most depth : ℕ) (s : Search L) (a : Sunk) (ls : List (ℕ × DeckLine)) (old now : ℕ)
-    → Holds (record { rules = x.rules; most = most; from = 0 }) s (record { state = first_state x; path = [] } ∷ []) → (tally_of s) ≡ no_tries x.rules.ons → ls ≡ x.lines → now ≤ old + most_of_beginning ls
+pub depth_first : (x : rule.Exploration) (most depth : ℕ) (s : Search) (a : Sunk) (ls : List (ℕ × DeckLine)) (old now : ℕ)
+    → Holds (record { rules = x.rules; most = most; from = 0 }) s (record { state = first_state x; path = [] } ∷ []) → (tally_of s) ≡ no_tries x.rules.ons → ls ≡ x.lines → now ≤ old + most_of_deck ls
     → DepthsLeft x most depth 0 0 s a a old now
 depth_first x most depth s a ls old now h none same steps =
     let n : Node = record { state = first_state x; path = [] } in
@@ -290,7 +290,7 @@ depth_first x most depth s a ls old now h none same steps =
     }
 
 -- the last depth is done
-pub depth_end : {L : Type 0} (x : rule.Exploration) (most depth done from : ℕ) (s : Search L) (a b c : Sunk) (r : Result Explored JobFault) → DepthsAhead x most depth done from s a b → done ≡ depth
+pub depth_end : (x : rule.Exploration) (most depth done from : ℕ) (s : Search) (a b c : Sunk) (r : Result Explored JobFault) → DepthsAhead x most depth done from s a b → done ≡ depth
     → ((end : Ending) → explored_as end ≡ explored.Partial → IsExplored b (kept_text x.rules.ons (length s.states.keys) (tally_of s) (codes " depth " ++ decimal depth)) end r c) → IsExplored a (text_within most depth x) (search_of most depth x).ending r c
 depth_end x most depth done from s a b c r k e f =
     let count = alike_length (KeepsNode x.rules s) s.states.keys k.nodes k.holds.kept in
@@ -305,7 +305,7 @@ depth_end x most depth done from s a b c r k e f =
     (sym (ap (λ i. search_on i done most x.rules (drop from k.nodes) q) none ∙ search_done done most x.rules (drop from k.nodes) q)) said)
 
 -- out of memory within a depth
-pub depth_stops : {L : Type 0} (x : rule.Exploration) (most depth done from : ℕ) (s : Search L) (a b : Sunk) (r : Result Explored JobFault) → DepthsAhead x most depth done from s a b → IsErr r → IsErrAnd r (λ y. y ≡ fault.NoMemory)
+pub depth_stops : (x : rule.Exploration) (most depth done from : ℕ) (s : Search) (a b : Sunk) (r : Result Explored JobFault) → DepthsAhead x most depth done from s a b → IsErr r → IsErrAnd r (λ y. y ≡ fault.NoMemory)
     → IsExplored a (text_within most depth x) (search_of most depth x).ending r b
 depth_stops x most depth done from s a b r k i y = k.rest r b (explored_err b b _ _ r fault.NoMemory i y (nothing_yet b _))
 
@@ -322,7 +322,7 @@ candidates_of x e rows used h u f =
     }
 
 -- the steps of the tries of a depth
-pub depth_tries : {L : Type 0} (x : rule.Exploration) (most depth done from to : ℕ) (s : Search L) (a b : Sunk) (old new : ℕ) (rules : Rules) (used : List (Vec Bool Global)) → (k : DepthsAhead x most depth done from s a b) → to ≡ length s.states.keys
+pub depth_tries : (x : rule.Exploration) (most depth done from to : ℕ) (s : Search) (a b : Sunk) (old new : ℕ) (rules : Rules) (used : List (Vec Bool Global)) → (k : DepthsAhead x most depth done from s a b) → to ≡ length s.states.keys
     → AreCandidates x.rules rules used
     → ((d : Depth) (ns : List Node) → Holds d s ns → from ≤ to → to ≡ length ns → AreCandidates d.rules rules used → new ≤ old + most_of_nodes d.rules.moves (drop from ns))
     → new ≤ old + most_of_nodes x.rules.moves (drop from k.nodes)
@@ -332,7 +332,7 @@ depth_tries x most depth done from to s a b old new rules used k at can f =
     f (next_depth x.rules most k.nodes) k.nodes (holds_next x.rules most from s k.nodes k.holds) (omega (arith, count, within)) count can
 
 -- they are within those of the whole
-pub depth_steps : {L : Type 0} (x : rule.Exploration) (most depth done from to : ℕ) (s : Search L) (a b : Sunk) (old now new : ℕ) (rules : Rules) (used : List (Vec Bool Global)) → DepthsLeft x most depth done from s a b old now → done < depth
+pub depth_steps : (x : rule.Exploration) (most depth done from to : ℕ) (s : Search) (a b : Sunk) (old now new : ℕ) (rules : Rules) (used : List (Vec Bool Global)) → DepthsLeft x most depth done from s a b old now → done < depth
     → to ≡ length s.states.keys → AreCandidates x.rules rules used
     → ((d : Depth) (ns : List Node) → Holds d s ns → from ≤ to → to ≡ length ns → AreCandidates d.rules rules used → new ≤ now + most_of_nodes d.rules.moves (drop from ns))
     → new ≤ old + most_of_exploration most depth x
@@ -340,7 +340,7 @@ depth_steps x most depth done from to s a b old now new rules used l below at ca
     depth_within x.rules most depth done from (tally_of s) l.ahead.nodes old (most_of_exploration most depth x) now new below l.steps (depth_tries x most depth done from to s a b now new rules used l.ahead at can f)
 
 -- what the tries of a depth come to
-pub depth_comes : {L : Type 0} (x : rule.Exploration) (most depth done from to : ℕ) (s u : Search L) (a b : Sunk) (o : Option Halt) (rules : Rules) (used : List (Vec Bool Global)) → (k : DepthsAhead x most depth done from s a b) → to ≡ length s.states.keys
+pub depth_comes : (x : rule.Exploration) (most depth done from to : ℕ) (s u : Search) (a b : Sunk) (o : Option Halt) (rules : Rules) (used : List (Vec Bool Global)) → (k : DepthsAhead x most depth done from s a b) → to ≡ length s.states.keys
     → AreCandidates x.rules rules used
     → ((d : Depth) (ns : List Node) → Holds d s ns → from ≤ to → to ≡ length ns → AreCandidates d.rules rules used → Comes d ns (round_of_states d.most d.rules (drop from ns) (round_in d (tally_of s) ns)) o u)
     → Comes (next_depth x.rules most k.nodes) k.nodes (depth_round x.rules most from s k.nodes) o u
@@ -350,7 +350,7 @@ depth_comes x most depth done from to s u a b o rules used k at can f =
     f (next_depth x.rules most k.nodes) k.nodes (holds_next x.rules most from s k.nodes k.holds) (omega (arith, count, within)) count can
 
 -- the tries of a depth can be made
-pub states_can : {L : Type 0} (x : rule.Exploration) (most depth done from to : ℕ) (s : Search L) (a b : Sunk) (rules : Rules) (used : List (Vec Bool Global)) → (k : DepthsAhead x most depth done from s a b) → to ≡ length s.states.keys
+pub states_can : (x : rule.Exploration) (most depth done from to : ℕ) (s : Search) (a b : Sunk) (rules : Rules) (used : List (Vec Bool Global)) → (k : DepthsAhead x most depth done from s a b) → to ≡ length s.states.keys
     → AreCandidates x.rules rules used → CanTryStates s rules used from to
 states_can x most depth done from to s a b rules used k at can =
     let count = at ∙ alike_length (KeepsNode x.rules s) s.states.keys k.nodes k.holds.kept in

@@ -69,7 +69,7 @@ halt_full rules ns halt.Full Full h k = refl
 halt_full rules ns halt.Full (RuleBroken name path) h k = absurd h
 
 -- the tries of a broken rule are those of the path
-pub path_tries : {L : Type 0} (d : Depth) (ns : List Node) (e : HaltedRound) (h : Halt) (s : Search L) (i : ℕ) (r : Step) (steps : List Step) → (k : Ends d ns e h s) → (b : IsRuleBroken d.rules k.all i r e.halt)
+pub path_tries : (d : Depth) (ns : List Node) (e : HaltedRound) (h : Halt) (s : Search) (i : ℕ) (r : Step) (steps : List Step) → (k : Ends d ns e h s) → (b : IsRuleBroken d.rules k.all i r e.halt)
     → ((q : Depth) (ms : List Node) (n : Node) (t : Try) → IsFrom q s ms n r.before → IsTry q.rules.moves r t → AlikeLists (IsTry q.rules.moves) steps (reverse (t ∷ n.path)))
     → AlikeLists (IsTry d.rules.moves) steps (reverse b.path)
 path_tries d ns e h s i r steps k b f =
@@ -83,7 +83,7 @@ reports_broken ons depth z e name path a b r is p q =
     subst (λ (h : SearchHalt). Explores ons depth z (search_end (ending_of h depth) e.count e.tally) a r b) (sym is) (record { text = p; ending = q })
 
 -- the exploration reports one state too many
-pub reports_full : {L : Type 0} (d : Depth) (ns : List Node) (depth : ℕ) (z : State) (e : HaltedRound) (h : Halt) (s : Search L) (a b : Sunk) (r : Result Explored JobFault) → Ends d ns e h s → h ≡ halt.Full
+pub reports_full : (d : Depth) (ns : List Node) (depth : ℕ) (z : State) (e : HaltedRound) (h : Halt) (s : Search) (a b : Sunk) (r : Result Explored JobFault) → Ends d ns e h s → h ≡ halt.Full
     → ((end : Ending) → explored_as end ≡ explored.Partial → IsExplored a (kept_text d.rules.ons (length s.states.keys) (tally_of s) (codes " depth " ++ decimal depth)) end r b)
     → Explores d.rules.ons depth z (search_end (ending_of e.halt depth) e.count e.tally) a r b
 reports_full d ns depth z e h s a b r k is f =

@@ -17,5 +17,5 @@ pub mod EndingLemmas
 mod PathLemmas
 pub mod HaltLemmas
 pub mod StartLemmas
-pub mod StepCountLemmas
+mod StepCountLemmas
 mod DepthLemmas

@@ -47,19 +47,19 @@ some_same : {X : Type 0} (x y : X) → Some x ≡ Some y → x ≡ y
 some_same x y e = cc e
 
 -- the state at the place of a node is kept
-pub kept_at : {L : Type 0} (d : Depth) (s : Search L) (ns : List Node) (n : Node) (i : ℕ) (t : CardState) → IsFrom d s ns n i → Some t ≡ slice_get s.states.keys i → KeepsNode d.rules s t n
+pub kept_at : (d : Depth) (s : Search) (ns : List Node) (n : Node) (i : ℕ) (t : CardState) → IsFrom d s ns n i → Some t ≡ slice_get s.states.keys i → KeepsNode d.rules s t n
 kept_at d s ns n i t h e =
     let k = alike_get (KeepsNode d.rules s) s.states.keys ns i n h.holds.kept h.found in
     subst (λ x. KeepsNode d.rules s x n) (some_same k.0 t (sym k.1 ∙ sym e)) k.2
 
 -- there is a state at the place of a node
-pub held_at : {L : Type 0} (d : Depth) (s : Search L) (ns : List Node) (n : Node) (i : ℕ) → IsFrom d s ns n i → slice_get s.states.keys i ≢ None
+pub held_at : (d : Depth) (s : Search) (ns : List Node) (n : Node) (i : ℕ) → IsFrom d s ns n i → slice_get s.states.keys i ≢ None
 held_at d s ns n i h e =
     let k = alike_get (KeepsNode d.rules s) s.states.keys ns i n h.holds.kept h.found in
     absurd (cc (sym k.1 ∙ e))
 
 -- a search whose states stay kept holds the nodes that it held
-pub holds_still : {L : Type 0} (d : Depth) (s u : Search L) (ns : List Node) → KeepsKept s.laboratory s.rosters u.laboratory u.rosters → u.limit ≡ s.limit → u.states.keys ≡ s.states.keys
+pub holds_still : (d : Depth) (s u : Search) (ns : List Node) → KeepsKept s.laboratory s.rosters u.laboratory u.rosters → u.limit ≡ s.limit → u.states.keys ≡ s.states.keys
     → u.last_steps.items ≡ s.last_steps.items → Holds d s ns → Holds d u ns
 holds_still d s u ns keeps limit keys items h =
     record {
@@ -95,7 +95,7 @@ swapped false true = refl
 swapped false false = refl
 
 -- whether a state is one of those that are kept
-pub known_same : {L : Type 0} (rules : rule.Rules) (s : Search L) (t : CardState) (c : model.CardState) (ts : List CardState) (ns : List Node)
+pub known_same : (rules : rule.Rules) (s : Search) (t : CardState) (c : model.CardState) (ts : List CardState) (ns : List Node)
     → AlikeLists (KeepsNode rules s) ts ns → Kept s.laboratory s.rosters (names_in rules) t c → list_any (is_equal t) ts ≡ is_known c (known_in ns)
 unfolding is_known
 known_same rules s t c [] [] h k = refl
@@ -149,13 +149,13 @@ reached_more moves steps ns s b n t h found is path =
       each = λ i r m g e. each_more moves steps ns s b n t h found is path i r m (get_more steps s i r g) (get_more ns n (i + 1) m e);
     }
 
-kept_in : {L : Type 0} (d : Depth) (s u : Search L) (x : CardState) (c : model.CardState) → u.laboratory ≡ s.laboratory → u.rosters ≡ s.rosters → Kept s.laboratory s.rosters (names_in d.rules) x c
+kept_in : (d : Depth) (s u : Search) (x : CardState) (c : model.CardState) → u.laboratory ≡ s.laboratory → u.rosters ≡ s.rosters → Kept s.laboratory s.rosters (names_in d.rules) x c
     → Kept u.laboratory u.rosters (names_in d.rules) x c
-kept_in {L} d s u x c lab ros k =
-    subst (λ (l : Laboratory L). Kept l u.rosters (names_in d.rules) x c) (sym lab) (subst (λ (r : Rosters). Kept s.laboratory r (names_in d.rules) x c) (sym ros) k)
+kept_in d s u x c lab ros k =
+    subst (λ (l : Laboratory). Kept l u.rosters (names_in d.rules) x c) (sym lab) (subst (λ (r : Rosters). Kept s.laboratory r (names_in d.rules) x c) (sym ros) k)
 
 -- a search that keeps one state more holds its node
-pub holds_more : {L : Type 0} (d : Depth) (s u : Search L) (ns : List Node) (b : Node) (r : Step) (t : Try) (x : CardState) (c : model.CardState) → IsFrom d s ns b r.before → IsTry d.rules.moves r t
+pub holds_more : (d : Depth) (s u : Search) (ns : List Node) (b : Node) (r : Step) (t : Try) (x : CardState) (c : model.CardState) → IsFrom d s ns b r.before → IsTry d.rules.moves r t
     → Kept s.laboratory s.rosters (names_in d.rules) x c → u.laboratory ≡ s.laboratory → u.rosters ≡ s.rosters → u.limit ≡ s.limit → u.states.keys ≡ s.states.keys ++ x ∷ []
     → u.last_steps.items ≡ s.last_steps.items ++ r ∷ [] → Holds d u (ns ++ record { state = c; path = t ∷ b.path } ∷ [])
 holds_more d s u ns b r t x c h is k lab ros limit keys items =
@@ -182,12 +182,12 @@ round_more d tries ns n h =
 -- ---- a state that was reached
 
 -- it is known
-pub reached_known : {L : Type 0} (d : Depth) (s : Search L) (ns : List Node) (n : Node) (b : Bool) → Holds d s ns → b ≡ true → Comes d ns (with_reached b d.most n (round_in d (tally_of s) ns)) None s
+pub reached_known : (d : Depth) (s : Search) (ns : List Node) (n : Node) (b : Bool) → Holds d s ns → b ≡ true → Comes d ns (with_reached b d.most n (round_in d (tally_of s) ns)) None s
 reached_known d s ns n true h e = record { all = ns; grew = extends_none ns; holds = h; round = refl }
 reached_known d s ns n false h e = absurd (cc e)
 
 -- there is no room for it
-pub reached_full : {L : Type 0} (d : Depth) (s : Search L) (ns : List Node) (n : Node) (b r : Bool) → Holds d s ns → b ≡ false → r ≡ false
+pub reached_full : (d : Depth) (s : Search) (ns : List Node) (n : Node) (b r : Bool) → Holds d s ns → b ≡ false → r ≡ false
     → nat_lt (length ns) d.most ≡ r → Comes d ns (with_reached b d.most n (round_in d (tally_of s) ns)) (Some halt.Full) s
 reached_full d s ns n true r h e f l = absurd (cc e)
 reached_full d s ns n false true h e f l = absurd (cc f)
@@ -196,7 +196,7 @@ reached_full d s ns n false false h e f l =
     (record { all = ns; grew = extends_none ns; holds = h; halt = tt; count = refl; tally = refl })
 
 -- it is new
-pub reached_new : {L : Type 0} (d : Depth) (u : Search L) (ns : List Node) (n : Node) (tries : Tally) (b : Bool) → d.from ≤ length ns → Holds d u (ns ++ n ∷ []) → b ≡ false → nat_lt (length ns) d.most ≡ true → tries ≡ (tally_of u)
+pub reached_new : (d : Depth) (u : Search) (ns : List Node) (n : Node) (tries : Tally) (b : Bool) → d.from ≤ length ns → Holds d u (ns ++ n ∷ []) → b ≡ false → nat_lt (length ns) d.most ≡ true → tries ≡ (tally_of u)
     → Comes d ns (with_reached b d.most n (round_in d tries ns)) None u
 reached_new d u ns n tries true w h e l t = absurd (cc e)
 reached_new d u ns n tries false w h e l t =
@@ -204,14 +204,14 @@ reached_new d u ns n tries false w h e l t =
     (record { all = ns ++ n ∷ []; grew = (n ∷ [], refl); holds = h; round = round_more d tries ns n w ∙ ap (λ k. round_in d k (ns ++ n ∷ [])) t })
 
 -- keeps a state that was reached: it is known
-pub keeps_known : {L : Type 0} (d : Depth) (s : Search L) (ns : List Node) (n : Node) (t : Try) (r : Step) (x : CardState) (c : model.CardState) → list_any (is_equal x) s.states.keys ≡ true
+pub keeps_known : (d : Depth) (s : Search) (ns : List Node) (n : Node) (t : Try) (r : Step) (x : CardState) (c : model.CardState) → list_any (is_equal x) s.states.keys ≡ true
     → IsFrom d s ns n r.before → IsTry d.rules.moves r t → Kept s.laboratory s.rosters (names_in d.rules) x c
     → Comes d ns (with_reached (is_known c (known_in ns)) d.most (record { state = c; path = t ∷ n.path }) (round_in d (tally_of s) ns)) None s
 keeps_known d s ns n t r x c among h is k =
     reached_known d s ns (record { state = c; path = t ∷ n.path }) (is_known c (known_in ns)) h.holds (sym (known_same d.rules s x c s.states.keys ns h.holds.kept k) ∙ among)
 
 -- there are too many
-pub keeps_full : {L : Type 0} (d : Depth) (s : Search L) (ns : List Node) (n : Node) (t : Try) (r : Step) (x : CardState) (c : model.CardState) → list_any (is_equal x) s.states.keys ≡ false
+pub keeps_full : (d : Depth) (s : Search) (ns : List Node) (n : Node) (t : Try) (r : Step) (x : CardState) (c : model.CardState) → list_any (is_equal x) s.states.keys ≡ false
     → s.limit ≤ length s.states.keys → IsFrom d s ns n r.before → IsTry d.rules.moves r t → Kept s.laboratory s.rosters (names_in d.rules) x c
     → Comes d ns (with_reached (is_known c (known_in ns)) d.most (record { state = c; path = t ∷ n.path }) (round_in d (tally_of s) ns)) (Some halt.Full) s
 keeps_full d s ns n t r x c among full h is k =
@@ -221,7 +221,7 @@ keeps_full d s ns n t r x c among full h is k =
     reached_full d s ns (record { state = c; path = t ∷ n.path }) (is_known c (known_in ns)) false h.holds (sym (known_same d.rules s x c s.states.keys ns h.holds.kept k) ∙ among) refl no
 
 -- it is kept
-pub keeps_new : {L : Type 0} (d : Depth) (s u : Search L) (ns : List Node) (n : Node) (t : Try) (r : Step) (x : CardState) (c : model.CardState) → list_any (is_equal x) s.states.keys ≡ false
+pub keeps_new : (d : Depth) (s u : Search) (ns : List Node) (n : Node) (t : Try) (r : Step) (x : CardState) (c : model.CardState) → list_any (is_equal x) s.states.keys ≡ false
     → length s.states.keys < s.limit → u.laboratory ≡ s.laboratory → u.rosters ≡ s.rosters → u.limit ≡ s.limit → (tally_of s) ≡ (tally_of u) → u.states.keys ≡ s.states.keys ++ x ∷ []
     → u.last_steps.items ≡ s.last_steps.items ++ r ∷ [] → IsFrom d s ns n r.before → IsTry d.rules.moves r t → Kept s.laboratory s.rosters (names_in d.rules) x c
     → Comes d ns (with_reached (is_known c (known_in ns)) d.most (record { state = c; path = t ∷ n.path }) (round_in d (tally_of s) ns)) None u
@@ -254,7 +254,7 @@ abbrev IsOutcome : Depth → Node → rule.Move → Manner → Result model.Card
 IsOutcome d n m w o = outcome d.rules.ons n.state (try_value m w) ≡ o
 
 -- a cut that hit no write
-pub missed : {L : Type 0} (d : Depth) (s u : Search L) (ns : List Node) (n : Node) (m : rule.Move) (c : Candidate) (r : Step) (t : Tried) → KeepsKept s.laboratory s.rosters u.laboratory u.rosters
+pub missed : (d : Depth) (s u : Search) (ns : List Node) (n : Node) (m : rule.Move) (c : Candidate) (r : Step) (t : Tried) → KeepsKept s.laboratory s.rosters u.laboratory u.rosters
     → u.limit ≡ s.limit → u.states.keys ≡ s.states.keys → u.last_steps.items ≡ s.last_steps.items → (tally_of s) ≡ (tally_of u) → TriesMove d s ns n m c r.before r.chosen
     → TryIs u.laboratory u.rosters (names_in d.rules) d.rules.ons n.state m r.manner t → t ≡ tried.NotHit
     → IsMissed n.state m r.manner × GoesOn d ns (round_in d (tally_of s) ns) u
@@ -270,7 +270,7 @@ reached_same : (z y : CardState) → tried.Reached z ≡ tried.Reached y → z �
 reached_same z y e = cc e
 
 -- a rule that is broken
-pub broken : {L : Type 0} (d : Depth) (s u : Search L) (ns : List Node) (n : Node) (m : rule.Move) (c : Candidate) (r : Step) (i : ℕ) (t : Tried) → KeepsKept s.laboratory s.rosters u.laboratory u.rosters
+pub broken : (d : Depth) (s u : Search) (ns : List Node) (n : Node) (m : rule.Move) (c : Candidate) (r : Step) (i : ℕ) (t : Tried) → KeepsKept s.laboratory s.rosters u.laboratory u.rosters
     → u.limit ≡ s.limit → u.states.keys ≡ s.states.keys → u.last_steps.items ≡ s.last_steps.items → tally_of u ≡ tally_with d.rules.ons n.state (try_value m r.manner) (tally_of s) → TriesMove d s ns n m c r.before r.chosen
     → TryIs u.laboratory u.rosters (names_in d.rules) d.rules.ons n.state m r.manner t → t ≡ tried.Broken i
     → IsMade n.state m r.manner × Comes d ns (tries_from d n (try_value m r.manner ∷ []) (round_in d (tally_of s) ns)) (Some (halt.Broken i r)) u
@@ -298,7 +298,7 @@ broken d s u ns n m c r i (tried.Broken j) keeps limit keys items tries h x e =
     (x.0, subst (λ (y : Result Round HaltedRound). Comes d ns y (Some (halt.Broken i r)) u) (sym (one_try d n (try_value m r.manner) (round_in d (tally_of s) ns) (Err name) x.1.2)) ends)
 
 -- a state that is reached, by what keeping it came to
-pub reached : {L : Type 0} (d : Depth) (s u v : Search L) (ns : List Node) (n : Node) (m : rule.Move) (c : Candidate) (r : Step) (y : CardState) (t : Tried) (o : Option Halt)
+pub reached : (d : Depth) (s u v : Search) (ns : List Node) (n : Node) (m : rule.Move) (c : Candidate) (r : Step) (y : CardState) (t : Tried) (o : Option Halt)
     → KeepsKept s.laboratory s.rosters u.laboratory u.rosters → u.limit ≡ s.limit → u.states.keys ≡ s.states.keys → u.last_steps.items ≡ s.last_steps.items → tally_of u ≡ tally_with d.rules.ons n.state (try_value m r.manner) (tally_of s)
     → TriesMove d s ns n m c r.before r.chosen → TryIs u.laboratory u.rosters (names_in d.rules) d.rules.ons n.state m r.manner t → t ≡ tried.Reached y
     → ((k : Try) (e : model.CardState) → IsFrom d u ns n r.before → IsTry d.rules.moves r k → Kept u.laboratory u.rosters (names_in d.rules) y e

@@ -9,6 +9,6 @@ use Rattle.lab_search.specs.declared.trying.Laboratory.{Laboratory}
 use Rattle.lab_search.specs.Kept.{is_equal, root_of, Kept}
 
 -- two kept states are equal exactly if they are one state of the definition
-pub kept_same : {L : Type 0} (lab : Laboratory L) (r : Rosters) (names : List (List ℕ)) (s t : CardState) (c e : model.CardState)
+pub kept_same : (lab : Laboratory) (r : Rosters) (names : List (List ℕ)) (s t : CardState) (c e : model.CardState)
     → Kept lab r names s c → Kept lab r names t e → is_equal s t ≡ is_same_state c e
 kept_same lab r names s t c e h k = state_same (root_of lab) lab.budget names r s t c e h k

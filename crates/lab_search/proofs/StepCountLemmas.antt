@@ -1,34 +1,82 @@
 -- The steps of lines, of the tries of a move, and of the depths of a search.
-use Rattle.std.specs.Prelude.{◌≡◌, ℕ, zero, suc, ◌+◌, ◌-◌, ◌*◌, ◌<◌, ◌≤◌, Bool, true, false, nat_lt, List, [], ◌∷◌, length, drop, map, slice_get, Option, Some, Result, Ok, refl}
+use Rattle.std.specs.Prelude.{◌≡◌, ℕ, zero, suc, ◌+◌, ◌-◌, ◌*◌, ◌<◌, ◌≤◌, Bool, true, false, nat_lt, List, [], ◌∷◌, length, drop, map, slice_get, Option, Some, None, Result, Ok, Err, refl}
 use Rattle.std.proofs.Common.{arith, ap, sym, subst, ◌∙◌}
 use Rattle.std.proofs.Math.Nat.{add-mul, mul-le-mul_right, one-mul}
 use Rattle.law_explore_text.specs.model_device.specs.Device.{BenchState, DeviceState, blank_words, device_words}
+use Rattle.law_explore_text.specs.model_device.specs.PowerUp.{Base, OnCard, AtFault}
+use Rattle.law_explore_text.specs.model_card.specs.Commands.{command}
+use Rattle.law_explore_text.specs.model_machine.specs.Apdu.{apdu_read}
 use Rattle.law_explore_text.specs.model_play.specs.DeckGrammar.{DeckLine}
+use Rattle.law_explore_text.specs.model_play.specs.DeckGrammar as line
 use Rattle.law_explore_text.specs.model_play.specs.Family.{is_running}
-use Rattle.law_explore_text.specs.model_play.specs.Play.{Live, Running, Unpowered, Muted, State, FailedWrite, plays, start, step}
+use Rattle.law_explore_text.specs.model_play.specs.Play.{Live, Running, Unpowered, Muted, State, BeforePower, AfterPower, FailedWrite, plays, start, step}
 use Rattle.law_explore_text.specs.law_explore.specs.Rules as rule
 use Rattle.law_explore_text.specs.law_explore.specs.States.{CardState, play_of}
-use Rattle.law_explore_text.specs.law_explore.specs.Tries.{Whole, cuts_from, manners, tries_with, writes_of}
+use Rattle.law_explore_text.specs.law_explore.specs.Tries.{Manner as TryManner, Whole, cuts_from, manners, tries_with, writes_of}
 use Rattle.law_explore_text.specs.law_explore.specs.Search.{HaltedRound, Node, Round, Tally, first_state, no_tries, round_of_states}
 use Rattle.mc_script.specs.declared.answer.Answer.{Answer}
 use Rattle.mc_script.specs.declared.player.Player.{Player}
-use Rattle.mc_script.specs.Players.{device_of, IsPlayerAt}
+use Rattle.mc_script.specs.Players.{device_of, IsPlayerAt, IsPlaying}
 use Rattle.mc_script.specs.Counting.{total}
-use Rattle.mc_script.specs.StepCounts.{answer_reads, instructions_in, most_of_line, most_of_manager, most_of_power, reads_in, text_reads, CountsLine, CountsPlayed}
+use Rattle.mc_script.specs.StepCounts.{instructions_in, instructions_on, search_in, search_on, CountsLine, CountsPlayed}
 use Rattle.mc_script.specs.Lines.{bench_of}
 use Rattle.mc_script.proofs.Composing.{player_played}
+use Rattle.mc_text.specs.Texts.{Sunk}
 use Rattle.lab_search.specs.declared.journey.Manner.{Manner}
 use Rattle.lab_search.specs.declared.journey.Manner.TheVariants as manner
+use Rattle.lab_search.specs.declared.rounds.Search.{Search}
 use Rattle.lab_search.specs.Trying.{armed_for}
-use Rattle.lab_search.specs.Rounds.{round_in}
-use Rattle.lab_search.specs.ExplorationSteps.{most_after, most_of_beginning, most_of_deck, most_of_depths, most_of_exploration, most_of_lines, most_of_move, most_of_moves, most_of_nodes, most_of_step, most_of_tries, plays_of_cut, plays_of_cuts}
+use Rattle.lab_search.specs.Rounds.{round_in, tally_of, tries_in, Depth, Holds}
+use Rattle.lab_search.specs.ExplorationSteps.{most_after, most_of_deck, most_of_depths, most_of_exploration, most_of_lines, most_of_move, most_of_moves, most_of_nodes, most_of_step, most_of_tries, plays_of_cut, plays_of_cuts}
 use Rattle.lab_search.proofs.AlikeLemmas.{drop_at, drop_past}
 
--- ---- lines that lead to a move
+-- ---- lines without steps
 
--- the most steps of a line in a state, without its text
-abbrev pub line_most : State → DeckLine → ℕ
-line_most s l = instructions_in s l + reads_in 0 s l
+-- the most steps of a line in a state
+abbrev line_most : State → DeckLine → ℕ
+line_most s l = instructions_in s l + search_in s l
+
+no_power : (live : Live) (base : Base) (b : ℕ) → instructions_on live base b line.Power + search_on live base line.Power ≡ 0
+no_power (Running session_state) (OnCard c) b = refl
+no_power (Running session_state) (AtFault cause p) b = refl
+no_power Unpowered base b = refl
+no_power Muted base b = refl
+
+power_free : (s : State) → line_most s line.Power ≡ 0
+power_free (BeforePower m b a) = refl
+power_free (AfterPower w) = no_power w.live w.base w.budget
+
+no_budget : (live : Live) (base : Base) (b n : ℕ) → instructions_on live base b (line.Budget n) + search_on live base (line.Budget n) ≡ 0
+no_budget (Running session_state) (OnCard c) b n = refl
+no_budget (Running session_state) (AtFault cause p) b n = refl
+no_budget Unpowered base b n = refl
+no_budget Muted base b n = refl
+
+budget_free : (s : State) (n : ℕ) → line_most s (line.Budget n) ≡ 0
+budget_free (BeforePower m b a) n = refl
+budget_free (AfterPower w) n = no_budget w.live w.base w.budget n
+
+no_cut : (live : Live) (base : Base) (b k : ℕ) (fill : List ℕ) → instructions_on live base b (line.Cut k fill) + search_on live base (line.Cut k fill) ≡ 0
+no_cut (Running session_state) (OnCard c) b k fill = refl
+no_cut (Running session_state) (AtFault cause p) b k fill = refl
+no_cut Unpowered base b k fill = refl
+no_cut Muted base b k fill = refl
+
+cut_free : (s : State) (k : ℕ) (fill : List ℕ) → line_most s (line.Cut k fill) ≡ 0
+cut_free (BeforePower m b a) k fill = refl
+cut_free (AfterPower w) k fill = no_cut w.live w.base w.budget k fill
+
+-- a command that is too short executes nothing
+no_idle : (live : Live) (base : Base) (b : ℕ) → instructions_on live base b (line.Sent (line.Apdu (0 ∷ []))) + search_on live base (line.Sent (line.Apdu (0 ∷ []))) ≡ 0
+unfolding command apdu_read
+no_idle (Running session_state) (OnCard c) b = refl
+no_idle (Running session_state) (AtFault cause p) b = refl
+no_idle Unpowered base b = refl
+no_idle Muted base b = refl
+
+idle_free : (s : State) → line_most s (line.Sent (line.Apdu (0 ∷ []))) ≡ 0
+idle_free (BeforePower m b a) = refl
+idle_free (AfterPower w) = no_idle w.live w.base w.budget
 
 -- a line has the steps under a cut that it has without
 armed_most : (c : CardState) (n : ℕ) (w : Manner) (l : DeckLine) → line_most (armed_for n w (play_of c)) l ≡ line_most (play_of c) l
@@ -37,44 +85,41 @@ armed_most c n manner.Whole l = refl
 armed_most c n (manner.Cut k f) l = refl
 
 module _ {N : Type 0} (state : N → DeviceState) (bench : N → BenchState) where
-  -- a move that is made in a manner, without its text
-  pub move_steps : (c : CardState) (m : rule.Move) (w : Manner) (p : Player N) (a : Option Answer) (old new : ℕ) → IsPlayerAt state bench p (armed_for m.number w (play_of c)) → CountsLine state bench 0 p m.line a old new
-      → new ≤ old + line_most (play_of c) m.line
+  free_line : (p : Player N) (l : DeckLine) (a : Option Answer) (old new : ℕ) → CountsLine state bench p l a old new → (h : IsPlaying state bench p) → line_most h.0 l ≡ 0 → new ≤ old
+  free_line p l a old new counts h none =
+      let most = (counts h.0 h.1).most in
+      omega (arith, most, none)
+
+  pub power_steps : (p : Player N) (a : Option Answer) (old new : ℕ) → CountsLine state bench p line.Power a old new → IsPlaying state bench p → new ≤ old
+  power_steps p a old new counts h = free_line p line.Power a old new counts h (power_free h.0)
+
+  pub budget_steps : (p : Player N) (l : DeckLine) (n : ℕ) (a : Option Answer) (old new : ℕ) → l ≡ line.Budget n → CountsLine state bench p l a old new → IsPlaying state bench p → new ≤ old
+  budget_steps p l n a old new is counts h = free_line p l a old new counts h (ap (line_most h.0) is ∙ budget_free h.0 n)
+
+  pub cut_steps : (p : Player N) (k : ℕ) (fill : List ℕ) (a : Option Answer) (old new : ℕ) → CountsLine state bench p (line.Cut k fill) a old new → IsPlaying state bench p → new ≤ old
+  cut_steps p k fill a old new counts h = free_line p (line.Cut k fill) a old new counts h (cut_free h.0 k fill)
+
+  pub idle_steps : (p : Player N) (a : Option Answer) (old new : ℕ) → CountsLine state bench p (line.Sent (line.Apdu (0 ∷ []))) a old new → IsPlaying state bench p → new ≤ old
+  idle_steps p a old new counts h = free_line p (line.Sent (line.Apdu (0 ∷ []))) a old new counts h (idle_free h.0)
+
+  -- a move that is made in a manner
+  pub move_steps : (c : CardState) (m : rule.Move) (w : Manner) (p : Player N) (a : Option Answer) (old new : ℕ) → IsPlayerAt state bench p (armed_for m.number w (play_of c)) → CountsLine state bench p m.line a old new
+      → new ≤ old + most_of_move c m
   move_steps c m w p a old new at counts =
       let most = (counts (armed_for m.number w (play_of c)) at).most in
       let same = armed_most c m.number w m.line in
       omega (arith, most, same)
 
   -- all lines of a deck
-  pub deck_steps : (p q : Player N) (s : State) (ls : List (ℕ × DeckLine)) (old new : ℕ) → (bench (device_of p)).steady ≡ true → CountsPlayed state bench 0 p s ls q old new → new ≤ old + most_of_lines s ls
+  pub deck_steps : (p q : Player N) (s : State) (ls : List (ℕ × DeckLine)) (old new : ℕ) → (bench (device_of p)).steady ≡ true → CountsPlayed state bench p s ls q old new → new ≤ old + most_of_lines s ls
   deck_steps p q s ls old new steady h =
       let d = h.played in
       let played = player_played state bench s ls d.worn (bench_of state bench p) d.here q d.leads d.at in
       subst (λ (ws : List (Option FailedWrite)). new ≤ old + total most_of_step (plays s ls ws)) (played.steady steady) h.steps.most
 
--- a move with the text of its result: its cut was armed, it was played, and its result was written
-pub told_steps : (c : CardState) (m : rule.Move) (a : Option Answer) (old armed moved new : ℕ) → armed ≤ old → moved ≤ armed + line_most (play_of c) m.line → answer_reads a ≤ text_reads m.line → new ≤ moved + answer_reads a
-    → new ≤ old + most_of_line 0 (play_of c) m.line
-told_steps c m a old armed moved new arms moves few tells =
-    let most : most_of_line 0 (play_of c) m.line ≡ instructions_in (play_of c) m.line + (reads_in 0 (play_of c) m.line + text_reads m.line) = refl in
-    omega (arith, arms, moves, few, tells, most)
-
--- ---- the deck
-
-deck_most : (ls : List (ℕ × DeckLine)) → most_of_deck ls ≡ most_of_lines (start (blank_words device_words)) ls
+pub deck_most : (ls : List (ℕ × DeckLine)) → most_of_deck ls ≡ most_of_lines (start (blank_words device_words)) ls
 unfolding most_of_deck
 deck_most ls = refl
-
-beginning_is : (ls : List (ℕ × DeckLine)) → most_of_beginning ls ≡ most_of_deck ls + (most_of_manager + most_of_power)
-unfolding most_of_beginning
-beginning_is ls = refl
-
--- a deck was played, and what leads on from its end
-pub beginning_steps : (ls : List (ℕ × DeckLine)) (old played new : ℕ) → played ≤ old + most_of_lines (start (blank_words device_words)) ls → new ≤ played + (most_of_manager + most_of_power) → new ≤ old + most_of_beginning ls
-beginning_steps ls old played new plays leads =
-    let deck = deck_most ls in
-    let whole = beginning_is ls in
-    omega (arith, plays, leads, deck, whole)
 
 -- ---- the cuts of a move
 
@@ -244,13 +289,13 @@ depth_more rules most depth done from a b ns ms old all now new h before tries w
 
 exploration_is : (limit n : ℕ) (x : rule.Exploration)
     → most_of_exploration limit n x
-    ≡ most_of_beginning x.lines
+    ≡ most_of_deck x.lines
     + most_of_depths n limit x.rules (record { state = first_state x; path = [] } ∷ []) (record { known = first_state x ∷ []; fresh = []; count = 1; tally = no_tries x.rules.ons })
 unfolding most_of_exploration
 exploration_is limit n x = refl
 
 -- before the first depth all depths are left
-pub explores_first : (limit depth : ℕ) (x : rule.Exploration) (a : Tally) (ls : List (ℕ × DeckLine)) (old now : ℕ) → ls ≡ x.lines → a ≡ no_tries x.rules.ons → now ≤ old + most_of_beginning ls
+pub explores_first : (limit depth : ℕ) (x : rule.Exploration) (a : Tally) (ls : List (ℕ × DeckLine)) (old now : ℕ) → ls ≡ x.lines → a ≡ no_tries x.rules.ons → now ≤ old + most_of_deck ls
     → now + most_left x.rules limit depth 0 0 a (record { state = first_state x; path = [] } ∷ []) ≤ old + most_of_exploration limit depth x
 explores_first limit depth x a ls old now same none steps =
     let n : Node = record { state = first_state x; path = [] } in
@@ -261,12 +306,12 @@ explores_first limit depth x a ls old now same none steps =
     ∙ ap (λ i. most_of_depths depth limit x.rules (n ∷ []) (round_in (record { rules = x.rules; most = limit; from = 0 }) i (n ∷ []))) none
     ∙ depths_fresh depth limit x.rules (n ∷ []) first (n ∷ []) in
     let is = exploration_is limit depth x in
-    let deck = ap most_of_beginning same in
+    let deck = ap most_of_deck same in
     omega (arith, steps, left, is, deck)
 
--- the deck alone, and what leads on from its end
-pub explores_none : (limit depth : ℕ) (x : rule.Exploration) (ls : List (ℕ × DeckLine)) (old now : ℕ) → ls ≡ x.lines → now ≤ old + most_of_beginning ls → now ≤ old + most_of_exploration limit depth x
+-- the deck alone
+pub explores_none : (limit depth : ℕ) (x : rule.Exploration) (ls : List (ℕ × DeckLine)) (old now : ℕ) → ls ≡ x.lines → now ≤ old + most_of_deck ls → now ≤ old + most_of_exploration limit depth x
 explores_none limit depth x ls old now same steps =
     let is = exploration_is limit depth x in
-    let deck = ap most_of_beginning same in
+    let deck = ap most_of_deck same in
     omega (arith, steps, is, deck)

@@ -65,11 +65,11 @@ tally_more rs c m w a b counts is tries heard =
     ∙ ap (λ (hs : List Bool). record { tries = a.tries + 1; heard = hs }) (heard ∙ ap (λ (ns : List ℕ). heard_from 0 ns a.heard) is ∙ heard_is rs c m w a.heard)
 
 -- the counts of a try by what it came to
-pub broken_counts : {L : Type 0} (lab : Laboratory L) (rs : List rule.OnRule) (c : model.CardState) (m : rule.Move) (w : Manner) (t : Tried) (i : ℕ) → t ≡ tried.Broken i → CountsTry lab rs c m w t → lab.counts.items ≡ counts_of rs c m w
+pub broken_counts : (lab : Laboratory) (rs : List rule.OnRule) (c : model.CardState) (m : rule.Move) (w : Manner) (t : Tried) (i : ℕ) → t ≡ tried.Broken i → CountsTry lab rs c m w t → lab.counts.items ≡ counts_of rs c m w
 broken_counts lab rs c m w t i e h = subst (CountsTry lab rs c m w) e h
 
 -- after a try that reached a state the counts are those of its `on` lines
-pub reached_counts : {L : Type 0} (lab : Laboratory L) (rs : List rule.OnRule) (c : model.CardState) (m : rule.Move) (w : Manner) (t : Tried) (s : CardState) → t ≡ tried.Reached s → CountsTry lab rs c m w t → lab.counts.items ≡ counts_of rs c m w
+pub reached_counts : (lab : Laboratory) (rs : List rule.OnRule) (c : model.CardState) (m : rule.Move) (w : Manner) (t : Tried) (s : CardState) → t ≡ tried.Reached s → CountsTry lab rs c m w t → lab.counts.items ≡ counts_of rs c m w
 reached_counts lab rs c m w t s e h = subst (CountsTry lab rs c m w) e h
 
 -- no try yet

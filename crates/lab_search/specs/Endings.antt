@@ -106,7 +106,7 @@ pub record StartIs (s : Start) (x : rule.Exploration) : Type 0 where
   pub ran : s.ran ≡ is_running (warm_in (play_of_deck x.lines)).live
 
 -- a search of an exploration holds the first state alone
-pub record Starts {L : Type 0} (most : ℕ) (s : Search L) (z : Start) (x : rule.Exploration) : Type 0 where
+pub record Starts (most : ℕ) (s : Search) (z : Start) (x : rule.Exploration) : Type 0 where
   pub holds : Holds (record { rules = x.rules; most = most; from = 0 }) s (record { state = first_state x; path = [] } ∷ [])
   pub tally : (tally_of s) ≡ no_tries x.rules.ons
   pub start : StartIs z x
@@ -115,7 +115,7 @@ pub record Starts {L : Type 0} (most : ℕ) (s : Search L) (z : Start) (x : rule
 
 -- What is left to do of an exploration from a depth on: a search holds nodes, those from `from` on are of that depth, and
 -- what it still writes completes the text of the whole.
-pub record DepthsAhead {L : Type 0} (x : rule.Exploration) (most depth done from : ℕ) (s : Search L) (a b : Sunk) : Type 0 where
+pub record DepthsAhead (x : rule.Exploration) (most depth done from : ℕ) (s : Search) (a b : Sunk) : Type 0 where
   pub nodes : List Node
   pub holds : Holds (record { rules = x.rules; most = most; from = from }) s nodes
   pub rest : (r : Result Explored JobFault) (c : Sunk)

@@ -1,5 +1,4 @@
--- The most steps of an exploration: those of its deck and of what leads on from its end, and those of the moves that it tries
--- from each state.
+-- The most steps of an exploration: those of its deck, and those of the moves that it tries from each state.
 use Rattle.std.specs.Prelude.{ℕ, zero, suc, ◌+◌, ◌*◌, Bool, true, false, nat_lt, List, [], ◌∷◌, length, Result, Ok, Err}
 use Rattle.law_explore_text.specs.model_device.specs.Device.{blank_words, device_words}
 use Rattle.law_explore_text.specs.model_play.specs.DeckGrammar.{DeckLine}
@@ -9,13 +8,13 @@ use Rattle.law_explore_text.specs.law_explore.specs.States.{CardState, play_of}
 use Rattle.law_explore_text.specs.law_explore.specs.Tries.{tries_with}
 use Rattle.law_explore_text.specs.law_explore.specs.Search.{HaltedRound, Node, Round, first_state, no_tries, round_of_states}
 use Rattle.mc_script.specs.Counting.{total}
-use Rattle.mc_script.specs.StepCounts.{instructions, most_of_line, most_of_manager, most_of_power, reads_in}
+use Rattle.mc_script.specs.StepCounts.{instructions, instructions_in, search_in}
 
 -- ---- lines
 
--- the most steps of a line that was played, without its text: one for each of its instructions, and the words that it reads
+-- the most steps of a line that was played: one for each of its instructions, and those of its search for room
 abbrev pub most_of_step : Step → ℕ
-most_of_step t = instructions t.turns + reads_in 0 t.before t.line
+most_of_step t = instructions t.turns + search_in t.before t.line
 
 -- the most steps of lines that are played from a state, on a device that refuses just the writes of `fail` lines
 abbrev pub most_of_lines : State → List (ℕ × DeckLine) → ℕ
@@ -25,16 +24,9 @@ most_of_lines s ls = total most_of_step (plays s ls (steady_failures s ls))
 unfoldable pub most_of_deck : List (ℕ × DeckLine) → ℕ
 most_of_deck ls = most_of_lines (start (blank_words device_words)) ls
 
--- the most steps of a deck on a blank device, and of what leads on from its end to the first state: a command that is too
--- short, which drops a stop, and a power-up
-unfoldable pub most_of_beginning : List (ℕ × DeckLine) → ℕ
-unfolding most_of_deck
-most_of_beginning ls = most_of_deck ls + (most_of_manager + most_of_power)
-
--- the most steps of a move that is made once from a state, whole or cut, with the text of its result: a power-up puts the
--- state back, and another one recovers the card after a cut
+-- the most steps of a move that is made once from a state, whole or cut
 abbrev pub most_of_move : CardState → Move → ℕ
-most_of_move c m = most_of_line 0 (play_of c) m.line + 2 * most_of_power
+most_of_move c m = instructions_in (play_of c) m.line + search_in (play_of c) m.line
 
 -- ---- tries
 
@@ -77,7 +69,7 @@ most_of_depths (suc n) limit rules ns r =
 
 -- the most steps of an exploration of n depths, with at most `limit` states
 unfoldable pub most_of_exploration : ℕ → ℕ → Exploration → ℕ
-unfolding most_of_beginning most_of_depths first_state
+unfolding most_of_deck most_of_depths first_state
 most_of_exploration limit n x =
     let c = first_state x in
-    most_of_beginning x.lines + most_of_depths n limit x.rules (record { state = c; path = [] } ∷ []) (record { known = c ∷ []; fresh = []; count = 1; tally = no_tries x.rules.ons })
+    most_of_deck x.lines + most_of_depths n limit x.rules (record { state = c; path = [] } ∷ []) (record { known = c ∷ []; fresh = []; count = 1; tally = no_tries x.rules.ons })

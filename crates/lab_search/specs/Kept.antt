@@ -33,11 +33,11 @@ use Rattle.mc_script.specs.declared.live.Live.TheVariants as live
 -- ---- laboratories
 
 -- the words of the device of a laboratory, and those of its root
-abbrev pub words_of : {L : Type 0} → Laboratory L → List (List ℕ)
+abbrev pub words_of : Laboratory → List (List ℕ)
 words_of lab = (device_of lab.player.value).device.words
 
 -- the words of the root of its device
-abbrev pub root_of : {L : Type 0} → Laboratory L → List (List ℕ)
+abbrev pub root_of : Laboratory → List (List ℕ)
 root_of lab = (device_of lab.player.value).root
 
 -- ---- kept states
@@ -48,11 +48,11 @@ is_equal s t = card_state_eq s t
 
 -- A state that is kept with a laboratory and its rosters is a state of the definition. The names are those of the
 -- allowances, in order.
-abbrev pub Kept : {L : Type 0} → Laboratory L → Rosters → List (List ℕ) → CardState → model.CardState → Type 0
+abbrev pub Kept : Laboratory → Rosters → List (List ℕ) → CardState → model.CardState → Type 0
 Kept lab r names s c = IsKeptState (root_of lab) lab.budget names r s c
 
 -- states that were kept stay kept, and there is room for as many counts
-pub record KeepsKept {L : Type 0} (lab : Laboratory L) (r : Rosters) (lab_new : Laboratory L) (r_new : Rosters) : Type 0 where
+pub record KeepsKept (lab : Laboratory) (r : Rosters) (lab_new : Laboratory) (r_new : Rosters) : Type 0 where
   pub kept : (names : List (List ℕ)) (s : CardState) (c : model.CardState) → Kept lab r names s c → Kept lab_new r_new names s c
   pub counts : length lab_new.counts.items ≡ length lab.counts.items
 
@@ -68,7 +68,7 @@ pub record IsCandidate (held : List (List ℕ × ℕ)) (rs : List rule.OnRule) (
 
 -- a try of the definition can be made from a state that is kept: of a move that is a candidate, in a manner that can be,
 -- with room for the counts of its `on` lines
-abbrev pub CanBeTried : {L : Type 0} → Laboratory L → Rosters → CardState → Candidate → Manner → Type 0
+abbrev pub CanBeTried : Laboratory → Rosters → CardState → Candidate → Manner → Type 0
 CanBeTried lab r s x w =
     (held : List (List ℕ × ℕ)) × (ons : List rule.OnRule) × (c : model.CardState) × (m : rule.Move) × Kept lab r (map (λ a. a.0) held) s c × IsCandidate held ons m x × CanCut c w × (length lab.counts.items ≡ length ons)
 
@@ -88,7 +88,7 @@ runs_now live.Unpowered = false
 runs_now live.Muted = false
 
 -- what a try came to is the outcome of the definition
-abbrev pub TryIs : {L : Type 0} → Laboratory L → Rosters → List (List ℕ) → List rule.OnRule → model.CardState → rule.Move → Manner → Tried → Type 0
+abbrev pub TryIs : Laboratory → Rosters → List (List ℕ) → List rule.OnRule → model.CardState → rule.Move → Manner → Tried → Type 0
 TryIs lab r names ons c m w tried.NotHit = IsMissed c m w
 TryIs lab r names ons c m w (tried.Broken i) =
     IsMade c m w × ((name : List ℕ) × (slice_get names i ≡ Some name) × (outcome ons c (record { move = m; manner = manner_value w }) ≡ Err name))
@@ -128,7 +128,7 @@ pub record LeadIs (lead : Lead) (x : rule.Exploration) : Type 0 where
   pub power : lead.power ≡ needs_power (warm_in (play_of_deck x.lines)).live (warm_in (play_of_deck x.lines)).base
 
 -- an exploration begins at the first state
-pub record Begins {L : Type 0} (b : Beginning L) (x : rule.Exploration) : Type 0 where
+pub record Begins (b : Beginning) (x : rule.Exploration) : Type 0 where
   pub kept : Kept b.laboratory b.rosters (names_in x.rules) b.first (first_state x)
   pub counts : length b.laboratory.counts.items ≡ length x.rules.ons
   pub lead : LeadIs b.lead x

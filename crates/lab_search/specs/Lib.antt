@@ -9,5 +9,4 @@ pub mod Beginnings
 pub mod Tallies
 pub mod Rounds
 pub mod ExplorationSteps
-pub mod StepRows
 pub mod Endings

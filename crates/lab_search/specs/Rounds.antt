@@ -62,11 +62,11 @@ pub record Depth : Type 0 where
   pub from : ℕ
 
 -- a state that is kept is that of a node
-abbrev pub KeepsNode : {L : Type 0} → rule.Rules → Search L → CardState → Node → Type 0
+abbrev pub KeepsNode : rule.Rules → Search → CardState → Node → Type 0
 KeepsNode rules s t n = Kept s.laboratory s.rosters (names_in rules) t n.state
 
 -- a search holds nodes, in the order in which they were found, and has room for the counts of the `on` lines
-pub record Holds {L : Type 0} (d : Depth) (s : Search L) (ns : List Node) : Type 0 where
+pub record Holds (d : Depth) (s : Search) (ns : List Node) : Type 0 where
   pub room : s.limit ≡ d.most
   pub within : d.from ≤ length ns
   pub counts : length s.laboratory.counts.items ≡ length d.rules.ons
@@ -74,26 +74,26 @@ pub record Holds {L : Type 0} (d : Depth) (s : Search L) (ns : List Node) : Type
   pub reached : AreReached d.rules.moves s.last_steps.items ns
 
 -- a search makes tries from a node that it holds
-pub record IsFrom {L : Type 0} (d : Depth) (s : Search L) (ns : List Node) (n : Node) (before : ℕ) : Type 0 where
+pub record IsFrom (d : Depth) (s : Search) (ns : List Node) (n : Node) (before : ℕ) : Type 0 where
   pub holds : Holds d s ns
   pub found : slice_get ns before ≡ Some n
 
 -- a search tries a move of the rules from a node that it holds
-pub record TriesMove {L : Type 0} (d : Depth) (s : Search L) (ns : List Node) (n : Node) (m : rule.Move) (c : Candidate) (before chosen : ℕ) : Type 0 where
+pub record TriesMove (d : Depth) (s : Search) (ns : List Node) (n : Node) (m : rule.Move) (c : Candidate) (before chosen : ℕ) : Type 0 where
   pub at : IsFrom d s ns n before
   pub candidate : IsCandidate d.rules.allowances d.rules.ons m c
   pub place : slice_get d.rules.moves chosen ≡ Some m
 
 -- a search can try a move of the rules, from a node that it holds
-abbrev pub CanTryMove : {L : Type 0} → Search L → Candidate → ℕ → ℕ → Type 0
+abbrev pub CanTryMove : Search → Candidate → ℕ → ℕ → Type 0
 CanTryMove s c before chosen = (d : Depth) × (ns : List Node) × (n : Node) × (m : rule.Move) × TriesMove d s ns n m c before chosen
 
 -- in a manner that can be
-abbrev pub CanStep : {L : Type 0} → Search L → Candidate → Step → Type 0
+abbrev pub CanStep : Search → Candidate → Step → Type 0
 CanStep s c r = (d : Depth) × (ns : List Node) × (n : Node) × (m : rule.Move) × TriesMove d s ns n m c r.before r.chosen × CanCut n.state r.manner
 
 -- cut at its writes
-abbrev pub CanCutMove : {L : Type 0} → Search L → Candidate → ℕ → ℕ → Type 0
+abbrev pub CanCutMove : Search → Candidate → ℕ → ℕ → Type 0
 CanCutMove s c before chosen =
     (d : Depth) × (ns : List Node) × (n : Node) × (m : rule.Move) × TriesMove d s ns n m c before chosen × (is_running n.state.live ≡ true)
 
@@ -104,11 +104,11 @@ pub record AreCandidates (r : rule.Rules) (e : Rules) (applied : List (Vec Bool 
   pub rows : AlikeLists (IsRow r.ons) applied r.moves
 
 -- a search can try each move of rules from a node that it holds
-abbrev pub CanTryMoves : {L : Type 0} → Search L → Rules → List (Vec Bool Global) → ℕ → Type 0
+abbrev pub CanTryMoves : Search → Rules → List (Vec Bool Global) → ℕ → Type 0
 CanTryMoves s e applied before = (d : Depth) × (ns : List Node) × (n : Node) × IsFrom d s ns n before × AreCandidates d.rules e applied
 
 -- it can try them from each of its nodes from a place on
-abbrev pub CanTryStates : {L : Type 0} → Search L → Rules → List (Vec Bool Global) → ℕ → ℕ → Type 0
+abbrev pub CanTryStates : Search → Rules → List (Vec Bool Global) → ℕ → ℕ → Type 0
 CanTryStates s e applied from to = (d : Depth) × (ns : List Node) × Holds d s ns × (from ≤ to) × (to ≡ length ns) × AreCandidates d.rules e applied
 
 -- the states of nodes, the last first
@@ -116,7 +116,7 @@ abbrev pub known_in : List Node → List model.CardState
 known_in ns = reverse (map (λ n. n.state) ns)
 
 -- what the tries of a search came to
-abbrev pub tally_of : {L : Type 0} → Search L → Tally
+abbrev pub tally_of : Search → Tally
 tally_of s = tally_value s.tally
 
 -- a round of the definition, by what the tries came to and the nodes in the order in which they were found
@@ -143,7 +143,7 @@ Extends ns all = (more : List Node) × (all ≡ ns ++ more)
 -- ---- what tries came to
 
 -- a search goes on, as the definition does with this round
-pub record GoesOn {L : Type 0} (d : Depth) (ns : List Node) (r : Round) (s : Search L) : Type 0 where
+pub record GoesOn (d : Depth) (ns : List Node) (r : Round) (s : Search) : Type 0 where
   pub all : List Node
   pub grew : Extends ns all
   pub holds : Holds d s all
@@ -166,7 +166,7 @@ IsHalt rules ns halt.Full (RuleBroken name path) = ⊥
 IsHalt rules ns halt.Full Full = ⊤
 
 -- a search ends, as the definition does
-pub record Ends {L : Type 0} (d : Depth) (ns : List Node) (e : HaltedRound) (h : Halt) (s : Search L) : Type 0 where
+pub record Ends (d : Depth) (ns : List Node) (e : HaltedRound) (h : Halt) (s : Search) : Type 0 where
   pub all : List Node
   pub grew : Extends ns all
   pub holds : Holds d s all
@@ -175,7 +175,7 @@ pub record Ends {L : Type 0} (d : Depth) (ns : List Node) (e : HaltedRound) (h :
   pub tally : e.tally ≡ tally_of s
 
 -- tries came to what they come to by the definition: a search that held some nodes goes on, or ends
-abbrev pub Comes : {L : Type 0} → Depth → List Node → Result Round HaltedRound → Option Halt → Search L → Type 0
+abbrev pub Comes : Depth → List Node → Result Round HaltedRound → Option Halt → Search → Type 0
 Comes d ns (Ok r) None s = GoesOn d ns r s
 Comes d ns (Ok r) (Some h) s = ⊥
 Comes d ns (Err e) None s = ⊥
@@ -183,13 +183,13 @@ Comes d ns (Err e) (Some h) s = Ends d ns e h s
 
 -- what tries came to, if they are made or missed together: they missed each write, and the search goes on with the round
 -- from which they were tried; or they were made, and came to what they come to by the definition
-abbrev pub Attempts : {L : Type 0} → Type 0 → Type 0 → Depth → List Node → Round → Result Round HaltedRound → Attempt → Search L → Type 0
+abbrev pub Attempts : Type 0 → Type 0 → Depth → List Node → Round → Result Round HaltedRound → Attempt → Search → Type 0
 Attempts missed made d ns r x attempt.NotHit s = missed × GoesOn d ns r s
 Attempts missed made d ns r x attempt.GoesOn s = made × Comes d ns x None s
 Attempts missed made d ns r x (attempt.Halts h) s = made × Comes d ns x (Some h) s
 
 -- What is left to do of some tries: from the nodes that a search holds it comes to what the whole comes to.
-pub record Ahead {L : Type 0} (d : Depth) (ns : List Node) (s : Search L) (rest : Round → Result Round HaltedRound) (whole : Result Round HaltedRound) : Type 0 where
+pub record Ahead (d : Depth) (ns : List Node) (s : Search) (rest : Round → Result Round HaltedRound) (whole : Result Round HaltedRound) : Type 0 where
   pub all : List Node
   pub grew : Extends ns all
   pub holds : Holds d s all

@@ -39,7 +39,7 @@ abbrev pub counts_of : List rule.OnRule → model.CardState → rule.Move → Ma
 counts_of rs c m w = map (λ r. capped (times r m (step_of (play_of c) m (manner_value w)))) rs
 
 -- the counts of a try that was made
-abbrev pub CountsTry : {L : Type 0} → Laboratory L → List rule.OnRule → model.CardState → rule.Move → Manner → Tried → Type 0
+abbrev pub CountsTry : Laboratory → List rule.OnRule → model.CardState → rule.Move → Manner → Tried → Type 0
 CountsTry lab rs c m w tried.NotHit = Unit {0}
 CountsTry lab rs c m w (tried.Reached s) = lab.counts.items ≡ counts_of rs c m w
 CountsTry lab rs c m w (tried.Broken i) = lab.counts.items ≡ counts_of rs c m w

@@ -9,10 +9,9 @@ ghost use Rattle.lab_branch.specs.Branches.{blank_branch, branch_bench};
 ghost use Rattle.law_explore_text.specs.model_play.specs.DeckGrammar.{DeckLine};
 ghost use Rattle.mc_script.specs.Players.{device_of, IsUnfused};
 ghost use Rattle.mc_script.specs.Benches.{IsPlayerAt, IsPlaying};
-ghost use Rattle.mc_script.specs.StepCounts.{most_of_manager, most_of_power};
 ghost use Rattle.lab_search.specs.Kept.{is_armed, Begins, IsExplorationOf};
 ghost use Rattle.lab_search.specs.Beginnings.{is_ready_answer, without_stop, IsFirst, IsPowered};
-ghost use Rattle.lab_search.specs.ExplorationSteps.{most_of_beginning};
+ghost use Rattle.lab_search.specs.ExplorationSteps.{most_of_deck};
 
 use crate::playing::{Budget, play, play_all};
 use crate::trying::{Laboratory, runs};
@@ -37,23 +36,22 @@ pub struct Lead {
 /// The beginning of an exploration: its first state with the laboratory and the rosters that keep it, and the way there
 /// from the end of the deck.
 #[derive(Drop)]
-pub struct Beginning<L: Ledger> {
-    pub laboratory: Laboratory<L>,
+pub struct Beginning {
+    pub laboratory: Laboratory,
     pub rosters: Rosters,
     pub first: CardState,
     pub lead: Lead,
 }
 
 // Drops a stop that is armed for the next card line, and returns whether there was one.
-fn drop_stop<N: Bench>(player: &mut Player<N>, steps: &mut Steps<N::Meter>) -> bool
+fn drop_stop<N: Bench, L: Ledger>(player: &mut Player<N>, steps: &mut Steps<L>) -> bool
     requires { IsPlaying N.Bench player.old }
     ensures playing { IsPlaying N.Bench player.new }
     ensures armed { (s : State) → IsPlayerAt N.Bench player.old s → result ≡ is_armed (armed_stop_in s) }
     ensures at { (s : State) → IsPlayerAt N.Bench player.old s
         → (N.bench (device_of player.old)).steady ≡ true → IsPlayerAt N.Bench player.new (without_stop s) }
     ensures steady { (N.bench (device_of player.old)).steady ≡ true → (N.bench (device_of player.new)).steady ≡ true }
-    // At most what a command reads beside its turns.
-    ensures steps { steps.new ≤ steps.old + most_of_manager }
+    ensures steps { steps.new ≤ steps.old }
     ensures keeps_device { N.same (device_of player.old) (device_of player.new) }
 {
     if !player.is_armed() {
@@ -64,13 +62,13 @@ fn drop_stop<N: Bench>(player: &mut Player<N>, steps: &mut Steps<N::Meter>) -> b
 }
 
 // Plays a command that is too short to be one.
-fn play_idle<N: Bench>(player: &mut Player<N>, steps: &mut Steps<N::Meter>)
+fn play_idle<N: Bench, L: Ledger>(player: &mut Player<N>, steps: &mut Steps<L>)
     requires { IsPlaying N.Bench player.old }
     ensures playing { IsPlaying N.Bench player.new }
     ensures at { (s : State) → IsPlayerAt N.Bench player.old s
         → (N.bench (device_of player.old)).steady ≡ true → IsPlayerAt N.Bench player.new (without_stop s) }
     ensures steady { (N.bench (device_of player.old)).steady ≡ true → (N.bench (device_of player.new)).steady ≡ true }
-    ensures steps { steps.new ≤ steps.old + most_of_manager }
+    ensures steps { steps.new ≤ steps.old }
     ensures keeps_device { N.same (device_of player.old) (device_of player.new) }
 {
     let _dropped = player.line(&Line::Apdu(&[0]), &mut Silent, steps);
@@ -88,10 +86,10 @@ fn is_ready(answer: &Option<Answer>) -> bool
 
 // Powers a card up if none runs. Returns whether one runs only since then, and what runs. Without a card the power line
 // leaves the words as recovery leaves them, and what runs is as it was before it.
-fn power_up<N: Bench>(
+fn power_up<N: Bench, L: Ledger>(
     alloc: Global,
     player: &mut Player<N>,
-    steps: &mut Steps<N::Meter>,
+    steps: &mut Steps<L>,
 ) -> Result<(bool, Live), NoMemory>
     requires { IsPlaying N.Bench player.old }
     ensures playing { IsPlaying N.Bench player.new }
@@ -99,7 +97,7 @@ fn power_up<N: Bench>(
         → (N.bench (device_of player.old)).steady ≡ true → armed_stop_in s ≡ Unarmed
         → IsSettled (first_warm (warm_in s)).live (first_warm (warm_in s)).base (first_warm (warm_in s)).owed
         → IsPowered (warm_in s) (N.state (device_of player.new)).words r.0 r.1 player.new.budget) }
-    ensures steps { steps.new ≤ steps.old + most_of_power }
+    ensures steps { steps.new ≤ steps.old }
     ensures keeps_device { N.same (device_of player.old) (device_of player.new) }
 {
     let before = player.live(alloc)?;
@@ -114,17 +112,17 @@ fn power_up<N: Bench>(
 }
 
 // Leads from the end of a deck to the first state. Returns the budget, the way there, and what runs.
-fn lead_on<N: Bench>(
+fn lead_on<N: Bench, L: Ledger>(
     alloc: Global,
     player: &mut Player<N>,
-    steps: &mut Steps<N::Meter>,
+    steps: &mut Steps<L>,
 ) -> Result<(Budget, Lead, Live), NoMemory>
     requires { IsPlaying N.Bench player.old }
     ensures playing { IsPlaying N.Bench player.new }
     ensures first { IfOk result (λ r. (ls : List (ℕ × DeckLine))
         → IsPlayerAt N.Bench player.old (play_of_deck ls) → (N.bench (device_of player.old)).steady ≡ true
         → IsFirst ls (N.state (device_of player.new)).words r.0 r.1 r.2) }
-    ensures steps { steps.new ≤ steps.old + (most_of_manager + most_of_power) }
+    ensures steps { steps.new ≤ steps.old }
     ensures keeps_device { N.same (device_of player.old) (device_of player.new) }
 {
     let armed = drop_stop(player, steps);
@@ -132,50 +130,46 @@ fn lead_on<N: Bench>(
     Ok((Budget::of(player), Lead { armed, power }, live))
 }
 
-// Plays a deck on a blank device, and leads from its end to the first state. Returns the budget, the way there, and what
-// runs.
-fn play_on<N: Bench>(
+// Plays a deck on a blank device, and leads from its end to the first state. Returns the device, and the budget, the
+// way there, and what runs.
+fn play_on<N: Bench, L: Ledger>(
     alloc: Global,
-    device: &mut N,
+    device: N,
     deck: &Deck,
-    steps: &mut Steps<N::Meter>,
-) -> Result<(Budget, Lead, Live), NoMemory>
-    requires unfused { IsUnfused (N.bench device.old) }
-    requires steady { (N.bench device.old).steady ≡ true }
-    requires blank { (N.state device.old).words ≡ blank_words device_words }
-    ensures first { IfOk result (λ r. IsFirst deck.now (N.state device.new).words r.0 r.1 r.2) }
-    ensures steps { steps.new ≤ steps.old + most_of_beginning deck.now }
-    ensures keeps_device { N.same device.old device.new }
+    steps: &mut Steps<L>,
+) -> (N, Result<(Budget, Lead, Live), NoMemory>)
+    requires unfused { IsUnfused (N.bench device) }
+    requires steady { (N.bench device).steady ≡ true }
+    requires blank { (N.state device).words ≡ blank_words device_words }
+    ensures first { IfOk result.1 (λ r. IsFirst deck.now (N.state result.0).words r.0 r.1 r.2) }
+    ensures steps { steps.new ≤ steps.old + most_of_deck deck.now }
+    ensures keeps_device { N.same device result.0 }
 {
-    let mut player = Player::new(&mut *device);
+    let mut player = Player::new(device);
     play_all(&mut player, deck, steps);
     let first = lead_on(alloc, &mut player, steps);
-    let _device = player.into_dev();
-    first
+    (player.into_dev(), first)
 }
 
 // Plays a deck on a blank device with a root, and makes the words of the first state its root.
 fn play_deck<L: Ledger>(
     alloc: Global,
-    device: &mut BranchNvm<L>,
+    device: &mut BranchNvm,
     deck: &Deck,
     steps: &mut Steps<L>,
 ) -> Result<(Budget, Lead, Live), NoMemory>
     requires { device.old ≡ blank_branch device_words }
     ensures first { IfOk result (λ r. IsFirst deck.now device.new.device.words r.0 r.1 r.2) }
     ensures root { device.new.root ≡ device.new.device.words }
-    ensures steps { steps.new ≤ steps.old + most_of_beginning deck.now }
+    ensures steps { steps.new ≤ steps.old + most_of_deck deck.now }
 {
-    let first = play_on(alloc, device, deck, steps);
+    let (_device, first) = play_on(alloc, &mut *device, deck, steps);
     device.take_root();
     first
 }
 
 // A player before its first line, on the heap.
-fn player<L: Ledger>(
-    alloc: Global,
-    device: BranchNvm<L>,
-) -> Result<Box<Player<BranchNvm<L>>>, NoMemory>
+fn player(alloc: Global, device: BranchNvm) -> Result<Box<Player<BranchNvm>>, NoMemory>
     requires { IsUnfused (branch_bench device) }
     ensures { IfOk result (λ player. device_of player.value ≡ device) }
 {
@@ -202,10 +196,10 @@ pub fn begin<L: Ledger>(
     alloc: Global,
     exploration: &Exploration<'_>,
     steps: &mut Steps<L>,
-) -> Result<Beginning<L>, NoMemory>
+) -> Result<Beginning, NoMemory>
     ensures begins { IfOk result (λ b. (x : rule.Exploration) → IsExplorationOf exploration.now x → Begins b x) }
-    // At most the steps of the deck, and of what leads on from its end.
-    ensures steps { steps.new ≤ steps.old + most_of_beginning exploration.now.deck }
+    // At most the steps of the deck.
+    ensures steps { steps.new ≤ steps.old + most_of_deck exploration.now.deck }
 {
     let mut device = BranchNvm::new(alloc)?;
     let (budget, lead, live) = play_deck(alloc, &mut device, &exploration.deck, steps)?;

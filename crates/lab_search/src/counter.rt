@@ -9,7 +9,6 @@ ghost use Rattle.mc_script.specs.Arming.{on_after_answer};
 ghost use Rattle.mc_script.specs.Counting.{count_after_rises, line_powers};
 ghost use Rattle.mc_script.specs.Players.{device_of};
 ghost use Rattle.mc_script.specs.Benches.{CountsLine, IsPlaying, LineDone};
-ghost use Rattle.mc_script.specs.StepCounts.{answer_reads, text_reads};
 ghost use Rattle.mc_script.specs.Watching.{turn_alone};
 ghost use Rattle.lab_search.specs.Counters.{counts_no_turn, counts_on, AreCounted, CountsTurns};
 
@@ -21,6 +20,7 @@ use mc_machine::Outcome;
 use mc_nvm::{Bench, Nvm};
 use mc_script::{Answer, Player, Runner, Silent, Watcher, run_watched};
 use mc_trace::line_of_brief;
+use std::sync::ledger::Ledger;
 
 /// Counts for each `on` line that applies to a move how many executed instructions its pattern fits.
 #[derive(Drop)]
@@ -53,19 +53,17 @@ impl<'a, 'b> Watcher for TurnCounter<'a, 'b> {
 
     ghost seen = { turn_alone };
 
-    ghost looks = { λ q. 0 };
-
     ghost watched = { CountsTurns };
 
     ghost silent = { counts_no_turn };
 
     ghost onward = { counts_on };
 
-    fn turn<N: Nvm>(
+    fn turn<N: Nvm, L: Ledger>(
         &mut self,
         card: &mut Card<N>,
         into: &mut Outcome,
-        steps: &mut Steps<N::Meter>,
+        steps: &mut Steps<L>,
     ) -> Result<BriefTurn, Stop> {
         let turn = card.brief_turn(into, steps)?;
         self.count_turn(&turn);
@@ -76,30 +74,28 @@ impl<'a, 'b> Watcher for TurnCounter<'a, 'b> {
 impl<'a, 'b> Runner for TurnCounter<'a, 'b> {
     ghost reported = { λ c. CountsTurns };
 
-    ghost looks = { λ q. 0 };
-
     ghost silent = { λ c. counts_no_turn };
 
     ghost onward = { λ c d q r s. counts_on q r s [] [] };
 
-    fn run<N: Nvm>(
+    fn run<N: Nvm, L: Ledger>(
         &mut self,
         card: &mut Card<N>,
         bytes: &[u8],
         budget: u32,
         into: &mut Outcome,
-        steps: &mut Steps<N::Meter>,
+        steps: &mut Steps<L>,
     ) -> Result<(), Stop> {
         run_watched(self, card, bytes, budget, into, steps)
     }
 }
 
 // Plays a line, and counts its turns.
-fn play<N: Bench>(
+fn play<N: Bench, L: Ledger>(
     counter: &mut TurnCounter<'_, '_>,
     player: &mut Player<N>,
     line: &Line<'_>,
-    steps: &mut Steps<N::Meter>,
+    steps: &mut Steps<L>,
 ) -> Option<Answer>
     requires playing { IsPlaying N.Bench player.old }
     requires good { GoodLine (line_of line.now) }
@@ -110,8 +106,7 @@ fn play<N: Bench>(
         ≡ count_after_rises (N.bench (device_of player.old)).powers (line_powers (line_of line.now)) }
     ensures power { (N.state (device_of player.new)).on
         ≡ on_after_answer (N.state (device_of player.old)).on (line_of line.now) result }
-    ensures steps { CountsLine N.Bench 0 player.old (line_of line.now) result steps.old steps.new }
-    ensures text { answer_reads result ≤ text_reads (line_of line.now) }
+    ensures steps { CountsLine N.Bench player.old (line_of line.now) result steps.old steps.new }
     ensures keeps_device { N.same (device_of player.old) (device_of player.new) }
 {
     player.line(line, counter, steps)
@@ -121,13 +116,13 @@ fn play<N: Bench>(
 ///
 /// Adds to the count of each `on` line that applies how many of the executed instructions that the line shows its
 /// pattern fits, up to the last value of a count.
-pub fn play_counted<N: Bench>(
+pub fn play_counted<N: Bench, L: Ledger>(
     player: &mut Player<N>,
     line: &Line<'_>,
     ons: &[OnRule],
     applies: &[bool],
     counts: &mut [u64],
-    steps: &mut Steps<N::Meter>,
+    steps: &mut Steps<L>,
 ) -> Option<Answer>
     requires playing { IsPlaying N.Bench player.old }
     requires good { GoodLine (line_of line.now) }
@@ -138,8 +133,7 @@ pub fn play_counted<N: Bench>(
         ≡ count_after_rises (N.bench (device_of player.old)).powers (line_powers (line_of line.now)) }
     ensures power { (N.state (device_of player.new)).on
         ≡ on_after_answer (N.state (device_of player.old)).on (line_of line.now) result }
-    ensures steps { CountsLine N.Bench 0 player.old (line_of line.now) result steps.old steps.new }
-    ensures text { answer_reads result ≤ text_reads (line_of line.now) }
+    ensures steps { CountsLine N.Bench player.old (line_of line.now) result steps.old steps.new }
     ensures keeps_device { N.same (device_of player.old) (device_of player.new) }
 {
     if !has_turns(ons, applies) {

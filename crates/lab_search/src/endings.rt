@@ -27,7 +27,6 @@ use mc_base::NoMemory;
 use mc_script::JobFault;
 use mc_streams::{Sink, WriteFault};
 use std::alloc::Global;
-use std::sync::ledger::Ledger;
 
 /// How an exploration ended: no state is left and no rule is broken; no rule is broken in what it tried, which is not
 /// all; or a rule is broken.
@@ -193,7 +192,7 @@ fn report_broken<T: Sink>(
     Ok(())
 }
 
-impl<L: Ledger> Search<L> {
+impl Search {
     /// Returns the steps from the first state to the end of a last one, in order.
     ///
     /// # Errors

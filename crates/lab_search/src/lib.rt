@@ -11,7 +11,6 @@ mod making;
 mod playing;
 mod report;
 mod rounds;
-mod rows;
 mod search;
 mod tally;
 mod trying;

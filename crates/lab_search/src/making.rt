@@ -14,7 +14,6 @@ ghost use Rattle.lab_rules.specs.Moves.{move_deck};
 ghost use Rattle.lab_rules.specs.Meanings.{IsMove};
 ghost use Rattle.mc_script.specs.Players.{answer_value, device_of};
 ghost use Rattle.mc_script.specs.Benches.{CountsLine, IsPlayerAt, IsPlaying};
-ghost use Rattle.mc_script.specs.StepCounts.{answer_reads, most_of_line, most_of_power, text_reads};
 ghost use Rattle.lab_search.specs.Playing.{FailsNot};
 ghost use Rattle.lab_search.specs.Benches.{CountsAs, IsLiveAfter, MadeAs, PlaysAs};
 ghost use Rattle.lab_search.specs.ExplorationSteps.{most_of_move};
@@ -32,6 +31,7 @@ use mc_deck::Line;
 use mc_nvm::Bench;
 use mc_script::{Answer, Live, Player, Text, add_result, was_cut};
 use std::alloc::Global;
+use std::sync::ledger::Ledger;
 
 /// A move of a deck, and for each `on` line whether it applies to the move.
 #[derive(Clone, Copy)]
@@ -42,11 +42,11 @@ pub struct Candidate<'a> {
 }
 
 /// Puts a state back on a player before its first line: sets the budget, powers up, and puts back what ran.
-pub fn restore<N: Bench>(
+pub fn restore<N: Bench, L: Ledger>(
     player: &mut Player<N>,
     budget: &Budget,
     saved: &Live,
-    steps: &mut Steps<N::Meter>,
+    steps: &mut Steps<L>,
 )
     requires start { IsPlayerAt N.Bench player.old (start (N.state (device_of player.old)).words) }
     requires steady { (N.bench (device_of player.old)).steady ≡ true }
@@ -55,8 +55,7 @@ pub fn restore<N: Bench>(
     ensures at { (b : Base) (l : play.Live) → IsShown (N.state (device_of player.old)).words saved.now b l
         → IsPlayerAt N.Bench player.new (AfterPower (settled_play b l budget.now)) }
     ensures steady { (N.bench (device_of player.new)).steady ≡ true }
-    // At most the steps of a power-up.
-    ensures steps { steps.new ≤ steps.old + most_of_power }
+    ensures steps { steps.new ≤ steps.old }
     ensures keeps_device { N.same (device_of player.old) (device_of player.new) }
 {
     let _set = play(player, &budget.line(), steps);
@@ -65,7 +64,7 @@ pub fn restore<N: Bench>(
 }
 
 // Arms the cut of a move that is cut.
-fn arm<N: Bench>(player: &mut Player<N>, manner: Manner, steps: &mut Steps<N::Meter>)
+fn arm<N: Bench, L: Ledger>(player: &mut Player<N>, manner: Manner, steps: &mut Steps<L>)
     requires { IsPlaying N.Bench player.old }
     ensures playing { IsPlaying N.Bench player.new }
     ensures at { (s : State) (n : ℕ) → CountsWrite manner → IsPlayerAt N.Bench player.old s
@@ -84,7 +83,7 @@ fn arm<N: Bench>(player: &mut Player<N>, manner: Manner, steps: &mut Steps<N::Me
 }
 
 // Arms a cut.
-fn arm_cut<N: Bench>(player: &mut Player<N>, k: u32, fill: Fill, steps: &mut Steps<N::Meter>)
+fn arm_cut<N: Bench, L: Ledger>(player: &mut Player<N>, k: u32, fill: Fill, steps: &mut Steps<L>)
     requires playing { IsPlaying N.Bench player.old }
     requires some { 1 ≤ k }
     ensures playing { IsPlaying N.Bench player.new }
@@ -100,13 +99,13 @@ fn arm_cut<N: Bench>(player: &mut Player<N>, k: u32, fill: Fill, steps: &mut Ste
 }
 
 // Powers a card up after a move that was cut.
-fn recover<N: Bench>(player: &mut Player<N>, manner: Manner, steps: &mut Steps<N::Meter>)
+fn recover<N: Bench, L: Ledger>(player: &mut Player<N>, manner: Manner, steps: &mut Steps<L>)
     requires { IsPlaying N.Bench player.old }
     ensures playing { IsPlaying N.Bench player.new }
     ensures at { (s : State) (n : ℕ) → IsPlayerAt N.Bench player.old s
         → (N.bench (device_of player.old)).steady ≡ true → FailsNot (armed_stop_in s)
         → IsPlayerAt N.Bench player.new (recovery n (manner_value manner) s) }
-    ensures steps { steps.new ≤ steps.old + most_of_power }
+    ensures steps { steps.new ≤ steps.old }
     ensures keeps_device { N.same (device_of player.old) (device_of player.new) }
 {
     match manner {
@@ -128,29 +127,23 @@ fn is_missed(manner: Manner, answer: &Option<Answer>) -> bool
 }
 
 // Writes the result of a line, as a transcript has it after its number and a blank.
-fn put_result<N: Bench>(
-    text: &mut Text,
-    player: &Player<N>,
-    answer: &Option<Answer>,
-    steps: &mut Steps<N::Meter>,
-)
+fn put_result<N: Bench>(text: &mut Text, player: &Player<N>, answer: &Option<Answer>)
     requires { IsPlaying N.Bench player.now }
     ensures text { text.new.items ≡ result_text (option_map (answer_value N.state player.now) answer.now) }
     ensures short { array_vec_len text.new ≤ 8210 }
-    ensures reads { steps.new ≤ steps.old + answer_reads answer.now }
 {
     text.clear();
     if let Some(answer) = answer {
-        add_result(text, player, answer, steps);
+        add_result(text, player, answer);
     }
 }
 
 // Plays a move, and counts the executed instructions that its `on` lines match.
-fn play_move<N: Bench>(
+fn play_move<N: Bench, L: Ledger>(
     player: &mut Player<N>,
     candidate: &Candidate<'_>,
     counts: &mut [u64],
-    steps: &mut Steps<N::Meter>,
+    steps: &mut Steps<L>,
 ) -> Option<Answer>
     requires { IsPlaying N.Bench player.old }
     ensures playing { IsPlaying N.Bench player.new }
@@ -160,9 +153,7 @@ fn play_move<N: Bench>(
         → CountsAs N.Bench candidate.now.ons.now candidate.now.applies.now player.old l counts.old
         counts.new }
     ensures steps { (l : DeckLine) → candidate.now.chosen.now.deck ≡ move_deck l
-        → CountsLine N.Bench 0 player.old l result steps.old steps.new }
-    ensures text { (l : DeckLine) → candidate.now.chosen.now.deck ≡ move_deck l
-        → answer_reads result ≤ text_reads l }
+        → CountsLine N.Bench player.old l result steps.old steps.new }
     ensures keeps_device { N.same (device_of player.old) (device_of player.new) }
 {
     let line = candidate.chosen.line();
@@ -178,13 +169,13 @@ fn play_move<N: Bench>(
 
 // Makes a move in a manner from the state that a player is at, and writes the text of its result. Returns whether it was
 // made, which a cut that hits no write is not.
-fn make<N: Bench>(
+fn make<N: Bench, L: Ledger>(
     player: &mut Player<N>,
     candidate: &Candidate<'_>,
     manner: Manner,
     counts: &mut [u64],
     text: &mut Text,
-    steps: &mut Steps<N::Meter>,
+    steps: &mut Steps<L>,
 ) -> bool
     requires { IsPlaying N.Bench player.old }
     ensures playing { IsPlaying N.Bench player.new }
@@ -195,13 +186,13 @@ fn make<N: Bench>(
         text.new.items player.new result }
     ensures steps { (c : model.CardState) (m : rule.Move) → IsPlayerAt N.Bench player.old (play_of c)
         → (N.bench (device_of player.old)).steady ≡ true → IsMove candidate.now.chosen.now m → CanCut c manner
-        → steps.new ≤ steps.old + (most_of_line 0 (play_of c) m.line + most_of_power) }
+        → steps.new ≤ steps.old + most_of_move c m }
     ensures short { array_vec_len text.new ≤ 8210 }
     ensures keeps_device { N.same (device_of player.old) (device_of player.new) }
 {
     arm(player, manner, steps);
     let answer = play_move(player, candidate, counts, steps);
-    put_result(text, player, &answer, steps);
+    put_result(text, player, &answer);
     if is_missed(manner, &answer) {
         return false;
     }
@@ -230,7 +221,7 @@ fn live_after<N: Bench>(
 /// # Errors
 ///
 /// Returns `NoMemory` if it is out of memory.
-pub fn try_on<N: Bench>(
+pub fn try_on<N: Bench, L: Ledger>(
     alloc: Global,
     player: &mut Player<N>,
     budget: &Budget,
@@ -239,7 +230,7 @@ pub fn try_on<N: Bench>(
     manner: Manner,
     counts: &mut [u64],
     text: &mut Text,
-    steps: &mut Steps<N::Meter>,
+    steps: &mut Steps<L>,
 ) -> Result<Option<Live>, NoMemory>
     requires start { IsPlayerAt N.Bench player.old (start (N.state (device_of player.old)).words) }
     requires steady { (N.bench (device_of player.old)).steady ≡ true }
@@ -249,7 +240,7 @@ pub fn try_on<N: Bench>(
         → c.budget ≡ budget.now → IsMove candidate.now.chosen.now m → is_card_line m.line ≡ true → CanCut c manner
         → TriedAs c m manner candidate.now.ons.now candidate.now.applies.now counts.old counts.new text.new.items
         (N.state (device_of player.new)).words result }
-    // At most the steps of the move, made once, and of the power-ups before and after it.
+    // At most the steps of the move, made once.
     ensures steps { (c : model.CardState) (m : rule.Move)
         → IsShown (N.state (device_of player.old)).words saved.now c.base c.live
         → c.budget ≡ budget.now → IsMove candidate.now.chosen.now m → CanCut c manner

@@ -14,6 +14,7 @@ use mc_deck::{Deck, Line};
 use mc_nvm::Bench;
 use mc_script::{Answer, Player, Silent};
 use std::marker::Model;
+use std::sync::ledger::Ledger;
 
 /// The budget of a command: 1 to 65,536 instructions.
 #[derive(Debug, Drop)]
@@ -52,23 +53,23 @@ impl Budget {
 }
 
 /// Plays a line.
-pub fn play<N: Bench>(
+pub fn play<N: Bench, L: Ledger>(
     player: &mut Player<N>,
     line: &Line<'_>,
-    steps: &mut Steps<N::Meter>,
+    steps: &mut Steps<L>,
 ) -> Option<Answer>
     requires playing { IsPlaying N.Bench player.old }
     requires good { GoodLine (line_of line.now) }
     ensures playing { IsPlaying N.Bench player.new }
     ensures plays { PlaysAs N.Bench player.old (line_of line.now) result player.new }
-    ensures steps { CountsLine N.Bench 0 player.old (line_of line.now) result steps.old steps.new }
+    ensures steps { CountsLine N.Bench player.old (line_of line.now) result steps.old steps.new }
     ensures keeps_device { N.same (device_of player.old) (device_of player.new) }
 {
     player.line(line, &mut Silent, steps)
 }
 
 /// Plays all lines of a deck.
-pub fn play_all<N: Bench>(player: &mut Player<N>, deck: &Deck, steps: &mut Steps<N::Meter>)
+pub fn play_all<N: Bench, L: Ledger>(player: &mut Player<N>, deck: &Deck, steps: &mut Steps<L>)
     requires playing { IsPlaying N.Bench player.old }
     ensures playing { IsPlaying N.Bench player.new }
     ensures at { (s : State) → IsPlayerAt N.Bench player.old s → (N.bench (device_of player.old)).steady ≡ true

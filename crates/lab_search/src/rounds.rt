@@ -44,16 +44,16 @@ pub enum Attempt {
 /// A search: the most states, the laboratory and the rosters with which states are kept, the states in the order
 /// in which they were found, the last step to each but the first, and what the tries came to.
 #[derive(Drop)]
-pub struct Search<L: Ledger> {
+pub struct Search {
     pub limit: usize,
-    pub laboratory: Laboratory<L>,
+    pub laboratory: Laboratory,
     pub rosters: Rosters,
     pub states: IndexSet<CardState>,
     pub last_steps: Vec<Step>,
     pub tally: Tally,
 }
 
-impl<L: Ledger> Search<L> {
+impl Search {
     /// Returns a search that holds a first state, for a number of `on` lines.
     ///
     /// # Errors
@@ -62,11 +62,11 @@ impl<L: Ledger> Search<L> {
     pub fn new(
         alloc: Global,
         limit: usize,
-        laboratory: Laboratory<L>,
+        laboratory: Laboratory,
         rosters: Rosters,
         first: CardState,
         ons: usize,
-    ) -> Result<Search<L>, NoMemory>
+    ) -> Result<Search, NoMemory>
         ensures holds { IfOk result (λ s. (r : rule.Rules) (c : model.CardState)
             → Kept laboratory rosters (names_in r) first c → length laboratory.counts.items ≡ length r.ons
             → Holds (record { rules = r; most = limit; from = 0 }) s (record { state = c; path = [] } ∷ [])) }
@@ -114,7 +114,7 @@ impl<L: Ledger> Search<L> {
     }
 
     // Makes a try.
-    fn attempt(
+    fn attempt<L: Ledger>(
         &mut self,
         alloc: Global,
         candidate: &Candidate<'_>,
@@ -158,7 +158,7 @@ impl<L: Ledger> Search<L> {
     }
 
     // Cuts a move at the write after the first `made` ones, with a fill.
-    fn cut_with(
+    fn cut_with<L: Ledger>(
         &mut self,
         alloc: Global,
         candidate: &Candidate<'_>,
@@ -189,7 +189,7 @@ impl<L: Ledger> Search<L> {
     }
 
     // Cuts a move at the write after the first `made` ones, with each fill.
-    fn cut_at(
+    fn cut_at<L: Ledger>(
         &mut self,
         alloc: Global,
         candidate: &Candidate<'_>,
@@ -224,7 +224,7 @@ impl<L: Ledger> Search<L> {
 
     // Cuts a move at each of its writes. Returns what ends the search, or `NoMemory` if the move makes
     // 4,294,967,295 writes or more, which no cut can count.
-    fn cut_all(
+    fn cut_all<L: Ledger>(
         &mut self,
         alloc: Global,
         candidate: &Candidate<'_>,
@@ -264,7 +264,7 @@ impl<L: Ledger> Search<L> {
     }
 
     // Tries a move from a state: whole, and if a card runs cut at each of its writes.
-    fn try_move(
+    fn try_move<L: Ledger>(
         &mut self,
         alloc: Global,
         candidate: &Candidate<'_>,
@@ -296,7 +296,7 @@ impl<L: Ledger> Search<L> {
     }
 
     // Tries each move from a state.
-    fn try_moves(
+    fn try_moves<L: Ledger>(
         &mut self,
         alloc: Global,
         exploration: &Exploration<'_>,
@@ -336,7 +336,7 @@ impl<L: Ledger> Search<L> {
     /// # Errors
     ///
     /// Returns `NoMemory` if it is out of memory, and if there is no room for the number of tries.
-    pub fn try_states(
+    pub fn try_states<L: Ledger>(
         &mut self,
         alloc: Global,
         exploration: &Exploration<'_>,

@@ -8,7 +8,7 @@ ghost use Rattle.law_explore_text.specs.Report.{explore_text};
 ghost use Rattle.mc_text.specs.Texts.{sunk};
 ghost use Rattle.lab_search.specs.Kept.{IsExplorationOf};
 ghost use Rattle.lab_search.specs.Endings.{IsExplored, Starts};
-ghost use Rattle.lab_search.specs.ExplorationSteps.{most_of_beginning, most_of_exploration};
+ghost use Rattle.lab_search.specs.ExplorationSteps.{most_of_deck, most_of_exploration};
 
 use crate::beginning::{Beginning, begin};
 use crate::endings::{Explored, Start};
@@ -37,10 +37,10 @@ fn start<L: Ledger>(
     exploration: &Exploration<'_>,
     limit: usize,
     steps: &mut Steps<L>,
-) -> Result<(Search<L>, Start), NoMemory>
+) -> Result<(Search, Start), NoMemory>
     ensures starts { IfOk result (λ r. (x : rule.Exploration) → IsExplorationOf exploration.now x
         → Starts limit r.0 r.1 x) }
-    ensures steps { steps.new ≤ steps.old + most_of_beginning exploration.now.deck }
+    ensures steps { steps.new ≤ steps.old + most_of_deck exploration.now.deck }
 {
     let Beginning {
         laboratory,
@@ -73,8 +73,7 @@ pub fn explore_within<T: Sink, L: Ledger>(
     ensures explored { (x : rule.Exploration) → IsExplorationOf exploration.now x
         → IsExplored (sunk T.Sink out.old) (text_within limit depth x) (search_of limit depth x).ending result
         (sunk T.Sink out.new) }
-    // At most the steps of the deck and of what leads on from its end, and of the tries from each state from which the
-    // definition's search tries moves.
+    // At most the steps of the deck, and of the tries from each state from which the definition's search tries moves.
     ensures steps { (x : rule.Exploration) → IsExplorationOf exploration.now x
         → steps.new ≤ steps.old + most_of_exploration limit depth x }
 {
@@ -123,8 +122,7 @@ pub fn explore<T: Sink, L: Ledger>(
     ensures explored { (x : rule.Exploration) → IsExplorationOf exploration.now x
         → IsExplored (sunk T.Sink out.old) (explore_text depth x) (search_of most_states depth x).ending result
         (sunk T.Sink out.new) }
-    // At most the steps of the deck and of what leads on from its end, and of the tries from each state from which the
-    // definition's search tries moves.
+    // At most the steps of the deck, and of the tries from each state from which the definition's search tries moves.
     ensures steps { (x : rule.Exploration) → IsExplorationOf exploration.now x
         → steps.new ≤ steps.old + most_of_exploration most_states depth x }
 {

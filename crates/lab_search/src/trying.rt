@@ -37,8 +37,8 @@ use std::sync::ledger::Ledger;
 /// A player, which is put back before each try, and the room for the texts and the counts of a try. Player and texts are
 /// on the heap, so that a laboratory can be moved without a large frame on the stack.
 #[derive(Drop)]
-pub struct Laboratory<L: Ledger> {
-    pub player: Box<Player<BranchNvm<L>>>,
+pub struct Laboratory {
+    pub player: Box<Player<BranchNvm>>,
     pub budget: Budget,
     pub text: Box<Text>,
     pub plain: Box<Text>,
@@ -54,7 +54,7 @@ pub enum Tried {
 }
 
 /// Puts the card that was saved on the device of a player, and puts the player back before its first line.
-pub fn put_card<L: Ledger>(player: &mut Player<BranchNvm<L>>, saved: Saved<'_>)
+pub fn put_card(player: &mut Player<BranchNvm>, saved: Saved<'_>)
     ensures words { (device_of player.new).device.words ≡ image_with (device_of player.old).root saved.entry.words.now }
     ensures root { (device_of player.new).root ≡ (device_of player.old).root }
     ensures start { IsPlayerAt branch_state branch_bench player.new (start (device_of player.new).device.words) }
@@ -65,7 +65,7 @@ pub fn put_card<L: Ledger>(player: &mut Player<BranchNvm<L>>, saved: Saved<'_>)
 }
 
 // Puts the words that differ from its root on a device, which has no fuse after it.
-fn put_words<L: Ledger>(device: &mut BranchNvm<L>, words: &[(u16, Word)])
+fn put_words(device: &mut BranchNvm, words: &[(u16, Word)])
     ensures words { device.new.device.words ≡ image_with device.old.root words.now }
     ensures root { device.new.root ≡ device.old.root }
     ensures unfused { IsUnfused (branch_bench device.new) }
@@ -75,10 +75,10 @@ fn put_words<L: Ledger>(device: &mut BranchNvm<L>, words: &[(u16, Word)])
 }
 
 // Keeps the card that is on the device of a player, with what runs on it, and returns its number.
-fn keep_card<L: Ledger>(
+fn keep_card(
     alloc: Global,
     rosters: &mut Rosters,
-    player: &mut Player<BranchNvm<L>>,
+    player: &mut Player<BranchNvm>,
     live: Live,
 ) -> Result<usize, NoMemory>
     requires { ShowsSome (device_of player.old).device.words live }
@@ -150,9 +150,9 @@ pub fn runs(live: &Live) -> bool
     }
 }
 
-impl<L: Ledger> Laboratory<L> {
+impl Laboratory {
     // Makes a move from a card that was kept. Returns what runs after it, or `None` if a cut hit no write.
-    fn play(
+    fn play<L: Ledger>(
         &mut self,
         alloc: Global,
         saved: Saved<'_>,
@@ -196,7 +196,7 @@ impl<L: Ledger> Laboratory<L> {
     /// # Errors
     ///
     /// Returns `NoMemory` if it is out of memory.
-    pub fn attempt(
+    pub fn attempt<L: Ledger>(
         &mut self,
         alloc: Global,
         rosters: &mut Rosters,
@@ -218,7 +218,7 @@ impl<L: Ledger> Laboratory<L> {
             → Kept self.old rosters.old (map (λ a. a.0) held) state.now c → IsCandidate held ons m candidate.now
             → CanCut c manner
             → IfOk result (CountsTry self.new ons c m manner) }
-        // At most the steps of the move, made once, and of the power-ups before and after it.
+        // At most the steps of the move, made once.
         ensures steps { (held : List (List ℕ × ℕ)) (ons : List rule.OnRule) (c : model.CardState) (m : rule.Move)
             → Kept self.old rosters.old (map (λ a. a.0) held) state.now c → IsCandidate held ons m candidate.now
             → CanCut c manner → steps.new ≤ steps.old + most_of_move c m }

@@ -1,4 +1,4 @@
-ghost use Rattle.std.specs.Prelude.{◌≡◌, ◌≢◌, ℕ, ◌+◌, ◌*◌, ◌%◌, ◌≤◌, false, List, [], ◌∷◌, length, take, drop, map, nat_le, Option, Some, None, is_some, IsSome, IfSome, IfOk, OnOk};
+ghost use Rattle.std.specs.Prelude.{◌≡◌, ◌≢◌, ℕ, ◌+◌, ◌≤◌, false, List, [], ◌∷◌, length, take, drop, map, nat_le, Option, Some, None, is_some, IsSome, IfSome, IfOk, OnOk};
 ghost use Rattle.model_card.specs.declared.card.Part.{Part};
 ghost use Rattle.model_card.specs.declared.card.Sizes.{Sizes};
 ghost use Rattle.model_card.specs.model_device.specs.Orders.{Answer, InOrder};
@@ -112,13 +112,7 @@ pub struct Facts {
 
 /// The applications of a card by their names: at most 32, each within the limits of its sizes. A change may stop, and
 /// then the applications are the old or the new ones.
-///
-/// Reads are steps of its own ledger: a body that is generic in the bank makes none itself, so it reads nothing that is
-/// not counted.
 pub trait Bank {
-    /// The ledger of its reads.
-    type Meter: Ledger;
-
     /// The applications, the counts of stops below the bank, whether it is stopped, and the greatest number of ticks
     /// of `open`.
     ghost state: { Self → BankState };
@@ -140,12 +134,10 @@ pub trait Bank {
         → slot_sizes k ≡ sizes_of (app_of (state b).apps (named b k)) };
 
     /// Returns the slot of a name, or `None` if the name is not there.
-    fn find(&self, aid: &Aid, steps: &mut Steps<Self::Meter>) -> Option<Slot>
+    fn find(&self, aid: &Aid) -> Option<Slot>
         requires going { (state self.now).stopped ≡ false }
         ensures there { is_some result ≡ is_some (lookup (state self.now).apps aid.now) }
-        ensures slot { IfSome result (λ slot. named self.now slot ≡ Some aid.now) }
-        ensures rises { steps.old ≤ steps.new }
-        ensures reads { steps.new ≤ steps.old + 325 };
+        ensures slot { IfSome result (λ slot. named self.now slot ≡ Some aid.now) };
 
     /// Returns the number of applications, at most 32.
     fn count(&self) -> u16
@@ -154,45 +146,37 @@ pub trait Bank {
         ensures apps { AreApps (state self.now).apps };
 
     /// Returns the name of an application and its sizes.
-    fn facts(&self, slot: Slot, steps: &mut Steps<Self::Meter>) -> Facts
+    fn facts(&self, slot: Slot) -> Facts
         requires going { (state self.now).stopped ≡ false }
         requires there { IsSome (named self.now slot) }
         ensures name { named self.now slot ≡ Some result.aid }
         ensures app { IsSome (lookup (state self.now).apps result.aid) }
         ensures sizes { result.sizes ≡ sizes_of (app_of (state self.now).apps (named self.now slot)) }
-        ensures limits { FitsLimits result.sizes }
-        ensures rises { steps.old ≤ steps.new }
-        ensures reads { steps.new ≤ steps.old + 4 };
+        ensures limits { FitsLimits result.sizes };
 
     /// Copies bytes of the code from a place on into the whole of `into`; they lie in the code.
-    fn code(&self, slot: Slot, at: u16, into: &mut [u8], steps: &mut Steps<Self::Meter>)
+    fn code(&self, slot: Slot, at: u16, into: &mut [u8])
         requires going { (state self.now).stopped ≡ false }
         requires there { IsSome (named self.now slot) }
         requires range { at + length into.old ≤ length (app_of (state self.now).apps (named self.now slot)).code }
-        ensures bytes { into.new ≡ take (length into.old)
-            (drop at (app_of (state self.now).apps (named self.now slot)).code) }
-        ensures rises { steps.old ≤ steps.new }
-        ensures reads { 8 * steps.new ≤ 8 * steps.old + (at % 8 + length into.old + 7) };
+        ensures { into.new ≡ take (length into.old)
+            (drop at (app_of (state self.now).apps (named self.now slot)).code) };
 
     /// Copies bytes of the static segment from a place on into the whole of `into`; they lie in the segment.
-    fn fixed(&self, slot: Slot, at: u16, into: &mut [u8], steps: &mut Steps<Self::Meter>)
+    fn fixed(&self, slot: Slot, at: u16, into: &mut [u8])
         requires going { (state self.now).stopped ≡ false }
         requires there { IsSome (named self.now slot) }
         requires range { at + length into.old ≤ length (app_of (state self.now).apps (named self.now slot)).fixed }
-        ensures bytes { into.new ≡ take (length into.old)
-            (drop at (app_of (state self.now).apps (named self.now slot)).fixed) }
-        ensures rises { steps.old ≤ steps.new }
-        ensures reads { 8 * steps.new ≤ 8 * steps.old + (at % 8 + length into.old + 7) };
+        ensures { into.new ≡ take (length into.old)
+            (drop at (app_of (state self.now).apps (named self.now slot)).fixed) };
 
     /// Copies bytes of the FCI record from a place on into the whole of `into`; they lie in the record.
-    fn fci(&self, slot: Slot, at: u16, into: &mut [u8], steps: &mut Steps<Self::Meter>)
+    fn fci(&self, slot: Slot, at: u16, into: &mut [u8])
         requires going { (state self.now).stopped ≡ false }
         requires there { IsSome (named self.now slot) }
         requires range { at + length into.old ≤ length (app_of (state self.now).apps (named self.now slot)).fci }
-        ensures bytes { into.new ≡ take (length into.old)
-            (drop at (app_of (state self.now).apps (named self.now slot)).fci) }
-        ensures rises { steps.old ≤ steps.new }
-        ensures reads { 8 * steps.new ≤ 8 * steps.old + (at % 8 + length into.old + 7) };
+        ensures { into.new ≡ take (length into.old)
+            (drop at (app_of (state self.now).apps (named self.now slot)).fci) };
 
     /// Sets 1 to 64 whole words of eight bytes of the static segment at once, with their numbers ascending. Bytes past
     /// the segment's end in its last word are no part of it.
@@ -216,7 +200,7 @@ pub trait Bank {
     /// # Errors
     ///
     /// Returns `Apps` if 32 applications are there, else `NoRoom` if there is no room.
-    fn open(&self, sizes: &Sizes, steps: &mut Steps<Self::Meter>) -> Result<Site, OpenRefusal>
+    fn open<L: Ledger>(&self, sizes: &Sizes, steps: &mut Steps<L>) -> Result<Site, OpenRefusal>
         requires going { (state self.now).stopped ≡ false }
         requires limits { FitsLimits sizes.now }
         ensures answer { result ≡ search_result sizes.now (nat_le 32 (length (state self.now).apps))
@@ -232,14 +216,7 @@ pub trait Bank {
     /// # Errors
     ///
     /// Returns the stop of a write; the applications are as before then.
-    fn fill(
-        &mut self,
-        site: &Site,
-        part: Part,
-        at: u16,
-        piece: &[u8],
-        steps: &mut Steps<Self::Meter>,
-    ) -> Result<(), Stop>
+    fn fill(&mut self, site: &Site, part: Part, at: u16, piece: &[u8]) -> Result<(), Stop>
         requires going { (state self.old).stopped ≡ false }
         requires good { IsGoodSite (state self.old).apps (room self.old) site.now }
         requires range { at + length piece.now ≤ part_len part site.now.sizes }
@@ -251,9 +228,7 @@ pub trait Bank {
         ensures others { OnOk result ((p : Part) → p ≢ part
             → site_bytes self.new site.now p ≡ site_bytes self.old site.now p) }
         ensures slots { (k : ℕ) → named self.new k ≡ named self.old k }
-        ensures good { StayGood (state self.old).apps (room self.old) (state self.new).apps (room self.new) }
-        ensures rises { steps.old ≤ steps.new }
-        ensures reads { steps.new ≤ steps.old + 2 };
+        ensures good { StayGood (state self.old).apps (room self.old) (state self.new).apps (room self.new) };
 
     /// Makes an application of the bytes at a good site, under a name that is not there. Its static bytes are the
     /// data, followed by zeros.
@@ -261,7 +236,7 @@ pub trait Bank {
     /// # Errors
     ///
     /// Returns the stop of a write; the application is there or not then.
-    fn create(&mut self, site: &Site, aid: &Aid, steps: &mut Steps<Self::Meter>) -> Result<(), Stop>
+    fn create(&mut self, site: &Site, aid: &Aid) -> Result<(), Stop>
         requires going { (state self.old).stopped ≡ false }
         requires good { IsGoodSite (state self.old).apps (room self.old) site.now }
         requires fresh { lookup (state self.old).apps aid.now ≡ None }
@@ -269,25 +244,21 @@ pub trait Bank {
         ensures apps { Changes (state self.old)
             (insert (state self.old).apps aid.now (app_of_site site.now (site_bytes self.old site.now))) result
             (state self.new) }
-        ensures slots { (k : ℕ) → IsSome (named self.old k) → named self.new k ≡ named self.old k }
-        ensures rises { steps.old ≤ steps.new }
-        ensures reads { steps.new ≤ steps.old + 38 };
+        ensures slots { (k : ℕ) → IsSome (named self.old k) → named self.new k ≡ named self.old k };
 
     /// Removes an application from the card.
     ///
     /// # Errors
     ///
     /// Returns the stop of a write; the application is there or not then.
-    fn delete(&mut self, slot: Slot, steps: &mut Steps<Self::Meter>) -> Result<(), Stop>
+    fn delete(&mut self, slot: Slot) -> Result<(), Stop>
         requires going { (state self.old).stopped ≡ false }
         requires there { IsSome (named self.old slot) }
         ensures items { InOrder did self.old (Remove (name_or (named self.old slot)) ∷ []) result self.new }
         ensures apps { Changes (state self.old) (remove (state self.old).apps (name_or (named self.old slot))) result
             (state self.new) }
         ensures slots { (k : ℕ) → (n : List ℕ) → named self.old k ≡ Some n → n ≢ name_or (named self.old slot)
-            → named self.new k ≡ Some n }
-        ensures rises { steps.old ≤ steps.new }
-        ensures reads { steps.new ≤ steps.old + 37 };
+            → named self.new k ≡ Some n };
 
     /// An item by the relation changes the applications by its definition.
     ghost obeys: { (b : Self) (i : BankItem) (a : Answer) (e : Self) → did b i a e

@@ -7,20 +7,19 @@ use crate::entries::{Entry, count_used, entry_of, free_entry, read, slot_of, use
 use mc_base::{Aid, NoMemory, Steps, Stop, Word};
 use model_card::{OpenRefusal, Part, Sizes};
 use std::alloc::Global;
-use std::marker::{Model, PhantomData};
+use std::marker::Model;
 use std::sync::ledger::Ledger;
 
 /// The greatest number of applications of a card.
 const APPS: usize = 32;
 
-/// A bank in memory, which has room for 32 largest applications, never stops, and makes no step of its ledger `L`.
+/// A bank in memory, which has room for 32 largest applications and never stops.
 #[derive(Drop)]
-pub struct MemBank<L: Ledger> {
+pub struct MemBank {
     entries: Vec<Entry>,
-    ledger: PhantomData<L>,
 }
 
-impl<L: Ledger> Model for MemBank<L> {
+impl Model for MemBank {
     ghost use Rattle.std.specs.Prelude.{List};
     ghost use Rattle.mc_bank.specs.declared.entries.Entry.{Entry};
     ghost use Rattle.mc_bank.specs.Memory.{IsMemory};
@@ -32,13 +31,13 @@ impl<L: Ledger> Model for MemBank<L> {
     ghost invariant = { λ b. IsMemory b.entries.items };
 }
 
-impl<L: Ledger> MemBank<L> {
+impl MemBank {
     /// Creates a bank without applications. All memory that it ever needs is allocated here.
     ///
     /// # Errors
     ///
     /// Returns `NoMemory` if the system is out of memory.
-    pub fn new(alloc: Global) -> Result<MemBank<L>, NoMemory>
+    pub fn new(alloc: Global) -> Result<MemBank, NoMemory>
         ensures { IfOk result (λ bank. apps_from 0 bank ≡ []) }
     {
         let free = Entry {
@@ -50,14 +49,11 @@ impl<L: Ledger> MemBank<L> {
         };
         Ok(MemBank {
             entries: vec![in alloc; free; APPS]?,
-            ledger: PhantomData,
         })
     }
 }
 
-impl<L: Ledger> Bank for MemBank<L> {
-    type Meter = L;
-
+impl Bank for MemBank {
     ghost use Rattle.mc_bank.specs.Memory.{memory_state, memory_named, memory_room, memory_site_bytes, MemoryDid};
     ghost use Rattle.mc_bank.specs.Memory.{facts_in, name_of_entry};
     ghost use Rattle.mc_bank.specs.Slots.{slot_place};
@@ -84,7 +80,7 @@ impl<L: Ledger> Bank for MemBank<L> {
 
     ghost leaves = { memory_leaves };
 
-    fn find(&self, aid: &Aid, _steps: &mut Steps<L>) -> Option<Slot> {
+    fn find(&self, aid: &Aid) -> Option<Slot> {
         match entry_of(&self.entries, aid) {
             Some(index) => Some(slot_of(&self.entries, index)),
             None => None,
@@ -95,19 +91,19 @@ impl<L: Ledger> Bank for MemBank<L> {
         count_used(&self.entries)
     }
 
-    fn facts(&self, slot: Slot, _steps: &mut Steps<L>) -> Facts {
+    fn facts(&self, slot: Slot) -> Facts {
         used_entry(&self.entries, slot).facts.unwrap()
     }
 
-    fn code(&self, slot: Slot, at: u16, into: &mut [u8], _steps: &mut Steps<L>) {
+    fn code(&self, slot: Slot, at: u16, into: &mut [u8]) {
         read(&used_entry(&self.entries, slot).code, at as usize, into);
     }
 
-    fn fixed(&self, slot: Slot, at: u16, into: &mut [u8], _steps: &mut Steps<L>) {
+    fn fixed(&self, slot: Slot, at: u16, into: &mut [u8]) {
         read(&used_entry(&self.entries, slot).fixed, at as usize, into);
     }
 
-    fn fci(&self, slot: Slot, at: u16, into: &mut [u8], _steps: &mut Steps<L>) {
+    fn fci(&self, slot: Slot, at: u16, into: &mut [u8]) {
         read(&used_entry(&self.entries, slot).fci, at as usize, into);
     }
 
@@ -116,7 +112,7 @@ impl<L: Ledger> Bank for MemBank<L> {
         Ok(())
     }
 
-    fn open(&self, sizes: &Sizes, _steps: &mut Steps<L>) -> Result<Site, OpenRefusal> {
+    fn open<L: Ledger>(&self, sizes: &Sizes, _steps: &mut Steps<L>) -> Result<Site, OpenRefusal> {
         if count_used(&self.entries) as usize >= APPS {
             return Err(OpenRefusal::Apps);
         }
@@ -126,24 +122,17 @@ impl<L: Ledger> Bank for MemBank<L> {
         })
     }
 
-    fn fill(
-        &mut self,
-        site: &Site,
-        part: Part,
-        at: u16,
-        piece: &[u8],
-        _steps: &mut Steps<L>,
-    ) -> Result<(), Stop> {
+    fn fill(&mut self, site: &Site, part: Part, at: u16, piece: &[u8]) -> Result<(), Stop> {
         changes::fill(&mut self.entries, site, part, at, piece);
         Ok(())
     }
 
-    fn create(&mut self, site: &Site, aid: &Aid, _steps: &mut Steps<L>) -> Result<(), Stop> {
+    fn create(&mut self, site: &Site, aid: &Aid) -> Result<(), Stop> {
         changes::create(&mut self.entries, site, aid);
         Ok(())
     }
 
-    fn delete(&mut self, slot: Slot, _steps: &mut Steps<L>) -> Result<(), Stop> {
+    fn delete(&mut self, slot: Slot) -> Result<(), Stop> {
         changes::delete(&mut self.entries, slot);
         Ok(())
     }

@@ -4,7 +4,6 @@ pub mod Chains
 pub mod Headers
 pub mod Entries
 pub mod Tiles
-pub mod ReadCounts
 pub mod Maps
 pub mod Bridge
 pub mod Search
@@ -26,4 +25,3 @@ pub mod Layouts
 pub mod Sections
 pub mod Splices
 pub mod Statics
-pub mod BlockLimits

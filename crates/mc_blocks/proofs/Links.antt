@@ -27,45 +27,39 @@ gaps_chain m image closed h = let c : GapChain m = chain_of m image closed h in 
 
 -- ---- towards a place
 
--- the state of the walk towards p: a link, the gaps that are left after it, and the steps so far
-pub record Trail (m : List (List ℕ)) (p : ℕ) (whole : List (ℕ × ℕ)) (place words next start steps : ℕ) : Type 0 where
+-- the state of the walk towards p: a link, and the gaps that are left after it
+pub record Trail (m : List (List ℕ)) (p : ℕ) (whole : List (ℕ × ℕ)) (place words next : ℕ) : Type 0 where
   pub rest : List (ℕ × ℕ)
   pub chain : IsChain m rest
   pub here : next ≡ first_place rest
   pub before : gap_before p (0, 0) whole ≡ gap_before p (place, words) rest
   pub behind : gaps_behind p whole ≡ gaps_behind p rest
-  pub rises : start ≤ steps
-  pub reads : steps + length rest ≤ start + (1 + length whole)
 
-pub trail_begins : (m : List (List ℕ)) (p next start steps : ℕ) (x : List ℕ) → IsSized m → look m ≡ Closed → IsWellLaid m → x ≡ word m 0 → next ≡ be2 x 6 → steps ≡ start + 1 → Trail m p (gaps (means m)) 0 0 next start steps
-trail_begins m p next start steps x image closed h is here one =
+pub trail_begins : (m : List (List ℕ)) (p next : ℕ) (x : List ℕ) → IsSized m → look m ≡ Closed → IsWellLaid m → x ≡ word m 0 → next ≡ be2 x 6 → Trail m p (gaps (means m)) 0 0 next
+trail_begins m p next x image closed h is here =
     let c : GapChain m = chain_of m image closed h in
-    let few : length (gaps (means m)) ≡ length (hole_spans (blocks m)) = ap (λ (l : List (ℕ × ℕ)). length l) c.gaps in
     record {
       rest = hole_spans (blocks m);
       chain = c.chain;
       here = here ∙ ap (λ (w : List ℕ). be2 w 6) is ∙ c.first;
       before = ap (λ (l : List (ℕ × ℕ)). gap_before p (0, 0) l) c.gaps;
       behind = ap (λ (l : List (ℕ × ℕ)). gaps_behind p l) c.gaps;
-      rises = omega (arith, one);
-      reads = omega (arith, one, few);
     }
 
 -- the facts of the next hole if it is before p
-pub record Ahead (m : List (List ℕ)) (p : ℕ) (whole : List (ℕ × ℕ)) (next start steps : ℕ) : Type 0 where
+pub record Ahead (m : List (List ℕ)) (p : ℕ) (whole : List (ℕ × ℕ)) (next : ℕ) : Type 0 where
   pub within : next < length m
-  pub on : Trail m p whole next (be2 (word m next) 2) (be2 (word m next) 4) start (steps + 1)
+  pub on : Trail m p whole next (be2 (word m next) 2) (be2 (word m next) 4)
   pub nearer : left_of (length m) (be2 (word m next) 4) < left_of (length m) next
 
-go : (m : List (List ℕ)) (p place words next start steps : ℕ) (whole rest : List (ℕ × ℕ)) → IsChain m rest → next ≡ first_place rest → gap_before p (0, 0) whole ≡ gap_before p (place, words) rest → gaps_behind p whole ≡ gaps_behind p rest
-    → start ≤ steps → steps + length rest ≤ start + (1 + length whole) → next ≢ 0 → next < p → Ahead m p whole next start steps
-go m p place words next start steps whole [] c here before behind rises reads ne lt = absurd (ne here)
-go m p place words next start steps whole (g ∷ gs) c here before behind rises reads ne lt =
+go : (m : List (List ℕ)) (p place words next : ℕ) (whole rest : List (ℕ × ℕ)) → IsChain m rest → next ≡ first_place rest → gap_before p (0, 0) whole ≡ gap_before p (place, words) rest → gaps_behind p whole ≡ gaps_behind p rest → next ≢ 0 → next < p → Ahead m p whole next
+go m p place words next whole [] c here before behind ne lt = absurd (ne here)
+go m p place words next whole (g ∷ gs) c here before behind ne lt =
     let low : 1 ≤ g.0 = c.0 in
     let high : g.0 + g.1 ≤ length m = c.1 in
     let long : 1 ≤ g.1 = c.2 in
     let less : nat_lt g.0 p ≡ true = lt-ltb g.0 p (subst (λ (n : ℕ). n < p) here lt) in
-    subst (λ (n : ℕ). Ahead m p whole n start steps) (sym here)
+    subst (λ (n : ℕ). Ahead m p whole n) (sym here)
     (record {
       within = omega arith;
       on = record {
@@ -74,8 +68,6 @@ go m p place words next start steps whole (g ∷ gs) c here before behind rises 
         here = c.4;
         before = before ∙ ap (λ (t : Bool). cond t (gap_before p g gs) (place, words)) less ∙ ap (λ (n : ℕ). gap_before p (g.0, n) gs) (sym c.3);
         behind = behind ∙ ap (λ (t : Bool). cond t (gaps_behind p gs) (g ∷ gs)) less;
-        rises = omega (arith, rises);
-        reads = omega (arith, reads);
       };
       nearer = subst (λ (n : ℕ). left_of (length m) n < left_of (length m) g.0) (sym c.4) (next_nearer (length m) g.0 gs low (omega arith) c.5);
     })
@@ -83,13 +75,12 @@ go m p place words next start steps whole (g ∷ gs) c here before behind rises 
 before_parts : (next p : ℕ) → names_before next p ≡ true → (next ≢ 0) × (next < p)
 before_parts next p h = grind (arith, and_parts, eqb-false, not-true, ltb-true)
 
-pub ahead : (m : List (List ℕ)) (p : ℕ) (whole : List (ℕ × ℕ)) (place words next start steps : ℕ) → Trail m p whole place words next start steps → names_before next p ≡ true → Ahead m p whole next start steps
-ahead m p whole place words next start steps t h =
-    let parts = before_parts next p h in go m p place words next start steps whole t.rest t.chain t.here t.before t.behind t.rises t.reads parts.0 parts.1
+pub ahead : (m : List (List ℕ)) (p : ℕ) (whole : List (ℕ × ℕ)) (place words next : ℕ) → Trail m p whole place words next → names_before next p ≡ true → Ahead m p whole next
+ahead m p whole place words next t h = let parts = before_parts next p h in go m p place words next whole t.rest t.chain t.here t.before t.behind parts.0 parts.1
 
-pub trail_on : (m : List (List ℕ)) (p : ℕ) (whole : List (ℕ × ℕ)) (place words next start steps place' words' next' steps' : ℕ) → Trail m p whole place words next start steps → names_before next p ≡ true
-    → place' ≡ next → words' ≡ be2 (word m next) 2 → next' ≡ be2 (word m next) 4 → steps' ≡ steps + 1 → Trail m p whole place' words' next' start steps'
-trail_on m p whole place words next start steps place' words' next' steps' t h a b c one = grind (arith, ahead)
+pub trail_on : (m : List (List ℕ)) (p : ℕ) (whole : List (ℕ × ℕ)) (place words next place' words' next' : ℕ) → Trail m p whole place words next → names_before next p ≡ true
+    → place' ≡ next → words' ≡ be2 (word m next) 2 → next' ≡ be2 (word m next) 4 → Trail m p whole place' words' next'
+trail_on m p whole place words next place' words' next' t h a b c = grind (arith, ahead)
 
 -- the walk ends at a link that names no hole before p
 stop : (m : List (List ℕ)) (p : ℕ) (g : ℕ × ℕ) (rest : List (ℕ × ℕ)) → IsChain m rest → names_before (first_place rest) p ≡ false → (gap_before p g rest ≡ g) × (gaps_behind p rest ≡ rest)

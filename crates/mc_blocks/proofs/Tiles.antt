@@ -24,7 +24,7 @@ HeadersRead m (b ∷ bs) = (header b.place (word m b.place) ≡ Some b) × (b.pl
 nothing_past : (m : List (List ℕ)) (p : ℕ) → length m ≤ p → blocks_at m p ≡ []
 nothing_past m p h = blocks_stop m p (sym (ap (λ (x : List ℕ). block_within (length m) (header p x)) (get_or_past m p [] h)))
 
-pub fits_back : (size : ℕ) (b : Block) (o : Option Block) → o ≡ Some b → b.place + b.words ≤ size → Some b ≡ block_within size o
+fits_back : (size : ℕ) (b : Block) (o : Option Block) → o ≡ Some b → b.place + b.words ≤ size → Some b ≡ block_within size o
 fits_back size b o e h = sym (ap (λ (q : Option Block). block_within size q) e ∙ ap (λ (t : Bool). cond t (Some b) None) (le-leb (b.place + b.words) size h))
 
 -- the blocks of a walk without a bad header

@@ -1,7 +1,7 @@
 -- The chain of holes in the words of a device: each hole's header names the next.
 use Rattle.std.specs.Prelude.{◌≡◌, ℕ, suc, ◌+◌, ◌≤◌, cond, nat_le, List, [], ◌∷◌, length}
 use Rattle.mc_base.specs.model_device.specs.Bytes.{be2}
-use Rattle.mc_base.specs.model_device.specs.Card.{Block, word}
+use Rattle.mc_base.specs.model_device.specs.Card.{word}
 use Rattle.mc_base.specs.model_device.specs.Layout.{first_place}
 
 -- spans that all begin at p or after it
@@ -20,15 +20,3 @@ IsChain m (g ∷ gs) =
 abbrev pub count_of_searched_gaps : ℕ → List (ℕ × ℕ) → ℕ
 count_of_searched_gaps n [] = 0
 count_of_searched_gaps n (g ∷ gs) = suc (cond (nat_le n g.1) 0 (count_of_searched_gaps n gs))
-
--- the most words that a walk by lengths reads in these blocks until it has read the header of a hole, or the word after
--- all
-abbrev pub reads_to_hole : List Block → ℕ
-reads_to_hole [] = 1
-reads_to_hole (b ∷ bs) = cond b.used (1 + reads_to_hole bs) 1
-
--- the most words that a test of all links of these blocks reads: each header, the word after all, and behind each hole
--- those up to the next
-abbrev pub reads_of_links : List Block → ℕ
-reads_of_links [] = 1
-reads_of_links (b ∷ bs) = 1 + cond b.used 0 (reads_to_hole bs) + reads_of_links bs

@@ -4,7 +4,7 @@ ghost use Rattle.mc_base.specs.model_device.specs.Layout.{bad_header};
 ghost use Rattle.mc_blocks.specs.Blocks.{block_of, read_block, block_within};
 
 use crate::header::{HOLE, USED};
-use mc_base::{Steps, Word, number_of};
+use mc_base::{Word, number_of};
 use mc_nvm::Nvm;
 
 /// A block of the heap: the place of its header, whether it is used or a hole, its number of words with the
@@ -54,17 +54,15 @@ pub fn decode(place: u16, word: Word) -> Option<Block>
 
 /// Returns the block whose header is at a place, or `None` if there is no header or the block ends after the
 /// device.
-pub fn block_at<N: Nvm>(device: &N, place: u32, steps: &mut Steps<N::Meter>) -> Option<Block>
-    ensures block { read_block result ≡ block_within (length (N.state device.now).words)
+pub fn block_at<N: Nvm>(device: &N, place: u32) -> Option<Block>
+    ensures { read_block result ≡ block_within (length (N.state device.now).words)
         (header place (word (N.state device.now).words place)) }
-    ensures rises { steps.old ≤ steps.new }
-    ensures reads { steps.new ≤ steps.old + 1 }
 {
     let size = device.len();
     if place >= size {
         return None;
     }
-    let block = decode(place as u16, device.read(place, steps))?;
+    let block = decode(place as u16, device.read(place))?;
     if block.end() > size {
         return None;
     }

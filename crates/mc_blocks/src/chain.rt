@@ -1,40 +1,35 @@
 // The links of an image, tested by the blocks: the root and each hole name the next hole, used headers name
 // none.
-ghost use Rattle.std.specs.Prelude.{◌≡◌, ◌+◌, ◌*◌, ◌≤◌, length, cond};
+ghost use Rattle.std.specs.Prelude.{◌≡◌, ◌+◌, ◌≤◌, length, cond};
 ghost use Rattle.mc_base.specs.model_device.specs.Card.{blocks};
 ghost use Rattle.mc_base.specs.model_device.specs.Layout.{bad_chain, bad_link, first_hole};
 ghost use Rattle.mc_blocks.specs.Blocks.{blocks_at, used_spans, hole_spans};
-ghost use Rattle.mc_blocks.specs.Chains.{reads_to_hole};
 
 use crate::block::{Block, block_at};
 use crate::header::HEAP;
-use mc_base::{Steps, number_of};
+use mc_base::number_of;
 use mc_nvm::Nvm;
 
 /// Returns the first place whose link is wrong, that of the root first, or `None`.
-pub fn first_bad_place<N: Nvm>(device: &N, steps: &mut Steps<N::Meter>) -> Option<u16>
-    ensures place { result ≡ bad_chain (N.state device.now).words (blocks (N.state device.now).words) }
-    ensures rises { steps.old ≤ steps.new }
-    ensures reads { steps.new ≤ steps.old + (3 + 3 * length (blocks (N.state device.now).words)) }
+pub fn first_bad_place<N: Nvm>(device: &N) -> Option<u16>
+    ensures { result ≡ bad_chain (N.state device.now).words (blocks (N.state device.now).words) }
 {
     let _size = device.len();
-    let root = device.read(0, steps);
-    if number_of(root[6], root[7]) != next_hole(device, HEAP, steps) {
+    let root = device.read(0);
+    if number_of(root[6], root[7]) != next_hole(device, HEAP) {
         return Some(0);
     }
-    first_bad_link(device, steps)
+    first_bad_link(device)
 }
 
 // The first block whose link is wrong.
 #[tactic(auto, using(crate::proofs::Steps::blocks_step, crate::proofs::Steps::blocks_stop, crate::proofs::Steps::block_ends, crate::proofs::Steps::blocks_all))]
-fn first_bad_link<N: Nvm>(device: &N, steps: &mut Steps<N::Meter>) -> Option<u16>
-    ensures place { result ≡ bad_link (blocks (N.state device.now).words) }
-    ensures rises { steps.old ≤ steps.new }
-    ensures reads { steps.new ≤ steps.old + (1 + 2 * length (blocks (N.state device.now).words)) }
+fn first_bad_link<N: Nvm>(device: &N) -> Option<u16>
+    ensures { result ≡ bad_link (blocks (N.state device.now).words) }
 {
     let mut place = HEAP;
-    while let Some(block) = block_at(device, place, steps) {
-        if block.link != due_link(device, &block, steps) {
+    while let Some(block) = block_at(device, place) {
+        if block.link != due_link(device, &block) {
             return Some(block.place);
         }
         place = block.end();
@@ -43,29 +38,24 @@ fn first_bad_link<N: Nvm>(device: &N, steps: &mut Steps<N::Meter>) -> Option<u16
 }
 
 // The link that a block must have: 0 for a used one, the next hole for a hole.
-fn due_link<N: Nvm>(device: &N, block: &Block, steps: &mut Steps<N::Meter>) -> u16
-    ensures link { result ≡ cond block.now.used 0
+fn due_link<N: Nvm>(device: &N, block: &Block) -> u16
+    ensures { result ≡ cond block.now.used 0
         (first_hole (blocks_at (N.state device.now).words (block.now.place + block.now.words))) }
-    ensures rises { steps.old ≤ steps.new }
-    ensures reads { steps.new ≤ steps.old + cond block.now.used 0
-        (reads_to_hole (blocks_at (N.state device.now).words (block.now.place + block.now.words))) }
 {
     if block.used {
         0
     } else {
-        next_hole(device, block.end(), steps)
+        next_hole(device, block.end())
     }
 }
 
 // The place of the first hole from a place on, or 0.
 #[tactic(auto, using(crate::proofs::Steps::blocks_step, crate::proofs::Steps::blocks_stop, crate::proofs::Steps::block_ends, crate::proofs::Steps::blocks_all))]
-fn next_hole<N: Nvm>(device: &N, from: u32, steps: &mut Steps<N::Meter>) -> u16
-    ensures place { result ≡ first_hole (blocks_at (N.state device.now).words from) }
-    ensures rises { steps.old ≤ steps.new }
-    ensures reads { steps.new ≤ steps.old + reads_to_hole (blocks_at (N.state device.now).words from) }
+fn next_hole<N: Nvm>(device: &N, from: u32) -> u16
+    ensures { result ≡ first_hole (blocks_at (N.state device.now).words from) }
 {
     let mut place = from;
-    while let Some(block) = block_at(device, place, steps) {
+    while let Some(block) = block_at(device, place) {
         if !block.used {
             return block.place;
         }
@@ -76,17 +66,15 @@ fn next_hole<N: Nvm>(device: &N, from: u32, steps: &mut Steps<N::Meter>) -> u16
 
 /// Returns the number of used blocks and the number of holes.
 #[tactic(auto, using(crate::proofs::Steps::blocks_step, crate::proofs::Steps::blocks_stop, crate::proofs::Steps::block_ends, crate::proofs::Steps::blocks_all))]
-pub fn count_blocks<N: Nvm>(device: &N, steps: &mut Steps<N::Meter>) -> (u16, u16)
+pub fn count_blocks<N: Nvm>(device: &N) -> (u16, u16)
     ensures used { result.0 ≡ length (used_spans (blocks (N.state device.now).words)) }
     ensures holes { result.1 ≡ length (hole_spans (blocks (N.state device.now).words)) }
-    ensures rises { steps.old ≤ steps.new }
-    ensures reads { steps.new ≤ steps.old + (1 + length (blocks (N.state device.now).words)) }
 {
     let _size = device.len();
     let mut used = 0;
     let mut holes = 0;
     let mut place = HEAP;
-    while let Some(block) = block_at(device, place, steps) {
+    while let Some(block) = block_at(device, place) {
         if block.used {
             used += 1;
         } else {

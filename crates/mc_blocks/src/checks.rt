@@ -1,5 +1,5 @@
 // The checks of an image, each over the whole image before the next: the root, the headers, the records.
-ghost use Rattle.std.specs.Prelude.{◌≡◌, ◌+◌, ◌*◌, ◌≤◌, [], length, map, true, false, MatchOption};
+ghost use Rattle.std.specs.Prelude.{◌≡◌, ◌+◌, ◌≤◌, [], length, map, true, false, MatchOption};
 ghost use Rattle.mc_base.specs.model_device.specs.Bytes.{has_name};
 ghost use Rattle.mc_base.specs.model_device.specs.Card.{heap_start, word, header, blocks, name_in};
 ghost use Rattle.mc_base.specs.model_device.specs.Layout.{no_root, bad_header, bad_block, bad_record};
@@ -9,16 +9,15 @@ use crate::block::{Block, block_at};
 use crate::header::{HEAP, root_word};
 use crate::record::{Record, is_good, name_of, read_record};
 use arrayvec::ArrayVec;
-use mc_base::{Steps, Word};
+use mc_base::Word;
 use mc_nvm::Nvm;
 
 /// Returns the place of the root if word 0 is no root of layout 1 or 2 for this size, else `None`.
-pub fn missing_root<N: Nvm>(device: &N, steps: &mut Steps<N::Meter>) -> Option<u16>
-    ensures place { result ≡ no_root (N.state device.now).words }
-    ensures ticks { steps.new ≡ steps.old + 1 }
+pub fn missing_root<N: Nvm>(device: &N) -> Option<u16>
+    ensures { result ≡ no_root (N.state device.now).words }
 {
     let size = device.len();
-    if is_root(device.read(0, steps), size as u16) {
+    if is_root(device.read(0), size as u16) {
         None
     } else {
         Some(0)
@@ -36,16 +35,14 @@ fn is_root(word: Word, size: u16) -> bool
 /// Returns the place of the first bad header of a walk by lengths: it is no header, its block passes the end,
 /// or a hole follows a hole.
 #[tactic(auto, using(crate::proofs::Headers::bad_all, crate::proofs::Headers::bad_here, crate::proofs::Headers::bad_behind, crate::proofs::Headers::bad_end, crate::proofs::Headers::good_end))]
-pub fn first_bad_header<N: Nvm>(device: &N, steps: &mut Steps<N::Meter>) -> Option<u16>
-    ensures place { result ≡ bad_block (length (N.state device.now).words) (N.state device.now).words heap_start false }
-    ensures rises { steps.old ≤ steps.new }
-    ensures reads { steps.new ≤ steps.old + (1 + length (blocks (N.state device.now).words)) }
+pub fn first_bad_header<N: Nvm>(device: &N) -> Option<u16>
+    ensures { result ≡ bad_block (length (N.state device.now).words) (N.state device.now).words heap_start false }
 {
     let size = device.len();
     let mut place = HEAP;
     let mut after_hole = false;
     while place < size {
-        let Some(block) = good_block(device, place, after_hole, steps) else {
+        let Some(block) = good_block(device, place, after_hole) else {
             return Some(place as u16);
         };
         place = block.end();
@@ -56,20 +53,13 @@ pub fn first_bad_header<N: Nvm>(device: &N, steps: &mut Steps<N::Meter>) -> Opti
 
 // The block at a place, if its header is good there.
 #[tactic(auto, using(crate::proofs::Headers::unfit_is_bad, crate::proofs::Headers::second_is_bad, crate::proofs::Headers::next_is_good))]
-fn good_block<N: Nvm>(
-    device: &N,
-    place: u32,
-    after_hole: bool,
-    steps: &mut Steps<N::Meter>,
-) -> Option<Block>
-    ensures follows { MatchOption result (bad_header (length (N.state device.now).words) after_hole
+fn good_block<N: Nvm>(device: &N, place: u32, after_hole: bool) -> Option<Block>
+    ensures { MatchOption result (bad_header (length (N.state device.now).words) after_hole
         (header place (word (N.state device.now).words place)) ≡ true)
         (λ b. FollowsBlock (length (N.state device.now).words) after_hole
         (header place (word (N.state device.now).words place)) (block_of b)) }
-    ensures rises { steps.old ≤ steps.new }
-    ensures reads { steps.new ≤ steps.old + 1 }
 {
-    let block = block_at(device, place, steps)?;
+    let block = block_at(device, place)?;
     if after_hole && !block.used {
         return None;
     }
@@ -79,15 +69,13 @@ fn good_block<N: Nvm>(
 /// Returns the place of the first used block whose record is bad: its fields are out of their ranges, its
 /// sections do not fill the block, a block before it has its name, or it is the 33rd.
 #[tactic(auto, using(crate::proofs::Entries::begun, crate::proofs::Entries::ended, crate::proofs::Entries::refused, crate::proofs::Entries::admits, crate::proofs::Steps::block_ends))]
-pub fn first_bad_record<N: Nvm>(device: &N, steps: &mut Steps<N::Meter>) -> Option<u16>
-    ensures place { result ≡ bad_record (N.state device.now).words (blocks (N.state device.now).words) [] 0 }
-    ensures rises { steps.old ≤ steps.new }
-    ensures reads { steps.new ≤ steps.old + (1 + 5 * length (blocks (N.state device.now).words)) }
+pub fn first_bad_record<N: Nvm>(device: &N) -> Option<u16>
+    ensures { result ≡ bad_record (N.state device.now).words (blocks (N.state device.now).words) [] 0 }
 {
     let mut seen = ArrayVec::new();
     let mut place = HEAP;
-    while let Some(block) = block_at(device, place, steps) {
-        if !admit(device, &block, &mut seen, steps) {
+    while let Some(block) = block_at(device, place) {
+        if !admit(device, &block, &mut seen) {
             return Some(block.place);
         }
         place = block.end();
@@ -98,16 +86,9 @@ pub fn first_bad_record<N: Nvm>(device: &N, steps: &mut Steps<N::Meter>) -> Opti
 // Adds the record of a used block to those before it, if it is good after them, and returns whether the block
 // is good. A hole is good.
 #[tactic(auto, using(crate::proofs::Entries::short_is_none))]
-fn admit<N: Nvm>(
-    device: &N,
-    block: &Block,
-    seen: &mut ArrayVec<Record, 32>,
-    steps: &mut Steps<N::Meter>,
-) -> bool
+fn admit<N: Nvm>(device: &N, block: &Block, seen: &mut ArrayVec<Record, 32>) -> bool
     requires { block.now.place + block.now.words ≤ length (N.state device.now).words }
-    ensures admits { Admits (N.state device.now).words (block_of block.now) seen.old.items result seen.new.items }
-    ensures rises { steps.old ≤ steps.new }
-    ensures reads { steps.new ≤ steps.old + 4 }
+    ensures { Admits (N.state device.now).words (block_of block.now) seen.old.items result seen.new.items }
 {
     if !block.used {
         return true;
@@ -115,7 +96,7 @@ fn admit<N: Nvm>(
     if block.words < 6 {
         return false;
     }
-    let entry = read_record(device, block.place as u32, steps);
+    let entry = read_record(device, block.place as u32);
     if !is_good(&entry, block.words) || is_seen(seen.as_slice(), &entry) || seen.is_full() {
         return false;
     }

@@ -1,9 +1,9 @@
-ghost use Rattle.std.specs.Prelude.{◌≡◌, ◌+◌, ◌<◌, ◌==◌, length, slice_index};
+ghost use Rattle.std.specs.Prelude.{◌≡◌, ◌<◌, ◌==◌, length, slice_index};
 ghost use Rattle.mc_base.specs.model_device.specs.Bytes.{be2};
 ghost use Rattle.mc_base.specs.model_device.specs.Card.{word, used_tag};
 ghost use Rattle.mc_base.specs.model_device.specs.Layout.{hole_header, used_header, root};
 
-use mc_base::{Steps, Word, bytes_of};
+use mc_base::{Word, bytes_of};
 use mc_nvm::Nvm;
 
 /// The first byte of the header of a used block.
@@ -23,13 +23,12 @@ pub struct Header {
 }
 
 /// Returns the header at a place, where a block begins. Nothing of it is tested.
-pub fn read_header<N: Nvm>(device: &N, place: u32, steps: &mut Steps<N::Meter>) -> Header
+pub fn read_header<N: Nvm>(device: &N, place: u32) -> Header
     requires { place < length (N.state device.now).words }
     ensures used { result.used ≡ (slice_index (word (N.state device.now).words place) 0 == used_tag) }
     ensures words { result.words ≡ be2 (word (N.state device.now).words place) 2 }
-    ensures ticks { steps.new ≡ steps.old + 1 }
 {
-    let word = device.read(place, steps);
+    let word = device.read(place);
     Header {
         used: word[0] == USED,
         words: u16::from_be_bytes([word[2], word[3]]),

@@ -1,4 +1,4 @@
-ghost use Rattle.std.specs.Prelude.{◌≡◌, ◌+◌, ◌*◌, ◌≤◌, length, slice_index, IfOk};
+ghost use Rattle.std.specs.Prelude.{◌≡◌, length, slice_index, IfOk};
 ghost use Rattle.mc_base.specs.model_device.specs.Image.{Closed, look};
 ghost use Rattle.mc_base.specs.model_device.specs.Card.{means, blocks, word};
 ghost use Rattle.mc_base.specs.model_device.specs.Layout.{fault, gaps, words_fault};
@@ -7,7 +7,6 @@ ghost use Rattle.mc_blocks.specs.Faults.{fault_found, fault_named};
 
 use crate::chain::{count_blocks, first_bad_place};
 use crate::checks::{first_bad_header, first_bad_record, missing_root};
-use mc_base::Steps;
 use mc_base::model_device::Cause;
 use mc_nvm::Nvm;
 
@@ -33,47 +32,43 @@ pub struct Unusable {
 /// # Errors
 ///
 /// Returns the first fault and its place.
-pub fn walk<N: Nvm>(device: &N, steps: &mut Steps<N::Meter>) -> Result<Shape, Unusable>
+pub fn walk<N: Nvm>(device: &N) -> Result<Shape, Unusable>
     requires closed { look (N.state device.now).words ≡ Closed }
     ensures fault { fault_found result ≡ fault (N.state device.now).words }
     ensures used { IfOk result (λ shape. shape.used ≡ length (means (N.state device.now).words).apps) }
     ensures holes { IfOk result (λ shape. shape.holes ≡ length (gaps (means (N.state device.now).words))) }
     ensures layout { IfOk result (λ shape. shape.layout ≡ (means (N.state device.now).words).layout) }
-    ensures rises { steps.old ≤ steps.new }
-    ensures reads { steps.new ≤ steps.old + (8 + 10 * length (blocks (N.state device.now).words)) }
 {
     let _size = device.len();
-    match first_fault(device, steps) {
+    match first_fault(device) {
         Some(unusable) => Err(unusable),
-        None => Ok(read_shape(device, steps)),
+        None => Ok(read_shape(device)),
     }
 }
 
 // The first fault.
-fn first_fault<N: Nvm>(device: &N, steps: &mut Steps<N::Meter>) -> Option<Unusable>
-    ensures fault { fault_named result ≡ words_fault (N.state device.now).words }
-    ensures rises { steps.old ≤ steps.new }
-    ensures reads { steps.new ≤ steps.old + (6 + 9 * length (blocks (N.state device.now).words)) }
+fn first_fault<N: Nvm>(device: &N) -> Option<Unusable>
+    ensures { fault_named result ≡ words_fault (N.state device.now).words }
 {
-    if let Some(place) = missing_root(device, steps) {
+    if let Some(place) = missing_root(device) {
         return Some(Unusable {
             cause: Cause::NoRoot,
             place,
         });
     }
-    if let Some(place) = first_bad_header(device, steps) {
+    if let Some(place) = first_bad_header(device) {
         return Some(Unusable {
             cause: Cause::BadBlock,
             place,
         });
     }
-    if let Some(place) = first_bad_record(device, steps) {
+    if let Some(place) = first_bad_record(device) {
         return Some(Unusable {
             cause: Cause::BadRecord,
             place,
         });
     }
-    if let Some(place) = first_bad_place(device, steps) {
+    if let Some(place) = first_bad_place(device) {
         return Some(Unusable {
             cause: Cause::BadChain,
             place,
@@ -83,18 +78,16 @@ fn first_fault<N: Nvm>(device: &N, steps: &mut Steps<N::Meter>) -> Option<Unusab
 }
 
 // The numbers of blocks and the layout, read by lengths.
-fn read_shape<N: Nvm>(device: &N, steps: &mut Steps<N::Meter>) -> Shape
+fn read_shape<N: Nvm>(device: &N) -> Shape
     ensures used { result.used ≡ length (used_spans (blocks (N.state device.now).words)) }
     ensures holes { result.holes ≡ length (hole_spans (blocks (N.state device.now).words)) }
     ensures layout { result.layout ≡ slice_index (word (N.state device.now).words 0) 3 }
-    ensures rises { steps.old ≤ steps.new }
-    ensures reads { steps.new ≤ steps.old + (2 + length (blocks (N.state device.now).words)) }
 {
     let _size = device.len();
-    let (used, holes) = count_blocks(device, steps);
+    let (used, holes) = count_blocks(device);
     Shape {
         used,
         holes,
-        layout: device.read(0, steps)[3],
+        layout: device.read(0)[3],
     }
 }

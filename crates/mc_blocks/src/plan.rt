@@ -8,18 +8,13 @@ ghost use Rattle.mc_blocks.specs.Plans.{plan, without, has_room, has_span, take_
 use crate::header::{hole_word, used_word};
 use crate::link::{Link, joined, link_at, link_before, relinked};
 use arrayvec::ArrayVec;
-use mc_base::{Steps, Word};
+use mc_base::Word;
 use mc_nvm::Nvm;
 
 /// Returns the header words that change when `need` words, 1 or more, are taken from the front of the hole at
 /// a place that has them: the link before it, the used header, and the header of the rest of the hole. They
 /// ascend and are at most three. The image is well laid, and no journal is open.
-pub fn take_plan<N: Nvm>(
-    device: &N,
-    place: u16,
-    need: u16,
-    steps: &mut Steps<N::Meter>,
-) -> ArrayVec<(u16, Word), 4>
+pub fn take_plan<N: Nvm>(device: &N, place: u16, need: u16) -> ArrayVec<(u16, Word), 4>
     requires closed { look (N.state device.now).words ≡ Closed }
     requires laid { IsWellLaid (N.state device.now).words }
     requires some { 1 ≤ need }
@@ -28,23 +23,17 @@ pub fn take_plan<N: Nvm>(
         (put_at place need (spans (means (N.state device.now).words))) }
     ensures atomic { IsAtomic (length (N.state device.now).words) result.items }
     ensures few { length result.items ≤ 3 }
-    ensures rises { steps.old ≤ steps.new }
-    ensures reads { steps.new ≤ steps.old + (3 + length (gaps (means (N.state device.now).words))) }
 {
     let _size = device.len();
-    let before = link_before(device, place, steps);
-    let hole = link_at(device, place, steps);
-    take_words(device, &before, &hole, need, steps)
+    let before = link_before(device, place);
+    let hole = link_at(device, place);
+    take_words(device, &before, &hole, need)
 }
 
 /// Returns the header words that change when the used block at a place is freed: a hole there, joined with
 /// the holes that it touches, and the link before it. They ascend and are at most three. The image is well
 /// laid, and no journal is open.
-pub fn free_plan<N: Nvm>(
-    device: &N,
-    place: u16,
-    steps: &mut Steps<N::Meter>,
-) -> ArrayVec<(u16, Word), 4>
+pub fn free_plan<N: Nvm>(device: &N, place: u16) -> ArrayVec<(u16, Word), 4>
     requires closed { look (N.state device.now).words ≡ Closed }
     requires laid { IsWellLaid (N.state device.now).words }
     requires block { has_span place (spans (means (N.state device.now).words)) ≡ true }
@@ -52,12 +41,10 @@ pub fn free_plan<N: Nvm>(
         (without place (spans (means (N.state device.now).words))) }
     ensures atomic { IsAtomic (length (N.state device.now).words) result.items }
     ensures few { length result.items ≤ 3 }
-    ensures rises { steps.old ≤ steps.new }
-    ensures reads { steps.new ≤ steps.old + (4 + length (gaps (means (N.state device.now).words))) }
 {
     let _size = device.len();
-    let before = link_before(device, place, steps);
-    let block = link_at(device, place, steps);
+    let before = link_before(device, place);
+    let block = link_at(device, place);
     let hole = joined(
         device,
         &Link {
@@ -65,53 +52,37 @@ pub fn free_plan<N: Nvm>(
             words: block.words,
             next: before.next,
         },
-        steps,
     );
-    free_words(device, &before, &hole, steps)
+    free_words(device, &before, &hole)
 }
 
 // The writes by which words are taken from the front of a hole.
-fn take_words<N: Nvm>(
-    device: &N,
-    before: &Link,
-    hole: &Link,
-    need: u16,
-    steps: &mut Steps<N::Meter>,
-) -> ArrayVec<(u16, Word), 4>
+fn take_words<N: Nvm>(device: &N, before: &Link, hole: &Link, need: u16) -> ArrayVec<(u16, Word), 4>
     requires { hole.now.place + hole.now.words ≤ 65535 }
-    ensures list { result.items ≡ take_front (slice_index (word (N.state device.now).words 0) 3)
+    ensures { result.items ≡ take_front (slice_index (word (N.state device.now).words 0) 3)
         (length (N.state device.now).words)
         (before.now.place, before.now.words) hole.now.place hole.now.words hole.now.next need }
-    ensures rises { steps.old ≤ steps.new }
-    ensures reads { steps.new ≤ steps.old + 1 }
 {
     let mut list = ArrayVec::new();
     if need >= hole.words {
-        list.push(relinked(device, before, hole.next, steps));
+        list.push(relinked(device, before, hole.next));
         list.push((hole.place, used_word(need)));
         return list;
     }
     let rest = hole.place + need;
-    list.push(relinked(device, before, rest, steps));
+    list.push(relinked(device, before, rest));
     list.push((hole.place, used_word(need)));
     list.push((rest, hole_word(hole.words - need, hole.next)));
     list
 }
 
 // The writes by which a hole takes the place of a block.
-fn free_words<N: Nvm>(
-    device: &N,
-    before: &Link,
-    hole: &Link,
-    steps: &mut Steps<N::Meter>,
-) -> ArrayVec<(u16, Word), 4>
+fn free_words<N: Nvm>(device: &N, before: &Link, hole: &Link) -> ArrayVec<(u16, Word), 4>
     requires place { before.now.place + before.now.words ≤ 65535 }
     requires words { before.now.words + hole.now.words ≤ 65535 }
-    ensures list { result.items ≡ put_hole (slice_index (word (N.state device.now).words 0) 3)
+    ensures { result.items ≡ put_hole (slice_index (word (N.state device.now).words 0) 3)
         (length (N.state device.now).words)
         (before.now.place, before.now.words) hole.now.place hole.now.words hole.now.next }
-    ensures rises { steps.old ≤ steps.new }
-    ensures reads { steps.new ≤ steps.old + 1 }
 {
     let mut list = ArrayVec::new();
     if before.place != 0 && before.place + before.words == hole.place {
@@ -121,7 +92,7 @@ fn free_words<N: Nvm>(
         ));
         return list;
     }
-    list.push(relinked(device, before, hole.place, steps));
+    list.push(relinked(device, before, hole.place));
     list.push((hole.place, hole_word(hole.words, hole.next)));
     list
 }

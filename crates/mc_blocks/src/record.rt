@@ -4,42 +4,34 @@ ghost use Rattle.mc_base.specs.model_device.specs.Card.{record_at, name_in, word
 ghost use Rattle.mc_base.specs.model_device.specs.Layout.{is_record};
 ghost use Rattle.mc_blocks.specs.Records.{has_valid_name, has_valid_lengths, has_valid_access};
 
-use mc_base::{Steps, Word, number_of};
+use mc_base::{Word, number_of};
 use mc_nvm::Nvm;
 
 /// The 32 bytes of a record.
 pub type Record = [u8; 32];
 
 /// Returns the record of the block at a place: the four words after its header.
-pub fn read_record<N: Nvm>(device: &N, place: u32, steps: &mut Steps<N::Meter>) -> Record
+pub fn read_record<N: Nvm>(device: &N, place: u32) -> Record
     requires { place + 5 ≤ length (N.state device.now).words }
-    ensures bytes { result ≡ record_at (N.state device.now).words place }
-    ensures ticks { steps.new ≡ steps.old + 4 }
+    ensures { result ≡ record_at (N.state device.now).words place }
 {
     let _size = device.len();
-    let first = device.read(place + 1, steps);
-    record_from(device, place, first, steps)
+    record_from(device, place, device.read(place + 1))
 }
 
 /// Returns the record of the block at a place, whose first word was read.
 #[tactic(auto, using(crate::proofs::Records::record_words))]
-pub fn record_from<N: Nvm>(
-    device: &N,
-    place: u32,
-    first: Word,
-    steps: &mut Steps<N::Meter>,
-) -> Record
+pub fn record_from<N: Nvm>(device: &N, place: u32, first: Word) -> Record
     requires place { place + 5 ≤ length (N.state device.now).words }
     requires first { first ≡ word (N.state device.now).words (place + 1) }
-    ensures bytes { result ≡ record_at (N.state device.now).words place }
-    ensures ticks { steps.new ≡ steps.old + 3 }
+    ensures { result ≡ record_at (N.state device.now).words place }
 {
     let _size = device.len();
     let words = [
         first,
-        device.read(place + 2, steps),
-        device.read(place + 3, steps),
-        device.read(place + 4, steps),
+        device.read(place + 2),
+        device.read(place + 3),
+        device.read(place + 4),
     ];
     let mut bytes = [0; 32];
     bytes.copy_from_slice(words.as_flattened());

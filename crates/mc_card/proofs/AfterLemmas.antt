@@ -24,7 +24,7 @@ use Rattle.mc_machine.proofs.SoundChains.{AreSound, SameLengths, sizes_done}
 use Rattle.mc_card.proofs.MadeLemmas.{card_found}
 use Rattle.mc_card.proofs.WriteLemmas.{AsCommits, as_commits, writes_made}
 use Rattle.std.proofs.lemmas.Bool.{not-false}
-use Rattle.mc_card.proofs.StoreBank.{writing_bank}
+use Rattle.mc_card.proofs.StoreBank.{store_bank}
 
 -- a session state with other session bytes
 session_state_with : (site_bytes : Site → Part → List ℕ) (old new : List ℕ) (m : ManagerState) → session_state_of site_bytes new m ≡ with_session new (session_state_of site_bytes old m)
@@ -43,9 +43,9 @@ module _ {N : Type 0} (state : N → DeviceState) (wrote : N → ℕ → List �
   view_at s = record { state = bank_state s; named = store_named (state s.device); room = store_room (state s.device); site_bytes = store_site_bytes (state s.device) }
 
   -- the manager's slots and sites are unchanged by the writes of a chain
-  pub view_stays : (ws : List Write) (s e : Store N) (a : Answer) → InOrder (ChainWrote (writing_bank state wrote)) s ws a e → KeepsSlotsAndSites (view_at s) (view_at e)
+  pub view_stays : (ws : List Write) (s e : Store N) (a : Answer) → InOrder (ChainWrote (store_bank state wrote)) s ws a e → KeepsSlotsAndSites (view_at s) (view_at e)
   view_stays ws s e a h =
-      let c : AsCommits (writing_bank state wrote) s a e = as_commits (writing_bank state wrote) ws s e a h in
+      let c : AsCommits (store_bank state wrote) s a e = as_commits (store_bank state wrote) ws s e a h in
       record {
         slots = slots_in_order did (λ s k. store_named (state s.device) k) (λ s i a e d. store_keeps state wrote obeys s.device e.device s.count e.count i a d) c.words s a e c.commits;
         sites = sites_in_order did bank_state (λ s. store_room (state s.device)) (λ s. store_site_bytes (state s.device)) (λ s n ws a e d. store_spares state wrote obeys s.device e.device s.count e.count n ws a d) (λ s n ws a e d. store_leaves state wrote obeys s.device e.device s.count e.count n ws a d) c.words s a e c.commits;
@@ -55,10 +55,10 @@ module _ {N : Type 0} (state : N → DeviceState) (wrote : N → ℕ → List �
 
   module _ (c : Card N) (up : IsUp state c) (ws : List Write) (sound : AreSound (card_in state c).apps ws) where
     -- the writes, as items of the definition
-    pub card_made : (e : Store N) (a : Answer) → InOrder (ChainWrote (writing_bank state wrote)) c.store ws a e → ItemsMade state wrote (card_in state c) (write_items ws) c.store.device a e.device
+    pub card_made : (e : Store N) (a : Answer) → InOrder (ChainWrote (store_bank state wrote)) c.store ws a e → ItemsMade state wrote (card_in state c) (write_items ws) c.store.device a e.device
     card_made e a h = writes_made state wrote obeys ws c.store e a (going_is (state c.store.device) c.store.count up.going) sound h
 
-    module _ (e : Store N) (h : InOrder (ChainWrote (writing_bank state wrote)) c.store ws (Ok tt) e) where
+    module _ (e : Store N) (h : InOrder (ChainWrote (store_bank state wrote)) c.store ws (Ok tt) e) where
       -- the card after them
       pub card_after : card_done (card_in state c) (write_items ws) ≡ means (state e.device).words
       card_after = card_found (card_done (card_in state c) (write_items ws)) 0 (state e.device).words (card_made e (Ok tt) h).done

@@ -1,6 +1,6 @@
 -- A command on a card: one that the manager answers, and one that the selected application runs.
-use Rattle.std.proofs.Common.{◌≡◌, ℕ, ◌+◌, ◌≤◌, true, false, List, length, Option, Some, None, Result, Ok, Err, refl, sym, ◌∙◌, ap, subst, arith}
-use Rattle.std.specs.Prelude.{option_map, IfOk, OnOk}
+use Rattle.std.proofs.Common.{◌≡◌, ℕ, ◌+◌, ◌≤◌, Bool, true, false, cond, List, length, Option, Some, None, Result, Ok, Err, refl, sym, ◌∙◌, ap, subst, arith}
+use Rattle.std.specs.Prelude.{◌==◌, ◌&&◌, option_map, IfOk, OnOk, OnErr}
 use Rattle.mc_base.specs.model_device.specs.declared.device.Stop.{Stop}
 use Rattle.mc_base.specs.model_device.specs.Orders.{Answer, InOrder, answer_of}
 use Rattle.mc_apdu.specs.model_machine.specs.Apdu.{ApduParts, apdu_read}
@@ -8,16 +8,16 @@ use Rattle.mc_base.specs.model_device.specs.Device.{DeviceState, IsSized, Wrote 
 use Rattle.mc_base.specs.model_device.specs.Card.{App, Card as ModelCard}
 use Rattle.mc_bank.specs.model_card.specs.Items.{BankItem, write_items}
 use Rattle.mc_apdu.specs.model_machine.specs.Chain.{Chain, Ran, start, run}
-use Rattle.mc_bank.specs.model_card.specs.Manager.{Selected, SessionState, Route, WrongLength, WrongClass, ToSelect, ToManager, ToApplication, route_of_parts, route}
+use Rattle.mc_bank.specs.model_card.specs.Manager.{Selected, SessionState, Route, ToApplication, route_of_parts, route}
 use Rattle.mc_bank.specs.model_card.specs.Commands.{Command, command, status, ran_command, by_route}
 use Rattle.mc_apdu.specs.declared.reply.Reply.{Reply}
 use Rattle.mc_bank.specs.Bank.{BankState, app_of, name_or}
 use Rattle.mc_manager.specs.declared.selection.Selection.{Selection}
+use Rattle.mc_manager.specs.CommandDue.{most_ticks}
 use Rattle.mc_machine.specs.declared.outcome.End.{End}
 use Rattle.mc_machine.specs.declared.outcome.Outcome.{Outcome}
 use Rattle.mc_machine.specs.Places.{Runs, IsBegun}
 use Rattle.mc_machine.specs.Chains.{Chained, RunsAs, ChainWrote}
-use Rattle.mc_machine.specs.Costs.{most_of_turns}
 use Rattle.mc_machine.specs.Turns.{outcome_value, outcome_by, reply_or_stop}
 use Rattle.mc_store.specs.declared.store.Store.{Store}
 use Rattle.mc_store.specs.Store.{apps_in, store_state, store_named}
@@ -25,44 +25,29 @@ use Rattle.mc_store.specs.StoreItems.{store_did}
 use Rattle.mc_store.specs.GoingLaws.{going_is}
 use Rattle.mc_card.specs.declared.card.Card.{Card}
 use Rattle.mc_card.specs.Parts.{device_in, card_in, session_state_in, view_in, due, IsReadyCard}
-use Rattle.mc_card.specs.Ends.{RunSteps, PassedSteps, RouteSteps, BeginSteps, is_passed, most_weight, outcome_or_stop, Commanded, PassedToChain, Answered}
+use Rattle.mc_card.specs.Ends.{RunSteps, RouteSteps, is_passed, most_weight, outcome_or_stop, Commanded, PassedToChain, Answered}
 use Rattle.mc_card.specs.ItemWrites.{ItemsMade, MadeWithin}
-use Rattle.mc_card.specs.Managing.{most_direct, IsAnswered, IsPassed}
+use Rattle.mc_card.specs.Managing.{IsAnswered, IsPassed}
 use Rattle.mc_card.proofs.StaticLemmas.{going_apps}
 use Rattle.mc_card.proofs.ManagerLemmas.{going_base}
 use Rattle.mc_card.proofs.MadeLemmas.{made_none}
 use Rattle.mc_card.proofs.FewLemmas.{AllWithin, within_made, writes_within, route_within, going_few}
 use Rattle.mc_machine.proofs.SoundRuns.{RunSound, run_sound, start_sound}
 use Rattle.mc_card.proofs.AfterLemmas.{card_made, still_up, session_state_after}
-use Rattle.mc_card.proofs.StoreBank.{writing_bank}
+use Rattle.mc_card.proofs.StoreBank.{store_bank}
 
 -- ---- steps
 
--- a command for the application makes no steps in the manager
-passed_quiet : (c : ModelCard) (x : Route) (a : ApduParts) (old new : ℕ) → x ≡ ToApplication a → old ≤ new → new ≤ old + most_direct c x → new ≡ old
-passed_quiet c x a old new is low high = let none : most_direct c x ≡ 0 = ap (most_direct c) is in omega (arith, none, low, high)
+-- a command of another class than BE makes no steps in the manager
+quiet_ticks : (a : ApduParts) (n : ℕ) → (a.cla == 0xBE) ≡ false → most_ticks a n ≡ 0
+quiet_ticks a n other = ap (λ (b : Bool). cond (b && a.ins == 0x12) n 0) other
 
--- the steps of a command that the manager answers
-answered_route : (c : ModelCard) (s : Option Selected) (budget : ℕ) (x : Route) (answer : Answer) (old new : ℕ) → is_passed x s ≡ false → old ≤ new → new ≤ old + most_direct c x → RouteSteps c s budget x answer old new
-answered_route c s budget WrongLength answer old new stays low high = omega (arith, low, high)
-answered_route c s budget WrongClass answer old new stays low high = omega (arith, low, high)
-answered_route c s budget (ToSelect a) answer old new stays low high = (low, high)
-answered_route c s budget (ToManager a) answer old new stays low high = (low, high)
-answered_route c None budget (ToApplication a) answer old new stays low high = omega (arith, low, high)
-answered_route c (Some s) budget (ToApplication a) answer old new stays low high = absurd (cc stays)
+no_more : (old new n : ℕ) → n ≡ 0 → old ≤ new → new ≤ old + n → new ≡ old
+no_more old new n none low high = omega (arith, none, low, high)
 
--- the steps of the beginning of a command: those of the manager, and at most 4 if it is passed to the application
-begun_route : (c : ModelCard) (x : Route) (old new : ℕ) → old ≤ new → new ≤ old + most_direct c x → BeginSteps c x old new
-begun_route c WrongLength old new low high = omega (arith, low, high)
-begun_route c WrongClass old new low high = omega (arith, low, high)
-begun_route c (ToSelect a) old new low high = (low, high)
-begun_route c (ToManager a) old new low high = (low, high)
-begun_route c (ToApplication a) old new low high = (low, omega (arith, high))
-
--- the beginning of a command by its parts
-pub begun_steps : (c : ModelCard) (a : ApduParts) (bytes : List ℕ) (old new : ℕ) → apdu_read bytes ≡ Some a → old ≤ new → new ≤ old + most_direct c (route_of_parts (Some a)) → BeginSteps c (route bytes) old new
-begun_steps c a bytes old new read low high =
-    subst (λ (o : Option ApduParts). BeginSteps c (route_of_parts o) old new) (sym read) (begun_route c (route_of_parts (Some a)) old new low high)
+-- a command for an application makes no steps in the manager
+pub passed_quiet : (a : ApduParts) (old new n : ℕ) → route_of_parts (Some a) ≡ ToApplication a → old ≤ new → new ≤ old + most_ticks a n → new ≡ old
+passed_quiet a old new n is low high = grind (arith, no_more, quiet_ticks)
 
 -- ---- a command by its bytes
 
@@ -110,28 +95,22 @@ module _ {N : Type 0} (state : N → DeviceState) (wrote : N → ℕ → List �
 
   -- the end of a run on a card, with its run
   pub record RunDid (c : Card N) (r : Ran) (result : Result Outcome Stop) (e : Store N) (bytes : List ℕ) : Type 0 where
-    pub writes : InOrder (ChainWrote (writing_bank state wrote)) c.store r.writes (answer_of result) e
+    pub writes : InOrder (ChainWrote (store_bank state wrote)) c.store r.writes (answer_of result) e
     pub outcome : IfOk result (λ o. outcome_value o ≡ r.outcome)
     pub session : OnOk result (bytes ≡ r.session)
     pub going : OnOk result ((bank_state e).stopped ≡ false)
 
   -- a run on a card, from its result and the reply that was written to a place
-  pub run_did : (c : Card N) (r : Ran) (x : Result End Stop) (reply : Reply) (e : Store N) (bytes : List ℕ) → InOrder (ChainWrote (writing_bank state wrote)) c.store r.writes (answer_of x) e
+  pub run_did : (c : Card N) (r : Ran) (x : Result End Stop) (reply : Reply) (e : Store N) (bytes : List ℕ) → InOrder (ChainWrote (store_bank state wrote)) c.store r.writes (answer_of x) e
       → IfOk x (λ o. outcome_value (outcome_by o reply) ≡ r.outcome) → OnOk x (bytes ≡ r.session) → OnOk x ((bank_state e).stopped ≡ false) → RunDid c r (reply_or_stop x reply) e bytes
   run_did c r (Ok o) reply e bytes writes outcome session going = record { writes = writes; outcome = outcome; session = session; going = going }
   run_did c r (Err s) reply e bytes writes outcome session going = record { writes = writes; outcome = tt; session = tt; going = tt }
 
   -- the steps of a run
-  pub run_counted : (r : Ran) (x : Result End Stop) (reply : Reply) (old new : ℕ) → OnOk x (old + r.count ≤ new) → new ≤ old + (4 + most_of_turns r.turns) → RunSteps r (answer_of (reply_or_stop x reply)) old new
-  run_counted r (Ok o) reply old new least most = (least, most)
-  run_counted r (Err s) reply old new least most = most
-
-  -- the steps of a command that the manager answers
-  pub answered_steps : (a : ApduParts) (c d : Card N) (bytes : List ℕ) (budget : ℕ) (result : Result Outcome Stop) (answer : Answer) (old new : ℕ) → apdu_read bytes ≡ Some a → IsAnswered state wrote c a result d
-      → old ≤ new → new ≤ old + most_direct (card_in state c) (route_of_parts (Some a)) → RouteSteps (card_in state c) (session_state_in state c).selected budget (route bytes) answer old new
-  answered_steps a c d bytes budget result answer old new read h low high =
-      subst (λ (o : Option ApduParts). RouteSteps (card_in state c) (session_state_in state c).selected budget (route_of_parts o) answer old new) (sym read)
-      (answered_route (card_in state c) (session_state_in state c).selected budget (route_of_parts (Some a)) answer old new h.stays low high)
+  pub run_counted : (r : Ran) (x : Result End Stop) (reply : Reply) (old new : ℕ) → OnOk x (new ≡ old + r.count) → OnErr x (new ≤ old + r.count)
+      → OnOk (reply_or_stop x reply) (new ≡ old + r.count) × OnErr (reply_or_stop x reply) (new ≤ old + r.count)
+  run_counted r (Ok o) reply old new ticks most = (ticks, tt)
+  run_counted r (Err s) reply old new ticks most = (tt, most)
 
   -- the run of the application in a slot
   abbrev pub run_of : Card N → ℕ → ApduParts → ℕ → Ran
@@ -204,20 +183,21 @@ module _ {N : Type 0} (state : N → DeviceState) (wrote : N → ℕ → List �
         → MadeWithin wrote (most_weight (route bytes)) (due state c bytes budget).items c.store.device (answer_of result) e.device
     ran_within a budget slot bytes result e session at read to h =
         let r = run (card_in state c).apps t.aid c.session a budget in
-        let writes : InOrder (ChainWrote (writing_bank state wrote)) c.store r.writes (answer_of result) e = subst (λ (x : Ran). InOrder (ChainWrote (writing_bank state wrote)) c.store x.writes (answer_of result) e) (run_same a budget slot at) h.writes in
+        let writes : InOrder (ChainWrote (store_bank state wrote)) c.store r.writes (answer_of result) e = subst (λ (x : Ran). InOrder (ChainWrote (store_bank state wrote)) c.store x.writes (answer_of result) e) (run_same a budget slot at) h.writes in
         let within : MadeWithin wrote 147 (write_items r.writes) c.store.device (answer_of result) e.device =
         writes_within state wrote obeys r.writes c.store e (answer_of result) (going_is (state c.store.device) c.store.count ready.up.going) (sound a budget).writes writes in
         subst (λ (x : Command). MadeWithin wrote (most_weight (route bytes)) x.items c.store.device (answer_of result) e.device) (sym (due_ran a budget bytes read to))
         (subst (λ (x : Route). MadeWithin wrote (most_weight x) (write_items r.writes) c.store.device (answer_of result) e.device) (sym (ap (λ (o : Option ApduParts). route_of_parts o) read ∙ to)) within)
 
-    pub ran_steps : (a : ApduParts) (budget slot : ℕ) (bytes : List ℕ) (answer : Answer) (old new : ℕ) → t.slot ≡ slot → apdu_read bytes ≡ Some a → route_of_parts (Some a) ≡ ToApplication a
-        → RunSteps (run_of c slot a budget) answer old new
-        → RouteSteps (card_in state c) (session_state_in state c).selected budget (route bytes) answer old new
-    ran_steps a budget slot bytes answer old new at read to steps =
-        let selected = (session_state_in state c).selected in
-        let own = subst (λ (r : Ran). RunSteps r answer old new) (run_same a budget slot at) steps in
-        subst (λ (x : Route). RouteSteps (card_in state c) selected budget x answer old new) (sym (ap (λ (o : Option ApduParts). route_of_parts o) read ∙ to))
-        (subst (λ (o : Option Selected). PassedSteps (card_in state c) o a budget answer old new) (sym session_state_own) own)
+    steps_by : (r : Ran) (result : Result Outcome Stop) (old new : ℕ) → OnOk result (new ≡ old + r.count) → OnErr result (new ≤ old + r.count) → RunSteps r (answer_of result) old new
+    steps_by r (Ok o) old new done most = done
+    steps_by r (Err s) old new done most = most
+
+    pub ran_steps : (a : ApduParts) (budget slot : ℕ) (bytes : List ℕ) (result : Result Outcome Stop) (old new : ℕ) → t.slot ≡ slot → apdu_read bytes ≡ Some a → route_of_parts (Some a) ≡ ToApplication a
+        → OnOk result (new ≡ old + (run_of c slot a budget).count)
+        → OnErr result (new ≤ old + (run_of c slot a budget).count)
+        → RouteSteps (card_in state c) (session_state_in state c).selected budget (route bytes) (answer_of result) old new
+    ran_steps a budget slot bytes result old new at read to done most = grind (arith, session_state_own, run_same, steps_by)
 
     -- ---- the beginning of a command that an application runs
 
@@ -261,20 +241,13 @@ module _ {N : Type 0} (state : N → DeviceState) (wrote : N → ℕ → List �
   passed_session c d a slot ready p =
       subst (λ (x : Card N). length x.session ≡ (app_of (apps_in (state x.store.device).words) (store_named (state x.store.device) slot)).session) (sym p.unchanged) (slot_session c ready p.selected p.is slot p.slot_is)
 
-  pub passed_steps : (c d : Card N) (a : ApduParts) (slot budget : ℕ) (bytes : List ℕ) (answer : Answer) (old mid new : ℕ) → IsReadyCard state c → IsPassed state wrote c a slot d → apdu_read bytes ≡ Some a
-      → old ≤ mid → mid ≤ old + most_direct (card_in state c) (route_of_parts (Some a)) → RunSteps (run_of d slot a budget) answer mid new
-      → RouteSteps (card_in state c) (session_state_in state c).selected budget (route bytes) answer old new
-  passed_steps c d a slot budget bytes answer old mid new ready p read low high steps =
-      let same : mid ≡ old = passed_quiet (card_in state c) (route_of_parts (Some a)) a old mid p.route low high in
-      ran_steps c ready p.selected p.is a budget slot bytes answer old new p.slot_is read p.route
-      (subst (λ (k : ℕ). RunSteps (run_of c slot a budget) answer k new) same (subst (λ (x : Card N). RunSteps (run_of x slot a budget) answer mid new) p.unchanged steps))
-
-  -- the steps of the beginning of a command that is passed to the application
-  pub passed_begins : (c d : Card N) (a : ApduParts) (slot : ℕ) (bytes : List ℕ) (old mid new : ℕ) → IsPassed state wrote c a slot d → apdu_read bytes ≡ Some a → old ≤ mid → mid ≤ old + most_direct (card_in state c) (route_of_parts (Some a))
-      → mid ≤ new → new ≤ mid + 4 → BeginSteps (card_in state c) (route bytes) old new
-  passed_begins c d a slot bytes old mid new p read low high rises reads =
-      let same : mid ≡ old = passed_quiet (card_in state c) (route_of_parts (Some a)) a old mid p.route low high in
-      subst (λ (x : Route). BeginSteps (card_in state c) x old new) (sym (ap (λ (o : Option ApduParts). route_of_parts o) read ∙ p.route)) (omega (arith, low, rises), omega (arith, same, reads))
+  pub passed_steps : (c d : Card N) (a : ApduParts) (slot budget : ℕ) (bytes : List ℕ) (result : Result Outcome Stop) (old mid new n : ℕ) → IsReadyCard state c → IsPassed state wrote c a slot d → apdu_read bytes ≡ Some a → old ≤ mid → mid ≤ old + most_ticks a n
+      → OnOk result (new ≡ mid + (run_of d slot a budget).count) → OnErr result (new ≤ mid + (run_of d slot a budget).count) → RouteSteps (card_in state c) (session_state_in state c).selected budget (route bytes) (answer_of result) old new
+  passed_steps c d a slot budget bytes result old mid new n ready p read low high done most =
+      let same : mid ≡ old = passed_quiet a old mid n p.route low high in
+      ran_steps c ready p.selected p.is a budget slot bytes result old new p.slot_is read p.route
+      (subst (λ (k : ℕ). OnOk result (new ≡ k + (run_of c slot a budget).count)) same (subst (λ (x : Card N). OnOk result (new ≡ mid + (run_of x slot a budget).count)) p.unchanged done))
+      (subst (λ (k : ℕ). OnErr result (new ≤ k + (run_of c slot a budget).count)) same (subst (λ (x : Card N). OnErr result (new ≤ mid + (run_of x slot a budget).count)) p.unchanged most))
 
   pub passed_begun : (c d : Card N) (a : ApduParts) (slot budget : ℕ) (bytes : List ℕ) (k : Chained) → IsReadyCard state c → IsPassed state wrote c a slot d → apdu_read bytes ≡ Some a
       → RunsAs (view_in state d).state (view_in state d).named k (start (apps_in (state d.store.device).words) (name_or (store_named (state d.store.device) slot)) d.session a) → k.left ≡ budget → PassedToChain state wrote c bytes budget (record d { chain = Some k })

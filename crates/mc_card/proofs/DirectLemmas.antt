@@ -1,5 +1,5 @@
 -- A command that the manager of a card handles: its items, its answer, and that the card is ready again.
-use Rattle.std.proofs.Common.{arith, ◌≡◌, ℕ, ◌+◌, ◌≤◌, Bool, true, false, List, [], length, Option, Some, None, Ok, Err, refl, sym, ◌∙◌, ap, subst}
+use Rattle.std.proofs.Common.{arith, ◌≡◌, ℕ, Bool, true, false, List, [], length, Option, Some, None, Ok, Err, refl, sym, ◌∙◌, ap, subst}
 use Rattle.std.specs.Prelude.{Result, bytes_eq, is_some, option_map, IsSome}
 use Rattle.std.proofs.lemmas.List.{length-replicate}
 use Rattle.mc_bank.specs.model_card.specs.declared.card.Sizes.{Sizes}
@@ -8,7 +8,6 @@ use Rattle.mc_base.specs.model_device.specs.Orders.{Answer, InOrder}
 use Rattle.mc_apdu.specs.model_machine.specs.Apdu.{ApduParts}
 use Rattle.mc_base.specs.model_device.specs.Bytes.{zeros, lookup, insert}
 use Rattle.mc_base.specs.model_device.specs.Device.{DeviceState, Wrote}
-use Rattle.mc_base.specs.model_device.specs.Layout.{gaps}
 use Rattle.mc_base.specs.model_device.specs.Card.{App, Card as ModelCard}
 use Rattle.mc_bank.specs.model_card.specs.Items.{BankItem}
 use Rattle.mc_bank.specs.model_card.specs.Manager.{Selected, SessionState, Managed, Declines, Accepts, Accepted, Route, WrongLength, WrongClass, ToSelect, ToManager, ToApplication, route_of_parts, select, is_selected, manage, room_on}
@@ -24,8 +23,8 @@ use Rattle.mc_apdu.specs.declared.reply.Reply.{Reply as CardReply}
 use Rattle.mc_manager.specs.declared.selection.Selection.{Selection}
 use Rattle.mc_manager.specs.declared.routed.Routed.{Routed}
 use Rattle.mc_manager.specs.declared.routed.Routed.TheVariants.{Answer as Answers, Fresh, Pass}
-use Rattle.mc_manager.specs.ManagerState.{BankView, ManagerState, selected_of as selected-of, session_state_of, ManagerFits}
-use Rattle.mc_manager.specs.CommandDue.{CommandDue, Refuses, Selects, Does, Passes, due_select, due_manager, due_application, due_on, due, items_of, apps_after, CommandLeaves, most_on_route, most_manager_steps}
+use Rattle.mc_manager.specs.ManagerState.{BankView, ManagerState, session_state_of, ManagerFits}
+use Rattle.mc_manager.specs.CommandDue.{CommandDue, Refuses, Selects, Does, Passes, due_select, due_manager, due_application, due_on, due, items_of, apps_after, CommandLeaves}
 use Rattle.mc_manager.specs.Ends.{CommandEnds}
 use Rattle.mc_machine.specs.declared.outcome.Outcome.TheVariants as outcome
 use Rattle.mc_machine.specs.Turns.{outcome_value}
@@ -36,7 +35,7 @@ use Rattle.mc_store.proofs.BankLemmas.{running}
 use Rattle.mc_card.specs.declared.card.Card.{Card}
 use Rattle.mc_card.specs.Parts.{card_in, session_state_in, view_in, IsReadyCard}
 use Rattle.mc_card.specs.Ends.{is_passed}
-use Rattle.mc_card.specs.Managing.{most_direct, IsAnswered, IsPassed}
+use Rattle.mc_card.specs.Managing.{IsAnswered, IsPassed}
 use Rattle.mc_card.proofs.StaticLemmas.{going_apps}
 use Rattle.mc_card.proofs.ManagerLemmas.{due_made}
 use Rattle.mc_base.specs.model_device.proofs.MapLemmas.{same_name, lookup_beside, lookup_left, other_way}
@@ -114,29 +113,6 @@ passed_route v w session_state r s k m n h = grind arith
 
 card_same : {N : Type 0} (c d : Card N) → d.store ≡ c.store → d.manager ≡ c.manager → d.session ≡ c.session → d.chain ≡ c.chain → d ≡ c
 card_same c d store manager session chain = grind arith
-
--- ---- steps
-
--- the steps of a command without a new selection are those of the manager
-pub direct_steps : (c : ModelCard) (r : Route) (old new : ℕ) → new ≤ old + most_on_route r (2 + length (gaps c)) → new ≤ old + most_direct c r
-direct_steps c WrongLength old new high = high
-direct_steps c WrongClass old new high = high
-direct_steps c (ToSelect a) old new high = omega (arith, high)
-direct_steps c (ToManager a) old new high = omega (arith, high)
-direct_steps c (ToApplication a) old new high = high
-
--- a new selection reads 4 words more
-fresh_by : (c : ModelCard) (v w : BankView) (r : Route) (reply : CardReply) (s : List ℕ) (k : ℕ) (m n : ManagerState) (old mid new : ℕ) → CommandLeaves (due_on v (session_state_of v.site_bytes s m) r) s v m (Fresh k reply) w n
-    → mid ≤ old + most_on_route r (2 + length (gaps c)) → new ≤ mid + 4 → new ≤ old + most_direct c r
-fresh_by c v w WrongLength reply s k m n old mid new leaves high reads = absurd leaves
-fresh_by c v w WrongClass reply s k m n old mid new leaves high reads = absurd leaves
-fresh_by c v w (ToSelect a) reply s k m n old mid new leaves high reads = omega (arith, high, reads)
-fresh_by c v w (ToManager a) reply s k m n old mid new leaves high reads = omega (arith, high, reads)
-fresh_by c v w (ToApplication a) reply s k m n old mid new leaves high reads = absurd (never (selected-of s m) leaves)
-  where
-    never : (x : Option Selected) → CommandLeaves (due_application x) s v m (Fresh k reply) w n → ⊥
-    never None h = h
-    never (Some y) h = h
 
 -- ---- the clauses
 
@@ -298,12 +274,6 @@ module _ {N : Type 0} (state : N → DeviceState) (wrote : N → ℕ → List �
       let one : NewlySelected c d (by_route (card_in state c) (session_state_in state c) 1 r) slot reply =
       newly (due_on (view_in state c) (session_state_in state c) r) c d a (by_route (card_in state c) (session_state_in state c) 1 r) slot reply refl (matches c 1 r ready.up.going) (ends.items c.session) (ends.leaves c.session) in
       ap is_some (ap (λ (k : ℕ). store_named (state d.store.device) k) (sym one.slot_is) ∙ ends.fits.selected one.selected one.is)
-
-  -- the steps of a new selection
-  pub fresh_steps : (a : ApduParts) (c d : Card N) (slot : ℕ) (reply : CardReply) (old mid new : ℕ) → DirectEnds state wrote c a (Ok (Fresh slot reply)) d → mid ≤ old + most_manager_steps a (2 + length (gaps (card_in state c))) → new ≤ mid + 4
-      → new ≤ old + most_direct (card_in state c) (route_of_parts (Some a))
-  fresh_steps a c d slot reply old mid new ends high reads =
-      fresh_by (card_in state c) (view_in state c) (view_in state d) (route_of_parts (Some a)) reply c.session slot c.manager d.manager old mid new (ends.leaves c.session) high reads
 
   -- ---- a command that is passed to the application
 

@@ -34,7 +34,7 @@ use Rattle.mc_card.proofs.StaticLemmas.{going_apps}
 use Rattle.mc_card.proofs.MadeLemmas.{card_found}
 use Rattle.mc_card.proofs.WriteLemmas.{write_made, goes_on}
 use Rattle.mc_bank.specs.model_card.proofs.ItemLemmas.{moves_append}
-use Rattle.mc_card.proofs.StoreBank.{writing_bank}
+use Rattle.mc_card.proofs.StoreBank.{store_bank}
 
 -- ---- items that were begun
 
@@ -108,11 +108,11 @@ module _ {N : Type 0} (state : N → DeviceState) (wrote : N → ℕ → List �
   words_of s = (state s.device).words
 
   -- one atomic write
-  one_within : (s e : Store N) (w : Write) (a : Answer) → ItemsMade state wrote (means (words_of s)) (item w ∷ []) s.device a e.device → ChainWrote (writing_bank state wrote) s w a e → MadeWithin wrote 147 (item w ∷ []) s.device a e.device
+  one_within : (s e : Store N) (w : Write) (a : Answer) → ItemsMade state wrote (means (words_of s)) (item w ∷ []) s.device a e.device → ChainWrote (store_bank state wrote) s w a e → MadeWithin wrote 147 (item w ∷ []) s.device a e.device
   one_within s e w a made h = within_made state wrote 147 (means (words_of s)) (item w ∷ []) s.device a e.device made (((few_writes_law w.words).1 h.3).two, tt)
 
   -- all atomic writes that were begun
-  pub writes_within : (ws : List Write) (s e : Store N) (a : Answer) → Going (state s.device) s.count → AreSound (means (words_of s)).apps ws → InOrder (ChainWrote (writing_bank state wrote)) s ws a e → MadeWithin wrote 147 (write_items ws) s.device a e.device
+  pub writes_within : (ws : List Write) (s e : Store N) (a : Answer) → Going (state s.device) s.count → AreSound (means (words_of s)).apps ws → InOrder (ChainWrote (store_bank state wrote)) s ws a e → MadeWithin wrote 147 (write_items ws) s.device a e.device
   writes_within [] s e (Ok u) g sound h = record { writes = []; makes = ap (λ (t : Store N). t.device) h; number = refl; few = tt }
   writes_within [] s e (Err x) g sound h = absurd h
   writes_within (w ∷ ws) s e a g sound h =

@@ -8,9 +8,9 @@ use Rattle.mc_bank.specs.Slots.{slot_place}
 use Rattle.mc_bank.specs.SlotLaws.{slot_sized}
 use Rattle.mc_store.specs.Store.{apps_in, place_named, store_state, store_named, store_room, store_site_bytes, StoreDid}
 
--- the store over a device, by the ledger of its reads, the device's state and its relation of writes
-abbrev pub store_bank : {N : Type 0} (Meter : Type 0) → (N → DeviceState) → (N → ℕ → List ℕ → Answer → N → Type 0) → Ghosts (Store N) Meter
-store_bank Meter state wrote =
+-- the store over a device, by the device's state and its relation of writes
+abbrev pub store_bank : {N : Type 0} → (N → DeviceState) → (N → ℕ → List ℕ → Answer → N → Type 0) → Ghosts (Store N)
+store_bank state wrote =
     record {
       state = λ s. store_state (state s.device) s.count;
       named = λ s k. store_named (state s.device) k;
@@ -19,7 +19,3 @@ store_bank Meter state wrote =
       site_bytes = λ s. store_site_bytes (state s.device);
       did = λ s i a e. StoreDid state wrote s.device s.count i a e.device e.count;
     }
-
--- the same bank, for what is said of its writes alone: its reads are not counted
-abbrev pub writing_bank : {N : Type 0} → (N → DeviceState) → (N → ℕ → List ℕ → Answer → N → Type 0) → Ghosts (Store N) (Unit {0})
-writing_bank state wrote = store_bank (Unit {0}) state wrote

@@ -1,5 +1,5 @@
 -- A card after a turn of a chain.
-use Rattle.std.proofs.Common.{◌≡◌, ℕ, ◌-◌, true, false, List, length, Option, Some, None, Result, Ok, Err, refl, sym, ◌∙◌, ap, subst, arith}
+use Rattle.std.proofs.Common.{◌≡◌, ℕ, ◌+◌, ◌-◌, true, false, List, length, Option, Some, None, Result, Ok, Err, refl, sym, ◌∙◌, ap, subst, arith}
 use Rattle.std.specs.Prelude.{option_map, is_some}
 use Rattle.mc_base.specs.model_device.specs.declared.device.Stop.{Stop}
 use Rattle.mc_base.specs.model_device.specs.Orders.{Answer, answer_of, InOrder}
@@ -18,7 +18,6 @@ use Rattle.mc_machine.specs.declared.outcome.Outcome.{Outcome}
 use Rattle.mc_machine.specs.declared.outcome.Turn.{Turn}
 use Rattle.mc_machine.specs.Chains.{Chained, RunsAs, ChainWrote, session_in}
 use Rattle.mc_machine.specs.Places.{Runs, TurnsTo}
-use Rattle.mc_machine.specs.Costs.{CountsTurn}
 use Rattle.mc_machine.specs.Turns.{Follow, TurnActs, TurnDone, WritesFew, outcome_value}
 use Rattle.mc_card.specs.Ends.{TurnGoesOn, ChainTurned}
 use Rattle.mc_card.specs.ItemWrites.{ItemsMade}
@@ -40,7 +39,7 @@ pub end_card : {N : Type 0} (store : Store N) (manager : ManagerState) (o : Opti
     → card_of store manager session p ≡ card_of store manager (session_in d) None
 end_card store manager o d p session is none ends = grind arith
 
-module _ {N : Type 0} (Meter : Type 0) (state : N → DeviceState) (wrote : N → ℕ → List ℕ → Answer → N → Type 0)
+module _ {N : Type 0} (state : N → DeviceState) (wrote : N → ℕ → List ℕ → Answer → N → Type 0)
     (obeys : (d : N) (at : ℕ) (w : List ℕ) (a : Answer) (e : N) → (state d).on ≡ true → wrote d at w a e → DeviceWrote (state d) at w a (state e)) where
   abbrev bank_state : Store N → BankState
   bank_state s = store_state (state s.device) s.count
@@ -69,14 +68,14 @@ module _ {N : Type 0} (Meter : Type 0) (state : N → DeviceState) (wrote : N �
     writes_sound = subst (λ (m : List (List ℕ × App)). AreSound m t.writes) own_map sound.writes
 
     -- the turn's writes, as items of the definition
-    pub turn_made : (e : Store N) (a : Answer) → InOrder (ChainWrote (store_bank Meter state wrote)) c.store t.writes a e → ItemsMade state wrote (card_in state c) (write_items t.writes) c.store.device a e.device
+    pub turn_made : (e : Store N) (a : Answer) → InOrder (ChainWrote (store_bank state wrote)) c.store t.writes a e → ItemsMade state wrote (card_in state c) (write_items t.writes) c.store.device a e.device
     turn_made = card_made state wrote obeys c r.up t.writes writes_sound
 
     -- the first frame has as many session bytes as the selected application
     first_size : (s : Selection) → c.manager.selected ≡ Some s → length (chain_session ch) ≡ (app_of apps (Some s.aid)).session
     first_size s is = grind (arith, first_in, same_Some, session_size, own_map)
 
-    module _ (e : Store N) (d : Chained) (acts : TurnActs (store_bank Meter state wrote) c.store e r.chained d ch t) where
+    module _ (e : Store N) (d : Chained) (acts : TurnActs (store_bank state wrote) c.store e r.chained d ch t) where
       -- the chain continues
       goes : (next : Chain) → t.follows ≡ Continues next → TurnGoesOn state wrote c ch (left - t.count) (Continues next) (record { store = e; manager = c.manager; session = c.session; chain = Some d })
       goes next is =
@@ -127,12 +126,12 @@ module _ {N : Type 0} (Meter : Type 0) (state : N → DeviceState) (wrote : N �
     pub was : c.chain ≡ Some before
     pub after : Chained
     pub is : o ≡ Some after
-    pub turns : TurnsTo (store_bank Meter state wrote) c.store e result old new before after
+    pub turns : TurnsTo (store_bank state wrote) c.store e result old new before after
 
-  pub place_turned : (c : Card N) (o : Option Chained) (e : Store N) (result : Result Turn Stop) (old new : ℕ) → Runs c.chain (λ k. Runs o (TurnsTo (store_bank Meter state wrote) c.store e result old new k)) → PlaceTurned c o e result old new
+  pub place_turned : (c : Card N) (o : Option Chained) (e : Store N) (result : Result Turn Stop) (old new : ℕ) → Runs c.chain (λ k. Runs o (TurnsTo (store_bank state wrote) c.store e result old new k)) → PlaceTurned c o e result old new
   place_turned c o e result old new turned = split c.chain o refl refl turned
     where
-      split : (x y : Option Chained) → c.chain ≡ x → o ≡ y → Runs x (λ k. Runs y (TurnsTo (store_bank Meter state wrote) c.store e result old new k)) → PlaceTurned c o e result old new
+      split : (x y : Option Chained) → c.chain ≡ x → o ≡ y → Runs x (λ k. Runs y (TurnsTo (store_bank state wrote) c.store e result old new k)) → PlaceTurned c o e result old new
       split None y was is turned = absurd turned
       split (Some k) None was is turned = absurd turned
       split (Some k) (Some d) was is turned = record { before = k; was = was; after = d; is = is; turns = turned }
@@ -147,7 +146,7 @@ module _ {N : Type 0} (Meter : Type 0) (state : N → DeviceState) (wrote : N �
 
     -- the clauses of the turn of the machine
     abbrev Does : Result Turn Stop → Type 0
-    Does result = (ch : Chain) → RunsAs (bank_state c.store) (named c.store) k ch → TurnDone (store_bank Meter state wrote) c.store e k d ch (turn_of k.left ch) result
+    Does result = (ch : Chain) → RunsAs (bank_state c.store) (named c.store) k ch → TurnDone (store_bank state wrote) c.store e k d ch (turn_of k.left ch) result
 
     own_chain : (ch : Chain) (left : ℕ) (r : RunsChain state c ch left) → r.chained ≡ k
     own_chain ch left r = same_Some r.chained k (sym r.is ∙ is)
@@ -159,16 +158,16 @@ module _ {N : Type 0} (Meter : Type 0) (state : N → DeviceState) (wrote : N �
     pub left_own : (ch : Chain) (left : ℕ) → RunsChain state c ch left → k.left ≡ left
     left_own ch left r = ap (λ (x : Chained). x.left) (sym (own_chain ch left r)) ∙ r.left
 
-    done_own : (result : Result Turn Stop) → Does result → (ch : Chain) (left : ℕ) (r : RunsChain state c ch left) → TurnDone (store_bank Meter state wrote) c.store e r.chained d ch (turn_of left ch) result
+    done_own : (result : Result Turn Stop) → Does result → (ch : Chain) (left : ℕ) (r : RunsChain state c ch left) → TurnDone (store_bank state wrote) c.store e r.chained d ch (turn_of left ch) result
     done_own result does ch left r =
-        subst (λ (x : Chained). TurnDone (store_bank Meter state wrote) c.store e x d ch (turn_of left ch) result) (sym (own_chain ch left r))
-        (subst (λ (n : ℕ). TurnDone (store_bank Meter state wrote) c.store e k d ch (turn_of n ch) result) (left_own ch left r) (does ch (runs_own ch left r)))
+        subst (λ (x : Chained). TurnDone (store_bank state wrote) c.store e x d ch (turn_of left ch) result) (sym (own_chain ch left r))
+        (subst (λ (n : ℕ). TurnDone (store_bank state wrote) c.store e k d ch (turn_of n ch) result) (left_own ch left r) (does ch (runs_own ch left r)))
 
     -- the device writes that were tried, with a stop or without
     pub done_made : (result : Result Turn Stop) → Does result → (ch : Chain) (left : ℕ) → RunsChain state c ch left → ItemsMade state wrote (card_in state c) (write_items (turn_of left ch).writes) c.store.device (answer_of result) e.device
     done_made result does ch left r = made_by result (done_own result does ch left r)
       where
-        made_by : (result : Result Turn Stop) → TurnDone (store_bank Meter state wrote) c.store e r.chained d ch (turn_of left ch) result → ItemsMade state wrote (card_in state c) (write_items (turn_of left ch).writes) c.store.device (answer_of result) e.device
+        made_by : (result : Result Turn Stop) → TurnDone (store_bank state wrote) c.store e r.chained d ch (turn_of left ch) result → ItemsMade state wrote (card_in state c) (write_items (turn_of left ch).writes) c.store.device (answer_of result) e.device
         made_by (Ok reported) own = turn_made c ch left r e (Ok tt) own.0.writes
         made_by (Err s) own = turn_made c ch left r e (Err s) own
 
@@ -212,5 +211,5 @@ module _ {N : Type 0} (Meter : Type 0) (state : N → DeviceState) (wrote : N �
         subst (λ (n : ℕ). WritesFew (turn_of n ch)) (left_own ch left r) (few ch (runs_own ch left r) (going_entries (state c.store.device) c.store.count image r.up.going))
 
     -- the number of its steps
-    pub turned_steps : (old new : ℕ) → ((ch : Chain) → RunsAs (bank_state c.store) (named c.store) k ch → CountsTurn (turn_of k.left ch) old new) → (ch : Chain) (left : ℕ) → RunsChain state c ch left → CountsTurn (turn_of left ch) old new
-    turned_steps old new steps ch left r = subst (λ (n : ℕ). CountsTurn (turn_of n ch) old new) (left_own ch left r) (steps ch (runs_own ch left r))
+    pub turned_steps : (old new : ℕ) → ((ch : Chain) → RunsAs (bank_state c.store) (named c.store) k ch → new ≡ old + (turn_of k.left ch).count) → (ch : Chain) (left : ℕ) → RunsChain state c ch left → new ≡ old + (turn_of left ch).count
+    turned_steps old new ticks ch left r = ticks ch (runs_own ch left r) ∙ ap (λ (n : ℕ). old + (turn_of n ch).count) (left_own ch left r)

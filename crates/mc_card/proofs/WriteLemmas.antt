@@ -27,7 +27,7 @@ use Rattle.mc_base.specs.model_device.proofs.PieceLemmas.{held_same}
 use Rattle.mc_base.specs.model_device.proofs.ListLemmas.{splice_none}
 use Rattle.std.proofs.lemmas.Bool.{not-false}
 use Rattle.mc_base.specs.model_device.proofs.BoolLemmas.{some_is}
-use Rattle.mc_card.proofs.StoreBank.{writing_bank}
+use Rattle.mc_card.proofs.StoreBank.{store_bank}
 use Rattle.mc_bank.specs.declared.bank.Bank.{Ghosts}
 
 -- ---- words that hold pieces
@@ -82,7 +82,7 @@ committed_is apps n ps ws a there within held = grind (arith, laid_held)
 
 -- ---- writes as commits
 
-module _ {B Meter : Type 0} (ghosts : Ghosts B Meter) where
+module _ {B : Type 0} (ghosts : Ghosts B) where
   -- the writes of a chain, as commits of these words
   pub record AsCommits (b : B) (a : Answer) (e : B) : Type 0 where
     pub words : List Words
@@ -131,11 +131,11 @@ module _ {N : Type 0} (state : N → DeviceState) (wrote : N → ℕ → List �
         apps = committed_is (means m).apps w.name w.pieces ws there.0 there.1 sound.within here;
       }
 
-  pub write_made : (s e : Store N) (w : Write) (a : Answer) → IsSoundWrite (means (words_of s)).apps w → ChainWrote (writing_bank state wrote) s w a e → ItemsMade state wrote (means (words_of s)) (item_of w ∷ []) s.device a e.device
+  pub write_made : (s e : Store N) (w : Write) (a : Answer) → IsSoundWrite (means (words_of s)).apps w → ChainWrote (store_bank state wrote) s w a e → ItemsMade state wrote (means (words_of s)) (item_of w ∷ []) s.device a e.device
   write_made s e w a sound h = made_one state wrote obeys s.device e.device s.count e.count (Commit w.name h.0) (item_of w) a (write_as s e w h.0 a sound h.1 h.2) h.2
 
   -- a store that made a write has not stopped
-  pub goes_on : (s e : Store N) (w : Write) → ChainWrote (writing_bank state wrote) s w (Ok tt) e → Going (state e.device) e.count
+  pub goes_on : (s e : Store N) (w : Write) → ChainWrote (store_bank state wrote) s w (Ok tt) e → Going (state e.device) e.count
   goes_on s e w h =
       let t : Changes (bank_state s) (item_done (store_site_bytes (state s.device)) (Commit w.name h.0) (bank_state s).apps) (Ok tt) (bank_state e) =
       store_obeys state wrote obeys s.device e.device s.count e.count (Commit w.name h.0) (Ok tt) h.2 in
@@ -144,7 +144,7 @@ module _ {N : Type 0} (state : N → DeviceState) (wrote : N → ℕ → List �
   -- ---- writes in sequence
 
   -- the writes of a chain on a store that has not stopped
-  pub writes_made : (ws : List Write) (s e : Store N) (a : Answer) → Going (state s.device) s.count → AreSound (means (words_of s)).apps ws → InOrder (ChainWrote (writing_bank state wrote)) s ws a e
+  pub writes_made : (ws : List Write) (s e : Store N) (a : Answer) → Going (state s.device) s.count → AreSound (means (words_of s)).apps ws → InOrder (ChainWrote (store_bank state wrote)) s ws a e
       → ItemsMade state wrote (means (words_of s)) (write_items ws) s.device a e.device
   writes_made [] s e (Ok u) g sound h =
       let m = words_of s in

@@ -12,7 +12,6 @@ use Rattle.mc_bank.specs.model_card.specs.Commands.{Command}
 use Rattle.mc_bank.specs.model_card.specs.Items.{write_items}
 use Rattle.mc_machine.specs.declared.outcome.Outcome.{Outcome}
 use Rattle.mc_machine.specs.declared.outcome.Turn.{Turn}
-use Rattle.mc_machine.specs.Costs.{most_of_turns}
 use Rattle.mc_machine.specs.Turns.{outcome_value, turn_value}
 use Rattle.mc_manager.specs.CommandDue.{most_ticks}
 use Rattle.mc_store.specs.declared.power.Up.{Up}
@@ -23,34 +22,33 @@ use Rattle.mc_card.specs.ItemWrites.{ItemsMade}
 
 -- ---- steps
 
--- the steps of a run: at most 4 words of the application's facts and the most steps of its turns, and unless it stopped
--- at least one for each decoded instruction
+-- the steps of a run: one for each decoded instruction, and at most as many if it stopped
 abbrev pub RunSteps : Ran → Answer → ℕ → ℕ → Type 0
-RunSteps r (Ok u) old new = (old + r.count ≤ new) × (new ≤ old + (4 + most_of_turns r.turns))
-RunSteps r (Err s) old new = new ≤ old + (4 + most_of_turns r.turns)
+RunSteps r (Ok u) old new = new ≡ old + r.count
+RunSteps r (Err s) old new = new ≤ old + r.count
 
 -- the steps of a command for the selected application, if there is one
 abbrev pub PassedSteps : model.Card → Option Selected → ApduParts → ℕ → Answer → ℕ → ℕ → Type 0
 PassedSteps c None a budget answer old new = new ≡ old
 PassedSteps c (Some s) a budget answer old new = RunSteps (run c.apps s.name s.session a budget) answer old new
 
--- The steps of a command by its route. The manager reads at most 350 words at a SELECT and 400 at a command of class BE,
--- and the 4 words of the facts of a new selection; an OPEN makes beside at most two steps more than there are gaps.
+-- the steps of a command by its route: an OPEN makes at most two more than there are gaps, and no other command of the
+-- manager makes any
 abbrev pub RouteSteps : model.Card → Option Selected → ℕ → Route → Answer → ℕ → ℕ → Type 0
 RouteSteps c selected budget WrongLength answer old new = new ≡ old
 RouteSteps c selected budget WrongClass answer old new = new ≡ old
-RouteSteps c selected budget (ToSelect a) answer old new = (old ≤ new) × (new ≤ old + 354)
-RouteSteps c selected budget (ToManager a) answer old new = (old ≤ new) × (new ≤ old + (404 + most_ticks a (2 + length (gaps c))))
+RouteSteps c selected budget (ToSelect a) answer old new = new ≡ old
+RouteSteps c selected budget (ToManager a) answer old new = (old ≤ new) × (new ≤ old + most_ticks a (2 + length (gaps c)))
 RouteSteps c selected budget (ToApplication a) answer old new = PassedSteps c selected a budget answer old new
 
--- the steps of the beginning of a command: those of a command that is answered, and at most the 4 words of the
--- application's facts if it is passed to it
+-- the steps of the beginning of a command: those of a command that is answered, and none if it is passed to the
+-- application
 abbrev pub BeginSteps : model.Card → Route → ℕ → ℕ → Type 0
 BeginSteps c WrongLength old new = new ≡ old
 BeginSteps c WrongClass old new = new ≡ old
-BeginSteps c (ToSelect a) old new = (old ≤ new) × (new ≤ old + 354)
-BeginSteps c (ToManager a) old new = (old ≤ new) × (new ≤ old + (404 + most_ticks a (2 + length (gaps c))))
-BeginSteps c (ToApplication a) old new = (old ≤ new) × (new ≤ old + 4)
+BeginSteps c (ToSelect a) old new = new ≡ old
+BeginSteps c (ToManager a) old new = (old ≤ new) × (new ≤ old + most_ticks a (2 + length (gaps c)))
+BeginSteps c (ToApplication a) old new = new ≡ old
 
 -- The most device writes of one item of a command: 147 of an application's, which touches at most 64 words, and 84 of
 -- the manager's, which touches at most 36. A card that runs has layout 2.

@@ -1,27 +1,18 @@
 -- How the manager of a card handles a command.
-use Rattle.std.specs.Prelude.{◌≡◌, ℕ, ◌+◌, false, List, length, Option, Some, None, Result, Ok, Err}
+use Rattle.std.specs.Prelude.{◌≡◌, ℕ, false, List, Option, Some, None, Result, Ok, Err}
 use Rattle.mc_base.specs.model_device.specs.declared.device.Stop.{Stop}
 use Rattle.mc_base.specs.model_device.specs.Orders.{Answer}
 use Rattle.mc_base.specs.model_device.specs.Device.{DeviceState}
-use Rattle.mc_base.specs.model_device.specs.Card as model
-use Rattle.mc_base.specs.model_device.specs.Layout.{gaps}
 use Rattle.mc_apdu.specs.model_machine.specs.Apdu.{ApduParts}
-use Rattle.mc_bank.specs.model_card.specs.Manager.{Route, ToSelect, ToManager, ToApplication, route_of_parts}
+use Rattle.mc_bank.specs.model_card.specs.Manager.{ToApplication, route_of_parts}
 use Rattle.mc_bank.specs.model_card.specs.Commands.{by_route}
 use Rattle.mc_apdu.specs.declared.reply.Reply.{Reply}
 use Rattle.mc_machine.specs.declared.outcome.Outcome.{Outcome}
 use Rattle.mc_machine.specs.declared.outcome.Outcome.TheVariants as outcome
 use Rattle.mc_manager.specs.declared.selection.Selection.{Selection}
-use Rattle.mc_manager.specs.CommandDue.{most_ticks}
 use Rattle.mc_card.specs.declared.card.Card.{Card}
 use Rattle.mc_card.specs.Parts.{card_in, session_state_in}
 use Rattle.mc_card.specs.Ends.{is_passed, Commanded}
-
--- the most steps of the manager of a card by the route of a command, with the 4 words of the facts of a new selection
-abbrev pub most_direct : model.Card → Route → ℕ
-most_direct c (ToSelect a) = 354
-most_direct c (ToManager a) = 404 + most_ticks a (2 + length (gaps c))
-most_direct c _ = 0
 
 module _ {N : Type 0} (state : N → DeviceState) (wrote : N → ℕ → List ℕ → Answer → N → Type 0) where
   -- a command that the manager answers

@@ -1,4 +1,4 @@
-ghost use Rattle.std.specs.Prelude.{◌≡◌, ◌+◌, ◌-◌, ◌*◌, ◌≤◌, ℕ, true, length, take, drop, option_map, Ok, Some, None, IsSome, IfSome, IfOk, OnOk};
+ghost use Rattle.std.specs.Prelude.{◌≡◌, ◌+◌, ◌-◌, ◌≤◌, ℕ, true, length, take, drop, option_map, Ok, Some, None, IsSome, IfSome, IfOk, OnOk};
 ghost use Rattle.mc_base.specs.model_device.specs.Bytes.{lookup};
 ghost use Rattle.mc_base.specs.model_device.specs.Orders.{answer_of};
 ghost use Rattle.mc_base.specs.model_device.specs.Device.{Makes, Ended, IsSized};
@@ -8,10 +8,9 @@ ghost use Rattle.mc_apdu.specs.model_machine.specs.Code.{Shaped};
 ghost use Rattle.mc_bank.specs.model_card.specs.Commands.{status};
 ghost use Rattle.mc_bank.specs.Bank.{app_of};
 ghost use Rattle.mc_machine.specs.declared.outcome.Outcome.TheVariants as outcome;
-ghost use Rattle.mc_machine.specs.Costs.{CountsTurn};
 ghost use Rattle.mc_machine.specs.Turns.{brief_result, outcome_value, run_outcome, reply_or_stop};
 ghost use Rattle.mc_machine.specs.Turns.{AgreesWithEnd, IsReply, WritesFew};
-ghost use Rattle.mc_store.specs.Power.{most_power_reads, power_writes, power_answer, PowersUp};
+ghost use Rattle.mc_store.specs.Power.{power_writes, power_answer, PowersUp};
 ghost use Rattle.mc_card.specs.Parts.{device_in, card_in, session_state_in, due, IsUp, IsReadyCard, RunsChain, IsRunning};
 ghost use Rattle.mc_card.specs.Ends.{power_up_end, restart_end, device_after, Commanded, Begun, ChainTurned, RouteSteps};
 ghost use Rattle.mc_card.specs.Ends.{BeginSteps, most_weight};
@@ -26,13 +25,12 @@ use mc_manager::Manager;
 use mc_nvm::Nvm;
 use mc_segs::Session;
 use mc_store::{Store, Up};
+use std::sync::ledger::Ledger;
 
 /// A card that runs: its applications in the words of a device, the manager with the selection and the open load, the
 /// session bytes of the selected application, and the chain of a command that is run turn by turn.
-// With the bound here, and not at the impls alone, its value would also have the type of the device's ledger as a
-// parameter.
 #[derive(Drop)]
-pub struct Card<N> {
+pub struct Card<N: Nvm> {
     pub(crate) store: Store<N>,
     pub(crate) manager: Manager,
     pub(crate) session: Session,
@@ -49,7 +47,7 @@ impl<N: Nvm> Card<N> {
     ///
     /// Returns the device with `Up::Stop` if it cut or refused a write, and with `Up::Unusable`, the first fault and
     /// its place, if the words are no card.
-    pub fn power_up(dev: N, steps: &mut Steps<N::Meter>) -> Result<(Card<N>, u16), (N, Up)>
+    pub fn power_up(dev: N) -> Result<(Card<N>, u16), (N, Up)>
         requires power { (N.state dev).on ≡ true }
         // Up to the first one that stops it makes the writes that recovery still has to make and then those of the
         // migration.
@@ -64,11 +62,9 @@ impl<N: Nvm> Card<N> {
         ensures session_state { IfOk result (λ p. session_state_in N.state p.0 ≡ empty_session_state) }
         // The device is the one that came in.
         ensures keeps_device { N.same dev (device_after result) }
-        ensures rises { steps.old ≤ steps.new }
-        ensures reads { steps.new ≤ steps.old + most_power_reads (N.state dev).words }
     {
         let mut card = Card::asleep(dev);
-        match card.restart(steps) {
+        match card.restart() {
             Ok(writes) => Ok((card, writes)),
             Err(up) => Err((card.into_dev(), up)),
         }
@@ -94,7 +90,7 @@ impl<N: Nvm> Card<N> {
     ///
     /// Returns `Up::Stop` if the device cut or refused a write, and `Up::Unusable`, the first fault and its place, if
     /// the words are no card. After either only `into_dev` and `restart` may be called.
-    pub fn restart(&mut self, steps: &mut Steps<N::Meter>) -> Result<u16, Up>
+    pub fn restart(&mut self) -> Result<u16, Up>
         requires power { (N.state (device_in self.old)).on ≡ true }
         // Up to the first one that stops it makes the writes that recovery still has to make and then those of the
         // migration.
@@ -110,10 +106,8 @@ impl<N: Nvm> Card<N> {
         ensures session_state { IfOk result (λ n. session_state_in N.state self.new ≡ empty_session_state) }
         // The device is the same one.
         ensures keeps_device { N.same (device_in self.old) (device_in self.new) }
-        ensures rises { steps.old ≤ steps.new }
-        ensures reads { steps.new ≤ steps.old + most_power_reads (N.state (device_in self.old)).words }
     {
-        let writes = self.store.restart(steps)?;
+        let writes = self.store.restart()?;
         self.manager = Manager::new();
         self.session = Session::new(0);
         self.chain.clear();
@@ -129,11 +123,11 @@ impl<N: Nvm> Card<N> {
     /// # Errors
     ///
     /// Returns the `Stop` of the device. After a `Stop` only `into_dev` and `restart` may be called.
-    pub fn command(
+    pub fn command<L: Ledger>(
         &mut self,
         bytes: &[u8],
         budget: u32,
-        steps: &mut Steps<N::Meter>,
+        steps: &mut Steps<L>,
     ) -> Result<Outcome, Stop>
         requires ready { IsReadyCard N.state self.old }
         requires some { 1 ≤ budget }
@@ -150,7 +144,7 @@ impl<N: Nvm> Card<N> {
             ≡ (due N.state self.old bytes.now budget).session_state) }
         // The card is ready for the next command.
         ensures on { OnOk result (IsReadyCard N.state self.new) }
-        // Each instruction of an application is one step, and so is each word that is read of the device.
+        // Each instruction of an application is one step, and of the other commands OPEN alone makes any.
         ensures steps { RouteSteps (card_in N.state self.old) (session_state_in N.state self.old).selected budget
             (route bytes.now) (answer_of result) steps.old steps.new }
         // Each item that was begun makes at most 147 device writes if an application runs, and 84 if the manager
@@ -176,12 +170,12 @@ impl<N: Nvm> Card<N> {
     ///
     /// Returns the `Stop` of the device. The contents of `into` are unspecified then, and only `into_dev` and `restart`
     /// may be called.
-    pub fn command_into(
+    pub fn command_into<L: Ledger>(
         &mut self,
         bytes: &[u8],
         budget: u32,
         into: &mut Outcome,
-        steps: &mut Steps<N::Meter>,
+        steps: &mut Steps<L>,
     ) -> Result<(), Stop>
         requires ready { IsReadyCard N.state self.old }
         requires some { 1 ≤ budget }
@@ -198,7 +192,7 @@ impl<N: Nvm> Card<N> {
             ≡ (due N.state self.old bytes.now budget).session_state) }
         // The card is ready for the next command.
         ensures on { OnOk result (IsReadyCard N.state self.new) }
-        // Each instruction of an application is one step, and so is each word that is read of the device.
+        // Each instruction of an application is one step, and of the other commands OPEN alone makes any.
         ensures steps { RouteSteps (card_in N.state self.old) (session_state_in N.state self.old).selected budget
             (route bytes.now) (answer_of result) steps.old steps.new }
         // Each item that was begun makes at most 147 device writes if an application runs, and 84 if the manager
@@ -222,12 +216,12 @@ impl<N: Nvm> Card<N> {
     }
 
     // Runs one command. Its reply, if it ends with one, is written to the reply in `into`.
-    fn perform_in(
+    fn perform_in<L: Ledger>(
         &mut self,
         bytes: &[u8],
         budget: u32,
         into: &mut Outcome,
-        steps: &mut Steps<N::Meter>,
+        steps: &mut Steps<L>,
     ) -> Result<End, Stop>
         requires ready { IsReadyCard N.state self.old }
         requires some { 1 ≤ budget }
@@ -248,12 +242,12 @@ impl<N: Nvm> Card<N> {
     }
 
     // Runs one command. Its reply, if it ends with one, is written to `reply`.
-    fn perform(
+    fn perform<L: Ledger>(
         &mut self,
         bytes: &[u8],
         budget: u32,
         reply: &mut Reply,
-        steps: &mut Steps<N::Meter>,
+        steps: &mut Steps<L>,
     ) -> Result<End, Stop>
         requires ready { IsReadyCard N.state self.old }
         requires some { 1 ≤ budget }
@@ -291,11 +285,11 @@ impl<N: Nvm> Card<N> {
     /// # Errors
     ///
     /// Returns the `Stop` of the device. After a `Stop` only `into_dev` and `restart` may be called.
-    pub fn begin(
+    pub fn begin<L: Ledger>(
         &mut self,
         bytes: &[u8],
         budget: u32,
-        steps: &mut Steps<N::Meter>,
+        steps: &mut Steps<L>,
     ) -> Result<Option<Outcome>, Stop>
         requires ready { IsReadyCard N.state self.old }
         requires some { 1 ≤ budget }
@@ -317,27 +311,27 @@ impl<N: Nvm> Card<N> {
             None => Ok(Some(Outcome::Reply(reply))),
             Some(slot) => {
                 self.chain
-                    .begin(&self.store, slot, &self.session, &apdu, budget, steps);
+                    .begin(&self.store, slot, &self.session, &apdu, budget);
                 Ok(None)
             }
         }
     }
 
     /// Runs the next turn of a command that `begin` passed to the application and that has not ended: one
-    /// executed instruction, which is one step beside those of its reads, or a fetch that ends it. With the last
-    /// turn the session bytes become those of the selection.
+    /// executed instruction, which is one step, or a fetch that ends it. With the last turn the session bytes
+    /// become those of the selection.
     ///
     /// It is `brief_turn` with an outcome of its own.
     ///
     /// # Errors
     ///
     /// Returns the `Stop` of the device. After a `Stop` only `into_dev` and `restart` may be called.
-    pub fn turn(&mut self, steps: &mut Steps<N::Meter>) -> Result<Turn, Stop>
+    pub fn turn<L: Ledger>(&mut self, steps: &mut Steps<L>) -> Result<Turn, Stop>
         requires running { IsRunning N.state self.old }
         ensures done { (ch : ModelChain) (left : ℕ) → RunsChain N.state self.old ch left
             → ChainTurned N.state N.wrote self.old ch left (turn_of left ch) result self.new }
         ensures steps { (ch : ModelChain) (left : ℕ) → RunsChain N.state self.old ch left
-            → CountsTurn (turn_of left ch) steps.old steps.new }
+            → steps.new ≡ steps.old + (turn_of left ch).count }
         ensures shaped { IfOk result (λ turn. IfSome turn.ins Shaped) }
         ensures low { IfOk result (λ turn. 1 ≤ turn.depth) }
         ensures high { IfOk result (λ turn. turn.depth ≤ 4) }
@@ -357,17 +351,17 @@ impl<N: Nvm> Card<N> {
     /// # Errors
     ///
     /// Returns the `Stop` of the device. After a `Stop` only `into_dev` and `restart` may be called.
-    pub fn brief_turn(
+    pub fn brief_turn<L: Ledger>(
         &mut self,
         into: &mut Outcome,
-        steps: &mut Steps<N::Meter>,
+        steps: &mut Steps<L>,
     ) -> Result<BriefTurn, Stop>
         requires running { IsRunning N.state self.old }
         ensures done { (ch : ModelChain) (left : ℕ) → RunsChain N.state self.old ch left
             → ChainTurned N.state N.wrote self.old ch left (turn_of left ch) (brief_result result into.new) self.new }
         ensures agrees { IfOk result (λ turn. AgreesWithEnd turn.end into.new) }
         ensures steps { (ch : ModelChain) (left : ℕ) → RunsChain N.state self.old ch left
-            → CountsTurn (turn_of left ch) steps.old steps.new }
+            → steps.new ≡ steps.old + (turn_of left ch).count }
         ensures shaped { IfOk result (λ turn. IfSome turn.ins Shaped) }
         ensures low { IfOk result (λ turn. 1 ≤ turn.depth) }
         ensures high { IfOk result (λ turn. turn.depth ≤ 4) }
@@ -385,30 +379,26 @@ impl<N: Nvm> Card<N> {
 
     /// Returns the length in bytes of the static segment of an application, or `None` exactly if the name is
     /// not on the card.
-    pub fn static_len(&self, aid: &Aid, steps: &mut Steps<N::Meter>) -> Option<u16>
+    pub fn static_len(&self, aid: &Aid) -> Option<u16>
         requires { IsUp N.state self.now }
         ensures value { result ≡ option_map (λ a. length a.fixed) (lookup (card_in N.state self.now).apps aid.now) }
         ensures most { IfSome result (λ n. n ≤ 4096) }
-        ensures rises { steps.old ≤ steps.new }
-        ensures reads { steps.new ≤ steps.old + 329 }
     {
-        let slot = self.store.find(aid, steps)?;
-        Some(self.store.facts(slot, steps).sizes.fixed)
+        let slot = self.store.find(aid)?;
+        Some(self.store.facts(slot).sizes.fixed)
     }
 
     /// Copies static bytes of an application that is on the card to `into`, from `at` on; all of them lie in
     /// its segment.
-    pub fn static_of(&self, aid: &Aid, at: u16, into: &mut [u8], steps: &mut Steps<N::Meter>)
+    pub fn static_of(&self, aid: &Aid, at: u16, into: &mut [u8])
         requires up { IsUp N.state self.now }
         requires there { IsSome (lookup (card_in N.state self.now).apps aid.now) }
         requires range { at + length into.old ≤ length (app_of (card_in N.state self.now).apps (Some aid.now)).fixed }
-        ensures bytes { into.new ≡ take (length into.old)
+        ensures { into.new ≡ take (length into.old)
             (drop at (app_of (card_in N.state self.now).apps (Some aid.now)).fixed) }
-        ensures rises { steps.old ≤ steps.new }
-        ensures reads { 8 * steps.new ≤ 8 * steps.old + (8 * 325 + length into.old + 14) }
     {
-        if let Some(slot) = self.store.find(aid, steps) {
-            self.store.fixed(slot, at, into, steps);
+        if let Some(slot) = self.store.find(aid) {
+            self.store.fixed(slot, at, into);
         }
     }
 

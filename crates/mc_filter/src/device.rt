@@ -6,14 +6,13 @@ ghost use Rattle.mc_base.specs.model_device.specs.Device.{device_words};
 use mc_base::NoMemory;
 use mc_nvm::{DEVICE_WORDS, SimNvm};
 use std::alloc::Global;
-use std::sync::ledger::Ledger;
 
 /// Returns a blank device in memory, of [`DEVICE_WORDS`] words, on which a program plays.
 ///
 /// # Errors
 ///
 /// `NoMemory` if its words cannot be allocated.
-pub fn blank_device<L: Ledger>(alloc: Global) -> Result<SimNvm<L>, NoMemory>
+pub fn blank_device(alloc: Global) -> Result<SimNvm, NoMemory>
     ensures { IfOk result (λ device. device ≡ blank_sim device_words) }
 {
     SimNvm::new(alloc, DEVICE_WORDS)

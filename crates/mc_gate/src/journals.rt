@@ -1,4 +1,4 @@
-ghost use Rattle.std.specs.Prelude.{◌≡◌, ◌+◌, ◌≤◌, true, length, OnOk};
+ghost use Rattle.std.specs.Prelude.{◌≡◌, ◌≤◌, true, length, OnOk};
 ghost use Rattle.mc_base.specs.model_device.specs.Device.{Makes};
 ghost use Rattle.mc_base.specs.model_device.specs.Image.{targets};
 ghost use Rattle.mc_base.specs.model_device.specs.Stopped.{entries};
@@ -7,7 +7,7 @@ ghost use Rattle.mc_gate.specs.Look.{target_list};
 
 use crate::layouts::Layout;
 use crate::look::Targets;
-use mc_base::{Steps, Stop, Word};
+use mc_base::{Stop, Word};
 use mc_nvm::Nvm;
 
 /// The journal of one layout: how the targets and the values of its pairs are written, and how its targets are read.
@@ -39,14 +39,8 @@ pub trait Journal {
     /// # Errors
     ///
     /// Returns the place of the first bad target word.
-    fn read_targets<N: Nvm>(
-        device: &N,
-        count: usize,
-        steps: &mut Steps<N::Meter>,
-    ) -> Result<Targets, u16>
+    fn read_targets<N: Nvm>(device: &N, count: usize) -> Result<Targets, u16>
         requires size { 256 ≤ length (N.state device.now).words }
         requires few { count ≤ 64 }
-        ensures list { targets (journal_of LAYOUT) (N.state device.now).words count ≡ target_list result }
-        ensures rises { steps.old ≤ steps.new }
-        ensures reads { steps.new ≤ steps.old + 64 };
+        ensures { targets (journal_of LAYOUT) (N.state device.now).words count ≡ target_list result };
 }

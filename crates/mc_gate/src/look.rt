@@ -1,4 +1,4 @@
-ghost use Rattle.std.specs.Prelude.{◌≡◌, ◌+◌, ◌≤◌, length, IfSome, MatchResult};
+ghost use Rattle.std.specs.Prelude.{◌≡◌, ◌≤◌, length, IfSome, MatchResult};
 ghost use Rattle.mc_base.specs.model_device.specs.Image.{within, look_by_targets, pairs, number, is_count, is_open, look_j};
 ghost use Rattle.mc_gate.specs.Layouts.{journal_of};
 ghost use Rattle.mc_gate.specs.Look.{look_of, target_list, HasCount};
@@ -6,7 +6,7 @@ ghost use Rattle.mc_gate.specs.Look.{look_of, target_list, HasCount};
 use crate::journals::Journal;
 use crate::layouts::{HEAD, Layout};
 use arrayvec::ArrayVec;
-use mc_base::{Steps, Word, number_of};
+use mc_base::{Word, number_of};
 use mc_nvm::Nvm;
 
 /// The pairs of a journal, each a target and its word.
@@ -24,46 +24,34 @@ pub enum Found {
 }
 
 /// Returns what the journal `J` of a device holds, by its own gate alone.
-pub fn look<J: Journal, N: Nvm>(device: &N, steps: &mut Steps<N::Meter>) -> Found
+pub fn look<J: Journal, N: Nvm>(device: &N) -> Found
     ensures found { look_of (journal_of J.LAYOUT) result ≡ look_j (journal_of J.LAYOUT) (N.state device.now).words }
-    ensures rises { steps.old ≤ steps.new }
-    ensures reads { steps.new ≤ steps.old + 130 }
 {
-    match pair_count(device, J::LAYOUT, steps) {
-        Ok(count) => {
-            let targets = J::read_targets(device, count, steps);
-            aim(device, J::LAYOUT, targets, steps)
-        }
+    match pair_count(device, J::LAYOUT) {
+        Ok(count) => aim(device, J::LAYOUT, J::read_targets(device, count)),
         Err(found) => found,
     }
 }
 
 /// Returns whether the gate of a layout is open: only the word that opens it does.
-pub fn is_gate_open<N: Nvm>(device: &N, layout: Layout, steps: &mut Steps<N::Meter>) -> bool
+pub fn is_gate_open<N: Nvm>(device: &N, layout: Layout) -> bool
     ensures open { result ≡ is_open (journal_of layout) (N.state device.now).words }
     ensures low { 256 ≤ length (N.state device.now).words }
-    ensures ticks { steps.new ≡ steps.old + 1 }
 {
     let _size = device.len();
-    device.read(layout.gate(), steps) == layout.opening()
+    device.read(layout.gate()) == layout.opening()
 }
 
 // Returns the number of pairs of an open journal with a good head; else what is found of the journal.
-fn pair_count<N: Nvm>(
-    device: &N,
-    layout: Layout,
-    steps: &mut Steps<N::Meter>,
-) -> Result<usize, Found>
+fn pair_count<N: Nvm>(device: &N, layout: Layout) -> Result<usize, Found>
     ensures count { MatchResult result (λ count. HasCount (journal_of layout) (N.state device.now).words count)
         (λ found. look_of (journal_of layout) found ≡ look_j (journal_of layout) (N.state device.now).words) }
     ensures low { 256 ≤ length (N.state device.now).words }
-    ensures rises { steps.old ≤ steps.new }
-    ensures reads { steps.new ≤ steps.old + 2 }
 {
-    if !is_gate_open(device, layout, steps) {
+    if !is_gate_open(device, layout) {
         return Err(Found::Closed);
     }
-    match head_count(device.read(HEAD, steps)) {
+    match head_count(device.read(HEAD)) {
         Some(count) => Ok(count),
         None => Err(Found::Bad(HEAD as u16)),
     }
@@ -87,39 +75,25 @@ fn head_count(head: Word) -> Option<usize>
 }
 
 // Returns what is found of an open journal by its targets: their pairs, or the place of the first bad target word.
-fn aim<N: Nvm>(
-    device: &N,
-    layout: Layout,
-    targets: Result<Targets, u16>,
-    steps: &mut Steps<N::Meter>,
-) -> Found
-    ensures found { look_of (journal_of layout) result
+fn aim<N: Nvm>(device: &N, layout: Layout, targets: Result<Targets, u16>) -> Found
+    ensures { look_of (journal_of layout) result
         ≡ look_by_targets (journal_of layout) (N.state device.now).words (target_list targets) }
-    ensures rises { steps.old ≤ steps.new }
-    ensures reads { steps.new ≤ steps.old + 64 }
 {
     match targets {
-        Ok(targets) => Found::Pending(read_pairs(device, layout, targets.as_slice(), steps)),
+        Ok(targets) => Found::Pending(read_pairs(device, layout, targets.as_slice())),
         Err(place) => Found::Bad(place),
     }
 }
 
 // Reads the value of each target, at most 64.
-fn read_pairs<N: Nvm>(
-    device: &N,
-    layout: Layout,
-    targets: &[u16],
-    steps: &mut Steps<N::Meter>,
-) -> Pairs
+fn read_pairs<N: Nvm>(device: &N, layout: Layout, targets: &[u16]) -> Pairs
     requires few { length targets.now ≤ 64 }
-    ensures pairs { result.items ≡ pairs (journal_of layout) (N.state device.now).words 0 targets.now }
-    ensures rises { steps.old ≤ steps.new }
-    ensures reads { steps.new ≤ steps.old + 64 }
+    ensures { result.items ≡ pairs (journal_of layout) (N.state device.now).words 0 targets.now }
 {
     let _size = device.len();
     let mut list = ArrayVec::new();
     for (i, target) in targets.iter().enumerate() {
-        list.push((*target, device.read(layout.place_of_value(i), steps)));
+        list.push((*target, device.read(layout.place_of_value(i))));
     }
     list
 }

@@ -1,4 +1,4 @@
-ghost use Rattle.std.specs.Prelude.{◌≡◌, ◌+◌, ◌≤◌, true, length};
+ghost use Rattle.std.specs.Prelude.{◌≡◌, ◌≤◌, true, length};
 ghost use Rattle.mc_base.specs.model_device.specs.Device.{Makes};
 ghost use Rattle.mc_base.specs.model_device.specs.Image.{look_j};
 ghost use Rattle.mc_base.specs.model_device.specs.Stopped.{owed_writes, outcome_answer, LookAllows, RecoverEnds};
@@ -11,7 +11,6 @@ use crate::journals::Journal;
 use crate::layouts::Layout;
 use crate::look::{Found, look};
 use crate::put::replay_all;
-use mc_base::Steps;
 use mc_nvm::Nvm;
 
 /// Makes the writes that recovery still has to make for the journal `J`, and returns their number, 0 to 65: all
@@ -22,20 +21,15 @@ use mc_nvm::Nvm;
 ///
 /// Returns `Recover::Stop` if a device write stopped, and `Recover::BadJournal` with the place of the first bad word if
 /// the journal is open and bad; nothing was written then.
-pub fn recover<J: Journal, N: Nvm>(
-    device: &mut N,
-    steps: &mut Steps<N::Meter>,
-) -> Result<u16, Recover>
+pub fn recover<J: Journal, N: Nvm>(device: &mut N) -> Result<u16, Recover>
     requires power { (N.state device.old).on ≡ true }
     ensures makes { Makes N.wrote device.old (owed_writes (look_j (journal_of J.LAYOUT) (N.state device.old).words))
         (outcome_answer (outcome_of result)) device.new }
     ensures ends { RecoverEnds (journal_of J.LAYOUT) (look_j (journal_of J.LAYOUT) (N.state device.old).words)
         (N.state device.old) (outcome_of result) (N.state device.new) }
     ensures keeps_device { N.same device.old device.new }
-    ensures rises { steps.old ≤ steps.new }
-    ensures reads { steps.new ≤ steps.old + 130 }
 {
-    let found = look::<J, N>(device, steps);
+    let found = look::<J, N>(device);
     make_replay(device, J::LAYOUT, found)
 }
 

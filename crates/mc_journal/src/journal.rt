@@ -1,4 +1,4 @@
-ghost use Rattle.std.specs.Prelude.{◌≡◌, ◌+◌, ◌≤◌, true, false, length};
+ghost use Rattle.std.specs.Prelude.{◌≡◌, true, false, length};
 ghost use Rattle.mc_base.specs.model_device.specs.Device.{Makes};
 ghost use Rattle.mc_base.specs.model_device.specs.Image.{One, is_open, look_j};
 ghost use Rattle.mc_base.specs.model_device.specs.Stopped.{IsAtomic, writes, WriteEnds, owed_writes, outcome_answer, RecoverEnds};
@@ -6,7 +6,7 @@ ghost use Rattle.mc_gate.specs.Recovery.{outcome_of};
 
 use crate::look::read_targets;
 use crate::put::put_entries;
-use mc_base::{Steps, Stop, Word};
+use mc_base::{Stop, Word};
 use mc_gate::{Journal, Layout, Recover, Targets};
 use mc_nvm::Nvm;
 
@@ -24,12 +24,8 @@ impl Journal for JournalV1 {
         put_entries(device, list)
     }
 
-    fn read_targets<N: Nvm>(
-        device: &N,
-        count: usize,
-        steps: &mut Steps<N::Meter>,
-    ) -> Result<Targets, u16> {
-        read_targets(device, count, steps)
+    fn read_targets<N: Nvm>(device: &N, count: usize) -> Result<Targets, u16> {
+        read_targets(device, count)
     }
 }
 
@@ -58,15 +54,13 @@ pub fn write_words<N: Nvm>(device: &mut N, list: &[(u16, Word)]) -> Result<(), S
 ///
 /// Returns `Recover::Stop` if a device write stopped, and `Recover::BadJournal` with the place of the first bad word if
 /// the journal is open and bad; nothing was written then.
-pub fn recover<N: Nvm>(device: &mut N, steps: &mut Steps<N::Meter>) -> Result<u16, Recover>
+pub fn recover<N: Nvm>(device: &mut N) -> Result<u16, Recover>
     requires power { (N.state device.old).on ≡ true }
     ensures makes { Makes N.wrote device.old (owed_writes (look_j One (N.state device.old).words))
         (outcome_answer (outcome_of result)) device.new }
     ensures ends { RecoverEnds One (look_j One (N.state device.old).words) (N.state device.old) (outcome_of result)
         (N.state device.new) }
     ensures keeps_device { N.same device.old device.new }
-    ensures rises { steps.old ≤ steps.new }
-    ensures reads { steps.new ≤ steps.old + 130 }
 {
-    mc_gate::recover::<JournalV1, N>(device, steps)
+    mc_gate::recover::<JournalV1, N>(device)
 }

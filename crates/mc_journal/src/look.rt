@@ -1,9 +1,9 @@
-ghost use Rattle.std.specs.Prelude.{◌≡◌, ◌+◌, ◌≤◌, length};
+ghost use Rattle.std.specs.Prelude.{◌≡◌, ◌≤◌, length};
 ghost use Rattle.mc_base.specs.model_device.specs.Image.{One, within, targets, number};
 ghost use Rattle.mc_gate.specs.Look.{target_list};
 
 use arrayvec::ArrayVec;
-use mc_base::{Steps, Word, number_of};
+use mc_base::{Word, number_of};
 use mc_gate::{Targets, is_within};
 use mc_nvm::Nvm;
 
@@ -13,22 +13,16 @@ use mc_nvm::Nvm;
 ///
 /// Returns the place of the first bad target word: it is not six zero bytes and a number, or the number is neither word
 /// 0 nor a word of the heap.
-pub fn read_targets<N: Nvm>(
-    device: &N,
-    count: usize,
-    steps: &mut Steps<N::Meter>,
-) -> Result<Targets, u16>
+pub fn read_targets<N: Nvm>(device: &N, count: usize) -> Result<Targets, u16>
     requires size { 256 ≤ length (N.state device.now).words }
     requires few { count ≤ 64 }
-    ensures list { targets One (N.state device.now).words count ≡ target_list result }
-    ensures rises { steps.old ≤ steps.new }
-    ensures reads { steps.new ≤ steps.old + count }
+    ensures { targets One (N.state device.now).words count ≡ target_list result }
 {
     let size = device.len();
     let mut found = ArrayVec::new();
     for i in 0..count {
         let place = 3 + 2 * i as u32;
-        match target_of(device.read(place, steps), size) {
+        match target_of(device.read(place), size) {
             Some(target) => found.push(target),
             None => return Err(place as u16),
         }

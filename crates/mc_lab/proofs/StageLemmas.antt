@@ -9,8 +9,8 @@ use Rattle.mc_script.specs.declared.answer.Answer.{Answer}
 use Rattle.mc_script.specs.declared.player.Player.{Player}
 use Rattle.mc_script.specs.Players.{answer_value, device_of, IsPlayerAt, IsPlaying}
 use Rattle.mc_script.specs.Lines.{LineDone}
-use Rattle.mc_script.specs.StepCounts.{answer_reads, text_reads, CountsLine, PlaySteps}
-use Rattle.mc_script.proofs.StepPlayLemmas.{text_counts, steps_as, steps_then}
+use Rattle.mc_script.specs.StepCounts.{CountsLine, PlaySteps}
+use Rattle.mc_script.proofs.StepPlayLemmas.{step_counts, steps_as, steps_then}
 use Rattle.law_explore.specs.model_play.proofs.PlayLemmas.{step_is}
 use Rattle.mc_lab.specs.Rising.{Rising, count_below, last_of}
 use Rattle.mc_lab.specs.Expectations.{line_number, result_above, result_text, steady_from, steady_steps, step_text}
@@ -105,11 +105,10 @@ module _ {N : Type 0} (state : N → DeviceState) (bench : N → BenchState) whe
       ap result_text stepped.answers ∙ sym (ap step_text (ap (λ k. last_of k whole) (add-one i) ∙ next.first)) in
       record { here = t.after; at = stepped.at; steady = stepped.played.counts.counts.steady ∙ h.steady; rest = next.behind; last = is ∙ text_is }
 
-  -- the steps of one more line and of its text
-  pub counted_on : {R : Type 0} (reported : R → List Turn → R → Type 0) (whole : List Step) (ls : List (ℕ × DeckLine)) (p q : Player N) (i n : ℕ) (l : DeckLine) (text : List ℕ) (before after : R) (answer : Option Answer) (old now mid new : ℕ)
-      → slice_get ls i ≡ Some (n, l) → LineDone state bench reported p l before after answer q → CountsLine state bench 0 p l answer now mid → mid ≤ new → new ≤ mid + answer_reads answer → answer_reads answer ≤ text_reads l
-      → Staged state bench whole ls p i text → PlaySteps 0 (take i whole) old now → PlaySteps 0 (take (i + 1) whole) old new
-  counted_on reported whole ls p q i n l text before after answer old now mid new e done counts rises reads few h steps =
+  -- the steps of one more line
+  pub counted_on : {R : Type 0} (reported : R → List Turn → R → Type 0) (whole : List Step) (ls : List (ℕ × DeckLine)) (p q : Player N) (i n : ℕ) (l : DeckLine) (text : List ℕ) (before after : R) (answer : Option Answer) (old now new : ℕ)
+      → slice_get ls i ≡ Some (n, l) → LineDone state bench reported p l before after answer q → CountsLine state bench p l answer now new → Staged state bench whole ls p i text → PlaySteps (take i whole) old now → PlaySteps (take (i + 1) whole) old new
+  counted_on reported whole ls p q i n l text before after answer old now new e done counts h steps =
       let d = done h.here n h.at in
       let stepped = d.1.stepped in
       let worn = stepped.played.steady h.steady in
@@ -117,7 +116,7 @@ module _ {N : Type 0} (state : N → DeviceState) (bench : N → BenchState) whe
       let left : drop i whole ≡ t ∷ steady_from t.after (drop (i + 1) ls) =
       h.rest ∙ ap (steady_from h.here) (drop_at ls i (n, l) e) ∙ steady_on h.here (n, l) (drop (i + 1) ls)
       ∙ ap (λ w. step h.here (n, l) w ∷ steady_from (step h.here (n, l) w).after (drop (i + 1) ls)) (sym worn) in
-      let one = text_counts state 0 q h.here (n, l) d.0 answer now mid new stepped.answers (counts h.here h.at) rises reads few in
+      let one = step_counts state q h.here (n, l) d.0 answer now new stepped.answers (counts h.here h.at) in
       steps_as (take i whole ++ t ∷ []) (take (i + 1) whole) old new (sym (take_next whole i t (steady_from t.after (drop (i + 1) ls)) left))
       (steps_then (take i whole) (t ∷ []) old now new steps one)
 

@@ -207,11 +207,11 @@ pub front_less : (m : List (List ℕ)) (k : Option Kept) (n a : ℕ) (ls : List 
 front_less m k n a ls most h = subst (λ (l : List (ℕ × DeckLine)). IsKeptAt m k (state_on_blank l)) (take-take n a ls most) h
 
 -- those before a place
-pub played_before : {L : Type 0} (l : Laboratory L) (p : Place) → IsPlace p → HasPlayed l (front_of p) → (l.played ≤ p.at) × IsKeptAt l.device.root l.kept (state_on_blank (take l.played p.deck.now))
+pub played_before : (l : Laboratory) (p : Place) → IsPlace p → HasPlayed l (front_of p) → (l.played ≤ p.at) × IsKeptAt l.device.root l.kept (state_on_blank (take l.played p.deck.now))
 played_before l p at h = grind (arith, length-take-le, front_less)
 
 -- another root that is the same keeps what was played
-pub played_on_root : {L : Type 0} (l : Laboratory L) (d : BranchState) (ls : List (ℕ × DeckLine)) → d.root ≡ l.device.root → HasPlayed l ls → HasPlayed (record l { device = d }) ls
+pub played_on_root : (l : Laboratory) (d : BranchState) (ls : List (ℕ × DeckLine)) → d.root ≡ l.device.root → HasPlayed l ls → HasPlayed (record l { device = d }) ls
 played_on_root l d ls same h = record { within = h.within; kept = subst (λ (m : List (List ℕ)). IsKeptAt m l.kept (state_on_blank (take l.played ls))) (sym same) h.kept }
 
 -- what is kept on the words of a device whose root was the same

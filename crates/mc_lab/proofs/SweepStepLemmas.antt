@@ -5,53 +5,75 @@ use Rattle.std.proofs.Math.Nat.{add-mul, mul-le-mul_left, mul-le-mul_right, one-
 use Rattle.std.proofs.lemmas.Bool.{cases_lt}
 use Rattle.std.proofs.Math.Pow.{pow_mono}
 use Rattle.law_explore.specs.model_device.specs.Device.{blank_words, device_words, DeviceState, BenchState}
+use Rattle.law_explore.specs.model_device.specs.PowerUp.{Base}
 use Rattle.law_explore.specs.model_play.specs.DeckGrammar.{DeckLine}
 use Rattle.law_explore.specs.model_play.specs.DeckGrammar as line
-use Rattle.law_explore.specs.model_play.specs.Play.{State, BeforePower, AfterPower, start, step}
+use Rattle.law_explore.specs.model_play.specs.Play.{Live, State, BeforePower, AfterPower, start, step}
 use Rattle.mc_script.specs.declared.answer.Answer.{Answer}
 use Rattle.mc_script.specs.declared.player.Player.{Player}
-use Rattle.mc_script.specs.StepCounts.{most_of_line, most_of_power, CountsLine}
-use Rattle.mc_script.proofs.OwnLines.{cut_line, power_line}
+use Rattle.mc_script.specs.StepCounts.{CountsLine, instructions_on, search_on}
+use Rattle.mc_script.specs.Players.{IsPlaying}
 use Rattle.mc_lab.specs.Sweeps.{count_from, cut_statement, plays_of, state_after_lines, state_on_blank, line_sweep, names_from, writes_behind}
 use Rattle.mc_lab.specs.SweepBodies.{cut_write_at, next, line_at, writes_in}
 use Rattle.mc_lab.specs.SweepEnds.{is_open_at}
 use Rattle.mc_lab.specs.SweepPlayers.{IsSteadyAt, LineOn}
-use Rattle.mc_lab.specs.SweepSteps.{most_of_lines, most_of_front, most_of_statics, most_of_play, most_of_measure, most_of_sweep, most_through, measured_at, plays_at, plays_of_sweep, if_open, sum_below, swept_steps_at, IsDoubled, Measured}
+use Rattle.mc_lab.specs.SweepSteps.{most_of_line, most_of_lines, most_of_front, most_of_measure, most_of_sweep, most_through, measured_at, plays_at, plays_of_sweep, if_open, sum_below, swept_steps_at, IsDoubled, Measured}
 use Rattle.mc_lab.specs.declared.sweep_trial.Place.{Place}
 use Rattle.mc_lab.proofs.SweepPlays.{played_line, played_none}
 use Rattle.mc_lab.proofs.SweepPlayers.{take_one}
 
--- ---- lines of few steps
+-- ---- lines without steps
 
--- the words that are read for the static bytes under one name
-pub held_few : (m n old mid new : ℕ) → mid ≤ old + 329 → 8 * new ≤ 8 * mid + (8 * 325 + m + 14) → m ≡ n → n ≤ 4096 → new ≤ old + most_of_statics 1
-held_few m n old mid new first rest size few = omega (arith, first, rest, size, few)
+no_power : (live : Live) (base : Base) (b : ℕ) → instructions_on live base b line.Power + search_on live base line.Power ≡ 0
+no_power live base b = grind arith
 
--- a power line reads no more than it does on words that are no card
-pub power_few_reads : (s : State) → most_of_line 0 s line.Power ≤ most_of_power
-power_few_reads s = let few = power_line 0 s in omega (arith, few)
+-- a power line makes no steps
+pub power_free : (s : State) → most_of_line s line.Power ≡ 0
+power_free (BeforePower m b a) = refl
+power_free (AfterPower w) = no_power w.live w.base w.budget
+
+no_budget : (live : Live) (base : Base) (b n : ℕ) → instructions_on live base b (line.Budget n) + search_on live base (line.Budget n) ≡ 0
+no_budget live base b n = grind arith
+
+budget_free : (s : State) (n : ℕ) → most_of_line s (line.Budget n) ≡ 0
+budget_free (BeforePower m b a) n = refl
+budget_free (AfterPower w) n = no_budget w.live w.base w.budget n
+
+no_cut : (live : Live) (base : Base) (b k : ℕ) (fill : List ℕ) → instructions_on live base b (line.Cut k fill) + search_on live base (line.Cut k fill) ≡ 0
+no_cut live base b k fill = grind arith
+
+cut_free : (s : State) (k : ℕ) (fill : List ℕ) → most_of_line s (line.Cut k fill) ≡ 0
+cut_free (BeforePower m b a) k fill = refl
+cut_free (AfterPower w) k fill = no_cut w.live w.base w.budget k fill
 
 -- a line has the steps under a cut that it has without
-same_cut : (s : State) (n k : ℕ) (fill : List ℕ) (l : DeckLine) → most_of_line 0 (next s (cut_statement n k fill)) l ≡ most_of_line 0 s l
+same_cut : (s : State) (n k : ℕ) (fill : List ℕ) (l : DeckLine) → most_of_line (next s (cut_statement n k fill)) l ≡ most_of_line s l
 unfolding step
 same_cut (BeforePower m b a) n k fill l = refl
 same_cut (AfterPower w) n k fill l = refl
 
 module _ {N : Type 0} (state : N → DeviceState) (bench : N → BenchState) where
+  line_most : (p : Player N) (l : DeckLine) (a : Option Answer) (old new : ℕ) (s : State) → CountsLine state bench p l a old new → IsSteadyAt state bench p s → new ≤ old + most_of_line s l
+  line_most p l a old new s counts at = (counts s at.at).most
+
   -- a line makes at most its steps
-  pub whole_most : (p : Player N) (l : DeckLine) (a : Option Answer) (old new : ℕ) → CountsLine state bench 0 p l a old new → (s : State) → IsSteadyAt state bench p s → new ≤ old + most_of_line 0 s l
-  whole_most p l a old new counts s at = let high = (counts s at.at).most in omega (arith, high)
+  pub whole_most : (p : Player N) (l : DeckLine) (a : Option Answer) (old new : ℕ) → CountsLine state bench p l a old new → (s : State) → IsSteadyAt state bench p s → new ≤ old + most_of_line s l
+  whole_most p l a old new counts s at = line_most p l a old new s counts at
+
+  -- a power line, and a line that sets the budget
+  pub power_most : (p : Player N) (a : Option Answer) (old new : ℕ) → CountsLine state bench p line.Power a old new → IsPlaying state bench p → new ≤ old
+  power_most p a old new counts playing = grind (arith, power_free)
+
+  -- a budget line makes no steps
+  pub budget_most : (p : Player N) (n : ℕ) (a : Option Answer) (old new : ℕ) → CountsLine state bench p (line.Budget n) a old new → IsPlaying state bench p → new ≤ old
+  budget_most p n a old new counts playing = grind (arith, budget_free)
 
   -- a line with a write cut
   pub cut_most : (p m : Player N) (l : DeckLine) (k : ℕ) (fill : List ℕ) (armed a : Option Answer) (old mid new : ℕ)
       → ((s : State) (n : ℕ) → IsSteadyAt state bench p s → LineOn state bench s (n, line.Cut k fill) armed m)
-      → CountsLine state bench 0 p (line.Cut k fill) armed old mid → CountsLine state bench 0 m l a mid new → (s : State) → IsSteadyAt state bench p s → new ≤ old + most_of_line 0 s l
+      → CountsLine state bench p (line.Cut k fill) armed old mid → CountsLine state bench m l a mid new → (s : State) → IsSteadyAt state bench p s → new ≤ old + most_of_line s l
   cut_most p m l k fill armed a old mid new on first second s at =
-      let armed_in = whole_most p (line.Cut k fill) armed old mid first s at in
-      let played = whole_most m l a mid new second (next s (cut_statement 0 k fill)) (on s 0 at).at in
-      let none = cut_line 0 s k fill in
-      let same = same_cut s 0 k fill l in
-      omega (arith, armed_in, played, none, same)
+      grind (arith, line_most p (line.Cut k fill) armed old mid s first at, line_most m l a mid new (next s (cut_statement 0 k fill)) second (on s 0 at).at, cut_free s k fill, same_cut s 0 k fill l)
 
 -- ---- lines that are played one by one
 
@@ -59,17 +81,17 @@ most_none : (s : State) → most_of_lines s [] ≡ 0
 unfolding most_of_lines
 most_none s = refl
 
-most_on : (s : State) (l : ℕ × DeckLine) (ls : List (ℕ × DeckLine)) → most_of_lines s (l ∷ ls) ≡ most_of_line 0 s l.1 + most_of_lines (next s l) ls
+most_on : (s : State) (l : ℕ × DeckLine) (ls : List (ℕ × DeckLine)) → most_of_lines s (l ∷ ls) ≡ most_of_line s l.1 + most_of_lines (next s l) ls
 unfolding most_of_lines
 most_on s l ls = refl
 
-most_append : (s : State) (ls : List (ℕ × DeckLine)) (l : ℕ × DeckLine) → most_of_lines s (ls ++ l ∷ []) ≡ most_of_lines s ls + most_of_line 0 (state_after_lines s ls) l.1
+most_append : (s : State) (ls : List (ℕ × DeckLine)) (l : ℕ × DeckLine) → most_of_lines s (ls ++ l ∷ []) ≡ most_of_lines s ls + most_of_line (state_after_lines s ls) l.1
 most_append s [] l = grind (arith, most_on, most_none, played_none)
 most_append s (x ∷ ls) l =
-    grind (arith, most_on s x (ls ++ l ∷ []), most_append (next s x) ls l, most_on s x ls, ap (λ (t : State). most_of_line 0 t l.1) (played_line s x ls))
+    grind (arith, most_on s x (ls ++ l ∷ []), most_append (next s x) ls l, most_on s x ls, ap (λ (t : State). most_of_line t l.1) (played_line s x ls))
 
 -- the steps up to a line are those before it and its own
-pub front_next : (ls : List (ℕ × DeckLine)) (i : ℕ) (l : ℕ × DeckLine) → slice_get ls i ≡ Some l → most_of_front ls (i + 1) ≡ most_of_front ls i + most_of_line 0 (state_on_blank (take i ls)) l.1
+pub front_next : (ls : List (ℕ × DeckLine)) (i : ℕ) (l : ℕ × DeckLine) → slice_get ls i ≡ Some l → most_of_front ls (i + 1) ≡ most_of_front ls i + most_of_line (state_on_blank (take i ls)) l.1
 front_next ls i l here = ap (most_of_lines (start (blank_words device_words))) (take_one i ls l here) ∙ most_append _ (take i ls) l
 
 -- more lines have more steps
@@ -80,30 +102,8 @@ most_taken s (l ∷ ls) (suc i) zero le = absurd (omega (arith, le))
 most_taken s (l ∷ ls) (suc i) (suc k) le = grind (arith, most_taken (next s l) ls i k (omega (arith, le)), most_on s l (take i ls), most_on s l (take k ls))
 
 -- the steps up to an earlier line are no more
-front_up : (ls : List (ℕ × DeckLine)) (i k : ℕ) → i ≤ k → most_of_front ls i ≤ most_of_front ls k
+pub front_up : (ls : List (ℕ × DeckLine)) (i k : ℕ) → i ≤ k → most_of_front ls i ≤ most_of_front ls k
 front_up ls i k le = most_taken (start (blank_words device_words)) ls i k le
-
--- ---- one play
-
--- a play that goes on from a card that was kept
-pub on_most : (ls : List (ℕ × DeckLine)) (n names old new : ℕ) → new ≤ old + (most_of_front ls n + most_of_power) → new ≤ old + most_of_play ls n names
-unfolding most_of_play
-on_most ls n names old new h = omega (arith, h)
-
--- a play of the lines before a line, and of that line
-pub reach_most : (ls : List (ℕ × DeckLine)) (i names : ℕ) (l : ℕ × DeckLine) (old mid new : ℕ) → slice_get ls i ≡ Some l → mid ≤ old + (most_of_front ls i + most_of_power) → new ≤ mid + most_of_line 0 (state_on_blank (take i ls)) l.1 → new ≤ old + most_of_play ls (i + 1) names
-reach_most ls i names l old mid new here front line = let all = front_next ls i l here in on_most ls (i + 1) names old new (omega (arith, front, line, all))
-
--- a play of the lines before a line and of the lines of a trial, with the power line after them and the static bytes then
-pub trial_most : (ls : List (ℕ × DeckLine)) (i names : ℕ) (l : ℕ × DeckLine) (old a b c new : ℕ) → slice_get ls i ≡ Some l → a ≤ old + (most_of_front ls i + most_of_power)
-    → b ≤ a + (most_of_line 0 (state_on_blank (take i ls)) l.1 + most_of_power) → c ≤ b + most_of_power → new ≤ c + most_of_statics names → new ≤ old + most_of_play ls (i + 1) names
-unfolding most_of_play
-trial_most ls i names l old a b c new here front line power statics = let all = front_next ls i l here in omega (arith, front, line, power, statics, all)
-
--- the steps of a play up to an earlier line are no more
-pub play_up : (ls : List (ℕ × DeckLine)) (i k names : ℕ) → i ≤ k → most_of_play ls i names ≤ most_of_play ls k names
-unfolding most_of_play
-play_up ls i k names le = let front = front_up ls i k le in omega (arith, front)
 
 -- ---- plays of the same steps
 
@@ -220,67 +220,59 @@ open_measured d o s old new false e h = absurd (cc e)
 -- ---- the measure of a deck
 
 -- the lines up to one were measured, with the doublings of the bound
-pub record Measuring (names : List (List ℕ)) (ls : List (ℕ × DeckLine)) (i bound old now : ℕ) : Type 0 where
+pub record Measuring (ls : List (ℕ × DeckLine)) (i bound old now : ℕ) : Type 0 where
   pub doublings : ℕ
   pub doubled : IsDoubled doublings bound
-  pub steps : now ≤ old + (sum_below (measured_at names ls) i + doublings * most_of_play ls (length ls) (length names))
+  pub steps : now ≤ old + (sum_below (measured_at ls) i + doublings * most_of_front ls (length ls))
 
 -- before the first line nothing was measured
-pub measuring_none : (names : List (List ℕ)) (ls : List (ℕ × DeckLine)) (old : ℕ) → Measuring names ls 0 0 old old
-measuring_none names ls old = record { doublings = 0; doubled = doubled_none; steps = omega arith }
+pub measuring_none : (ls : List (ℕ × DeckLine)) (old : ℕ) → Measuring ls 0 0 old old
+measuring_none ls old = record { doublings = 0; doubled = doubled_none; steps = omega arith }
 
--- the steps of plays of a line that was measured, and of plays of the whole deck in place of those of greater bounds
-measured_line : (s t c k now new : ℕ) → s ≤ t → new ≤ now + (k + c) * s → new ≤ now + (c * s + k * t)
-measured_line s t c k now new le h =
-    let split = add-mul k c s in
-    let wide = wider_plays k s t 0 (k * s) le (omega arith) in
-    omega (arith, h, split, wide)
+-- the steps of a line that was measured, and of its doublings
+measured_line : (ls : List (ℕ × DeckLine)) (i c k now new : ℕ) → i < length ls → new ≤ now + (k + c) * most_of_front ls (i + 1) → new ≤ now + (c * most_of_front ls (i + 1) + k * most_of_front ls (length ls))
+measured_line ls i c k now new below h =
+    grind (arith, most_of_front ls (i + 1), add-mul k c (most_of_front ls (i + 1)), wider_plays k (most_of_front ls (i + 1)) (most_of_front ls (length ls)) 0 (k * (most_of_front ls (i + 1))) (front_up ls (i + 1) (length ls) (omega (arith, below))) (omega arith))
 
-measured_at_is : (names : List (List ℕ)) (ls : List (ℕ × DeckLine)) (i : ℕ) → measured_at names ls i ≡ if_open (is_open_at ls i) 1 * most_of_play ls (i + 1) (length names) + most_of_play ls (i + 1) (length names)
-measured_at_is names ls i = grind (arith, add-mul, one-mul)
+measured_at_is : (ls : List (ℕ × DeckLine)) (i : ℕ) → measured_at ls i ≡ if_open (is_open_at ls i) 1 * most_of_front ls (i + 1) + most_of_front ls (i + 1)
+measured_at_is ls i = grind (arith, add-mul, one-mul)
 
 -- a line that was measured adds its steps and its doublings
-pub measuring_more : (names : List (List ℕ)) (ls : List (ℕ × DeckLine)) (i most bound old now mid new : ℕ) → i < length ls → (h : Measuring names ls i most old now)
-    → ((d : ℕ) → IsDoubled d most → Measured d (if_open (is_open_at ls i) 1) (Some bound) (most_of_play ls (i + 1) (length names)) now mid) → new ≤ mid + most_of_play ls (i + 1) (length names) → Measuring names ls (i + 1) bound old new
-measuring_more names ls i most bound old now mid new below h line rest =
+pub measuring_more : (ls : List (ℕ × DeckLine)) (i most bound old now mid new : ℕ) → i < length ls → (h : Measuring ls i most old now)
+    → ((d : ℕ) → IsDoubled d most → Measured d (if_open (is_open_at ls i) 1) (Some bound) (most_of_front ls (i + 1)) now mid) → new ≤ mid + most_of_front ls (i + 1) → Measuring ls (i + 1) bound old new
+measuring_more ls i most bound old now mid new below h line rest =
     let m = line h.doublings h.doubled in
     let d = h.doublings in
     let k = m.doublings in
-    let s = most_of_play ls (i + 1) (length names) in
-    let t = most_of_play ls (length ls) (length names) in
+    let t = most_of_front ls (length ls) in
     let before = h.steps in
-    let here = measured_line s t (if_open (is_open_at ls i) 1) k now mid (play_up ls (i + 1) (length ls) (length names) (omega (arith, below))) m.steps in
-    let at = measured_at_is names ls i in
-    let sum = sum_next (measured_at names ls) i in
+    let here = measured_line ls i (if_open (is_open_at ls i) 1) k now mid below m.steps in
+    let at = measured_at_is ls i in
+    let sum = sum_next (measured_at ls) i in
     let split = add-mul d k t in
     record { doublings = d + k; doubled = m.some; steps = omega (arith, before, here, rest, at, sum, split) }
 
 -- if each line was measured, the steps are those of the deck
-pub measured_all : (names : List (List ℕ)) (ls : List (ℕ × DeckLine)) (i bound old now : ℕ) → i ≤ length ls → Measuring names ls i bound old now → now ≤ old + most_of_measure names ls
-measured_all names ls i bound old now le h =
-    grind (arith, h.steps, sum_up (measured_at names ls) i (length ls) le, mul-le-mul_right (most_of_play ls (length ls) (length names)) h.doubled.few)
+pub measured_all : (ls : List (ℕ × DeckLine)) (i bound old now : ℕ) → i ≤ length ls → Measuring ls i bound old now → now ≤ old + most_of_measure ls
+measured_all ls i bound old now le h =
+    grind (arith, h.steps, sum_up (measured_at ls) i (length ls) le, mul-le-mul_right (most_of_front ls (length ls)) h.doubled.few)
 
 -- a line makes too many writes
-pub measured_out : (names : List (List ℕ)) (ls : List (ℕ × DeckLine)) (i most : ℕ) (bound : Option ℕ) (old now new : ℕ) → i < length ls → (h : Measuring names ls i most old now)
-    → ((d : ℕ) → IsDoubled d most → Measured d (if_open (is_open_at ls i) 1) bound (most_of_play ls (i + 1) (length names)) now new) → new ≤ old + most_of_measure names ls
-measured_out names ls i most bound old now new below h line =
+pub measured_out : (ls : List (ℕ × DeckLine)) (i most : ℕ) (bound : Option ℕ) (old now new : ℕ) → i < length ls → (h : Measuring ls i most old now)
+    → ((d : ℕ) → IsDoubled d most → Measured d (if_open (is_open_at ls i) 1) bound (most_of_front ls (i + 1)) now new) → new ≤ old + most_of_measure ls
+measured_out ls i most bound old now new below h line =
     let m = line h.doublings h.doubled in
     let d = h.doublings in
     let k = m.doublings in
-    let s = most_of_play ls (i + 1) (length names) in
-    let t = most_of_play ls (length ls) (length names) in
+    let t = most_of_front ls (length ls) in
     let before = h.steps in
-    let here = measured_line s t (if_open (is_open_at ls i) 1) k now new (play_up ls (i + 1) (length ls) (length names) (omega (arith, below))) m.steps in
-    let at = measured_at_is names ls i in
-    let next = sum_next (measured_at names ls) i in
-    let sum = sum_up (measured_at names ls) (i + 1) (length ls) (omega (arith, below)) in
+    let here = measured_line ls i (if_open (is_open_at ls i) 1) k now new below m.steps in
+    let at = measured_at_is ls i in
+    let next = sum_next (measured_at ls) i in
+    let sum = sum_up (measured_at ls) (i + 1) (length ls) (omega (arith, below)) in
     let split = add-mul d k t in
     let few = mul-le-mul_right t m.few in
     omega (arith, before, here, at, next, sum, split, few)
-
--- the measure with the names of the deck
-pub named_measure : (names : List (List ℕ)) (ls : List (ℕ × DeckLine)) (old new : ℕ) → names ≡ names_from [] ls → new ≤ old + most_of_measure names ls → new ≤ old + most_of_measure (names_from [] ls) ls
-named_measure names ls old new is h = subst (λ (ns : List (List ℕ)). new ≤ old + most_of_measure ns ls) is h
 
 -- ---- the sweep of a deck
 
@@ -296,12 +288,12 @@ place_steps p writes plays old new w e h = subst (λ (n : ℕ). new ≤ old + n 
 
 -- the lines up to one were swept
 pub swept_on : (names : List (List ℕ)) (ls : List (ℕ × DeckLine)) (i n old now mid new : ℕ) → n ≡ plays_of_sweep (writes_behind (take i ls) (line_at ls i)) (line_sweep names (take i ls) (line_at ls i)).plays
-    → now ≤ old + sum_below (swept_steps_at names ls) i → mid ≤ now + if_open (is_open_at ls i) n * most_of_play ls (i + 1) (length names) → new ≤ mid + most_of_play ls (i + 1) (length names) → new ≤ old + sum_below (swept_steps_at names ls) (i + 1)
+    → now ≤ old + sum_below (swept_steps_at names ls) i → mid ≤ now + if_open (is_open_at ls i) n * most_of_front ls (i + 1) → new ≤ mid + most_of_front ls (i + 1) → new ≤ old + sum_below (swept_steps_at names ls) (i + 1)
 swept_on names ls i n old now mid new is before here rest = grind (arith, add-mul, one-mul, sum_next)
 
 -- the steps before a place and within it are at most those of all lines
 pub swept_out : (names : List (List ℕ)) (ls : List (ℕ × DeckLine)) (i n old now mid : ℕ) → i < length ls → n ≡ plays_of_sweep (writes_behind (take i ls) (line_at ls i)) (line_sweep names (take i ls) (line_at ls i)).plays
-    → now ≤ old + sum_below (swept_steps_at names ls) i → mid ≤ now + if_open (is_open_at ls i) n * most_of_play ls (i + 1) (length names) → mid ≤ old + sum_below (swept_steps_at names ls) (length ls)
+    → now ≤ old + sum_below (swept_steps_at names ls) i → mid ≤ now + if_open (is_open_at ls i) n * most_of_front ls (i + 1) → mid ≤ old + sum_below (swept_steps_at names ls) (length ls)
 swept_out names ls i n old now mid below is before here =
     grind (arith, swept_on names ls i n old now mid mid is before here (omega arith), sum_up (swept_steps_at names ls) (i + 1) (length ls) (omega (arith, below)))
 
@@ -310,12 +302,12 @@ pub swept_all : (names : List (List ℕ)) (ls : List (ℕ × DeckLine)) (i old n
 swept_all names ls i old now le h = let sum = sum_up (swept_steps_at names ls) i (length ls) le in omega (arith, h, sum)
 
 -- the measure and the sweep
-pub sweep_most : (ls : List (ℕ × DeckLine)) (old mid new : ℕ) → mid ≤ old + most_of_measure (names_from [] ls) ls → new ≤ mid + sum_below (swept_steps_at (names_from [] ls) ls) (length ls) → new ≤ old + most_of_sweep ls
+pub sweep_most : (ls : List (ℕ × DeckLine)) (old mid new : ℕ) → mid ≤ old + most_of_measure ls → new ≤ mid + sum_below (swept_steps_at (names_from [] ls) ls) (length ls) → new ≤ old + most_of_sweep ls
 unfolding most_of_sweep
 sweep_most ls old mid new first second = omega (arith, first, second)
 
 -- the steps of a measure are at most those of the sweep
-pub measure_most : (ls : List (ℕ × DeckLine)) (old mid : ℕ) → mid ≤ old + most_of_measure (names_from [] ls) ls → mid ≤ old + most_of_sweep ls
+pub measure_most : (ls : List (ℕ × DeckLine)) (old mid : ℕ) → mid ≤ old + most_of_measure ls → mid ≤ old + most_of_sweep ls
 unfolding most_of_sweep
 measure_most ls old mid first = omega (arith, first)
 

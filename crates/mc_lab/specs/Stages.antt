@@ -9,10 +9,10 @@ use Rattle.mc_script.specs.StepCounts.{PlaySteps}
 use Rattle.mc_lab.specs.Rising.{last_of}
 use Rattle.mc_lab.specs.Expectations.{steady_from, step_text}
 
--- the steps of the first lines of a play and of their texts, up to some line
+-- the steps of the first lines of a play, up to some line
 pub record CountsFront (whole : List Step) (old new : ℕ) : Type 0 where
   pub count : ℕ
-  pub steps : PlaySteps 0 (take count whole) old new
+  pub steps : PlaySteps (take count whole) old new
 
 module _ {N : Type 0} (state : N → DeviceState) (bench : N → BenchState) where
   -- the first lines were played on a steady bench, as steps of the whole play; the text is the result of the last of

@@ -42,6 +42,6 @@ IsKeptAt m None s = s ≡ start m
 IsKeptAt m (Some k) s = (w : Warm) × (s ≡ AfterPower w) × ShowsPlay m k w
 
 -- these lines were played: what is kept, with the root as the words, is the state after the first of them
-pub record HasPlayed {L : Type 0} (l : Laboratory L) (ls : List (ℕ × DeckLine)) : Type 0 where
+pub record HasPlayed (l : Laboratory) (ls : List (ℕ × DeckLine)) : Type 0 where
   pub within : l.played ≤ length ls
   pub kept : IsKeptAt l.device.root l.kept (state_on_blank (take l.played ls))

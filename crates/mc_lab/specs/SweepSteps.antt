@@ -1,10 +1,9 @@
--- The most steps of a sweep, one for each executed instruction and one for each word that is read of the device: those of
--- its plays, each of them from the beginning of the deck.
+-- The most steps of a sweep: those of its plays, each of them from the beginning of the deck.
 use Rattle.std.specs.Prelude.{ℕ, zero, suc, ◌+◌, ◌*◌, ◌^◌, ◌≤◌, ◌<◌, Bool, true, false, List, [], ◌∷◌, length, take, Option, IfSome}
 use Rattle.law_explore.specs.model_device.specs.Device.{blank_words, device_words}
 use Rattle.law_explore.specs.model_play.specs.DeckGrammar.{DeckLine}
 use Rattle.law_explore.specs.model_play.specs.Play.{State, start}
-use Rattle.mc_script.specs.StepCounts.{most_of_line, most_of_power}
+use Rattle.mc_script.specs.StepCounts.{instructions_in, search_in}
 use Rattle.mc_lab.specs.Sweeps.{steady_step, line_sweep, names_from, writes_behind}
 use Rattle.mc_lab.specs.SweepBodies.{line_at, line_in, front_of, names_in, writes_in}
 use Rattle.mc_lab.specs.SweepEnds.{is_open_at}
@@ -12,28 +11,22 @@ use Rattle.mc_lab.specs.declared.sweep_trial.Place.{Place}
 
 -- ---- plays
 
+-- the most steps of a line in a state: one for each of its instructions, and those of its search for room
+abbrev pub most_of_line : State → DeckLine → ℕ
+most_of_line s l = instructions_in s l + search_in s l
+
 -- the most steps of lines that are played from a state
 unfoldable pub most_of_lines : State → List (ℕ × DeckLine) → ℕ
 most_of_lines s [] = 0
-most_of_lines s (l ∷ ls) = most_of_line 0 s l.1 + most_of_lines (steady_step s l).after ls
+most_of_lines s (l ∷ ls) = most_of_line s l.1 + most_of_lines (steady_step s l).after ls
 
 -- the most steps of the first `n` lines of a deck, played on a blank device
 abbrev pub most_of_front : List (ℕ × DeckLine) → ℕ → ℕ
 most_of_front ls n = most_of_lines (start (blank_words device_words)) (take n ls)
 
--- the most words that are read for the static bytes under a number of names: of each 329 for their number, and 838 for the
--- bytes, which are 4,096 at the most
-abbrev pub most_of_statics : ℕ → ℕ
-most_of_statics names = 1167 * names
-
--- The most steps of one play of the first `n` lines of a deck: theirs, and those of three power lines, one that goes on from
--- a card that was kept, one whose recovery is cut and one after which the static bytes under a number of names are read.
-unfoldable pub most_of_play : List (ℕ × DeckLine) → ℕ → ℕ → ℕ
-most_of_play ls n names = most_of_front ls n + (3 * most_of_power + most_of_statics names)
-
 -- the most steps of a play up to the line of a place
 abbrev pub most_through : Place → ℕ
-most_through p = most_of_play p.deck.now (p.at + 1) (length (names_in p))
+most_through p = most_of_front p.deck.now (p.at + 1)
 
 -- ---- the plays of a line
 
@@ -62,23 +55,21 @@ sum_below f (suc n) = sum_below f n + f n
 
 -- the most steps at a line while the room is measured, without those of greater bounds: one play to go on from it, and
 -- one more if it may be swept
-abbrev pub measured_at : List (List ℕ) → List (ℕ × DeckLine) → ℕ → ℕ
-measured_at names ls i = (if_open (is_open_at ls i) 1 + 1) * most_of_play ls (i + 1) (length names)
+abbrev pub measured_at : List (ℕ × DeckLine) → ℕ → ℕ
+measured_at ls i = (if_open (is_open_at ls i) 1 + 1) * most_of_front ls (i + 1)
 
 -- the most steps that measure the room of a deck: each line, and one play more each time that the bound is doubled
-abbrev pub most_of_measure : List (List ℕ) → List (ℕ × DeckLine) → ℕ
-most_of_measure names ls = sum_below (measured_at names ls) (length ls) + 32 * most_of_play ls (length ls) (length names)
+abbrev pub most_of_measure : List (ℕ × DeckLine) → ℕ
+most_of_measure ls = sum_below (measured_at ls) (length ls) + 32 * most_of_front ls (length ls)
 
 -- the most steps at a line while the deck is swept: one play to go on from it, and those of its sweep
 abbrev pub swept_steps_at : List (List ℕ) → List (ℕ × DeckLine) → ℕ → ℕ
 swept_steps_at names ls i =
-    (if_open (is_open_at ls i) (plays_of_sweep (writes_behind (take i ls) (line_at ls i)) (line_sweep names (take i ls) (line_at ls i)).plays) + 1) * most_of_play ls (i + 1) (length names)
+    (if_open (is_open_at ls i) (plays_of_sweep (writes_behind (take i ls) (line_at ls i)) (line_sweep names (take i ls) (line_at ls i)).plays) + 1) * most_of_front ls (i + 1)
 
 -- the most steps of the sweep of a deck
 unfoldable pub most_of_sweep : List (ℕ × DeckLine) → ℕ
-most_of_sweep ls =
-    let names = names_from [] ls in
-    most_of_measure names ls + sum_below (swept_steps_at names ls) (length ls)
+most_of_sweep ls = most_of_measure ls + sum_below (swept_steps_at (names_from [] ls) ls) (length ls)
 
 -- ---- bounds
 

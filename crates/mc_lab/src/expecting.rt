@@ -14,6 +14,7 @@ use mc_base::Steps;
 use mc_nvm::Bench;
 use mc_script::{Player, Text};
 use mc_streams::{Sink, WriteFault};
+use std::sync::ledger::Ledger;
 
 // The number of failed expectations after one more that held or failed.
 fn counted(failed: usize, held: bool) -> usize
@@ -33,11 +34,11 @@ fn counted(failed: usize, held: bool) -> usize
 /// # Errors
 ///
 /// Returns `WriteFault` if the sink fails; the first bytes of the report were written then.
-pub fn expect<N: Bench + Drop, T: Sink>(
+pub fn expect<N: Bench + Drop, T: Sink, L: Ledger>(
     expected_deck: &ExpectedDeck<'_>,
     device: N,
     out: &mut T,
-    steps: &mut Steps<N::Meter>,
+    steps: &mut Steps<L>,
 ) -> Result<usize, WriteFault>
     requires fuses { IsUnfused (N.bench device) }
     requires steady { (N.bench device).steady ≡ true }
@@ -48,8 +49,8 @@ pub fn expect<N: Bench + Drop, T: Sink>(
     ensures failed { IfOk result (λ n. n ≡ count_failed
         (steady_steps (N.state device).words (expected_deck_value expected_deck.now).lines)
         (expected_deck_value expected_deck.now).expected) }
-    // Up to some line the lines were played once: each executed instruction is one step, and so is each word that is read
-    // for a line or for the text of its result.
+    // Up to some line the lines were played once: each executed instruction is one step, and the search of an OPEN for room
+    // takes at most two more than the card has gaps.
     ensures steps { CountsFront
         (steady_steps (N.state device).words (expected_deck_value expected_deck.now).lines) steps.old steps.new }
 {

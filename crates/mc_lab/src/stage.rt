@@ -1,9 +1,9 @@
 // Lines of a deck played one by one, and the text of the last one's result.
-ghost use Rattle.std.specs.Prelude.{◌≡◌, ◌+◌, ◌≤◌, ℕ, List, length, option_map, take};
+ghost use Rattle.std.specs.Prelude.{◌≡◌, ◌≤◌, ℕ, List, length, option_map, take};
 ghost use Rattle.law_explore.specs.model_play.specs.Play.{Step};
 ghost use Rattle.mc_script.specs.Players.{answer_value};
 ghost use Rattle.mc_script.specs.Benches.{IsPlaying};
-ghost use Rattle.mc_script.specs.StepCounts.{answer_reads, PlaySteps};
+ghost use Rattle.mc_script.specs.StepCounts.{PlaySteps};
 ghost use Rattle.mc_lab.specs.Expectations.{result_text};
 ghost use Rattle.mc_lab.specs.Benches.{Staged};
 
@@ -11,34 +11,28 @@ use mc_base::Steps;
 use mc_deck::Deck;
 use mc_nvm::Bench;
 use mc_script::{Answer, Player, Silent, Text, add_result};
+use std::sync::ledger::Ledger;
 
 // Copies the text of a result of a player to `text`, empty if there is no result.
-fn gather<N: Bench>(
-    text: &mut Text,
-    player: &Player<N>,
-    answer: &Option<Answer>,
-    steps: &mut Steps<N::Meter>,
-)
+fn gather<N: Bench>(text: &mut Text, player: &Player<N>, answer: &Option<Answer>)
     requires { IsPlaying N.Bench player.now }
-    ensures text { text.new.items ≡ result_text (option_map (answer_value N.state player.now) answer.now) }
-    ensures rises { steps.old ≤ steps.new }
-    ensures reads { steps.new ≤ steps.old + answer_reads answer.now }
+    ensures { text.new.items ≡ result_text (option_map (answer_value N.state player.now) answer.now) }
 {
     text.clear();
     if let Some(answer) = answer {
-        add_result(text, player, answer, steps);
+        add_result(text, player, answer);
     }
 }
 
 /// Plays the lines of a deck from one place up to another, and leaves the text of the last one's result in
 /// `text`.
-pub fn play_lines<N: Bench>(
+pub fn play_lines<N: Bench, L: Ledger>(
     player: &mut Player<N>,
     deck: &Deck,
     from: usize,
     to: usize,
     text: &mut Text,
-    steps: &mut Steps<N::Meter>,
+    steps: &mut Steps<L>,
 )
     requires playing { IsPlaying N.Bench player.old }
     requires order { from ≤ to }
@@ -47,12 +41,12 @@ pub fn play_lines<N: Bench>(
         → Staged N.Bench whole deck.now player.new to text.new.items }
     // The steps of the lines that were played before count with those of these lines.
     ensures counted { (whole : List Step) (old : ℕ) → Staged N.Bench whole deck.now player.old from text.old.items
-        → PlaySteps 0 (take from whole) old steps.old → PlaySteps 0 (take to whole) old steps.new }
+        → PlaySteps (take from whole) old steps.old → PlaySteps (take to whole) old steps.new }
     ensures playing { IsPlaying N.Bench player.new }
 {
     for at in from..to {
         let (_number, line) = deck.line(at);
         let answer = player.line(&line, &mut Silent, steps);
-        gather(text, player, &answer, steps);
+        gather(text, player, &answer);
     }
 }

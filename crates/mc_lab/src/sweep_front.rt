@@ -7,7 +7,6 @@ ghost use Rattle.law_explore.specs.model_play.specs.Play.{State, BeforePower, Af
 ghost use Rattle.mc_store.specs.Power.{HoldsBase};
 ghost use Rattle.mc_script.specs.Players.{device_of, IsUnfused};
 ghost use Rattle.mc_script.specs.Benches.{IsPlaying};
-ghost use Rattle.mc_script.specs.StepCounts.{most_of_power};
 ghost use Rattle.mc_lab.specs.Sweeps.{state_on_blank};
 ghost use Rattle.mc_lab.specs.Benches.{IsPoweredUp, IsSteadyAt};
 ghost use Rattle.mc_lab.specs.SweepFronts.{is_card, IsKeptAt, ShowsPlay};
@@ -19,6 +18,7 @@ use mc_deck::{Deck, Line};
 use mc_nvm::Bench;
 use mc_script::{Live, Player, Silent};
 use std::alloc::Global;
+use std::sync::ledger::Ledger;
 
 /// What a play with a card that runs holds besides the words of its device: the budget, and the session state.
 #[derive(Drop)]
@@ -58,12 +58,12 @@ fn kept_card(budget: u32, live: Live) -> Option<Kept>
 
 // Returns a play on a device with the words after some lines, with what was kept of the play then; or a play before its
 // first line.
-fn resume<N: Bench>(device: N, kept: &Option<Kept>, steps: &mut Steps<N::Meter>) -> Player<N>
+fn resume<N: Bench, L: Ledger>(device: N, kept: &Option<Kept>, steps: &mut Steps<L>) -> Player<N>
     requires fuses { IsUnfused (N.bench device) }
     requires steady { (N.bench device).steady ≡ true }
     requires kept { (s : State) × IsKeptAt (N.state device).words kept.now s }
     ensures at { (s : State) → IsKeptAt (N.state device).words kept.now s → IsSteadyAt N.Bench result s }
-    ensures steps { steps.new ≤ steps.old + most_of_power }
+    ensures steps { steps.new ≤ steps.old }
     ensures keeps_device { N.same device (device_of result) }
 {
     let mut player = Player::new(device);
@@ -77,24 +77,24 @@ fn resume<N: Bench>(device: N, kept: &Option<Kept>, steps: &mut Steps<N::Meter>)
 }
 
 // Powers up a card of which no write is owed.
-fn power_up<N: Bench>(player: &mut Player<N>, steps: &mut Steps<N::Meter>)
+fn power_up<N: Bench, L: Ledger>(player: &mut Player<N>, steps: &mut Steps<L>)
     requires { IsPlaying N.Bench player.old }
     ensures playing { IsPlaying N.Bench player.new }
     ensures up { (m : List (List ℕ)) (b : ℕ) (c : Card) → IsSteadyAt N.Bench player.old (BeforePower m b Unarmed)
         → HoldsBase (OnCard c) 0 Two m → c.layout ≡ 2 → IsPoweredUp N.Bench player.new m b c }
-    ensures steps { steps.new ≤ steps.old + most_of_power }
+    ensures steps { steps.new ≤ steps.old }
     ensures keeps_device { N.same (device_of player.old) (device_of player.new) }
 {
     let _powered = player.line(&Line::Power, &mut Silent, steps);
 }
 
 // Puts back what was kept of a play: sets the budget, powers up, and puts back what ran.
-fn put_back<N: Bench>(player: &mut Player<N>, kept: &Kept, steps: &mut Steps<N::Meter>)
+fn put_back<N: Bench, L: Ledger>(player: &mut Player<N>, kept: &Kept, steps: &mut Steps<L>)
     requires start { (m : List (List ℕ)) × (w : Warm) × IsSteadyAt N.Bench player.old (start m)
         × ShowsPlay m kept.now w }
     ensures at { (m : List (List ℕ)) (w : Warm) → IsSteadyAt N.Bench player.old (start m) → ShowsPlay m kept.now w
         → IsSteadyAt N.Bench player.new (AfterPower w) }
-    ensures steps { steps.new ≤ steps.old + most_of_power }
+    ensures steps { steps.new ≤ steps.old }
     ensures keeps_device { N.same (device_of player.old) (device_of player.new) }
 {
     let _set = play_line(player, &Line::Budget(kept.budget), steps);
@@ -104,13 +104,13 @@ fn put_back<N: Bench>(player: &mut Player<N>, kept: &Kept, steps: &mut Steps<N::
 
 /// Plays the lines of a deck before one of them, from a place on: those before that place were played, and left the
 /// words of the device and what was kept.
-pub fn play_front<N: Bench>(
+pub fn play_front<N: Bench, L: Ledger>(
     device: N,
     kept: &Option<Kept>,
     deck: &Deck,
     from: usize,
     to: usize,
-    steps: &mut Steps<N::Meter>,
+    steps: &mut Steps<L>,
 ) -> Player<N>
     requires fuses { IsUnfused (N.bench device) }
     requires steady { (N.bench device).steady ≡ true }
@@ -118,7 +118,7 @@ pub fn play_front<N: Bench>(
     requires order { from ≤ to }
     requires place { to ≤ length deck.now }
     ensures at { IsSteadyAt N.Bench result (state_on_blank (take to deck.now)) }
-    ensures steps { steps.new ≤ steps.old + (most_of_front deck.now to + most_of_power) }
+    ensures steps { steps.new ≤ steps.old + most_of_front deck.now to }
     ensures keeps_device { N.same device (device_of result) }
 {
     let mut player = resume(device, kept, steps);
@@ -129,28 +129,27 @@ pub fn play_front<N: Bench>(
     player
 }
 
-/// Plays the lines of a deck before one of them, from a place on, and returns what is to be kept.
-pub fn play_on<N: Bench>(
+/// Plays the lines of a deck before one of them, from a place on, and returns the device and what is to be kept.
+pub fn play_on<N: Bench, L: Ledger>(
     alloc: Global,
-    device: &mut N,
+    device: N,
     kept: &Option<Kept>,
     deck: &Deck,
     from: usize,
     to: usize,
-    steps: &mut Steps<N::Meter>,
-) -> Option<Kept>
-    requires fuses { IsUnfused (N.bench device.old) }
-    requires steady { (N.bench device.old).steady ≡ true }
-    requires kept { IsKeptAt (N.state device.old).words kept.now (state_on_blank (take from deck.now)) }
+    steps: &mut Steps<L>,
+) -> (N, Option<Kept>)
+    requires fuses { IsUnfused (N.bench device) }
+    requires steady { (N.bench device).steady ≡ true }
+    requires kept { IsKeptAt (N.state device).words kept.now (state_on_blank (take from deck.now)) }
     requires order { from ≤ to }
     requires place { to ≤ length deck.now }
-    ensures kept { IfSome result (λ k. IsKeptAt (N.state device.new).words (Some k)
+    ensures kept { IfSome result.1 (λ k. IsKeptAt (N.state result.0).words (Some k)
         (state_on_blank (take to deck.now))) }
-    ensures steps { steps.new ≤ steps.old + (most_of_front deck.now to + most_of_power) }
-    ensures keeps_device { N.same device.old device.new }
+    ensures steps { steps.new ≤ steps.old + most_of_front deck.now to }
+    ensures keeps_device { N.same device result.0 }
 {
-    let player = play_front(&mut *device, kept, deck, from, to, steps);
+    let player = play_front(device, kept, deck, from, to, steps);
     let next = keep(alloc, &player);
-    let _device = player.into_dev();
-    next
+    (player.into_dev(), next)
 }

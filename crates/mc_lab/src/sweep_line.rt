@@ -14,6 +14,7 @@ use crate::sweep_word::SweepWord;
 use crate::truth::both;
 use mc_base::{NoMemory, Steps};
 use std::alloc::Global;
+use std::sync::ledger::Ledger;
 
 /// The words that a cut leaves.
 const ZEROS: [u8; 8] = [0; 8];
@@ -36,7 +37,7 @@ pub struct Pair {
 
 /// A laboratory, and room for the states that it observes.
 #[derive(Drop)]
-pub struct LineSweeper<D: Drop> {
+pub struct LineSweeper<D: Trials + Drop> {
     trials: D,
     ends: Ends,
     pair: Pair,
@@ -72,14 +73,14 @@ fn word_of(is_one: bool, is_before: bool, is_after: bool) -> SweepWord
 
 // Cuts each write of the recovery after a cut, of which there are at most `most`: whether the first state is always
 // left, and the number of those writes.
-fn recoveries<D: Trials>(
+fn recoveries<D: Trials, L: Ledger>(
     trials: &mut D,
     place: &Place<'_>,
     k: u32,
     fill: [u8; 8],
     most: u16,
     pair: &mut Pair,
-    steps: &mut Steps<D::Meter>,
+    steps: &mut Steps<L>,
 ) -> (bool, u16)
     requires at { IsPlace place.now }
     requires played { D.has_played trials.old (front_of place.now) }
@@ -111,13 +112,13 @@ fn recoveries<D: Trials>(
 
 // Cuts write `k` of a line with both fills, and each write of the recovery after it, if the line makes at
 // least `k` writes.
-fn try_write<D: Trials>(
+fn try_write<D: Trials, L: Ledger>(
     trials: &mut D,
     place: &Place<'_>,
     k: u32,
     ends: &Ends,
     pair: &mut Pair,
-    steps: &mut Steps<D::Meter>,
+    steps: &mut Steps<L>,
 ) -> Option<Tried>
     requires at { IsPlace place.now }
     requires played { D.has_played trials.old (front_of place.now) }
@@ -207,11 +208,11 @@ impl<D: Trials + Drop> LineSweeper<D> {
     /// 4,294,967,295 or more.
     ///
     /// It plays the line once, and once more each time that the number is doubled.
-    pub fn bound(
+    pub fn bound<L: Ledger>(
         &mut self,
         place: &Place<'_>,
         most: u32,
-        steps: &mut Steps<D::Meter>,
+        steps: &mut Steps<L>,
     ) -> Option<u32>
         requires at { IsPlace place.now }
         requires played { D.has_played self.old.trials (front_of place.now) }
@@ -237,7 +238,7 @@ impl<D: Trials + Drop> LineSweeper<D> {
     }
 
     /// Plays a line after the lines before it, which were played.
-    pub fn advance(&mut self, place: &Place<'_>, steps: &mut Steps<D::Meter>)
+    pub fn advance<L: Ledger>(&mut self, place: &Place<'_>, steps: &mut Steps<L>)
         requires at { IsPlace place.now }
         requires played { D.has_played self.old.trials (front_of place.now) }
         requires room { AccountsHaveRoom self.old.ends self.old.pair (length place.now.names.now) }
@@ -249,11 +250,11 @@ impl<D: Trials + Drop> LineSweeper<D> {
     }
 
     /// Cuts each write of a line, which makes at most as many writes as there is room for in `words`.
-    pub fn sweep_line(
+    pub fn sweep_line<L: Ledger>(
         &mut self,
         place: &Place<'_>,
         words: &mut [SweepWord],
-        steps: &mut Steps<D::Meter>,
+        steps: &mut Steps<L>,
     ) -> Swept
         requires at { IsPlace place.now }
         requires played { D.has_played self.old.trials (front_of place.now) }

@@ -5,7 +5,6 @@ ghost use Rattle.law_explore.specs.model_play.specs.DeckGrammar.{DeckLine};
 ghost use Rattle.mc_deck.specs.Lines.{line_of, GoodLine};
 ghost use Rattle.mc_script.specs.Players.{device_of, statics_in, IsUnfused};
 ghost use Rattle.mc_script.specs.Benches.{CountsLine, IsPlaying};
-ghost use Rattle.mc_script.specs.StepCounts.{most_of_line, most_of_power};
 ghost use Rattle.mc_lab.specs.Sweeps.{state_on_blank};
 ghost use Rattle.law_explore.specs.model_device.specs.Bytes.{zeros};
 ghost use Rattle.mc_lab.specs.SweepBodies.{account_value, held_value, hit_in, state_at_place, CanCut, AccountFits};
@@ -14,7 +13,7 @@ ghost use Rattle.mc_lab.specs.declared.sweep_trial.TrialLines.TheVariants as tri
 ghost use Rattle.mc_lab.specs.SweepPlayers.{fault_in, most_in};
 ghost use Rattle.mc_lab.specs.SweepFronts.{HasPlayed, IsKeptAt};
 ghost use Rattle.mc_lab.specs.Benches.{CutOn, IsSteadyAt, LineOn, TrialOn};
-ghost use Rattle.mc_lab.specs.SweepSteps.{most_of_statics, most_through};
+ghost use Rattle.mc_lab.specs.SweepSteps.{most_of_line, most_through};
 
 use crate::sweep_account::{Account, Held};
 use crate::sweep_front::{Kept, play_front, play_on};
@@ -31,11 +30,10 @@ use std::sync::ledger::Ledger;
 
 /// A device in memory whose root is the words after some lines of a deck, what was kept of the play then, and the number
 /// of these lines. Lines are played anew on each trial from the last one on after which a card runs and no stop is armed.
-/// Reads of the device are steps of the ledger `L`.
 #[derive(Drop)]
-pub struct Laboratory<L: Ledger> {
+pub struct Laboratory {
     alloc: Global,
-    device: BranchNvm<L>,
+    device: BranchNvm,
     kept: Option<Kept>,
     played: usize,
 }
@@ -61,16 +59,16 @@ fn most_of(answer: &Option<Answer>) -> u16
 }
 
 /// Plays a line, and drops the record of its turns.
-pub fn play_line<N: Bench>(
+pub fn play_line<N: Bench, L: Ledger>(
     player: &mut Player<N>,
     line: &Line<'_>,
-    steps: &mut Steps<N::Meter>,
+    steps: &mut Steps<L>,
 ) -> Option<Answer>
     requires playing { IsPlaying N.Bench player.old }
     requires good { GoodLine (line_of line.now) }
     ensures on { (s : State) (n : ℕ) → IsSteadyAt N.Bench player.old s
         → LineOn N.Bench s (n, line_of line.now) result player.new }
-    ensures steps { CountsLine N.Bench 0 player.old (line_of line.now) result steps.old steps.new }
+    ensures steps { CountsLine N.Bench player.old (line_of line.now) result steps.old steps.new }
     ensures playing { IsPlaying N.Bench player.new }
     ensures size { length (N.state (device_of player.new)).words ≡ length (N.state (device_of player.old)).words }
     ensures keeps_device { N.same (device_of player.old) (device_of player.new) }
@@ -79,12 +77,12 @@ pub fn play_line<N: Bench>(
 }
 
 // Plays a line with its write `k` cut, and returns whether it made that write.
-fn play_cut<N: Bench>(
+fn play_cut<N: Bench, L: Ledger>(
     player: &mut Player<N>,
     line: &Line<'_>,
     k: u32,
     fill: Word,
-    steps: &mut Steps<N::Meter>,
+    steps: &mut Steps<L>,
 ) -> bool
     requires playing { IsPlaying N.Bench player.old }
     requires good { GoodLine (line_of line.now) }
@@ -92,7 +90,7 @@ fn play_cut<N: Bench>(
     ensures on { (s : State) (i n : ℕ) → IsSteadyAt N.Bench player.old s
         → CutOn N.Bench s (n, line_of line.now) i k fill result player.new }
     ensures steps { (s : State) → IsSteadyAt N.Bench player.old s
-        → steps.new ≤ steps.old + most_of_line 0 s (line_of line.now) }
+        → steps.new ≤ steps.old + most_of_line s (line_of line.now) }
     ensures playing { IsPlaying N.Bench player.new }
     ensures size { length (N.state (device_of player.new)).words ≡ length (N.state (device_of player.old)).words }
     ensures keeps_device { N.same (device_of player.old) (device_of player.new) }
@@ -104,13 +102,13 @@ fn play_cut<N: Bench>(
 
 // Plays a line with its write `k` cut, and after it a power line with its write `again` cut, and returns
 // whether the power line made that write.
-fn play_twice<N: Bench>(
+fn play_twice<N: Bench, L: Ledger>(
     player: &mut Player<N>,
     line: &Line<'_>,
     k: u32,
     fill: Word,
     again: u32,
-    steps: &mut Steps<N::Meter>,
+    steps: &mut Steps<L>,
 ) -> bool
     requires playing { IsPlaying N.Bench player.old }
     requires good { GoodLine (line_of line.now) }
@@ -119,7 +117,7 @@ fn play_twice<N: Bench>(
     ensures on { (front : List (ℕ × DeckLine)) (n : ℕ) → IsSteadyAt N.Bench player.old (state_on_blank front)
         → TrialOn N.Bench front (n, line_of line.now) (trial.Twice k fill again) result player.new }
     ensures steps { (s : State) → IsSteadyAt N.Bench player.old s
-        → steps.new ≤ steps.old + (most_of_line 0 s (line_of line.now) + most_of_power) }
+        → steps.new ≤ steps.old + most_of_line s (line_of line.now) }
     ensures size { length (N.state (device_of player.new)).words ≡ length (N.state (device_of player.old)).words }
     ensures keeps_device { N.same (device_of player.old) (device_of player.new) }
 {
@@ -128,11 +126,11 @@ fn play_twice<N: Bench>(
 }
 
 // Plays the lines of a trial from its line on, and returns whether the last cut hit its line.
-fn play_trial_lines<N: Bench>(
+fn play_trial_lines<N: Bench, L: Ledger>(
     player: &mut Player<N>,
     line: &Line<'_>,
     trial: TrialLines,
-    steps: &mut Steps<N::Meter>,
+    steps: &mut Steps<L>,
 ) -> bool
     requires playing { IsPlaying N.Bench player.old }
     requires good { GoodLine (line_of line.now) }
@@ -140,7 +138,7 @@ fn play_trial_lines<N: Bench>(
     ensures on { (front : List (ℕ × DeckLine)) (n : ℕ) → IsSteadyAt N.Bench player.old (state_on_blank front)
         → TrialOn N.Bench front (n, line_of line.now) trial result player.new }
     ensures steps { (s : State) → IsSteadyAt N.Bench player.old s
-        → steps.new ≤ steps.old + (most_of_line 0 s (line_of line.now) + most_of_power) }
+        → steps.new ≤ steps.old + most_of_line s (line_of line.now) }
     ensures size { length (N.state (device_of player.new)).words ≡ length (N.state (device_of player.old)).words }
     ensures keeps_device { N.same (device_of player.old) (device_of player.new) }
 {
@@ -156,15 +154,14 @@ fn play_trial_lines<N: Bench>(
 }
 
 // The static bytes under a name, or `None` if it is absent or no card runs.
-fn held_now<N: Bench>(player: &Player<N>, name: &Aid, steps: &mut Steps<N::Meter>) -> Held
+fn held_now<N: Bench>(player: &Player<N>, name: &Aid) -> Held
     requires { IsPlaying N.Bench player.now }
-    ensures value { held_value result ≡ statics_in N.state player.now name.now }
-    ensures reads { steps.new ≤ steps.old + most_of_statics 1 }
+    ensures { held_value result ≡ statics_in N.state player.now name.now }
 {
-    let len = player.static_len(name, steps)?;
+    let len = player.static_len(name)?;
     let mut bytes = [0; 4096];
     let held = &mut bytes[..len as usize];
-    player.static_of(name, 0, held, steps);
+    player.static_of(name, 0, held);
     Some(kept(held))
 }
 
@@ -179,19 +176,13 @@ fn kept(bytes: &[u8]) -> ArrayVec<u8, 4096>
 }
 
 // Stores the static bytes under each name.
-fn take_held<N: Bench>(
-    held: &mut [Held],
-    player: &Player<N>,
-    names: &[Aid],
-    steps: &mut Steps<N::Meter>,
-)
+fn take_held<N: Bench>(held: &mut [Held], player: &Player<N>, names: &[Aid])
     requires playing { IsPlaying N.Bench player.now }
     requires room { length held.old ≡ length names.now }
     ensures held { map held_value held.new ≡ map (statics_in N.state player.now) names.now }
-    ensures reads { steps.new ≤ steps.old + most_of_statics (length names.now) }
 {
     for i in 0..names.len() {
-        held[i] = held_now(player, &names[i], steps);
+        held[i] = held_now(player, &names[i]);
     }
 }
 
@@ -201,87 +192,83 @@ fn take_down<N: Bench>(
     player: &Player<N>,
     answer: &Option<Answer>,
     names: &[Aid],
-    steps: &mut Steps<N::Meter>,
 )
     requires playing { IsPlaying N.Bench player.now }
     requires room { length into.old.held.items ≡ length names.now }
     ensures fault { into.new.fault ≡ fault_in answer.now }
     ensures held { map held_value into.new.held.items ≡ map (statics_in N.state player.now) names.now }
-    ensures reads { steps.new ≤ steps.old + most_of_statics (length names.now) }
 {
     into.fault = fault_of(answer);
-    take_held(into.held.as_mut_slice(), player, names, steps);
+    take_held(into.held.as_mut_slice(), player, names);
 }
 
 // One trial on a device with the words of the lines that were played: the lines before a line that were not played yet,
 // the lines of the trial from there on, and a power line without a cut.
-fn play_trial<N: Bench>(
-    device: &mut N,
+fn play_trial<N: Bench, L: Ledger>(
+    device: N,
     kept: &Option<Kept>,
     from: usize,
     place: &Place<'_>,
     trial: TrialLines,
     into: &mut Account,
-    steps: &mut Steps<N::Meter>,
-) -> Played
-    requires fuses { IsUnfused (N.bench device.old) }
-    requires steady { (N.bench device.old).steady ≡ true }
-    requires kept { IsKeptAt (N.state device.old).words kept.now (state_on_blank (take from place.now.deck.now)) }
+    steps: &mut Steps<L>,
+) -> (N, Played)
+    requires fuses { IsUnfused (N.bench device) }
+    requires steady { (N.bench device).steady ≡ true }
+    requires kept { IsKeptAt (N.state device).words kept.now (state_on_blank (take from place.now.deck.now)) }
     requires from { from ≤ place.now.at }
     requires at { IsPlace place.now }
     requires room { AccountFits into.old place.now }
     requires cuts { CanCut trial }
     ensures reported { account_value into.new ≡ state_at_place place.now trial }
-    ensures hit { result.hit ≡ hit_in place.now trial }
-    ensures few { IsRecoveryBound place.now trial result.most }
+    ensures hit { result.1.hit ≡ hit_in place.now trial }
+    ensures few { IsRecoveryBound place.now trial result.1.most }
     ensures steps { steps.new ≤ steps.old + most_through place.now }
     ensures room { AccountFits into.new place.now }
-    ensures keeps_device { N.same device.old device.new }
+    ensures keeps_device { N.same device result.0 }
 {
-    let mut player = play_front(&mut *device, kept, place.deck, from, place.at, steps);
+    let mut player = play_front(device, kept, place.deck, from, place.at, steps);
     let (_number, line) = place.deck.line(place.at);
     let hit = play_trial_lines(&mut player, &line, trial, steps);
     let answer = play_line(&mut player, &Line::Power, steps);
-    take_down(into, &player, &answer, place.names, steps);
+    take_down(into, &player, &answer, place.names);
     let most = most_of(&answer);
-    let _device = player.into_dev();
-    Played { hit, most }
+    (player.into_dev(), Played { hit, most })
 }
 
 // Plays the lines before a line that were not played yet, and then the line with its write `k` cut. Returns whether it
 // made that write.
-fn play_reach<N: Bench>(
-    device: &mut N,
+fn play_reach<N: Bench, L: Ledger>(
+    device: N,
     kept: &Option<Kept>,
     from: usize,
     place: &Place<'_>,
     k: u32,
-    steps: &mut Steps<N::Meter>,
-) -> bool
-    requires fuses { IsUnfused (N.bench device.old) }
-    requires steady { (N.bench device.old).steady ≡ true }
-    requires kept { IsKeptAt (N.state device.old).words kept.now (state_on_blank (take from place.now.deck.now)) }
+    steps: &mut Steps<L>,
+) -> (N, bool)
+    requires fuses { IsUnfused (N.bench device) }
+    requires steady { (N.bench device).steady ≡ true }
+    requires kept { IsKeptAt (N.state device).words kept.now (state_on_blank (take from place.now.deck.now)) }
     requires from { from ≤ place.now.at }
     requires at { IsPlace place.now }
     requires low { 1 ≤ k }
-    ensures hit { result ≡ hit_in place.now (trial.Cut k (zeros 8)) }
+    ensures hit { result.1 ≡ hit_in place.now (trial.Cut k (zeros 8)) }
     ensures steps { steps.new ≤ steps.old + most_through place.now }
-    ensures keeps_device { N.same device.old device.new }
+    ensures keeps_device { N.same device result.0 }
 {
-    let mut player = play_front(&mut *device, kept, place.deck, from, place.at, steps);
+    let mut player = play_front(device, kept, place.deck, from, place.at, steps);
     let (_number, line) = place.deck.line(place.at);
     let hit = play_cut(&mut player, &line, k, [0; 8], steps);
-    let _device = player.into_dev();
-    hit
+    (player.into_dev(), hit)
 }
 
-impl<L: Ledger> Laboratory<L> {
+impl Laboratory {
     /// Returns a laboratory with room for its device, of which no line was played.
     ///
     /// # Errors
     ///
     /// Returns `NoMemory` if it is out of memory.
-    pub fn new(alloc: Global) -> Result<Laboratory<L>, NoMemory>
+    pub fn new(alloc: Global) -> Result<Laboratory, NoMemory>
         ensures { IfOk result (λ l. HasPlayed l []) }
     {
         let device = BranchNvm::new(alloc)?;
@@ -294,12 +281,10 @@ impl<L: Ledger> Laboratory<L> {
     }
 }
 
-impl<L: Ledger> Trials for Laboratory<L> {
-    type Meter = L;
-
+impl Trials for Laboratory {
     ghost has_played = { HasPlayed };
 
-    fn report(
+    fn report<L: Ledger>(
         &mut self,
         place: &Place<'_>,
         trial: TrialLines,
@@ -307,7 +292,7 @@ impl<L: Ledger> Trials for Laboratory<L> {
         steps: &mut Steps<L>,
     ) -> Played {
         self.device.return_to_root();
-        play_trial(
+        let (_device, played) = play_trial(
             &mut self.device,
             &self.kept,
             self.played,
@@ -315,19 +300,21 @@ impl<L: Ledger> Trials for Laboratory<L> {
             trial,
             into,
             steps,
-        )
+        );
+        played
     }
 
-    fn reaches(&mut self, place: &Place<'_>, k: u32, steps: &mut Steps<L>) -> bool {
+    fn reaches<L: Ledger>(&mut self, place: &Place<'_>, k: u32, steps: &mut Steps<L>) -> bool {
         self.device.return_to_root();
-        play_reach(&mut self.device, &self.kept, self.played, place, k, steps)
+        let (_device, hit) = play_reach(&mut self.device, &self.kept, self.played, place, k, steps);
+        hit
     }
 
-    fn advance(&mut self, place: &Place<'_>, steps: &mut Steps<L>) {
+    fn advance<L: Ledger>(&mut self, place: &Place<'_>, steps: &mut Steps<L>) {
         // bounds the number of lines, so that the next one has a number
         let _count = place.deck.len();
         self.device.return_to_root();
-        let kept = play_on(
+        let (_device, kept) = play_on(
             self.alloc,
             &mut self.device,
             &self.kept,

@@ -41,20 +41,17 @@ pub struct Played {
 /// A play of a deck on a device of 8,192 words, line by line, and trials of the line that comes next. Each trial goes
 /// on from the lines that were played, as if they were played for it on a blank device.
 pub trait Trials {
-    /// The ledger of the device's reads.
-    type Meter: Ledger;
-
     /// These lines were played.
     ghost has_played: { Self → List (ℕ × DeckLine) → Type 0 };
 
     /// Plays the lines of a trial after the lines before a line, which were played, and then a power line without a
     /// cut. Stores the observed state in `into`.
-    fn report(
+    fn report<L: Ledger>(
         &mut self,
         place: &Place<'_>,
         trial: TrialLines,
         into: &mut Account,
-        steps: &mut Steps<Self::Meter>,
+        steps: &mut Steps<L>,
     ) -> Played
         requires at { IsPlace place.now }
         requires played { has_played self.old (front_of place.now) }
@@ -69,7 +66,7 @@ pub trait Trials {
 
     /// Returns whether a line makes at least `k` device writes: plays it after the lines before it, which were played,
     /// with that write cut.
-    fn reaches(&mut self, place: &Place<'_>, k: u32, steps: &mut Steps<Self::Meter>) -> bool
+    fn reaches<L: Ledger>(&mut self, place: &Place<'_>, k: u32, steps: &mut Steps<L>) -> bool
         requires at { IsPlace place.now }
         requires played { has_played self.old (front_of place.now) }
         requires low { 1 ≤ k }
@@ -78,7 +75,7 @@ pub trait Trials {
         ensures played { has_played self.new (front_of place.now) };
 
     /// Plays a line after the lines before it, which were played.
-    fn advance(&mut self, place: &Place<'_>, steps: &mut Steps<Self::Meter>)
+    fn advance<L: Ledger>(&mut self, place: &Place<'_>, steps: &mut Steps<L>)
         requires at { IsPlace place.now }
         requires played { has_played self.old (front_of place.now) }
         ensures played { has_played self.new (lines_through place.now) }

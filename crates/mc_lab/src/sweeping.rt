@@ -33,9 +33,9 @@ use std::sync::ledger::Ledger;
 /// The room of a sweep: the names of the deck, the device and the observed states, and the words of the
 /// writes of one line.
 #[derive(Drop)]
-struct Room<L: Ledger> {
+struct Room {
     names: Vec<Aid>,
-    sweeper: LineSweeper<Laboratory<L>>,
+    sweeper: LineSweeper<Laboratory>,
     words: Vec<SweepWord>,
 }
 
@@ -105,11 +105,11 @@ fn open_number(deck: &Deck, at: usize) -> Option<u32>
 
 // `most`, or a greater number that the device writes of a line do not exceed, if it may be swept and makes more.
 // `None` if they are 4,294,967,295 or more.
-fn bound_at<D: Trials + Drop>(
+fn bound_at<D: Trials + Drop, L: Ledger>(
     sweeper: &mut LineSweeper<D>,
     place: &Place<'_>,
     most: u32,
-    steps: &mut Steps<D::Meter>,
+    steps: &mut Steps<L>,
 ) -> Option<u32>
     requires at { IsPlace place.now }
     requires played { D.has_played sweeper.old.trials (front_of place.now) }
@@ -132,17 +132,17 @@ fn bound_at<D: Trials + Drop>(
 
 // A number that the device writes of no line that may be swept exceed, or `None` if a line makes 4,294,967,295 or
 // more.
-fn most_writes<D: Trials + Drop>(
+fn most_writes<D: Trials + Drop, L: Ledger>(
     sweeper: &mut LineSweeper<D>,
     deck: &Deck,
     names: &[Aid],
-    steps: &mut Steps<D::Meter>,
+    steps: &mut Steps<L>,
 ) -> Option<u32>
     requires room { AccountsHaveRoom sweeper.old.ends sweeper.old.pair (length names.now) }
     requires played { D.has_played sweeper.old.trials [] }
     ensures most { IfSome result (λ n. AtMost deck.now (length deck.now) n) }
     ensures many { IfNone result ((at : ℕ) × (at < length deck.now) × HasTooMany deck.now at) }
-    ensures steps { steps.new ≤ steps.old + most_of_measure names.now deck.now }
+    ensures steps { steps.new ≤ steps.old + most_of_measure deck.now }
 {
     let mut most = 0;
     for at in 0..deck.len() {
@@ -191,7 +191,7 @@ fn is_fine(whole: bool, broken: bool) -> bool
 }
 
 // Sweeps a line, and writes its text and that of the marks above it, if it makes a device write.
-fn sweep_place<D: Trials + Drop, T: Sink>(
+fn sweep_place<D: Trials + Drop, T: Sink, L: Ledger>(
     sweeper: &mut LineSweeper<D>,
     place: &Place<'_>,
     number: u32,
@@ -200,7 +200,7 @@ fn sweep_place<D: Trials + Drop, T: Sink>(
     words: &mut [SweepWord],
     out: &mut T,
     sums: &mut Sums,
-    steps: &mut Steps<D::Meter>,
+    steps: &mut Steps<L>,
 ) -> Result<(), WriteFault>
     requires at { IsPlace place.now }
     requires played { D.has_played sweeper.old.trials (front_of place.now) }
@@ -240,7 +240,7 @@ fn sweep_place<D: Trials + Drop, T: Sink>(
 }
 
 // Sweeps the line at a place, if it may be swept.
-fn sweep_at<D: Trials + Drop, T: Sink>(
+fn sweep_at<D: Trials + Drop, T: Sink, L: Ledger>(
     sweeper: &mut LineSweeper<D>,
     place: &Place<'_>,
     marks: &[Remark<'_>],
@@ -248,7 +248,7 @@ fn sweep_at<D: Trials + Drop, T: Sink>(
     words: &mut [SweepWord],
     out: &mut T,
     sums: &mut Sums,
-    steps: &mut Steps<D::Meter>,
+    steps: &mut Steps<L>,
 ) -> Result<(), WriteFault>
     requires at { IsPlace place.now }
     requires played { D.has_played sweeper.old.trials (front_of place.now) }
@@ -297,7 +297,7 @@ fn no_sums() -> Sums
 }
 
 // Sweeps the lines of a deck, and writes the text of each when it is done.
-fn sweep_lines<D: Trials + Drop, T: Sink>(
+fn sweep_lines<D: Trials + Drop, T: Sink, L: Ledger>(
     sweeper: &mut LineSweeper<D>,
     deck: &Deck,
     names: &[Aid],
@@ -306,7 +306,7 @@ fn sweep_lines<D: Trials + Drop, T: Sink>(
     words: &mut [SweepWord],
     out: &mut T,
     sums: &mut Sums,
-    steps: &mut Steps<D::Meter>,
+    steps: &mut Steps<L>,
 ) -> Result<(), WriteFault>
     requires words { AtMost deck.now (length deck.now) (length words.old) }
     requires most { length words.old ≤ 4294967295 }
@@ -334,10 +334,7 @@ fn sweep_lines<D: Trials + Drop, T: Sink>(
 }
 
 // Allocates a device of which no line was played, and room for the observed states of this number of names.
-fn new_sweeper<L: Ledger>(
-    alloc: Global,
-    names: usize,
-) -> Result<LineSweeper<Laboratory<L>>, NoMemory>
+fn new_sweeper(alloc: Global, names: usize) -> Result<LineSweeper<Laboratory>, NoMemory>
     ensures room { IfOk result (λ sweeper. AccountsHaveRoom sweeper.ends sweeper.pair names) }
     ensures played { IfOk result (λ sweeper. HasPlayed sweeper.trials []) }
 {
@@ -354,7 +351,7 @@ fn measure<L: Ledger>(
     steps: &mut Steps<L>,
 ) -> Result<u32, NoMemory>
     ensures most { IfOk result (λ n. AtMost deck.now (length deck.now) n) }
-    ensures steps { steps.new ≤ steps.old + most_of_measure names.now deck.now }
+    ensures steps { steps.new ≤ steps.old + most_of_measure deck.now }
 {
     let mut sweeper = new_sweeper(alloc, names.len())?;
     match most_writes(&mut sweeper, deck, names, steps) {
@@ -371,15 +368,11 @@ fn new_words(alloc: Global, count: u32) -> Result<Vec<SweepWord>, NoMemory>
 }
 
 // Allocates the room for a sweep of a deck.
-fn room_for<L: Ledger>(
-    alloc: Global,
-    deck: &Deck,
-    steps: &mut Steps<L>,
-) -> Result<Room<L>, NoMemory>
+fn room_for<L: Ledger>(alloc: Global, deck: &Deck, steps: &mut Steps<L>) -> Result<Room, NoMemory>
     ensures room { IfOk result (λ room. IsRoom deck.now room.names.items room.sweeper.ends room.sweeper.pair
         (length room.words.items)) }
     ensures played { IfOk result (λ room. HasPlayed room.sweeper.trials []) }
-    ensures steps { steps.new ≤ steps.old + most_of_measure (names_from [] deck.now) deck.now }
+    ensures steps { steps.new ≤ steps.old + most_of_measure deck.now }
 {
     let names = names_of(alloc, deck)?;
     let most = measure(alloc, deck, names.as_slice(), steps)?;
@@ -395,7 +388,7 @@ fn room_for<L: Ledger>(
 // Sweeps a deck for which there is room, and writes its text. Returns whether each line that must be whole is, and each
 // mark is of a swept line.
 fn sweep_in<T: Sink, L: Ledger>(
-    room: &mut Room<L>,
+    room: &mut Room,
     deck: &Deck,
     marks: &[Remark<'_>],
     out: &mut T,

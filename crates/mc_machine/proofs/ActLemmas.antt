@@ -61,7 +61,12 @@ acted_is : (ch : Chain) → turn_of_chain ch ≡ turn_of_fetch ch (instruction_a
 unfolding turn_of_chain
 acted_is ch = refl
 
-module _ {B M : Type 0} (ghosts : Ghosts B M) where
+-- one instruction counts once
+pub row_count : (ch : Chain) (i : Ins) (e : RowEnd) → (row_turn ch i e).count ≡ 1
+row_count ch i (Abends a) = refl
+row_count ch i (Does d) = refl
+
+module _ {B : Type 0} (ghosts : Ghosts B) where
   pub turned : (b : B) (c : Chained) (ch : Chain) (found : Result (Ins × ℕ) DecodeFault) → RunsAs (ghosts.state b) (ghosts.named b) c ch → c.left ≢ 0
       → found ≡ instruction_at (app_under (ghosts.state b) (ghosts.named b) c.running).code c.running.frame.at → turn_of c.left ch ≡ turn_of_fetch ch found
   turned b c ch found r some is = grind (arith, app_is, not_spent, acted_is)

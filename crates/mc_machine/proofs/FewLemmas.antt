@@ -84,7 +84,7 @@ delegator_short s named (h ∷ hs) (f ∷ fs) apps r = short_name s.apps f.name 
 
 -- ---- turns
 
-module _ {B M : Type 0} (ghosts : Ghosts B M) where
+module _ {B : Type 0} (ghosts : Ghosts B) where
   begun_words : (b : B) (n : List ℕ) (o : Option (List (ℕ × List ℕ))) (a : Answer) (e : B) → InOrder (ChainWrote ghosts) b (write_of n o) a e → words_in o ≤ 64
   begun_words b n None a e h = omega arith
   begun_words b n (Some ps) a e h = elim h [ inl done ↦ (done.1).3 | inr stop ↦ (stop.1).3 ]
@@ -119,6 +119,6 @@ module _ {B M : Type 0} (ghosts : Ghosts B M) where
 -- ---- runs
 
 -- the writes of a run that was done
-pub all_few : {B M : Type 0} (ghosts : Ghosts B M) (ws : List Write) (b e : B) → InOrder (ChainWrote ghosts) b ws (Ok tt) e → AllByRecursion (λ (w : Write). w.words ≤ 64) ws
+pub all_few : {B : Type 0} (ghosts : Ghosts B) (ws : List Write) (b e : B) → InOrder (ChainWrote ghosts) b ws (Ok tt) e → AllByRecursion (λ (w : Write). w.words ≤ 64) ws
 all_few ghosts [] b e h = tt
 all_few ghosts (w ∷ ws) b e h = elim h [ inl done ↦ ((done.1).3, all_few ghosts ws done.0 e done.2) | inr stop ↦ absurd (cc stop.2) ]

@@ -4,7 +4,6 @@ pub mod AlikeEffects
 pub mod Alike
 pub mod Kept
 pub mod FetchLemmas
-pub mod CostLemmas
 pub mod RunLemmas
 pub mod ActLemmas
 pub mod EndLemmas

@@ -56,7 +56,7 @@ module _ (s : BankState) (named : ℕ → Option (List ℕ)) (old h : Held) (pub
 
 -- ---- turns
 
-module _ {B M : Type 0} (ghosts : Ghosts B M) where
+module _ {B : Type 0} (ghosts : Ghosts B) where
   -- the end in the record of a turn
   pub ended : (b e : B) (c d : Chained) (ch : Chain) (t : Acted) (step : Step) (o : Option End) → step.end ≡ o → ActDone ghosts b e c d ch t (Ok step) → EndDone ghosts b e c d ch t o
   ended b e c d ch t step o is done = (done.0, ap (λ (u : Turn). u.end) done.1 ∙ ap (option_map (end_value d.public d.le)) is)

@@ -22,13 +22,13 @@ use Rattle.mc_bank.proofs.LeftLemmas.{some_name}
 use Rattle.mc_bank.specs.declared.bank.Bank.{Ghosts}
 
 -- the properties of a bank that the lemmas use: the effect of a commit on the applications and on the slots
-pub record BankLaws {B M : Type 0} (ghosts : Ghosts B M) : Type 0 where
+pub record BankLaws {B : Type 0} (ghosts : Ghosts B) : Type 0 where
   pub obeys : (b : B) (n : List ℕ) (ws : List (ℕ × List ℕ)) (a : Answer) (e : B) → ghosts.did b (Commit n ws) a e → Changes (ghosts.state b) (apps_after_commit (ghosts.state b).apps n ws) a (ghosts.state e)
   pub keeps : (b : B) (n : List ℕ) (ws : List (ℕ × List ℕ)) (a : Answer) (e : B) → ghosts.did b (Commit n ws) a e → (k : ℕ) (m : List ℕ) → ghosts.named b k ≡ Some m → ghosts.named e k ≡ Some m
 
 -- ---- atomic writes
 
-module _ {B M : Type 0} (ghosts : Ghosts B M) where
+module _ {B : Type 0} (ghosts : Ghosts B) where
   none_wrote : (b : B) (a : Answer) (e : B) → InOrder ghosts.did b [] a e → InOrder (ChainWrote ghosts) b [] a e
   none_wrote b (Ok u) e done = done
   none_wrote b (Err s) e done = absurd done
@@ -44,7 +44,7 @@ module _ {B M : Type 0} (ghosts : Ghosts B M) where
 
 -- ---- the bank after a change
 
-module _ {B M : Type 0} (ghosts : Ghosts B M) (laws : BankLaws ghosts) where
+module _ {B : Type 0} (ghosts : Ghosts B) (laws : BankLaws ghosts) where
   slots_stay : (name fixed : List ℕ) (changes : Option (List (ℕ × List ℕ))) (b e : B) → IsOneCommit ghosts.did name fixed changes b (Ok tt) e → (k : ℕ) (m : List ℕ) → ghosts.named b k ≡ Some m → ghosts.named e k ≡ Some m
   slots_stay name fixed changes b e done k m is = grind arith
 

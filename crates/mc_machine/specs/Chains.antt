@@ -60,7 +60,7 @@ pub record RunsAs (s : BankState) (named : ℕ → Option (List ℕ)) (c : Chain
   pub apart : NamesApart (ch.frame ∷ ch.below)
 
 -- the frames of a chain fit the bank
-abbrev pub FitsChain : {B M : Type 0} → Ghosts B M → B → Chained → Type 0
+abbrev pub FitsChain : {B : Type 0} → Ghosts B → B → Chained → Type 0
 FitsChain ghosts bank c = (ch : Chain) × RunsAs (ghosts.state bank) (ghosts.named bank) c ch
 
 -- the first frame
@@ -75,7 +75,7 @@ session_in c = session_of (first_held c.running c.below).frame
 -- ---- atomic writes
 
 -- an atomic write of a chain, of at most 64 words, is a commit of words that hold its pieces over the static bytes
-abbrev pub ChainWrote : {B M : Type 0} → Ghosts B M → B → Write → Answer → B → Type 0
+abbrev pub ChainWrote : {B : Type 0} → Ghosts B → B → Write → Answer → B → Type 0
 ChainWrote ghosts b w a e = (ws : List (ℕ × List ℕ)) × HoldPieces (app_of (ghosts.state b).apps (Some w.name)).fixed w.pieces ws × ghosts.did b (Commit w.name ws) a e × (w.words ≤ 64)
 
 -- ---- runs

@@ -1,6 +1,5 @@
 pub mod Alike
 pub mod Chains
-pub mod Costs
 pub mod Frames
 pub mod Lone
 pub mod Places

@@ -14,7 +14,6 @@ use Rattle.mc_segs.specs.declared.ends.Next.{Next}
 use Rattle.mc_segs.specs.declared.ends.Next.TheVariants as go
 use Rattle.mc_segs.specs.Ends.{Scene, RowActs}
 use Rattle.mc_machine.specs.Chains.{Chained, RunsAs, ChainWrote}
-use Rattle.mc_machine.specs.Costs.{most_of_turn, most_of_turns}
 use Rattle.mc_machine.specs.Turns.{TurnActs, EndFits, end_value, last_end, outcome_value}
 use Rattle.mc_machine.specs.declared.outcome.End.{End}
 use Rattle.mc_machine.specs.declared.outcome.End.TheVariants as end
@@ -28,12 +27,12 @@ abbrev pub lone_chain : Held → List ℕ → ℕ → ℕ → ℕ → Chained
 lone_chain h public case le left = record { running = h; below = []; public = public; case = case; le = le; left = left }
 
 -- a turn without a `Stop`, and its end
-abbrev pub EndDone : {B M : Type 0} → Ghosts B M → B → B → Chained → Chained → Chain → Acted → Option End → Type 0
+abbrev pub EndDone : {B : Type 0} → Ghosts B → B → B → Chained → Chained → Chain → Acted → Option End → Type 0
 EndDone ghosts b e c d ch t end = TurnActs ghosts b e c d ch t × (t.turn.end ≡ option_map (end_value d.public d.le) end)
 
 -- a turn whose instruction delegates to a name: the chain as the instruction leaves it, in which the name is called
 -- next
-pub record Delegated {B M : Type 0} (ghosts : Ghosts B M) (b e : B) (c d : Chained) (t : Acted) (name : List ℕ) : Type 0 where
+pub record Delegated {B : Type 0} (ghosts : Ghosts B) (b e : B) (c d : Chained) (t : Acted) (name : List ℕ) : Type 0 where
   pub chain : Chain
   pub runs : RunsAs (ghosts.state e) (ghosts.named e) d chain
   pub writes : InOrder (ChainWrote ghosts) b t.writes (Ok tt) e
@@ -43,26 +42,12 @@ pub record Delegated {B M : Type 0} (ghosts : Ghosts B M) (b e : B) (c d : Chain
 
 -- a turn of a frame that no frame waits for, by its result and the name that it calls; `n` is the budget that its chain
 -- has left
-abbrev pub LoneDone : {B M : Type 0} → Ghosts B M → B → B → Chained → (ℕ → Chained) → Chain → Acted → Result Lone Stop → Option (List ℕ) → Type 0
+abbrev pub LoneDone : {B : Type 0} → Ghosts B → B → B → Chained → (ℕ → Chained) → Chain → Acted → Result Lone Stop → Option (List ℕ) → Type 0
 LoneDone ghosts b e c d ch t (Ok Goes) callee = (n : ℕ) × EndDone ghosts b e c (d n) ch t None
 LoneDone ghosts b e c d ch t (Ok (Ends end)) callee = (n : ℕ) × EndDone ghosts b e c (d n) ch t (Some end)
 LoneDone ghosts b e c d ch t (Ok Delegates) None = ⊥
 LoneDone ghosts b e c d ch t (Ok Delegates) (Some name) = Delegated ghosts b e c (d (c.left - 1)) t name
 LoneDone ghosts b e c d ch t (Err stop) callee = InOrder (ChainWrote ghosts) b t.writes (Err stop) e
-
--- the most steps that a turn leaves to what follows it: if it delegates, 4 words of the facts of its application, whose
--- frame moves to a chain, and 345 words of the call of the name
-abbrev pub most_after : Result Lone Stop → ℕ
-most_after (Ok Goes) = 0
-most_after (Ok (Ends end)) = 0
-most_after (Ok Delegates) = 349
-most_after (Err stop) = 0
-
--- the number of steps before a turn of a frame that no frame waits for and after it, by its result: those that it leaves
--- are among those that it may make
-pub record CountsLone (t : Acted) (result : Result Lone Stop) (old new : ℕ) : Type 0 where
-  pub least : old + t.count ≤ new
-  pub most : new + most_after result ≤ old + most_of_turn t.turn
 
 -- a reply fits, if the turn ends with one
 abbrev pub LoneFits : List ℕ → Result Lone Stop → Type 0
@@ -99,7 +84,7 @@ NameIsCalled (Ok (go.Delegate name)) callee = callee ≡ Some name
 NameIsCalled (Err halt) callee = Unit {0}
 
 -- an instruction of a frame that no frame waits for, by what comes after it and the name that it calls
-pub record LoneActs {B M : Type 0} (ghosts : Ghosts B M) (s : Scene B) (i : Ins) (x : Around) (result : Result Lone Stop) (callee : Option (List ℕ)) : Type 0 where
+pub record LoneActs {B : Type 0} (ghosts : Ghosts B) (s : Scene B) (i : Ins) (x : Around) (result : Result Lone Stop) (callee : Option (List ℕ)) : Type 0 where
   pub done : Result Next Halt
   pub acts : RowActs ghosts s i x done
   pub value : result ≡ lone_of done s.public_after
@@ -107,23 +92,21 @@ pub record LoneActs {B M : Type 0} (ghosts : Ghosts B M) (s : Scene B) (i : Ins)
 
 -- ---- runs
 
--- The end of a run: all its writes were done, and it left the given session bytes. It made a step for each instruction
--- that it decoded, and no more than its turns take, with `extra` steps before them.
-pub record Finished {B M : Type 0} (ghosts : Ghosts B M) (extra : ℕ) (start : B) (whole : Ran) (ticks : ℕ) (end : B) (bytes : List ℕ) (reported : model.Outcome) (steps : ℕ) : Type 0 where
+-- the end of a run: all its writes were done, `steps` counts its steps as well, and it left the given session bytes
+pub record Finished {B : Type 0} (ghosts : Ghosts B) (start : B) (whole : Ran) (ticks : ℕ) (end : B) (bytes : List ℕ) (reported : model.Outcome) (steps : ℕ) : Type 0 where
   pub writes : InOrder (ChainWrote ghosts) start whole.writes (Ok tt) end
   pub going : (ghosts.state end).stopped ≡ false
-  pub least : ticks + whole.count ≤ steps
-  pub most : steps ≤ ticks + (extra + most_of_turns whole.turns)
+  pub count : steps ≡ ticks + whole.count
   pub session : bytes ≡ whole.session
   pub outcome : reported ≡ whole.outcome
 
--- a run that a `Stop` ended: it made no more steps than the whole run may, and left the session bytes as they were
-pub record HaltedRun {B M : Type 0} (ghosts : Ghosts B M) (extra : ℕ) (start : B) (whole : Ran) (ticks : ℕ) (end : B) (bytes left : List ℕ) (stop : Stop) (steps : ℕ) : Type 0 where
+-- a run that a `Stop` ended: it counted no more steps than the whole run, and left the session bytes as they were
+pub record HaltedRun {B : Type 0} (ghosts : Ghosts B) (start : B) (whole : Ran) (ticks : ℕ) (end : B) (bytes left : List ℕ) (stop : Stop) (steps : ℕ) : Type 0 where
   pub writes : InOrder (ChainWrote ghosts) start whole.writes (Err stop) end
-  pub most : steps ≤ ticks + (extra + most_of_turns whole.turns)
+  pub count : steps ≤ ticks + whole.count
   pub session : left ≡ bytes
 
 -- a run by its result: the bank, the session bytes and the number of steps before it and after it
-abbrev pub RanDone : {B M : Type 0} → Ghosts B M → ℕ → B → B → List ℕ → List ℕ → ℕ → ℕ → Ran → Result Outcome Stop → Type 0
-RanDone ghosts extra b e bytes left ticks steps whole (Ok outcome) = Finished ghosts extra b whole ticks e left (outcome_value outcome) steps
-RanDone ghosts extra b e bytes left ticks steps whole (Err stop) = HaltedRun ghosts extra b whole ticks e bytes left stop steps
+abbrev pub RanDone : {B : Type 0} → Ghosts B → B → B → List ℕ → List ℕ → ℕ → ℕ → Ran → Result Outcome Stop → Type 0
+RanDone ghosts b e bytes left ticks steps whole (Ok outcome) = Finished ghosts b whole ticks e left (outcome_value outcome) steps
+RanDone ghosts b e bytes left ticks steps whole (Err stop) = HaltedRun ghosts b whole ticks e bytes left stop steps

@@ -1,10 +1,9 @@
 -- A place for a chain: the chain that runs in it, if one runs, and what a turn in it does.
-use Rattle.std.specs.Prelude.{◌≡◌, ℕ, Bool, true, false, List, Option, Some, None, Result}
+use Rattle.std.specs.Prelude.{◌≡◌, ℕ, ◌+◌, Bool, true, false, List, Option, Some, None, Result}
 use Rattle.law_machine.specs.model_device.specs.declared.device.Stop.{Stop}
 use Rattle.law_machine.specs.model_machine.specs.Chain.{Chain, turn_of}
 use Rattle.mc_bank.specs.Bank.{BankState, AreApps}
 use Rattle.mc_machine.specs.Chains.{Chained, RunsAs}
-use Rattle.mc_machine.specs.Costs.{CountsTurn}
 use Rattle.mc_machine.specs.Turns.{TurnDone, WritesFew}
 use Rattle.mc_machine.specs.declared.outcome.Turn.{Turn}
 use Rattle.mc_bank.specs.declared.bank.Bank.{Ghosts}
@@ -25,7 +24,7 @@ pub record IsBegun (s : BankState) (named : ℕ → Option (List ℕ)) (ch : Cha
   pub left : c.left ≡ budget
 
 -- a turn of the chain that runs in a place, by its result and the number of steps before and after it
-pub record TurnsTo {B M : Type 0} (ghosts : Ghosts B M) (b e : B) (result : Result Turn Stop) (old new : ℕ) (c d : Chained) : Type 0 where
+pub record TurnsTo {B : Type 0} (ghosts : Ghosts B) (b e : B) (result : Result Turn Stop) (old new : ℕ) (c d : Chained) : Type 0 where
   pub done : (ch : Chain) → RunsAs (ghosts.state b) (ghosts.named b) c ch → TurnDone ghosts b e c d ch (turn_of c.left ch) result
-  pub steps : (ch : Chain) → RunsAs (ghosts.state b) (ghosts.named b) c ch → CountsTurn (turn_of c.left ch) old new
+  pub steps : (ch : Chain) → RunsAs (ghosts.state b) (ghosts.named b) c ch → new ≡ old + (turn_of c.left ch).count
   pub few : (ch : Chain) → RunsAs (ghosts.state b) (ghosts.named b) c ch → AreApps (ghosts.state b).apps → WritesFew (turn_of c.left ch)

@@ -112,24 +112,24 @@ Follow s named c ch (Continues next) = RunsAs s named c next
 Follow s named c ch (Ends o) = session_in c ≡ chain_session ch
 
 -- a turn without a `Stop`: its atomic writes were done, the bank goes on, the budget is counted
-pub record TurnActs {B M : Type 0} (ghosts : Ghosts B M) (b e : B) (c d : Chained) (ch : Chain) (t : Acted) : Type 0 where
+pub record TurnActs {B : Type 0} (ghosts : Ghosts B) (b e : B) (c d : Chained) (ch : Chain) (t : Acted) : Type 0 where
   pub writes : InOrder (ChainWrote ghosts) b t.writes (Ok tt) e
   pub going : (ghosts.state e).stopped ≡ false
   pub left : d.left + t.count ≡ c.left
   pub follows : Follow (ghosts.state e) (ghosts.named e) d ch t.follows
 
 -- a turn by its result: it was done, and its record is that of the definitions; or a `Stop` ended its write
-abbrev pub ActDone : {B M : Type 0} → Ghosts B M → B → B → Chained → Chained → Chain → Acted → Result Step Stop → Type 0
+abbrev pub ActDone : {B : Type 0} → Ghosts B → B → B → Chained → Chained → Chain → Acted → Result Step Stop → Type 0
 ActDone ghosts b e c d ch t (Ok step) = TurnActs ghosts b e c d ch t × (t.turn ≡ step_value (length c.below + 1) c.running.frame.at d.public d.le step t.turn.wrote)
 ActDone ghosts b e c d ch t (Err stop) = InOrder (ChainWrote ghosts) b t.writes (Err stop) e
 
 -- a turn without its reply by its result: it was done, and is that of the definitions; or a `Stop` ended its write
-abbrev pub BriefDone : {B M : Type 0} → Ghosts B M → B → B → Chained → Chained → Chain → Acted → Result BriefTurn Stop → Type 0
+abbrev pub BriefDone : {B : Type 0} → Ghosts B → B → B → Chained → Chained → Chain → Acted → Result BriefTurn Stop → Type 0
 BriefDone ghosts b e c d ch t (Ok turn) = TurnActs ghosts b e c d ch t × (t.turn ≡ brief_value d.public d.le turn t.turn.wrote)
 BriefDone ghosts b e c d ch t (Err stop) = InOrder (ChainWrote ghosts) b t.writes (Err stop) e
 
 -- a turn with its place by its result: it was done, and is that of the definitions; or a `Stop` ended its write
-abbrev pub TurnDone : {B M : Type 0} → Ghosts B M → B → B → Chained → Chained → Chain → Acted → Result Turn Stop → Type 0
+abbrev pub TurnDone : {B : Type 0} → Ghosts B → B → B → Chained → Chained → Chain → Acted → Result Turn Stop → Type 0
 TurnDone ghosts b e c d ch t (Ok turn) = TurnActs ghosts b e c d ch t × (t.turn ≡ turn_value turn t.turn.wrote)
 TurnDone ghosts b e c d ch t (Err stop) = InOrder (ChainWrote ghosts) b t.writes (Err stop) e
 

@@ -1,5 +1,5 @@
 // A chain of frames: its beginning, its end, and what one frame reads of the others.
-ghost use Rattle.std.specs.Prelude.{◌≡◌, ◌+◌, ◌≤◌, length, false, IsSome};
+ghost use Rattle.std.specs.Prelude.{◌≡◌, ◌≤◌, length, false, IsSome};
 ghost use Rattle.law_machine.specs.model_machine.specs.Chain.{start};
 ghost use Rattle.mc_apdu.specs.Command.{parts_of};
 ghost use Rattle.mc_bank.specs.Bank.{app_of, name_or};
@@ -8,7 +8,6 @@ ghost use Rattle.mc_machine.specs.Chains.{FrameReadsAs, RunsAs, first_of, sessio
 use crate::waiting::Waiting;
 use mc_apdu::Apdu;
 use mc_bank::{Bank, Slot};
-use mc_base::Steps;
 use mc_segs::{Frame, Public, Session};
 use std::marker::Model;
 
@@ -45,14 +44,7 @@ impl Model for Chain {
 /// Returns the chain of a command to the application of slot `first`, with the session bytes of its
 /// selection, before its first turn. The budget is 1 to 65,536 instructions, and the command has at most
 /// 1,024 bytes of data.
-pub fn begin<B: Bank>(
-    bank: &B,
-    first: Slot,
-    session: &Session,
-    apdu: &Apdu,
-    budget: u32,
-    steps: &mut Steps<B::Meter>,
-) -> Chain
+pub fn begin<B: Bank>(bank: &B, first: Slot, session: &Session, apdu: &Apdu, budget: u32) -> Chain
     requires going { (B.state bank.now).stopped ≡ false }
     requires there { IsSome (B.named bank.now first) }
     requires session { length session.now ≡ (app_of (B.state bank.now).apps (B.named bank.now first)).session }
@@ -62,11 +54,9 @@ pub fn begin<B: Bank>(
     ensures runs { RunsAs (B.state bank.now) (B.named bank.now) result
         (start (B.state bank.now).apps (name_or (B.named bank.now first)) session.now (parts_of apdu.now)) }
     ensures left { result.left ≡ budget }
-    ensures rises { steps.old ≤ steps.new }
-    ensures reads { steps.new ≤ steps.old + 4 }
 {
     Chain {
-        running: first_frame(bank, first, session, steps),
+        running: first_frame(bank, first, session),
         waiting: Waiting::new(),
         public: Public::new(apdu),
         case: apdu.case(),
@@ -77,21 +67,14 @@ pub fn begin<B: Bank>(
 
 /// Returns the frame of the application of slot `first`, with the session bytes of its selection, before its
 /// first turn.
-pub fn first_frame<B: Bank>(
-    bank: &B,
-    first: Slot,
-    session: &Session,
-    steps: &mut Steps<B::Meter>,
-) -> Frame
+pub fn first_frame<B: Bank>(bank: &B, first: Slot, session: &Session) -> Frame
     requires going { (B.state bank.now).stopped ≡ false }
     requires there { IsSome (B.named bank.now first) }
     requires session { length session.now ≡ (app_of (B.state bank.now).apps (B.named bank.now first)).session }
-    ensures reads_as { FrameReadsAs (B.state bank.now) (B.named bank.now) result
+    ensures { FrameReadsAs (B.state bank.now) (B.named bank.now) result
         (first_of (B.state bank.now).apps (name_or (B.named bank.now first)) session.now) }
-    ensures rises { steps.old ≤ steps.new }
-    ensures reads { steps.new ≤ steps.old + 4 }
 {
-    Frame::new(first, &bank.facts(first, steps), session)
+    Frame::new(first, &bank.facts(first), session)
 }
 
 impl Chain {
@@ -103,7 +86,6 @@ impl Chain {
         session: &Session,
         apdu: &Apdu,
         budget: u32,
-        steps: &mut Steps<B::Meter>,
     )
         requires going { (B.state bank.now).stopped ≡ false }
         requires there { IsSome (B.named bank.now first) }
@@ -114,10 +96,8 @@ impl Chain {
         ensures runs { RunsAs (B.state bank.now) (B.named bank.now) self.new
             (start (B.state bank.now).apps (name_or (B.named bank.now first)) session.now (parts_of apdu.now)) }
         ensures left { self.new.left ≡ budget }
-        ensures rises { steps.old ≤ steps.new }
-        ensures reads { steps.new ≤ steps.old + 4 }
     {
-        self.running = first_frame(bank, first, session, steps);
+        self.running = first_frame(bank, first, session);
         self.waiting.clear();
         self.public = Public::new(apdu);
         self.case = apdu.case();

@@ -1,12 +1,11 @@
 // Instructions that were decoded before, by their code addresses: a loop decodes each of its instructions once.
-ghost use Rattle.std.specs.Prelude.{◌≡◌, ◌+◌, ◌≤◌, ℕ, List, false};
+ghost use Rattle.std.specs.Prelude.{◌≡◌, ℕ, List, false};
 ghost use Rattle.law_machine.specs.model_machine.specs.Code.{instruction_at, DecodesTo};
 ghost use Rattle.mc_segs.specs.HeldFrames.{FitsBank, app_under};
 ghost use Rattle.mc_machine.specs.Known.{KnowsCode};
 
 use crate::fetch::fetch;
 use mc_bank::Bank;
-use mc_base::Steps;
 use mc_isa::{DecodeFault, Ins};
 use mc_segs::Frame;
 
@@ -46,7 +45,6 @@ pub fn fetch_known<B: Bank>(
     bank: &B,
     frame: &Frame,
     table: &mut Table,
-    steps: &mut Steps<B::Meter>,
 ) -> Result<(Ins, u16), DecodeFault>
     requires going { (B.state bank.now).stopped ≡ false }
     requires fits { FitsBank (B.state bank.now) (B.named bank.now) frame.now }
@@ -56,26 +54,19 @@ pub fn fetch_known<B: Bank>(
     ensures stands { DecodesTo (app_under (B.state bank.now) (B.named bank.now) frame.now).code
         frame.now.frame.at result }
     ensures knows { KnowsCode (app_under (B.state bank.now) (B.named bank.now) frame.now).code table.new }
-    ensures rises { steps.old ≤ steps.new }
-    ensures reads { steps.new ≤ steps.old + 2 }
 {
     let at = frame.at();
     let known = table[at as usize % PLACES];
     if known.at == at as u32 {
         return Ok((known.ins, known.next));
     }
-    learn(bank, frame, table, steps)
+    learn(bank, frame, table)
 }
 
 // Decodes the instruction at the frame's code address, and keeps it in its place.
 #[cold]
 #[inline(never)]
-fn learn<B: Bank>(
-    bank: &B,
-    frame: &Frame,
-    table: &mut Table,
-    steps: &mut Steps<B::Meter>,
-) -> Result<(Ins, u16), DecodeFault>
+fn learn<B: Bank>(bank: &B, frame: &Frame, table: &mut Table) -> Result<(Ins, u16), DecodeFault>
     requires going { (B.state bank.now).stopped ≡ false }
     requires fits { FitsBank (B.state bank.now) (B.named bank.now) frame.now }
     requires knows { KnowsCode (app_under (B.state bank.now) (B.named bank.now) frame.now).code table.old }
@@ -84,11 +75,9 @@ fn learn<B: Bank>(
     ensures stands { DecodesTo (app_under (B.state bank.now) (B.named bank.now) frame.now).code
         frame.now.frame.at result }
     ensures knows { KnowsCode (app_under (B.state bank.now) (B.named bank.now) frame.now).code table.new }
-    ensures rises { steps.old ≤ steps.new }
-    ensures reads { steps.new ≤ steps.old + 2 }
 {
     let at = frame.at();
-    let (ins, next) = fetch(bank, frame, steps)?;
+    let (ins, next) = fetch(bank, frame)?;
     table[at as usize % PLACES] = Known {
         at: at as u32,
         next,

@@ -1,5 +1,5 @@
 // Turns of an application that no frame waits for: the first one of a chain, until it delegates.
-ghost use Rattle.std.specs.Prelude.{◌≡◌, ◌≢◌, ◌+◌, ◌≤◌, false, ℕ, List, Option, None, Ok};
+ghost use Rattle.std.specs.Prelude.{◌≡◌, ◌≢◌, ◌+◌, false, ℕ, List, Option, None, Ok};
 ghost use Rattle.law_machine.specs.model_machine.specs.declared.instruction.Ins.TheVariants.{Prim};
 ghost use Rattle.law_machine.specs.model_machine.specs.Code.{Shaped, instruction_at, DecodesTo};
 ghost use Rattle.law_machine.specs.model_machine.specs.Chain.{Chain as ModelChain, turn_of};
@@ -8,9 +8,8 @@ ghost use Rattle.mc_segs.specs.Ends.{scene};
 ghost use Rattle.mc_rows.specs.Rows.{row_result};
 ghost use Rattle.mc_machine.specs.Chains.{RunsAs};
 ghost use Rattle.mc_machine.specs.Lone.{lone_chain, lone_of, lone_next_of, lone_halt_of};
-ghost use Rattle.mc_machine.specs.Costs.{by_kind};
 ghost use Rattle.mc_machine.specs.Known.{KnowsCode};
-ghost use Rattle.mc_machine.specs.Lone.{NameIsCalled, GoesOn, LoneActs, LoneDone, LoneFits, CountsLone, most_after};
+ghost use Rattle.mc_machine.specs.Lone.{NameIsCalled, GoesOn, LoneActs, LoneDone, LoneFits};
 
 use crate::fetch::fetch;
 use crate::known::{Table, fetch_known};
@@ -21,6 +20,7 @@ use mc_isa::{DecodeFault, Ins};
 use mc_prims::{Around, prim};
 use mc_rows::{Flow, step};
 use mc_segs::{Abend, Frame, Halt, Next, Public};
+use std::sync::ledger::Ledger;
 
 /// What comes after a turn of an application that no frame waits for: its next turn, the end of the command,
 /// or another application. The name of that one is kept elsewhere, since every turn would pass the room for
@@ -33,16 +33,16 @@ pub enum Lone {
 }
 
 /// Runs one turn of an application that no frame waits for, under a budget that is not spent: one executed
-/// instruction, or a fetch that ends the chain. If it delegates, the name is written to `callee`, and the steps
-/// of the call are left. A `Stop` is that of the bank in the instruction's change.
+/// instruction, and one step, or a fetch that ends the chain. If it delegates, the name is written to
+/// `callee`. A `Stop` is that of the bank in the instruction's change.
 #[inline(always)]
-pub fn lone_turn<B: Bank>(
+pub fn lone_turn<B: Bank, L: Ledger>(
     bank: &mut B,
     frame: &mut Frame,
     public: &mut Public,
     case: u8,
     callee: &mut Option<Aid>,
-    steps: &mut Steps<B::Meter>,
+    steps: &mut Steps<L>,
 ) -> Result<Lone, Stop>
     requires going { (B.state bank.old).stopped ≡ false }
     requires fits { FitsBank (B.state bank.old) (B.named bank.old) frame.old }
@@ -52,24 +52,24 @@ pub fn lone_turn<B: Bank>(
         (lone_chain frame.new public.new case le) ch (turn_of left ch) result callee.new }
     ensures ticks { (ch : ModelChain) (le left : ℕ) → left ≢ 0
         → RunsAs (B.state bank.old) (B.named bank.old) (lone_chain frame.old public.old case le left) ch
-        → CountsLone (turn_of left ch) result steps.old steps.new }
+        → steps.new ≡ steps.old + (turn_of left ch).count }
     ensures fits { LoneFits public.new result }
 {
-    let found = fetch(bank, frame, steps);
+    let found = fetch(bank, frame);
     perform_found(bank, frame, public, found, case, callee, steps)
 }
 
 /// Runs one turn as `lone_turn` does, with a table of instructions that were decoded before. If the application goes
 /// on, its code is the same as before.
 #[inline(always)]
-pub fn known_turn<B: Bank>(
+pub fn known_turn<B: Bank, L: Ledger>(
     bank: &mut B,
     frame: &mut Frame,
     public: &mut Public,
     table: &mut Table,
     case: u8,
     callee: &mut Option<Aid>,
-    steps: &mut Steps<B::Meter>,
+    steps: &mut Steps<L>,
 ) -> Result<Lone, Stop>
     requires going { (B.state bank.old).stopped ≡ false }
     requires fits { FitsBank (B.state bank.old) (B.named bank.old) frame.old }
@@ -80,26 +80,26 @@ pub fn known_turn<B: Bank>(
         (lone_chain frame.new public.new case le) ch (turn_of left ch) result callee.new }
     ensures ticks { (ch : ModelChain) (le left : ℕ) → left ≢ 0
         → RunsAs (B.state bank.old) (B.named bank.old) (lone_chain frame.old public.old case le left) ch
-        → CountsLone (turn_of left ch) result steps.old steps.new }
+        → steps.new ≡ steps.old + (turn_of left ch).count }
     ensures fits { LoneFits public.new result }
     ensures knows { GoesOn result → KnowsCode (app_under (B.state bank.new) (B.named bank.new) frame.new).code
         table.new }
 {
-    let found = fetch_known(bank, frame, table, steps);
+    let found = fetch_known(bank, frame, table);
     perform_found(bank, frame, public, found, case, callee, steps)
 }
 
 // Executes the instruction at the code address of an application that no frame waits for, or ends the chain if there is
 // none.
 #[inline(always)]
-fn perform_found<B: Bank>(
+fn perform_found<B: Bank, L: Ledger>(
     bank: &mut B,
     frame: &mut Frame,
     public: &mut Public,
     found: Result<(Ins, u16), DecodeFault>,
     case: u8,
     callee: &mut Option<Aid>,
-    steps: &mut Steps<B::Meter>,
+    steps: &mut Steps<L>,
 ) -> Result<Lone, Stop>
     requires going { (B.state bank.old).stopped ≡ false }
     requires fits { FitsBank (B.state bank.old) (B.named bank.old) frame.old }
@@ -111,10 +111,9 @@ fn perform_found<B: Bank>(
         → RunsAs (B.state bank.old) (B.named bank.old) (lone_chain frame.old public.old case le left) ch
         → LoneDone B.Bank bank.old bank.new (lone_chain frame.old public.old case le left)
         (lone_chain frame.new public.new case le) ch (turn_of left ch) result callee.new }
-    // `before` is the number of steps before its fetch, which takes at most two.
-    ensures ticks { (ch : ModelChain) (le left before : ℕ) → left ≢ 0
+    ensures ticks { (ch : ModelChain) (le left : ℕ) → left ≢ 0
         → RunsAs (B.state bank.old) (B.named bank.old) (lone_chain frame.old public.old case le left) ch
-        → before ≤ steps.old → steps.old ≤ before + 2 → CountsLone (turn_of left ch) result before steps.new }
+        → steps.new ≡ steps.old + (turn_of left ch).count }
     ensures fits { LoneFits public.new result }
     ensures code { GoesOn result → (app_under (B.state bank.new) (B.named bank.new) frame.new).code
         ≡ (app_under (B.state bank.old) (B.named bank.old) frame.old).code }
@@ -126,7 +125,7 @@ fn perform_found<B: Bank>(
     };
     steps.tick();
     frame.go(next);
-    perform_lone(bank, frame, public, &ins, case, callee, steps)
+    perform_lone(bank, frame, public, &ins, case, callee)
 }
 
 // Executes an instruction of an application that nobody delegated to, whose code address is already after it.
@@ -138,7 +137,6 @@ fn perform_lone<B: Bank>(
     ins: &Ins,
     case: u8,
     callee: &mut Option<Aid>,
-    steps: &mut Steps<B::Meter>,
 ) -> Result<Lone, Stop>
     requires going { (B.state bank.old).stopped ≡ false }
     requires fits { FitsBank (B.state bank.old) (B.named bank.old) frame.old }
@@ -147,16 +145,12 @@ fn perform_lone<B: Bank>(
         (scene bank.old bank.new frame.old frame.new public.old public.new) ins.now
         (record { case = case; delegator = None }) result callee.new }
     ensures fits { LoneFits public.new result }
-    ensures rises { steps.old ≤ steps.new }
-    ensures reads { steps.new ≤ steps.old + by_kind 144 70 ins.now }
-    // Only a primitive delegates.
-    ensures calls { most_after result ≤ by_kind 349 0 ins.now }
 {
     match *ins {
         Ins::Prim { set, number, args } => {
-            primitive(bank, frame, public, set, number, args, case, callee, steps)
+            primitive(bank, frame, public, set, number, args, case, callee)
         }
-        _ => after_row(step(bank, frame, public, ins, steps), public),
+        _ => after_row(step(bank, frame, public, ins), public),
     }
 }
 
@@ -172,7 +166,6 @@ fn primitive<B: Bank>(
     args: [u8; 3],
     case: u8,
     callee: &mut Option<Aid>,
-    steps: &mut Steps<B::Meter>,
 ) -> Result<Lone, Stop>
     requires going { (B.state bank.old).stopped ≡ false }
     requires fits { FitsBank (B.state bank.old) (B.named bank.old) frame.old }
@@ -180,14 +173,12 @@ fn primitive<B: Bank>(
         (scene bank.old bank.new frame.old frame.new public.old public.new) (Prim set number args)
         (record { case = case; delegator = None }) result callee.new }
     ensures fits { LoneFits public.new result }
-    ensures rises { steps.old ≤ steps.new }
-    ensures reads { steps.new ≤ steps.old + 144 }
 {
     let around = Around {
         case,
         delegator: None,
     };
-    let done = prim(bank, frame, public, set, number, &args, &around, steps);
+    let done = prim(bank, frame, public, set, number, &args, &around);
     after_primitive(done, public, callee)
 }
 
@@ -229,7 +220,6 @@ fn after_row(done: Result<Flow, Halt>, public: &Public) -> Result<Lone, Stop>
     ensures value { result ≡ lone_of (row_result done) public.now }
     ensures called { (callee : Option (List ℕ)) → NameIsCalled (row_result done) callee }
     ensures fits { LoneFits public.now result }
-    ensures calls { most_after result ≡ 0 }
 {
     match done {
         Ok(Flow::Go) => Ok(Lone::Goes),

@@ -1,5 +1,5 @@
 // A place for the chain of a command that is run turn by turn.
-ghost use Rattle.std.specs.Prelude.{◌≡◌, ◌+◌, ◌≤◌, ℕ, false, None, IsSome, IfOk, IfSome, length, option_map};
+ghost use Rattle.std.specs.Prelude.{◌≡◌, ◌≤◌, ℕ, false, None, IsSome, IfOk, IfSome, length, option_map};
 ghost use Rattle.law_machine.specs.model_machine.specs.Chain.{start};
 ghost use Rattle.law_machine.specs.model_machine.specs.Code.{Shaped};
 ghost use Rattle.mc_apdu.specs.Command.{parts_of};
@@ -16,6 +16,7 @@ use mc_bank::{Bank, Slot};
 use mc_base::{Steps, Stop};
 use mc_segs::Session;
 use std::marker::Model;
+use std::sync::ledger::Ledger;
 
 /// A place for the chain of a command that is run turn by turn. It keeps the bytes of the last chain, over which the
 /// next one is begun: a chain has room for four frames, and moving it takes longer than a short command.
@@ -67,7 +68,6 @@ impl ChainPlace {
         session: &Session,
         apdu: &Apdu,
         budget: u32,
-        steps: &mut Steps<B::Meter>,
     )
         requires going { (B.state bank.now).stopped ≡ false }
         requires there { IsSome (B.named bank.now first) }
@@ -75,12 +75,10 @@ impl ChainPlace {
         requires some { 1 ≤ budget }
         requires budget { budget ≤ 65536 }
         requires data { length apdu.now.body.now ≤ 1024 }
-        ensures begun { Runs self.new (IsBegun (B.state bank.now) (B.named bank.now)
+        ensures { Runs self.new (IsBegun (B.state bank.now) (B.named bank.now)
             (start (B.state bank.now).apps (name_or (B.named bank.now first)) session.now (parts_of apdu.now)) budget) }
-        ensures rises { steps.old ≤ steps.new }
-        ensures reads { steps.new ≤ steps.old + 4 }
     {
-        put_begun(&mut self.chain, bank, first, session, apdu, budget, steps);
+        put_begun(&mut self.chain, bank, first, session, apdu, budget);
         self.is_running = true;
     }
 
@@ -90,11 +88,11 @@ impl ChainPlace {
     /// # Errors
     ///
     /// Returns the `Stop` of the bank in the turn's change.
-    pub fn turn_into<B: Bank>(
+    pub fn turn_into<B: Bank, L: Ledger>(
         &mut self,
         bank: &mut B,
         into: &mut Outcome,
-        steps: &mut Steps<B::Meter>,
+        steps: &mut Steps<L>,
     ) -> Result<BriefTurn, Stop>
         requires going { (B.state bank.old).stopped ≡ false }
         requires fits { Runs self.old (FitsChain B.Bank bank.old) }
@@ -137,7 +135,6 @@ fn put_begun<B: Bank>(
     session: &Session,
     apdu: &Apdu,
     budget: u32,
-    steps: &mut Steps<B::Meter>,
 )
     requires going { (B.state bank.now).stopped ≡ false }
     requires there { IsSome (B.named bank.now first) }
@@ -145,14 +142,12 @@ fn put_begun<B: Bank>(
     requires some { 1 ≤ budget }
     requires budget { budget ≤ 65536 }
     requires data { length apdu.now.body.now ≤ 1024 }
-    ensures begun { Runs place.new (IsBegun (B.state bank.now) (B.named bank.now)
+    ensures { Runs place.new (IsBegun (B.state bank.now) (B.named bank.now)
         (start (B.state bank.now).apps (name_or (B.named bank.now first)) session.now (parts_of apdu.now)) budget) }
-    ensures rises { steps.old ≤ steps.new }
-    ensures reads { steps.new ≤ steps.old + 4 }
 {
     match place {
-        Some(chain) => chain.begin_again(bank, first, session, apdu, budget, steps),
-        None => put_first(place, bank, first, session, apdu, budget, steps),
+        Some(chain) => chain.begin_again(bank, first, session, apdu, budget),
+        None => put_first(place, bank, first, session, apdu, budget),
     }
 }
 
@@ -167,7 +162,6 @@ fn put_first<B: Bank>(
     session: &Session,
     apdu: &Apdu,
     budget: u32,
-    steps: &mut Steps<B::Meter>,
 )
     requires going { (B.state bank.now).stopped ≡ false }
     requires there { IsSome (B.named bank.now first) }
@@ -175,10 +169,8 @@ fn put_first<B: Bank>(
     requires some { 1 ≤ budget }
     requires budget { budget ≤ 65536 }
     requires data { length apdu.now.body.now ≤ 1024 }
-    ensures begun { Runs place.new (IsBegun (B.state bank.now) (B.named bank.now)
+    ensures { Runs place.new (IsBegun (B.state bank.now) (B.named bank.now)
         (start (B.state bank.now).apps (name_or (B.named bank.now first)) session.now (parts_of apdu.now)) budget) }
-    ensures rises { steps.old ≤ steps.new }
-    ensures reads { steps.new ≤ steps.old + 4 }
 {
-    *place = Some(begin(bank, first, session, apdu, budget, steps));
+    *place = Some(begin(bank, first, session, apdu, budget));
 }

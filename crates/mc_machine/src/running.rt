@@ -6,7 +6,6 @@ ghost use Rattle.law_machine.specs.model_device.specs.Bytes.{lookup};
 ghost use Rattle.law_machine.specs.model_machine.specs.Chain.{Chain as ModelChain, chain_after_call, run_of_chain};
 ghost use Rattle.mc_bank.specs.Bank.{app_of};
 ghost use Rattle.mc_machine.specs.Chains.{FitsChain, RunsAs, ChainWrote, run_of_command};
-ghost use Rattle.mc_machine.specs.Costs.{most_of_turns};
 ghost use Rattle.mc_machine.specs.Lone.{lone_chain, RanDone};
 ghost use Rattle.mc_machine.specs.Turns.{outcome_value, outcome_by, reply_or_stop};
 
@@ -22,6 +21,7 @@ use mc_bank::{Bank, Slot};
 use mc_base::{Aid, Steps, Stop};
 use mc_segs::{Abend, Frame, Public, Session};
 use std::mem;
+use std::sync::ledger::Ledger;
 
 /// The number of turns after which a run keeps the instructions that it decodes. Most commands end before, and making
 /// room for those takes as long as some of their turns.
@@ -39,13 +39,13 @@ const FEW: u32 = 32;
 ///
 /// Returns the `Stop` of the bank in a change of static bytes. The changes before it are kept, and `session` is
 /// unchanged.
-pub fn run<B: Bank>(
+pub fn run<B: Bank, L: Ledger>(
     bank: &mut B,
     first: Slot,
     session: &mut Session,
     apdu: &Apdu,
     budget: u32,
-    steps: &mut Steps<B::Meter>,
+    steps: &mut Steps<L>,
 ) -> Result<Outcome, Stop>
     requires going { (B.state bank.old).stopped ≡ false }
     requires there { IsSome (B.named bank.old first) }
@@ -66,12 +66,12 @@ pub fn run<B: Bank>(
     // The session bytes are those that the run leaves.
     ensures session { OnOk result (session.new
         ≡ (run_of_command (B.state bank.old) (B.named bank.old) first session.old apdu.now budget).session) }
-    // Each decoded instruction is one step at least.
-    ensures ticks { OnOk result (steps.old
-        + (run_of_command (B.state bank.old) (B.named bank.old) first session.old apdu.now budget).count ≤ steps.new) }
-    // The steps are at most those of the turns of the whole run, and 4 before them.
-    ensures most { steps.new ≤ steps.old + (4 + most_of_turns
-        (run_of_command (B.state bank.old) (B.named bank.old) first session.old apdu.now budget).turns) }
+    // Each decoded instruction is one step.
+    ensures ticks { OnOk result (steps.new
+        ≡ steps.old + (run_of_command (B.state bank.old) (B.named bank.old) first session.old apdu.now budget).count) }
+    // A run that is stopped makes no more steps than the whole one.
+    ensures most { OnErr result (steps.new
+        ≤ steps.old + (run_of_command (B.state bank.old) (B.named bank.old) first session.old apdu.now budget).count) }
     // The bank goes on.
     ensures going { OnOk result ((B.state bank.new).stopped ≡ false) }
     // A stop leaves the session bytes as they were.
@@ -98,14 +98,14 @@ pub fn run<B: Bank>(
 ///
 /// Returns the `Stop` of the bank in a change of static bytes. The changes before it are kept, `session` is unchanged,
 /// and the contents of `reply` are unspecified.
-pub fn run_into<B: Bank>(
+pub fn run_into<B: Bank, L: Ledger>(
     bank: &mut B,
     first: Slot,
     session: &mut Session,
     apdu: &Apdu,
     budget: u32,
     reply: &mut Reply,
-    steps: &mut Steps<B::Meter>,
+    steps: &mut Steps<L>,
 ) -> Result<End, Stop>
     requires going { (B.state bank.old).stopped ≡ false }
     requires there { IsSome (B.named bank.old first) }
@@ -126,12 +126,12 @@ pub fn run_into<B: Bank>(
     // The session bytes are those that the run leaves.
     ensures session { OnOk result (session.new
         ≡ (run_of_command (B.state bank.old) (B.named bank.old) first session.old apdu.now budget).session) }
-    // Each decoded instruction is one step at least.
-    ensures ticks { OnOk result (steps.old
-        + (run_of_command (B.state bank.old) (B.named bank.old) first session.old apdu.now budget).count ≤ steps.new) }
-    // The steps are at most those of the turns of the whole run, and 4 before them.
-    ensures most { steps.new ≤ steps.old + (4 + most_of_turns
-        (run_of_command (B.state bank.old) (B.named bank.old) first session.old apdu.now budget).turns) }
+    // Each decoded instruction is one step.
+    ensures ticks { OnOk result (steps.new
+        ≡ steps.old + (run_of_command (B.state bank.old) (B.named bank.old) first session.old apdu.now budget).count) }
+    // A run that is stopped makes no more steps than the whole one.
+    ensures most { OnErr result (steps.new
+        ≤ steps.old + (run_of_command (B.state bank.old) (B.named bank.old) first session.old apdu.now budget).count) }
     // The bank goes on.
     ensures going { OnOk result ((B.state bank.new).stopped ≡ false) }
     // A stop leaves the session bytes as they were.
@@ -143,14 +143,14 @@ pub fn run_into<B: Bank>(
 // Runs the turns of a command, from the first to its end. It is the body of `run_into`, by the relation that
 // its loop keeps.
 #[inline(always)]
-fn run_turns<B: Bank>(
+fn run_turns<B: Bank, L: Ledger>(
     bank: &mut B,
     first: Slot,
     session: &mut Session,
     apdu: &Apdu,
     budget: u32,
     reply: &mut Reply,
-    steps: &mut Steps<B::Meter>,
+    steps: &mut Steps<L>,
 ) -> Result<End, Stop>
     requires going { (B.state bank.old).stopped ≡ false }
     requires there { IsSome (B.named bank.old first) }
@@ -158,13 +158,13 @@ fn run_turns<B: Bank>(
     requires some { 1 ≤ budget }
     requires budget { budget ≤ 65536 }
     requires data { length apdu.now.body.now ≤ 1024 }
-    ensures { RanDone B.Bank 4 bank.old bank.new session.old session.new steps.old steps.new
+    ensures { RanDone B.Bank bank.old bank.new session.old session.new steps.old steps.new
         (run_of_command (B.state bank.old) (B.named bank.old) first session.old apdu.now budget)
         (reply_or_stop result reply.new) }
 {
     // Until it delegates, an application runs without a chain: a chain has room for three more frames, and making it
     // takes longer than a short command.
-    let mut frame = first_frame(bank, first, session, steps);
+    let mut frame = first_frame(bank, first, session);
     let mut public = Public::blank();
     public.open(apdu);
     let case = apdu.case();
@@ -203,7 +203,7 @@ fn run_turns<B: Bank>(
 
 // Runs the rest of a command of many turns. It keeps the instructions that it decodes.
 #[inline(never)]
-fn run_long<B: Bank>(
+fn run_long<B: Bank, L: Ledger>(
     bank: &mut B,
     frame: &mut Frame,
     public: &mut Public,
@@ -212,14 +212,14 @@ fn run_long<B: Bank>(
     left: u32,
     session: &mut Session,
     reply: &mut Reply,
-    steps: &mut Steps<B::Meter>,
+    steps: &mut Steps<L>,
 ) -> Result<End, Stop>
     requires going { (B.state bank.old).stopped ≡ false }
     requires fits { FitsChain B.Bank bank.old (lone_chain frame.old public.old case le left) }
     requires left { left ≤ 65536 }
     ensures { (ch : ModelChain)
         → RunsAs (B.state bank.old) (B.named bank.old) (lone_chain frame.old public.old case le left) ch
-        → RanDone B.Bank 0 bank.old bank.new session.old session.new steps.old steps.new (run_of_chain left ch)
+        → RanDone B.Bank bank.old bank.new session.old session.new steps.old steps.new (run_of_chain left ch)
         (reply_or_stop result reply.new) }
 {
     let mut table = blank();
@@ -250,7 +250,7 @@ fn run_long<B: Bank>(
 // moved to a chain, and a blank one takes its place: each caller would clear room for the frame if it were a value.
 #[cold]
 #[inline(never)]
-fn run_chain<B: Bank>(
+fn run_chain<B: Bank, L: Ledger>(
     bank: &mut B,
     frame: &mut Frame,
     public: Public,
@@ -260,17 +260,17 @@ fn run_chain<B: Bank>(
     aid: &Aid,
     session: &mut Session,
     reply: &mut Reply,
-    steps: &mut Steps<B::Meter>,
+    steps: &mut Steps<L>,
 ) -> Result<End, Stop>
     requires going { (B.state bank.old).stopped ≡ false }
     requires fits { FitsChain B.Bank bank.old (lone_chain frame.old public case le left) }
     requires left { left ≤ 65536 }
     ensures { (ch : ModelChain)
         → RunsAs (B.state bank.old) (B.named bank.old) (lone_chain frame.old public case le left) ch
-        → RanDone B.Bank 349 bank.old bank.new session.old session.new steps.old steps.new
+        → RanDone B.Bank bank.old bank.new session.old session.new steps.old steps.new
         (run_of_chain left (chain_after_call ch aid.now (lookup ch.map aid.now))) (reply_or_stop result reply.new) }
 {
-    let facts = bank.facts(frame.slot(), steps);
+    let facts = bank.facts(frame.slot());
     let blank = Frame::new(frame.slot(), &facts, &Session::new(facts.sizes.session));
     let running = mem::replace(frame, blank);
     let waiting = Waiting::new();
@@ -282,24 +282,24 @@ fn run_chain<B: Bank>(
         le,
         left,
     };
-    chain.call(bank, aid, steps);
+    chain.call(bank, aid);
     finish(bank, &mut chain, left, session, reply, steps)
 }
 
 // Runs the turns of a chain to its end.
-fn finish<B: Bank>(
+fn finish<B: Bank, L: Ledger>(
     bank: &mut B,
     chain: &mut Chain,
     left: u32,
     session: &mut Session,
     reply: &mut Reply,
-    steps: &mut Steps<B::Meter>,
+    steps: &mut Steps<L>,
 ) -> Result<End, Stop>
     requires going { (B.state bank.old).stopped ≡ false }
     requires fits { FitsChain B.Bank bank.old chain.old }
     requires left { chain.old.left ≡ left }
     ensures { (ch : ModelChain) → RunsAs (B.state bank.old) (B.named bank.old) chain.old ch
-        → RanDone B.Bank 0 bank.old bank.new session.old session.new steps.old steps.new (run_of_chain left ch)
+        → RanDone B.Bank bank.old bank.new session.old session.new steps.old steps.new (run_of_chain left ch)
         (reply_or_stop result reply.new) }
 {
     for _turn in 0..left {

@@ -8,7 +8,6 @@ ghost use Rattle.mc_segs.specs.HeldFrames.{FitsBank};
 ghost use Rattle.mc_segs.specs.Ends.{scene, RowActs, then_of};
 ghost use Rattle.mc_rows.specs.Rows.{row_result};
 ghost use Rattle.mc_machine.specs.Chains.{RunsAs, FitsChain};
-ghost use Rattle.mc_machine.specs.Costs.{CountsTurn, by_kind, most_next};
 ghost use Rattle.mc_machine.specs.Frames.{with_held_frame};
 ghost use Rattle.mc_machine.specs.Turns.{ActDone, BriefDone, TurnDone, WritesFew, EndFits, Followed, FrameExits, chain_at_next, step_of_halt};
 ghost use Rattle.mc_machine.specs.Turns.{delegator_of, has_frame, AllFitBank, outcome_value, end_value};
@@ -24,6 +23,7 @@ use mc_prims::{Around, prim};
 use mc_rows::{Flow, step};
 use mc_segs::{Abend, Frame, Halt, Next, Session};
 use std::mem;
+use std::sync::ledger::Ledger;
 
 /// The most frames that a chain has.
 const FRAMES: u8 = 4;
@@ -34,25 +34,24 @@ const NOT_FOUND: u16 = 0x6A82;
 /// The status of a delegation to an application that runs already, or in a full chain.
 const NOT_ALLOWED: u16 = 0x6985;
 
-/// Runs one turn of a chain that has not ended: one executed instruction, or a fetch that ends the chain. The
-/// instruction is one step, and each word that the turn reads of its device is another: there are at most 75, or 500
-/// with a primitive, or 2 without an instruction. The instruction's change of static bytes is one atomic write of at
-/// most 33 words, or of at most 64 if the instruction commits what is pending.
+/// Runs one turn of a chain that has not ended: one executed instruction, and one step, or a fetch that ends
+/// the chain. The instruction's change of static bytes is one atomic write of at most 33 words, or of at most
+/// 64 if the instruction commits what is pending.
 ///
 /// # Errors
 ///
 /// Returns the `Stop` of the bank in that change.
-pub fn turn<B: Bank>(
+pub fn turn<B: Bank, L: Ledger>(
     bank: &mut B,
     chain: &mut Chain,
-    steps: &mut Steps<B::Meter>,
+    steps: &mut Steps<L>,
 ) -> Result<Turn, Stop>
     requires going { (B.state bank.old).stopped ≡ false }
     requires fits { FitsChain B.Bank bank.old chain.old }
     ensures done { (ch : ModelChain) → RunsAs (B.state bank.old) (B.named bank.old) chain.old ch
         → TurnDone B.Bank bank.old bank.new chain.old chain.new ch (turn_of chain.old.left ch) result }
     ensures ticks { (ch : ModelChain) → RunsAs (B.state bank.old) (B.named bank.old) chain.old ch
-        → CountsTurn (turn_of chain.old.left ch) steps.old steps.new }
+        → steps.new ≡ steps.old + (turn_of chain.old.left ch).count }
     ensures few { (ch : ModelChain) → RunsAs (B.state bank.old) (B.named bank.old) chain.old ch
         → AreApps (B.state bank.old).apps → WritesFew (turn_of chain.old.left ch) }
     ensures shaped { IfOk result (λ turn. IfSome turn.ins Shaped) }
@@ -84,17 +83,17 @@ pub fn turn<B: Bank>(
 /// # Errors
 ///
 /// Returns the `Stop` of the bank in the instruction's change.
-pub fn brief_turn<B: Bank>(
+pub fn brief_turn<B: Bank, L: Ledger>(
     bank: &mut B,
     chain: &mut Chain,
-    steps: &mut Steps<B::Meter>,
+    steps: &mut Steps<L>,
 ) -> Result<BriefTurn, Stop>
     requires going { (B.state bank.old).stopped ≡ false }
     requires fits { FitsChain B.Bank bank.old chain.old }
     ensures done { (ch : ModelChain) → RunsAs (B.state bank.old) (B.named bank.old) chain.old ch
         → BriefDone B.Bank bank.old bank.new chain.old chain.new ch (turn_of chain.old.left ch) result }
     ensures ticks { (ch : ModelChain) → RunsAs (B.state bank.old) (B.named bank.old) chain.old ch
-        → CountsTurn (turn_of chain.old.left ch) steps.old steps.new }
+        → steps.new ≡ steps.old + (turn_of chain.old.left ch).count }
     ensures few { (ch : ModelChain) → RunsAs (B.state bank.old) (B.named bank.old) chain.old ch
         → AreApps (B.state bank.old).apps → WritesFew (turn_of chain.old.left ch) }
     ensures ends { IfOk result (λ turn. IfSome turn.end (λ end. EndFits chain.new.public end)) }
@@ -121,17 +120,17 @@ pub fn brief_turn<B: Bank>(
 }
 
 /// Runs one turn as `turn` does, and returns its record without its place, which has fewer bytes.
-pub fn act<B: Bank>(
+pub fn act<B: Bank, L: Ledger>(
     bank: &mut B,
     chain: &mut Chain,
-    steps: &mut Steps<B::Meter>,
+    steps: &mut Steps<L>,
 ) -> Result<Step, Stop>
     requires going { (B.state bank.old).stopped ≡ false }
     requires fits { FitsChain B.Bank bank.old chain.old }
     ensures done { (ch : ModelChain) → RunsAs (B.state bank.old) (B.named bank.old) chain.old ch
         → ActDone B.Bank bank.old bank.new chain.old chain.new ch (turn_of chain.old.left ch) result }
     ensures ticks { (ch : ModelChain) → RunsAs (B.state bank.old) (B.named bank.old) chain.old ch
-        → CountsTurn (turn_of chain.old.left ch) steps.old steps.new }
+        → steps.new ≡ steps.old + (turn_of chain.old.left ch).count }
     ensures few { (ch : ModelChain) → RunsAs (B.state bank.old) (B.named bank.old) chain.old ch
         → AreApps (B.state bank.old).apps → WritesFew (turn_of chain.old.left ch) }
     ensures ends { IfOk result (λ step. IfSome step.end (λ end. EndFits chain.new.public end)) }
@@ -141,7 +140,7 @@ pub fn act<B: Bank>(
     if chain.left == 0 {
         return Ok(before.abends(Abend::A07));
     }
-    let (ins, next) = match fetch(bank, &chain.running, steps) {
+    let (ins, next) = match fetch(bank, &chain.running) {
         Ok(found) => found,
         Err(DecodeFault::Undefined) => return Ok(before.abends(Abend::A01)),
         Err(DecodeFault::Past) => return Ok(before.abends(Abend::A02)),
@@ -152,8 +151,8 @@ pub fn act<B: Bank>(
         ins: Some(ins),
         ..before
     };
-    match perform(bank, &ins, chain, steps) {
-        Ok(next) => Ok(follow(bank, next, ins, before, chain, steps)),
+    match perform(bank, &ins, chain) {
+        Ok(next) => Ok(follow(bank, next, ins, before, chain)),
         Err(halt) => before.halts(halt),
     }
 }
@@ -174,12 +173,7 @@ impl Step {
 }
 
 // Executes an instruction of the running frame, whose code address is already after it.
-fn perform<B: Bank>(
-    bank: &mut B,
-    ins: &Ins,
-    chain: &mut Chain,
-    steps: &mut Steps<B::Meter>,
-) -> Result<Next, Halt>
+fn perform<B: Bank>(bank: &mut B, ins: &Ins, chain: &mut Chain) -> Result<Next, Halt>
     requires going { (B.state bank.old).stopped ≡ false }
     requires fits { FitsBank (B.state bank.old) (B.named bank.old) chain.old.running }
     requires waiting { AllFitBank (B.state bank.old) (B.named bank.old) chain.old.below }
@@ -188,16 +182,12 @@ fn perform<B: Bank>(
         (scene bank.old bank.new chain.old.running chain.new.running chain.old.public chain.new.public) ins.now
         (record { case = chain.old.case; delegator = delegator_of (B.named bank.old) chain.old.below }) result }
     ensures others { chain.new ≡ record chain.old { running = chain.new.running; public = chain.new.public } }
-    ensures rises { steps.old ≤ steps.new }
-    ensures reads { steps.new ≤ steps.old + by_kind 148 70 ins.now }
-    // Only a primitive delegates.
-    ensures calls { most_next result ≤ by_kind 345 0 ins.now }
 {
     match ins {
         Ins::Prim { set, number, args } => {
             let around = Around {
                 case: chain.case,
-                delegator: chain.delegator(bank, steps),
+                delegator: chain.delegator(bank),
             };
             prim(
                 bank,
@@ -207,10 +197,9 @@ fn perform<B: Bank>(
                 *number,
                 args,
                 &around,
-                steps,
             )
         }
-        _ => next_of(step(bank, &mut chain.running, &mut chain.public, ins, steps)),
+        _ => next_of(step(bank, &mut chain.running, &mut chain.public, ins)),
     }
 }
 
@@ -227,14 +216,7 @@ fn next_of(done: Result<Flow, Halt>) -> Result<Next, Halt>
 
 // Does what follows an instruction that was done, and returns the record of the turn: if the chain ends by an
 // abend, it has the registers from before the instruction.
-fn follow<B: Bank>(
-    bank: &B,
-    next: Next,
-    ins: Ins,
-    before: Step,
-    chain: &mut Chain,
-    steps: &mut Steps<B::Meter>,
-) -> Step
+fn follow<B: Bank>(bank: &B, next: Next, ins: Ins, before: Step, chain: &mut Chain) -> Step
     requires going { (B.state bank.now).stopped ≡ false }
     requires fits { FitsChain B.Bank bank.now chain.old }
     ensures follows { (ch : ModelChain) → RunsAs (B.state bank.now) (B.named bank.now) chain.old ch
@@ -244,8 +226,6 @@ fn follow<B: Bank>(
     ensures le { chain.new.le ≡ chain.old.le }
     ensures ends { IfSome result.end (λ end. EndFits chain.new.public end) }
     ensures shaped { Shaped ins → IfSome before.ins Shaped → IfSome result.ins Shaped }
-    ensures rises { steps.old ≤ steps.new }
-    ensures reads { steps.new ≤ steps.old + most_next (Ok next) }
 {
     let after = reported(&chain.running, Some(ins), None);
     match next {
@@ -259,7 +239,7 @@ fn follow<B: Bank>(
             Some(End::Abend(abend)) => before.abends(abend),
         },
         Next::Delegate(aid) => {
-            chain.call(bank, &aid, steps);
+            chain.call(bank, &aid);
             after
         }
     }
@@ -267,15 +247,13 @@ fn follow<B: Bank>(
 
 impl Chain {
     // Returns the name of the application that delegated to the running one, or `None` if there is none.
-    fn delegator<B: Bank>(&self, bank: &B, steps: &mut Steps<B::Meter>) -> Option<Aid>
+    fn delegator<B: Bank>(&self, bank: &B) -> Option<Aid>
         requires going { (B.state bank.now).stopped ≡ false }
         requires waiting { AllFitBank (B.state bank.now) (B.named bank.now) self.now.below }
-        ensures value { result ≡ delegator_of (B.named bank.now) self.now.below }
-        ensures rises { steps.old ≤ steps.new }
-        ensures reads { steps.new ≤ steps.old + 4 }
+        ensures { result ≡ delegator_of (B.named bank.now) self.now.below }
     {
         match self.waiting.top_slot() {
-            Some(slot) => Some(bank.facts(slot, steps).aid),
+            Some(slot) => Some(bank.facts(slot).aid),
             None => None,
         }
     }
@@ -315,33 +293,29 @@ impl Chain {
     }
 
     // Returns whether a frame of the chain runs the application of a name.
-    fn is_active<B: Bank>(&self, bank: &B, aid: &Aid, steps: &mut Steps<B::Meter>) -> bool
+    fn is_active<B: Bank>(&self, bank: &B, aid: &Aid) -> bool
         requires going { (B.state bank.now).stopped ≡ false }
         requires running { FitsBank (B.state bank.now) (B.named bank.now) self.now.running }
         requires waiting { AllFitBank (B.state bank.now) (B.named bank.now) self.now.below }
-        ensures value { result ≡ has_frame (B.named bank.now) aid.now (self.now.running ∷ self.now.below) }
-        ensures rises { steps.old ≤ steps.new }
-        ensures reads { steps.new ≤ steps.old + 16 }
+        ensures { result ≡ has_frame (B.named bank.now) aid.now (self.now.running ∷ self.now.below) }
     {
-        runs(bank, &self.running, aid, steps) || waits(bank, &self.waiting, aid, steps)
+        runs(bank, &self.running, aid) || waits(bank, &self.waiting, aid)
     }
 
     // Returns whether a delegation to a name that is on the card is refused.
-    fn refuses<B: Bank>(&self, bank: &B, aid: &Aid, steps: &mut Steps<B::Meter>) -> bool
+    fn refuses<B: Bank>(&self, bank: &B, aid: &Aid) -> bool
         requires going { (B.state bank.now).stopped ≡ false }
         requires running { FitsBank (B.state bank.now) (B.named bank.now) self.now.running }
         requires waiting { AllFitBank (B.state bank.now) (B.named bank.now) self.now.below }
-        ensures value { result ≡ (has_frame (B.named bank.now) aid.now (self.now.running ∷ self.now.below)
+        ensures { result ≡ (has_frame (B.named bank.now) aid.now (self.now.running ∷ self.now.below)
             || nat_le 4 (length self.now.below + 1)) }
-        ensures rises { steps.old ≤ steps.new }
-        ensures reads { steps.new ≤ steps.old + 16 }
     {
-        self.is_active(bank, aid, steps) || self.waiting.count() + 1 >= FRAMES
+        self.is_active(bank, aid) || self.waiting.count() + 1 >= FRAMES
     }
 
     // Delegates to a name: sets a status if it is not on the card, if it runs already, or if the chain is
     // full; else its application runs on top, with zero session bytes.
-    pub(crate) fn call<B: Bank>(&mut self, bank: &B, aid: &Aid, steps: &mut Steps<B::Meter>)
+    pub(crate) fn call<B: Bank>(&mut self, bank: &B, aid: &Aid)
         requires going { (B.state bank.now).stopped ≡ false }
         requires fits { FitsChain B.Bank bank.now self.old }
         ensures runs { (ch : ModelChain) → RunsAs (B.state bank.now) (B.named bank.now) self.old ch
@@ -349,18 +323,16 @@ impl Chain {
             (chain_after_call ch aid.now (lookup ch.map aid.now)) }
         ensures left { self.new.left ≡ self.old.left }
         ensures le { self.new.le ≡ self.old.le }
-        ensures rises { steps.old ≤ steps.new }
-        ensures reads { steps.new ≤ steps.old + 345 }
     {
-        let Some(slot) = bank.find(aid, steps) else {
+        let Some(slot) = bank.find(aid) else {
             self.public.set_sw(NOT_FOUND);
             return;
         };
-        if self.refuses(bank, aid, steps) {
+        if self.refuses(bank, aid) {
             self.public.set_sw(NOT_ALLOWED);
             return;
         }
-        let facts = bank.facts(slot, steps);
+        let facts = bank.facts(slot);
         self.enter(Frame::new(slot, &facts, &Session::new(facts.sizes.session)));
     }
 
@@ -375,39 +347,33 @@ impl Chain {
 }
 
 // Returns whether one of the frames that wait runs the application of a name.
-fn waits<B: Bank>(bank: &B, waiting: &Waiting, aid: &Aid, steps: &mut Steps<B::Meter>) -> bool
+fn waits<B: Bank>(bank: &B, waiting: &Waiting, aid: &Aid) -> bool
     requires going { (B.state bank.now).stopped ≡ false }
     requires fits { AllFitBank (B.state bank.now) (B.named bank.now) waiting.now }
-    ensures value { result ≡ has_frame (B.named bank.now) aid.now waiting.now }
-    ensures rises { steps.old ≤ steps.new }
-    ensures reads { steps.new ≤ steps.old + 12 }
+    ensures { result ≡ has_frame (B.named bank.now) aid.now waiting.now }
 {
-    runs_in(bank, &waiting.third, aid, steps)
-        || runs_in(bank, &waiting.second, aid, steps)
-        || runs_in(bank, &waiting.first, aid, steps)
+    runs_in(bank, &waiting.third, aid)
+        || runs_in(bank, &waiting.second, aid)
+        || runs_in(bank, &waiting.first, aid)
 }
 
 // Returns whether the frame of a place, if there is one, runs the application of a name.
-fn runs_in<B: Bank>(bank: &B, place: &Option<Frame>, aid: &Aid, steps: &mut Steps<B::Meter>) -> bool
+fn runs_in<B: Bank>(bank: &B, place: &Option<Frame>, aid: &Aid) -> bool
     requires going { (B.state bank.now).stopped ≡ false }
     requires fits { AllFitBank (B.state bank.now) (B.named bank.now) (with_held_frame place.now []) }
-    ensures value { result ≡ has_frame (B.named bank.now) aid.now (with_held_frame place.now []) }
-    ensures rises { steps.old ≤ steps.new }
-    ensures reads { steps.new ≤ steps.old + 4 }
+    ensures { result ≡ has_frame (B.named bank.now) aid.now (with_held_frame place.now []) }
 {
     match place {
-        Some(frame) => runs(bank, frame, aid, steps),
+        Some(frame) => runs(bank, frame, aid),
         None => false,
     }
 }
 
 // Returns whether a frame runs the application of a name.
-fn runs<B: Bank>(bank: &B, frame: &Frame, aid: &Aid, steps: &mut Steps<B::Meter>) -> bool
+fn runs<B: Bank>(bank: &B, frame: &Frame, aid: &Aid) -> bool
     requires going { (B.state bank.now).stopped ≡ false }
     requires fits { FitsBank (B.state bank.now) (B.named bank.now) frame.now }
-    ensures value { result ≡ bytes_eq (name_or (B.named bank.now frame.now.slot)) aid.now }
-    ensures rises { steps.old ≤ steps.new }
-    ensures reads { steps.new ≤ steps.old + 4 }
+    ensures { result ≡ bytes_eq (name_or (B.named bank.now frame.now.slot)) aid.now }
 {
-    bank.facts(frame.slot(), steps).aid.bytes() == aid.bytes()
+    bank.facts(frame.slot()).aid.bytes() == aid.bytes()
 }

@@ -1,6 +1,6 @@
 -- The verdict on a command by the routing and the manager's table, and its reply. Status words are those of ISO/IEC
 -- 7816-4.
-use Rattle.std.specs.Prelude.{◌≡◌, ◌⊎◌, ℕ, ◌+◌, Bool, cond, ◌&&◌, ◌==◌, List, [], option_map, Option, Some, None}
+use Rattle.std.specs.Prelude.{◌≡◌, ◌⊎◌, ℕ, Bool, cond, ◌&&◌, ◌==◌, List, [], option_map, Option, Some, None}
 use Rattle.model_card.specs.model_machine.specs.Apdu.{ApduParts}
 use Rattle.model_card.specs.model_device.specs.Bytes.{zeros, lookup}
 use Rattle.model_card.specs.model_device.specs.Card.{App}
@@ -109,27 +109,15 @@ CommandLeaves (Does d) session v m (Answer r) v' m' = CommandDone d session m r 
 CommandLeaves Passes session v m (Pass slot) v' m' = CommandPassed m slot m'
 CommandLeaves _ session v m _ v' m' = ⊥
 
--- ---- steps
+-- ---- ticks
 
 -- OPEN: class BE, INS 12
 abbrev pub is_open : ApduParts → Bool
 is_open a = a.cla == 0xBE && a.ins == 0x12
 
--- the maximum number of ticks of a command: those of an OPEN, and no other command makes any
+-- the maximum number of steps of a command
 abbrev pub most_ticks : ApduParts → ℕ → ℕ
 most_ticks a ticks = cond (is_open a) ticks 0
-
--- the maximum number of steps of a command by its route, which are its reads of the bank and its ticks
-abbrev pub most_on_route : Route → ℕ → ℕ
-most_on_route WrongLength ticks = 0
-most_on_route WrongClass ticks = 0
-most_on_route (ToSelect a) ticks = 350
-most_on_route (ToManager a) ticks = 400 + most_ticks a ticks
-most_on_route (ToApplication a) ticks = 0
-
--- the maximum number of steps of a command
-abbrev pub most_manager_steps : ApduParts → ℕ → ℕ
-most_manager_steps a ticks = most_on_route (route_of_parts (Some a)) ticks
 
 -- ---- stale bytes
 

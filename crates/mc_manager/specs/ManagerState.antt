@@ -22,7 +22,7 @@ pub record BankView : Type 0 where
   pub site_bytes : Site → Part → List ℕ
 
 -- the view of a bank, by the record of its trait
-abbrev pub view_of : {B Meter : Type 0} → Ghosts B Meter → B → BankView
+abbrev pub view_of : {B : Type 0} → Ghosts B → B → BankView
 view_of ghosts bank = record { state = ghosts.state bank; named = ghosts.named bank; room = ghosts.room bank; site_bytes = ghosts.site_bytes bank }
 
 -- ---- a manager

@@ -1,4 +1,4 @@
-ghost use Rattle.std.specs.Prelude.{◌≡◌, ◌+◌, ◌≤◌, ◌==◌, ◌&&◌, false, option_map, Some, Ok, IfOk, IfErr};
+ghost use Rattle.std.specs.Prelude.{◌≡◌, ◌==◌, ◌&&◌, false, option_map, Some, Ok, IfOk, IfErr};
 ghost use Rattle.std.specs.Option.{ForSome};
 ghost use Rattle.model_card.specs.Manager.{create_refusals, first_status};
 ghost use Rattle.mc_apdu.specs.Command.{parts_of};
@@ -13,7 +13,7 @@ use crate::load::Load;
 use crate::status::Status;
 use mc_apdu::Apdu;
 use mc_bank::{Bank, Part};
-use mc_base::{Aid, Steps};
+use mc_base::Aid;
 use mc_unit::aid_of;
 
 /// Returns the name in the DIR record of the open load, which CREATE registers.
@@ -22,12 +22,7 @@ use mc_unit::aid_of;
 ///
 /// Returns the status of its first refusal.
 #[tactic(auto, using(crate::proofs::LoadLemmas::complete_full))]
-pub fn creation<B: Bank>(
-    load: &Option<Load>,
-    bank: &B,
-    apdu: &Apdu,
-    steps: &mut Steps<B::Meter>,
-) -> Result<Aid, Status>
+pub fn creation<B: Bank>(load: &Option<Load>, bank: &B, apdu: &Apdu) -> Result<Aid, Status>
     requires going { (B.state bank.now).stopped ≡ false }
     requires fits { ForSome load.now (FitsLoad (view_of B.Bank bank.now)) }
     ensures created { IfOk result (λ aid. CanCreate (view_of B.Bank bank.now) load.now
@@ -35,8 +30,6 @@ pub fn creation<B: Bank>(
     ensures refused { IfErr result (λ e. first_status
         (create_refusals (B.state bank.now).apps (option_map (open_of (B.site_bytes bank.now)) load.now)
         (parts_of apdu.now)) ≡ Some (word_of e)) }
-    ensures rises { steps.old ≤ steps.new }
-    ensures reads { steps.new ≤ steps.old + 325 }
 {
     if parameters(apdu) != 0 {
         return Err(Status::WrongParameters);
@@ -53,7 +46,7 @@ pub fn creation<B: Bank>(
     let Ok(aid) = aid_of(load.dir()) else {
         return Err(Status::WrongData);
     };
-    if bank.find(&aid, steps).is_some() {
+    if bank.find(&aid).is_some() {
         return Err(Status::Exists);
     }
     Ok(aid)

@@ -1,4 +1,4 @@
-ghost use Rattle.std.specs.Prelude.{◌≡◌, ◌+◌, ◌≤◌, false, Some, IfOk, IfErr};
+ghost use Rattle.std.specs.Prelude.{◌≡◌, false, Some, IfOk, IfErr};
 ghost use Rattle.model_card.specs.Manager.{first_status};
 ghost use Rattle.mc_apdu.specs.Command.{parts_of};
 ghost use Rattle.mc_manager.specs.Calls.{CanDelete, delete_causes, has_selected};
@@ -10,7 +10,6 @@ use crate::selection::Selection;
 use crate::status::Status;
 use mc_apdu::Apdu;
 use mc_bank::{Bank, Slot};
-use mc_base::Steps;
 
 /// Returns the slot of the application that DELETE removes.
 ///
@@ -21,15 +20,12 @@ pub fn deletion<B: Bank>(
     selected: &Option<Selection>,
     bank: &B,
     apdu: &Apdu,
-    steps: &mut Steps<B::Meter>,
 ) -> Result<Slot, Status>
     requires going { (B.state bank.now).stopped ≡ false }
     ensures deleted { IfOk result (λ slot. CanDelete (B.state bank.now).apps (B.named bank.now) selected.now
         (parts_of apdu.now) slot) }
     ensures refused { IfErr result (λ e. first_status
         (delete_causes (B.state bank.now).apps selected.now (parts_of apdu.now)) ≡ Some (word_of e)) }
-    ensures rises { steps.old ≤ steps.new }
-    ensures reads { steps.new ≤ steps.old + 325 }
 {
     if parameters(apdu) != 0 {
         return Err(Status::WrongParameters);
@@ -37,7 +33,7 @@ pub fn deletion<B: Bank>(
     if apdu.body.is_empty() {
         return Err(Status::WrongLength);
     }
-    let Some(found) = named(bank, apdu.body, steps) else {
+    let Some(found) = named(bank, apdu.body) else {
         return Err(Status::NotFound);
     };
     if is_selected(selected, apdu.body) {

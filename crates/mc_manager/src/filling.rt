@@ -13,7 +13,7 @@ use crate::load::Load;
 use crate::status::Status;
 use mc_apdu::Apdu;
 use mc_bank::{Bank, Part};
-use mc_base::{Steps, Stop};
+use mc_base::Stop;
 
 /// Returns the status of the first refusal of a LOAD command for a section, or `None` if there is none.
 #[tactic(auto, using(crate::proofs::LoadLemmas::length_got, crate::proofs::LoadLemmas::same_size))]
@@ -44,13 +44,7 @@ pub fn load_refusal(load: &Option<Load>, part: Part, apdu: &Apdu) -> Option<Stat
 ///
 /// Returns the `Stop` of the bank.
 #[tactic(auto, using(crate::proofs::LoadLemmas::fits_filled, crate::proofs::LoadLemmas::open_filled))]
-pub fn fill<B: Bank>(
-    load: &mut Load,
-    bank: &mut B,
-    part: Part,
-    piece: &[u8],
-    steps: &mut Steps<B::Meter>,
-) -> Result<(), Stop>
+pub fn fill<B: Bank>(load: &mut Load, bank: &mut B, part: Part, piece: &[u8]) -> Result<(), Stop>
     requires going { (B.state bank.old).stopped ≡ false }
     requires fits { FitsLoad (view_of B.Bank bank.old) load.old }
     requires room { got_len part load.old + length piece.now ≤ part_len part load.old.site.sizes }
@@ -65,10 +59,8 @@ pub fn fill<B: Bank>(
               (open_of (B.site_bytes bank.old) load.old).got;
         }) }
     ensures fits { OnOk result (FitsLoad (view_of B.Bank bank.new) load.new) }
-    ensures rises { steps.old ≤ steps.new }
-    ensures reads { steps.new ≤ steps.old + 2 }
 {
-    bank.fill(load.site(), part, load.got(part), piece, steps)?;
+    bank.fill(load.site(), part, load.got(part), piece)?;
     load.add(part, piece);
     Ok(())
 }

@@ -4,8 +4,8 @@ ghost use Rattle.model_card.specs.Manager.{select, open_load, load_part, create,
 ghost use Rattle.mc_apdu.specs.Command.{parts_of};
 ghost use Rattle.mc_bank.specs.Bank.{Changes};
 ghost use Rattle.mc_manager.specs.ManagerState.{BankView, view_of, selected_of, session_state_of, load_of, ManagerFits};
-ghost use Rattle.mc_manager.specs.CommandDue.{due, due_application, due_select, due_manager, CommandLeaves};
-ghost use Rattle.mc_manager.specs.CommandDue.{items_of, apps_after, NoneStale, most_manager_steps};
+ghost use Rattle.mc_manager.specs.CommandDue.{due, due_application, due_select, due_manager, CommandLeaves, most_ticks};
+ghost use Rattle.mc_manager.specs.CommandDue.{items_of, apps_after, NoneStale};
 ghost use Rattle.mc_manager.specs.Ends.{CommandEnds};
 ghost use Rattle.mc_manager.specs.Ruled.{ruling_with_reply, ruling_or_stop};
 
@@ -23,6 +23,7 @@ use mc_apdu::{Apdu, Reply};
 use mc_bank::{Bank, Part};
 use mc_base::{Steps, Stop};
 use std::marker::Model;
+use std::sync::ledger::Ledger;
 
 /// The card manager: the selected application and the open load. The session bytes of the selection are kept by whoever
 /// runs the application.
@@ -89,11 +90,11 @@ impl Manager {
     ///
     /// Returns the `Stop` of the bank, which comes only if the number of power cuts or of failed writes rose.
     /// After a `Stop` the manager is not used again.
-    pub fn command<B: Bank>(
+    pub fn command<B: Bank, L: Ledger>(
         &mut self,
         bank: &mut B,
         apdu: &Apdu,
-        steps: &mut Steps<B::Meter>,
+        steps: &mut Steps<L>,
     ) -> Result<Routed, Stop>
         requires going { (B.state bank.old).stopped ≡ false }
         requires fits { ManagerFits (view_of B.Bank bank.old) self.old }
@@ -121,9 +122,8 @@ impl Manager {
             (B.state bank.new).apps }
         // The number of steps never falls.
         ensures rises { steps.old ≤ steps.new }
-        // A SELECT makes at most 350 steps and a command of class BE at most 400, and no other command makes any.
-        // OPEN alone makes ticks beside, at most as many as the bank allows.
-        ensures reads { steps.new ≤ steps.old + most_manager_steps (parts_of apdu.now) (B.state bank.old).ticks }
+        // OPEN alone makes steps, at most as many as the bank allows.
+        ensures ticks { steps.new ≤ steps.old + most_ticks (parts_of apdu.now) (B.state bank.old).ticks }
     {
         let mut reply = Reply {
             body: ArrayVec::new(),
@@ -148,12 +148,12 @@ impl Manager {
     ///
     /// Returns the `Stop` of the bank, which comes only if the number of power cuts or of failed writes rose.
     /// The contents of `reply` are unspecified then, and the manager is not used again.
-    pub fn rule<B: Bank>(
+    pub fn rule<B: Bank, L: Ledger>(
         &mut self,
         bank: &mut B,
         apdu: &Apdu,
         reply: &mut Reply,
-        steps: &mut Steps<B::Meter>,
+        steps: &mut Steps<L>,
     ) -> Result<Ruling, Stop>
         requires going { (B.state bank.old).stopped ≡ false }
         requires fits { ManagerFits (view_of B.Bank bank.old) self.old }
@@ -181,21 +181,20 @@ impl Manager {
             (B.state bank.new).apps }
         // The number of steps never falls.
         ensures rises { steps.old ≤ steps.new }
-        // A SELECT makes at most 350 steps and a command of class BE at most 400, and no other command makes any.
-        // OPEN alone makes ticks beside, at most as many as the bank allows.
-        ensures reads { steps.new ≤ steps.old + most_manager_steps (parts_of apdu.now) (B.state bank.old).ticks }
+        // OPEN alone makes steps, at most as many as the bank allows.
+        ensures ticks { steps.new ≤ steps.old + most_ticks (parts_of apdu.now) (B.state bank.old).ticks }
     {
         self.route(bank, apdu, reply, steps)
     }
 
     // Runs a command by its route. It is the body of `rule`, with the relation that its parts ensure.
     #[inline(always)]
-    fn route<B: Bank>(
+    fn route<B: Bank, L: Ledger>(
         &mut self,
         bank: &mut B,
         apdu: &Apdu,
         reply: &mut Reply,
-        steps: &mut Steps<B::Meter>,
+        steps: &mut Steps<L>,
     ) -> Result<Ruling, Stop>
         requires going { (B.state bank.old).stopped ≡ false }
         requires fits { ManagerFits (view_of B.Bank bank.old) self.old }
@@ -205,14 +204,14 @@ impl Manager {
         ensures no_stale_byte { NoneStale (load_of (B.site_bytes bank.old) self.old) (B.state bank.old).apps
             (B.state bank.new).apps }
         ensures rises { steps.old ≤ steps.new }
-        ensures reads { steps.new ≤ steps.old + most_manager_steps (parts_of apdu.now) (B.state bank.old).ticks }
+        ensures ticks { steps.new ≤ steps.old + most_ticks (parts_of apdu.now) (B.state bank.old).ticks }
     {
         if apdu.cla == 0xFF {
             Status::NoClass.say(reply);
             return Ok(Ruling::Answer);
         }
         if apdu.cla == 0x00 && apdu.ins == 0xA4 && apdu.p1 == 0x04 {
-            return Ok(self.select(bank, apdu, reply, steps));
+            return Ok(self.select(bank, apdu, reply));
         }
         if apdu.cla == 0xBE {
             return self.manage(bank, apdu, reply, steps);
@@ -222,12 +221,12 @@ impl Manager {
 
     // Runs a command of class BE by its INS.
     #[tactic(auto, unfolding(model_card::specs::Manager::manage))]
-    fn manage<B: Bank>(
+    fn manage<B: Bank, L: Ledger>(
         &mut self,
         bank: &mut B,
         apdu: &Apdu,
         reply: &mut Reply,
-        steps: &mut Steps<B::Meter>,
+        steps: &mut Steps<L>,
     ) -> Result<Ruling, Stop>
         requires going { (B.state bank.old).stopped ≡ false }
         requires fits { ManagerFits (view_of B.Bank bank.old) self.old }
@@ -236,16 +235,16 @@ impl Manager {
             (parts_of apdu.now))) (view_of B.Bank bank.old) self.old bank.old
             (ruling_or_stop result reply.new) (view_of B.Bank bank.new) self.new bank.new }
         ensures rises { steps.old ≤ steps.new }
-        ensures reads { steps.new ≤ steps.old + (400 + cond (apdu.now.ins == 0x12) (B.state bank.old).ticks 0) }
+        ensures ticks { steps.new ≤ steps.old + cond (apdu.now.ins == 0x12) (B.state bank.old).ticks 0 }
     {
         match apdu.ins {
             0x12 => Ok(self.open(bank, apdu, reply, steps)),
-            0x24 => self.load_part(bank, Part::Code, apdu, reply, steps),
-            0x26 => self.load_part(bank, Part::Data, apdu, reply, steps),
-            0x20 => self.load_part(bank, Part::Dir, apdu, reply, steps),
-            0x22 => self.load_part(bank, Part::Fci, apdu, reply, steps),
-            0x16 => self.create(bank, apdu, reply, steps),
-            0x18 => self.delete(bank, apdu, reply, steps),
+            0x24 => self.load_part(bank, Part::Code, apdu, reply),
+            0x26 => self.load_part(bank, Part::Data, apdu, reply),
+            0x20 => self.load_part(bank, Part::Dir, apdu, reply),
+            0x22 => self.load_part(bank, Part::Fci, apdu, reply),
+            0x16 => self.create(bank, apdu, reply),
+            0x18 => self.delete(bank, apdu, reply),
             _ => {
                 Status::NoInstruction.say(reply);
                 Ok(Ruling::Answer)
@@ -269,24 +268,16 @@ impl Manager {
     }
 
     // SELECT: 00 A4 04.
-    fn select<B: Bank>(
-        &mut self,
-        bank: &B,
-        apdu: &Apdu,
-        reply: &mut Reply,
-        steps: &mut Steps<B::Meter>,
-    ) -> Ruling
+    fn select<B: Bank>(&mut self, bank: &B, apdu: &Apdu, reply: &mut Reply) -> Ruling
         requires going { (B.state bank.now).stopped ≡ false }
         requires fits { ManagerFits (view_of B.Bank bank.now) self.old }
-        ensures ends { CommandEnds B.did (λ s. due_select
+        ensures { CommandEnds B.did (λ s. due_select
             (select (B.state bank.now).apps (session_state_of (B.site_bytes bank.now) s self.old) (parts_of apdu.now)))
             (view_of B.Bank bank.now) self.old bank.now
             (Ok (ruling_with_reply result reply.new))
             (view_of B.Bank bank.now) self.new bank.now }
-        ensures rises { steps.old ≤ steps.new }
-        ensures reads { steps.new ≤ steps.old + 350 }
     {
-        let selection = match selection(bank, apdu, steps) {
+        let selection = match selection(bank, apdu) {
             Err(refusal) => {
                 refusal.say(reply);
                 return Ruling::Answer;
@@ -295,17 +286,17 @@ impl Manager {
         };
         let chosen = selection.slot;
         self.selected = Some(selection);
-        say_selected(bank, chosen, apdu, reply, steps);
+        say_selected(bank, chosen, apdu, reply);
         Ruling::Fresh(chosen)
     }
 
     // OPEN: BE 12.
-    fn open<B: Bank>(
+    fn open<B: Bank, L: Ledger>(
         &mut self,
         bank: &B,
         apdu: &Apdu,
         reply: &mut Reply,
-        steps: &mut Steps<B::Meter>,
+        steps: &mut Steps<L>,
     ) -> Ruling
         requires going { (B.state bank.now).stopped ≡ false }
         requires fits { ManagerFits (view_of B.Bank bank.now) self.old }
@@ -337,16 +328,13 @@ impl Manager {
         part: Part,
         apdu: &Apdu,
         reply: &mut Reply,
-        steps: &mut Steps<B::Meter>,
     ) -> Result<Ruling, Stop>
         requires going { (B.state bank.old).stopped ≡ false }
         requires fits { ManagerFits (view_of B.Bank bank.old) self.old }
-        ensures ends { CommandEnds B.did (λ s. due_manager
+        ensures { CommandEnds B.did (λ s. due_manager
             (load_part part (session_state_of (B.site_bytes bank.old) s self.old) (parts_of apdu.now)))
             (view_of B.Bank bank.old) self.old bank.old (ruling_or_stop result reply.new)
             (view_of B.Bank bank.new) self.new bank.new }
-        ensures rises { steps.old ≤ steps.new }
-        ensures reads { steps.new ≤ steps.old + 2 }
     {
         if let Some(refusal) = load_refusal(&self.load, part, apdu) {
             refusal.say(reply);
@@ -356,7 +344,7 @@ impl Manager {
             Status::Conditions.say(reply);
             return Ok(Ruling::Answer);
         };
-        fill(load, bank, part, apdu.body, steps)?;
+        fill(load, bank, part, apdu.body)?;
         Status::Done.say(reply);
         Ok(Ruling::Answer)
     }
@@ -367,18 +355,15 @@ impl Manager {
         bank: &mut B,
         apdu: &Apdu,
         reply: &mut Reply,
-        steps: &mut Steps<B::Meter>,
     ) -> Result<Ruling, Stop>
         requires going { (B.state bank.old).stopped ≡ false }
         requires fits { ManagerFits (view_of B.Bank bank.old) self.old }
-        ensures ends { CommandEnds B.did (λ s. due_manager
+        ensures { CommandEnds B.did (λ s. due_manager
             (create (B.state bank.old).apps (session_state_of (B.site_bytes bank.old) s self.old) (parts_of apdu.now)))
             (view_of B.Bank bank.old) self.old bank.old (ruling_or_stop result reply.new)
             (view_of B.Bank bank.new) self.new bank.new }
-        ensures rises { steps.old ≤ steps.new }
-        ensures reads { steps.new ≤ steps.old + 363 }
     {
-        let aid = match creation(&self.load, bank, apdu, steps) {
+        let aid = match creation(&self.load, bank, apdu) {
             Err(refusal) => {
                 refusal.say(reply);
                 return Ok(Ruling::Answer);
@@ -389,7 +374,7 @@ impl Manager {
             Status::Conditions.say(reply);
             return Ok(Ruling::Answer);
         };
-        bank.create(load.site(), &aid, steps)?;
+        bank.create(load.site(), &aid)?;
         self.load = None;
         Status::Done.say(reply);
         Ok(Ruling::Answer)
@@ -401,25 +386,22 @@ impl Manager {
         bank: &mut B,
         apdu: &Apdu,
         reply: &mut Reply,
-        steps: &mut Steps<B::Meter>,
     ) -> Result<Ruling, Stop>
         requires going { (B.state bank.old).stopped ≡ false }
         requires fits { ManagerFits (view_of B.Bank bank.old) self.old }
-        ensures ends { CommandEnds B.did (λ s. due_manager
+        ensures { CommandEnds B.did (λ s. due_manager
             (delete (B.state bank.old).apps (session_state_of (B.site_bytes bank.old) s self.old) (parts_of apdu.now)))
             (view_of B.Bank bank.old) self.old bank.old (ruling_or_stop result reply.new)
             (view_of B.Bank bank.new) self.new bank.new }
-        ensures rises { steps.old ≤ steps.new }
-        ensures reads { steps.new ≤ steps.old + 362 }
     {
-        let slot = match deletion(&self.selected, bank, apdu, steps) {
+        let slot = match deletion(&self.selected, bank, apdu) {
             Err(refusal) => {
                 refusal.say(reply);
                 return Ok(Ruling::Answer);
             }
             Ok(slot) => slot,
         };
-        bank.delete(slot, steps)?;
+        bank.delete(slot)?;
         self.load = None;
         Status::Done.say(reply);
         Ok(Ruling::Answer)

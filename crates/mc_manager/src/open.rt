@@ -11,6 +11,7 @@ use crate::status::Status;
 use mc_apdu::Apdu;
 use mc_bank::Bank;
 use mc_base::Steps;
+use std::sync::ledger::Ledger;
 
 /// The bits of an access list.
 const ACCESS_LIST: u16 = 0x000F;
@@ -20,7 +21,7 @@ const ACCESS_LIST: u16 = 0x000F;
 /// # Errors
 ///
 /// Returns the status of its first refusal.
-pub fn open<B: Bank>(bank: &B, apdu: &Apdu, steps: &mut Steps<B::Meter>) -> Result<Load, Status>
+pub fn open<B: Bank, L: Ledger>(bank: &B, apdu: &Apdu, steps: &mut Steps<L>) -> Result<Load, Status>
     requires going { (B.state bank.now).stopped ≡ false }
     ensures opened { IfOk result (λ load. CanOpen (view_of B.Bank bank.now)
         (parts_of apdu.now) load) }

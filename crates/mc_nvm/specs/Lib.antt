@@ -1,3 +1,4 @@
 pub mod Sim
+pub mod Probe
 pub mod Tape
 pub mod Taped

@@ -37,7 +37,7 @@ due_of (FoundFailure fill) = DueFailure fill
 due_of FoundNot = DueNot
 
 -- the state of a device in memory, from its fields
-abbrev pub sim_of : {L : Type 0} → Held L → Sim
+abbrev pub sim_of : Held → Sim
 sim_of a = record { words = a.words.items; on = a.on; cuts = a.cuts; faults = a.faults; cut = option_map fuse_of a.cut; worn = option_map fuse_of a.worn; powers = a.powers; pokes = a.pokes; poked = a.poked; arms = a.arms; wears = a.wears }
 
 -- a blank device: power is off, there is no fuse, and every count is 0

@@ -17,7 +17,7 @@ pub record Taped : Type 0 where
   pub tried : ℕ
 
 -- the state of a device with a tape, from its fields
-abbrev pub taped_inside : {L : Type 0} → Held L → Taped
+abbrev pub taped_inside : Held → Taped
 taped_inside d = record { device = d.device; tape = d.tape; worn = d.worn.items; tried = d.tried }
 
 -- a blank device with an empty tape

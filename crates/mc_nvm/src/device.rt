@@ -1,20 +1,13 @@
-ghost use Rattle.std.specs.Prelude.{◌≡◌, ℕ, ◌+◌, ◌<◌, ◌≤◌, true, List, length, slice_index_or, slice_set, [], Some, None, refl};
+ghost use Rattle.std.specs.Prelude.{◌≡◌, ℕ, ◌<◌, ◌≤◌, true, List, length, slice_index_or, slice_set, [], Some, None, refl};
 ghost use Rattle.std.proofs.Common.{◌∙◌};
 ghost use Rattle.mc_base.specs.model_device.specs.Orders.{Answer};
 ghost use Rattle.mc_base.specs.model_device.specs.Device.{DeviceState, BenchState, IsImage, Wrote, BenchWrote, next_count, bench_after_poke};
 
-use mc_base::{Steps, Stop, Word};
-use std::sync::ledger::Ledger;
+use mc_base::{Stop, Word};
 
 /// A device of 256 to 16,384 words of eight bytes, written one word at a time. A write may stop: it is torn as power
 /// goes, or it fails. Its word may hold anything then.
-///
-/// A read is a step of the device's own ledger. A body that is generic in the device makes none itself, so it reads no
-/// word that is not counted.
 pub trait Nvm {
-    /// The ledger of its reads.
-    type Meter: Ledger;
-
     /// The words, whether power is on, the counts of cuts and failed writes, and the tape, if one is recorded.
     ghost state: { Self → DeviceState };
 
@@ -29,11 +22,10 @@ pub trait Nvm {
         ensures len { result ≡ length (state self.now).words }
         ensures image { IsImage (state self.now).words };
 
-    /// Returns the word at a place below the length, with power or without, and counts one step.
-    fn read(&self, at: u32, steps: &mut Steps<Self::Meter>) -> Word
+    /// Returns the word at a place below the length, with power or without.
+    fn read(&self, at: u32) -> Word
         requires { at < length (state self.now).words }
-        ensures word { result ≡ slice_index_or (state self.now).words at [] }
-        ensures ticks { steps.new ≡ steps.old + 1 };
+        ensures { result ≡ slice_index_or (state self.now).words at [] };
 
     /// Writes one word at a place below the length, while power is on.
     ///
@@ -119,8 +111,6 @@ pub trait Bench: Nvm {
 }
 
 impl<N: Nvm> Nvm for &mut N {
-    type Meter = N::Meter;
-
     ghost state = { λ d. N.state d.now };
 
     ghost wrote = { λ d at w a e. N.wrote d.now at w a e.now × (e.ghost_name ≡ d.ghost_name) };
@@ -141,8 +131,8 @@ impl<N: Nvm> Nvm for &mut N {
         (**self).len()
     }
 
-    fn read(&self, at: u32, steps: &mut Steps<N::Meter>) -> Word {
-        (**self).read(at, steps)
+    fn read(&self, at: u32) -> Word {
+        (**self).read(at)
     }
 
     fn write(&mut self, at: u32, word: Word) -> Result<(), Stop> {

@@ -4,12 +4,14 @@
 
 mod device;
 mod fuse;
+mod probe;
 mod program;
 mod sim;
 mod tape;
 mod tape_nvm;
 
 pub use device::{Bench, Nvm};
+pub use probe::Probe;
 pub use program::{DEVICE_WORDS, counts_device_words};
 pub use sim::SimNvm;
 pub use tape::Entry;

@@ -4,18 +4,16 @@ ghost use Rattle.mc_nvm.specs.Sim.{blank_sim, Sound, answer_to, next_due, after_
 
 use crate::device::{Bench, Nvm};
 use crate::fuse::{Due, Fuse, nearer, next};
-use mc_base::{NoMemory, Steps, Stop, Word};
+use mc_base::{NoMemory, Stop, Word};
 use std::alloc::Global;
-use std::marker::{Model, PhantomData};
-use std::sync::ledger::Ledger;
+use std::marker::Model;
 
 /// The word that a blank device holds in every place.
 const BLANK: Word = [0xFF; 8];
 
-/// A device in memory, with a fuse of either kind, whose reads are steps of the ledger `L`. No write fails but by a fuse,
-/// and no tape is recorded.
+/// A device in memory, with a fuse of either kind. No write fails but by a fuse, and no tape is recorded.
 #[derive(Drop)]
-pub struct SimNvm<L: Ledger> {
+pub struct SimNvm {
     words: Vec<Word>,
     on: bool,
     cuts: u64,
@@ -27,10 +25,9 @@ pub struct SimNvm<L: Ledger> {
     poked: u64,
     arms: u64,
     wears: u64,
-    ledger: PhantomData<L>,
 }
 
-impl<L: Ledger> Model for SimNvm<L> {
+impl Model for SimNvm {
     ghost use Rattle.mc_nvm.specs.Sim.{Sim, sim_of, Sound};
 
     ghost Value = { Sim };
@@ -40,14 +37,14 @@ impl<L: Ledger> Model for SimNvm<L> {
     ghost invariant = { λ a. Sound (sim_of a) };
 }
 
-impl<L: Ledger> SimNvm<L> {
+impl SimNvm {
     /// Creates a blank device of 256 to 16,384 words: every byte is FF, power is off, there is no fuse, and every
     /// count is 0.
     ///
     /// # Errors
     ///
     /// Returns `NoMemory` if the system is out of memory.
-    pub fn new(alloc: Global, words: u32) -> Result<SimNvm<L>, NoMemory>
+    pub fn new(alloc: Global, words: u32) -> Result<SimNvm, NoMemory>
         requires low { 256 ≤ words }
         requires high { words ≤ 16384 }
         ensures { IfOk result (λ device. device ≡ blank_sim words) }
@@ -64,7 +61,6 @@ impl<L: Ledger> SimNvm<L> {
             poked: 0,
             arms: 0,
             wears: 0,
-            ledger: PhantomData,
         })
     }
 
@@ -84,15 +80,6 @@ impl<L: Ledger> SimNvm<L> {
         self.poked = 0;
         self.arms = 0;
         self.wears = 0;
-    }
-
-    /// Returns the word at a place below the length, as whoever owns this memory looks at it: it is no read of a card,
-    /// and no step counts it.
-    pub fn word(&self, at: u32) -> Word
-        requires { at < length self.now.words }
-        ensures { result ≡ slice_index_or self.now.words at [] }
-    {
-        self.words[at as usize]
     }
 
     /// Writes one word. With `refused` the write fails by itself and leaves eight zero bytes, but the fuse of `arm`
@@ -148,9 +135,7 @@ impl<L: Ledger> SimNvm<L> {
     }
 }
 
-impl<L: Ledger> Nvm for SimNvm<L> {
-    type Meter = L;
-
+impl Nvm for SimNvm {
     ghost use Rattle.mc_nvm.specs.Sim.{sim_state, SimWrote, sim_obeys};
 
     ghost state = { sim_state };
@@ -174,8 +159,7 @@ impl<L: Ledger> Nvm for SimNvm<L> {
         self.words.len() as u32
     }
 
-    fn read(&self, at: u32, steps: &mut Steps<L>) -> Word {
-        steps.tick();
+    fn read(&self, at: u32) -> Word {
         self.words[at as usize]
     }
 
@@ -184,7 +168,7 @@ impl<L: Ledger> Nvm for SimNvm<L> {
     }
 }
 
-impl<L: Ledger> Bench for SimNvm<L> {
+impl Bench for SimNvm {
     ghost use Rattle.mc_nvm.specs.Sim.{sim_bench, sim_burns};
 
     ghost bench = { sim_bench };

@@ -6,21 +6,20 @@ ghost use Rattle.mc_nvm.specs.Taped.{blank_taped, is_listed, taped_state, TapedW
 use crate::device::{Bench, Nvm};
 use crate::sim::SimNvm;
 use crate::tape::{Entry, Tape};
-use mc_base::{NoMemory, Steps, Stop, Word};
+use mc_base::{NoMemory, Stop, Word};
 use std::alloc::Global;
 use std::marker::Model;
-use std::sync::ledger::Ledger;
 
 /// A device in memory for tests: besides its fuses the writes of a list fail, and it records its tape.
 #[derive(Drop)]
-pub struct TapeNvm<L: Ledger> {
-    device: SimNvm<L>,
+pub struct TapeNvm {
+    device: SimNvm,
     tape: Tape,
     worn: Vec<u32>,
     tried: u64,
 }
 
-impl<L: Ledger> Model for TapeNvm<L> {
+impl Model for TapeNvm {
     ghost use Rattle.mc_nvm.specs.Taped.{Taped, taped_inside};
 
     ghost Value = { Taped };
@@ -28,7 +27,7 @@ impl<L: Ledger> Model for TapeNvm<L> {
     ghost view = { taped_inside };
 }
 
-impl<L: Ledger> TapeNvm<L> {
+impl TapeNvm {
     /// Creates a blank device of 256 to 16,384 words with an empty tape with room for `room` entries. The writes whose
     /// numbers are in `worn`, counted from 1 over all that are tried, fail with `Stop::Worn` and leave eight zero
     /// bytes, unless the fuse of `arm` stops them.
@@ -36,7 +35,7 @@ impl<L: Ledger> TapeNvm<L> {
     /// # Errors
     ///
     /// Returns `NoMemory` if the system is out of memory.
-    pub fn new(alloc: Global, words: u32, room: usize, worn: &[u32]) -> Result<TapeNvm<L>, NoMemory>
+    pub fn new(alloc: Global, words: u32, room: usize, worn: &[u32]) -> Result<TapeNvm, NoMemory>
         requires low { 256 ≤ words }
         requires high { words ≤ 16384 }
         ensures { IfOk result (λ device. device ≡ blank_taped words room worn.now) }
@@ -71,7 +70,7 @@ impl<L: Ledger> TapeNvm<L> {
             Ok(()) => None,
             Err(stop) => Some(stop),
         };
-        let left = self.device.word(at);
+        let left = self.device.read(at);
         self.tape.add(Entry { at, left, end });
         match end {
             None => Ok(()),
@@ -80,9 +79,7 @@ impl<L: Ledger> TapeNvm<L> {
     }
 }
 
-impl<L: Ledger> Nvm for TapeNvm<L> {
-    type Meter = L;
-
+impl Nvm for TapeNvm {
     ghost use Rattle.mc_nvm.specs.Taped.{taped_state, TapedWrote, taped_obeys};
 
     ghost state = { taped_state };
@@ -105,8 +102,8 @@ impl<L: Ledger> Nvm for TapeNvm<L> {
         self.device.len()
     }
 
-    fn read(&self, at: u32, steps: &mut Steps<L>) -> Word {
-        self.device.read(at, steps)
+    fn read(&self, at: u32) -> Word {
+        self.device.read(at)
     }
 
     fn write(&mut self, at: u32, word: Word) -> Result<(), Stop> {
@@ -114,7 +111,7 @@ impl<L: Ledger> Nvm for TapeNvm<L> {
     }
 }
 
-impl<L: Ledger> Bench for TapeNvm<L> {
+impl Bench for TapeNvm {
     ghost use Rattle.mc_nvm.specs.Taped.{taped_bench, taped_burns};
 
     ghost bench = { taped_bench };

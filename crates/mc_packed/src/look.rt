@@ -1,12 +1,11 @@
 ghost use Rattle.std.specs.Prelude.{◌≡◌, ◌+◌, ◌≤◌, true, false, ◌++◌, length, min, MatchOption};
-ghost use Rattle.mc_base.specs.model_device.specs.Bytes.{up};
 ghost use Rattle.mc_base.specs.model_device.specs.Image.{Two, within, four, all_zero, ascend, after_all, targets};
 ghost use Rattle.mc_gate.specs.Look.{target_list};
 ghost use Rattle.arrayvec.specs.ArrayVec.{array_vec_len};
 
 use crate::put::TARGETS;
 use arrayvec::ArrayVec;
-use mc_base::{Steps, Word, number_of};
+use mc_base::{Word, number_of};
 use mc_gate::{Targets, is_within};
 use mc_nvm::Nvm;
 
@@ -16,23 +15,17 @@ use mc_nvm::Nvm;
 ///
 /// Returns the place of the first bad target word: the targets do not ascend up to its last, one of its targets is
 /// neither word 0 nor a word of the heap, or it is not zero past its last target.
-pub fn read_targets<N: Nvm>(
-    device: &N,
-    count: usize,
-    steps: &mut Steps<N::Meter>,
-) -> Result<Targets, u16>
+pub fn read_targets<N: Nvm>(device: &N, count: usize) -> Result<Targets, u16>
     requires size { 256 ≤ length (N.state device.now).words }
     requires few { count ≤ 64 }
-    ensures list { targets Two (N.state device.now).words count ≡ target_list result }
-    ensures rises { steps.old ≤ steps.new }
-    ensures reads { steps.new ≤ steps.old + up count 4 }
+    ensures { targets Two (N.state device.now).words count ≡ target_list result }
 {
     let size = device.len();
     let mut found = ArrayVec::new();
     let mut least = 0;
     for i in 0..(count + 3) / 4 {
         let place = TARGETS + i as u32;
-        let all = numbers(device.read(place, steps));
+        let all = numbers(device.read(place));
         let (now, past) = all.split_at(up_to_four(count - 4 * i));
         if !are_zero(past) {
             return Err(place as u16);

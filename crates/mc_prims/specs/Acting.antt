@@ -1,11 +1,14 @@
 -- The effects of primitives, and how the calls that they share end.
-use Rattle.std.specs.Prelude.{◌≡◌, ℕ, ◌+◌, ◌≤◌, Bool, true, false, List, [], ◌∷◌, length, ◌||◌, None, Result, Ok, Err}
+use Rattle.std.specs.Prelude.{◌≡◌, ℕ, ◌+◌, ◌≤◌, Bool, true, false, List, [], ◌∷◌, length, ◌||◌, Option, None, Result, Ok, Err}
 use Rattle.model_machine.specs.declared.machine.Abend.{Abend}
 use Rattle.model_machine.specs.declared.machine.Abend.TheVariants.{A03, A04, A06}
+use Rattle.model_machine.specs.model_device.specs.Orders.{Answer}
+use Rattle.mc_bank.specs.model_card.specs.Items.{BankItem}
 use Rattle.model_machine.specs.Blocks.{sub_blocks}
 use Rattle.model_machine.specs.Frame.{Frame, is_under, frame_after_pop, top, is_outside, bytes_at}
 use Rattle.model_machine.specs.Primitives.{Around, Primitive, Done, effect_and_next, comparison_effect, in_range, count_at, later_causes, prim_effect}
 use Rattle.model_machine.specs.Row.{first_cause, row_end}
+use Rattle.mc_bank.specs.Bank.{BankState}
 use Rattle.mc_segs.specs.HeldFrames.{Held}
 use Rattle.mc_segs.specs.Ends.{Scene, before, EndActs}
 use Rattle.mc_segs.specs.declared.ends.Halt.{Halt}
@@ -17,11 +20,11 @@ abbrev pub alone : Around
 alone = record { case = 0; delegator = None }
 
 -- the result of a call is the abend of the first cause that holds, and else the effect `done`
-abbrev pub CausesAct : {B M : Type 0} → Ghosts B M → Scene B → List (Abend × Bool) → Done → Result Next Halt → Type 0
+abbrev pub CausesAct : {B : Type 0} → Ghosts B → Scene B → List (Abend × Bool) → Done → Result Next Halt → Type 0
 CausesAct ghosts s causes done r = EndActs ghosts s (row_end (first_cause causes) done) r
 
 -- the result of a call is that of a primitive whose argument bytes are good and which is not denied
-abbrev pub PrimActs : {B M : Type 0} → Ghosts B M → Scene B → Primitive → List ℕ → Around → Result Next Halt → Type 0
+abbrev pub PrimActs : {B : Type 0} → Ghosts B → Scene B → Primitive → List ℕ → Around → Result Next Halt → Type 0
 PrimActs ghosts s p args x r =
     let f = before ghosts s in
     CausesAct ghosts s (later_causes p args f s.public x) (prim_effect p args f s.public x) r

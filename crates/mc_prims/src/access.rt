@@ -1,5 +1,5 @@
 // The bytes that primitives read from segments.
-ghost use Rattle.std.specs.Prelude.{◌≡◌, ◌+◌, ◌%◌, ◌≤◌, ◌<◌, ◌∷◌, false, length};
+ghost use Rattle.std.specs.Prelude.{◌≡◌, ◌%◌, ◌≤◌, ◌<◌, ◌∷◌, false, length};
 ghost use Rattle.model_machine.specs.Modes.{ecb};
 ghost use Rattle.model_machine.specs.Frame.{is_outside};
 ghost use Rattle.model_machine.specs.Primitives as model;
@@ -11,7 +11,6 @@ ghost use Rattle.mc_prims.specs.Table.{cipher_of, block_under_key};
 use crate::ciphers::Way;
 use crate::table::Cipher;
 use mc_bank::Bank;
-use mc_base::Steps;
 use mc_segs::{Frame, Public, load};
 use model_machine::Abend;
 use std::marker::Model;
@@ -43,15 +42,12 @@ impl Block {
         public: &Public,
         at: u16,
         len: u8,
-        steps: &mut Steps<B::Meter>,
     ) -> Result<Block, Abend>
         requires runs { CanRun B.Bank bank.now frame.now }
-        ensures bytes { ReadsBytes result (frame_on_bank B.Bank bank.now frame.now) public.now at len }
-        ensures rises { steps.old ≤ steps.new }
-        ensures reads { steps.new ≤ steps.old + 33 }
+        ensures { ReadsBytes result (frame_on_bank B.Bank bank.now frame.now) public.now at len }
     {
         let mut bytes = [0; 255];
-        load(bank, frame, public, at, &mut bytes[..len as usize], steps)?;
+        load(bank, frame, public, at, &mut bytes[..len as usize])?;
         Ok(Block { bytes, len })
     }
 
@@ -114,14 +110,11 @@ pub fn reach<B: Bank>(
     public: &Public,
     at: u16,
     len: u8,
-    steps: &mut Steps<B::Meter>,
 ) -> Result<(), Abend>
     requires runs { CanRun B.Bank bank.now frame.now }
-    ensures abend { IfDue result (is_outside (frame_on_bank B.Bank bank.now frame.now) at len) Abend.A03 }
-    ensures rises { steps.old ≤ steps.new }
-    ensures reads { steps.new ≤ steps.old + 33 }
+    ensures { IfDue result (is_outside (frame_on_bank B.Bank bank.now frame.now) at len) Abend.A03 }
 {
-    Block::read(bank, frame, public, at, len, steps)?;
+    Block::read(bank, frame, public, at, len)?;
     Ok(())
 }
 
@@ -136,18 +129,15 @@ pub fn read_count<B: Bank>(
     frame: &Frame,
     public: &Public,
     at: u16,
-    steps: &mut Steps<B::Meter>,
 ) -> Result<(u8, u16), Abend>
     requires runs { CanRun B.Bank bank.now frame.now }
     requires room { length frame.now.frame.fixed ≤ 4096 }
-    ensures count { ReadsCount result (frame_on_bank B.Bank bank.now frame.now) public.now at }
-    ensures rises { steps.old ≤ steps.new }
-    ensures reads { steps.new ≤ steps.old + 1 }
+    ensures { ReadsCount result (frame_on_bank B.Bank bank.now frame.now) public.now at }
 {
     // No segment holds the address FFFF: the static segment ends at 1000, and DT is at most 8200.
     let _top = frame.dt();
     let mut count = [0];
-    load(bank, frame, public, at, &mut count, steps)?;
+    load(bank, frame, public, at, &mut count)?;
     Ok((count[0], at + 1))
 }
 

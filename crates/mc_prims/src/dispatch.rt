@@ -1,5 +1,5 @@
 // A primitive by its pair of set and number.
-ghost use Rattle.std.specs.Prelude.{◌≡◌, ◌+◌, ◌≤◌, false, length};
+ghost use Rattle.std.specs.Prelude.{◌≡◌, ◌≤◌, false, length};
 ghost use Rattle.model_machine.specs.declared.instruction.Ins.TheVariants.{Prim};
 ghost use Rattle.model_machine.specs.Primitives as model;
 ghost use Rattle.mc_segs.specs.HeldFrames.{frame_on_bank, CanRun};
@@ -15,7 +15,7 @@ use crate::names::{delegate, report_delegator};
 use crate::registers::{check_case, load_flags, set_protection, store_flags};
 use crate::table::Primitive;
 use mc_bank::Bank;
-use mc_base::{Aid, Steps};
+use mc_base::Aid;
 use mc_segs::{Frame, Halt, Next, Public};
 use model_machine::Abend;
 
@@ -46,13 +46,10 @@ pub fn prim<B: Bank>(
     number: u8,
     args: &[u8; 3],
     around: &Around,
-    steps: &mut Steps<B::Meter>,
 ) -> Result<Next, Halt>
     requires runs { CanRun B.Bank bank.old frame.old }
-    ensures acts { RowActs B.Bank (scene bank.old bank.new frame.old frame.new public.old public.new)
+    ensures { RowActs B.Bank (scene bank.old bank.new frame.old frame.new public.old public.new)
         (Prim set number args.now) (surroundings_of around.now) result }
-    ensures rises { steps.old ≤ steps.new }
-    ensures reads { steps.new ≤ steps.old + 144 }
 {
     let Some(primitive) = Primitive::of(set, number) else {
         return Err(Halt::Abend(Abend::A06));
@@ -60,11 +57,11 @@ pub fn prim<B: Bank>(
     if primitive.has_bad_argument(args) {
         return Err(Halt::Abend(Abend::A06));
     }
-    let sizes = bank.facts(frame.slot(), steps).sizes;
+    let sizes = bank.facts(frame.slot()).sizes;
     if primitive.is_denied(sizes.deny) {
         return Err(Halt::Abend(Abend::A0A));
     }
-    run(bank, frame, public, primitive, args, around, steps)
+    run(bank, frame, public, primitive, args, around)
 }
 
 // Executes a primitive whose argument bytes are good and which is not denied.
@@ -76,28 +73,25 @@ fn run<B: Bank>(
     primitive: Primitive,
     args: &[u8; 3],
     around: &Around,
-    steps: &mut Steps<B::Meter>,
 ) -> Result<Next, Halt>
     requires runs { CanRun B.Bank bank.old frame.old }
     requires args { model.has_bad_argument (primitive_of primitive) args.now ≡ false }
     requires room { length frame.old.frame.fixed ≤ 4096 }
-    ensures acts { PrimActs B.Bank (scene bank.old bank.new frame.old frame.new public.old public.new)
+    ensures { PrimActs B.Bank (scene bank.old bank.new frame.old frame.new public.old public.new)
         (primitive_of primitive) args.now (surroundings_of around.now) result }
-    ensures rises { steps.old ≤ steps.new }
-    ensures reads { steps.new ≤ steps.old + 140 }
 {
     match primitive {
         Primitive::CheckCase => check_case(bank, frame, public, around.case),
         Primitive::LoadCcr => load_flags(bank, frame, public),
         Primitive::StoreCcr => store_flags(bank, frame, public),
-        Primitive::Lookup => look_up(bank, frame, public, steps),
-        Primitive::MemoryCompare => compare_memory(bank, frame, public, steps),
-        Primitive::MemoryCopy => copy_memory(bank, frame, public, steps),
-        Primitive::Delegate => delegate(bank, frame, public, steps),
-        Primitive::DelegatorAid => report_delegator(bank, frame, public, around.delegator, steps),
-        Primitive::Digest => digest(bank, frame, public, steps),
-        Primitive::CompareFixed => compare_fixed(bank, frame, public, args, steps),
-        Primitive::CopyFixed => copy_fixed(bank, frame, public, args, steps),
+        Primitive::Lookup => look_up(bank, frame, public),
+        Primitive::MemoryCompare => compare_memory(bank, frame, public),
+        Primitive::MemoryCopy => copy_memory(bank, frame, public),
+        Primitive::Delegate => delegate(bank, frame, public),
+        Primitive::DelegatorAid => report_delegator(bank, frame, public, around.delegator),
+        Primitive::Digest => digest(bank, frame, public),
+        Primitive::CompareFixed => compare_fixed(bank, frame, public, args),
+        Primitive::CopyFixed => copy_fixed(bank, frame, public, args),
         Primitive::SetProtection => set_protection(bank, frame, public, args),
         Primitive::Encipher(cipher) => turn_message(
             bank,
@@ -106,7 +100,6 @@ fn run<B: Bank>(
             Way::Encipher,
             cipher,
             args[0],
-            steps,
         ),
         Primitive::Decipher(cipher) => turn_message(
             bank,
@@ -115,9 +108,8 @@ fn run<B: Bank>(
             Way::Decipher,
             cipher,
             args[0],
-            steps,
         ),
-        Primitive::Sign(cipher) => sign_message(bank, frame, public, cipher, args, steps),
+        Primitive::Sign(cipher) => sign_message(bank, frame, public, cipher, args),
         Primitive::BitByte => manipulate_top(bank, frame, public, args[0], &[args[1]]),
         Primitive::ShiftLeft => shift_top(bank, frame, public, Side::Left, args[0], args[1]),
         Primitive::ShiftRight => shift_top(bank, frame, public, Side::Right, args[0], args[1]),

@@ -12,7 +12,6 @@ use crate::access::{Block, as_length, reach, read_count};
 use crate::stack::{pop_byte_and_word, pop_three, pop_two};
 use mc_arith::compare;
 use mc_bank::Bank;
-use mc_base::Steps;
 use mc_segs::{Frame, Halt, Next, Public, push, store};
 use sha1::Sha1;
 
@@ -22,18 +21,15 @@ pub fn copy_memory<B: Bank>(
     bank: &mut B,
     frame: &mut Frame,
     public: &mut Public,
-    steps: &mut Steps<B::Meter>,
 ) -> Result<Next, Halt>
     requires runs { CanRun B.Bank bank.old frame.old }
-    ensures acts { PrimActs B.Bank
+    ensures { PrimActs B.Bank
         (scene bank.old bank.new frame.old frame.new public.old public.new) MemoryCopy [] alone result }
-    ensures rises { steps.old ≤ steps.new }
-    ensures reads { steps.new ≤ steps.old + 140 }
 {
     let (len, to, from) = pop_three(frame)?;
     let len = as_length(len)?;
-    let block = Block::read(bank, frame, public, from, len, steps)?;
-    store(bank, frame, public, to, block.bytes(), steps)?;
+    let block = Block::read(bank, frame, public, from, len)?;
+    store(bank, frame, public, to, block.bytes())?;
     Ok(Next::Go)
 }
 
@@ -45,18 +41,15 @@ pub fn copy_fixed<B: Bank>(
     frame: &mut Frame,
     public: &mut Public,
     args: &[u8; 3],
-    steps: &mut Steps<B::Meter>,
 ) -> Result<Next, Halt>
     requires runs { CanRun B.Bank bank.old frame.old }
     requires args { model.has_bad_argument CopyFixed args.now ≡ false }
-    ensures acts { PrimActs B.Bank
+    ensures { PrimActs B.Bank
         (scene bank.old bank.new frame.old frame.new public.old public.new) CopyFixed args.now alone result }
-    ensures rises { steps.old ≤ steps.new }
-    ensures reads { steps.new ≤ steps.old + 140 }
 {
     let (to, from) = pop_two(frame)?;
-    let block = Block::read(bank, frame, public, from, args[0], steps)?;
-    store(bank, frame, public, to, block.bytes(), steps)?;
+    let block = Block::read(bank, frame, public, from, args[0])?;
+    store(bank, frame, public, to, block.bytes())?;
     Ok(Next::Go)
 }
 
@@ -67,17 +60,14 @@ pub fn compare_memory<B: Bank>(
     bank: &mut B,
     frame: &mut Frame,
     public: &mut Public,
-    steps: &mut Steps<B::Meter>,
 ) -> Result<Next, Halt>
     requires runs { CanRun B.Bank bank.old frame.old }
-    ensures acts { PrimActs B.Bank
+    ensures { PrimActs B.Bank
         (scene bank.old bank.new frame.old frame.new public.old public.new) MemoryCompare [] alone result }
-    ensures rises { steps.old ≤ steps.new }
-    ensures reads { steps.new ≤ steps.old + 140 }
 {
     let (len, first, second) = pop_three(frame)?;
     let len = as_length(len)?;
-    compare_bytes(bank, frame, public, len, first, second, steps)
+    compare_bytes(bank, frame, public, len, first, second)
 }
 
 /// Executes Memory Compare Fixed Length: sets the flags of the first block minus the second, of the length in
@@ -88,17 +78,14 @@ pub fn compare_fixed<B: Bank>(
     frame: &mut Frame,
     public: &mut Public,
     args: &[u8; 3],
-    steps: &mut Steps<B::Meter>,
 ) -> Result<Next, Halt>
     requires runs { CanRun B.Bank bank.old frame.old }
     requires args { model.has_bad_argument CompareFixed args.now ≡ false }
-    ensures acts { PrimActs B.Bank
+    ensures { PrimActs B.Bank
         (scene bank.old bank.new frame.old frame.new public.old public.new) CompareFixed args.now alone result }
-    ensures rises { steps.old ≤ steps.new }
-    ensures reads { steps.new ≤ steps.old + 140 }
 {
     let (first, second) = pop_two(frame)?;
-    compare_bytes(bank, frame, public, args[0], first, second, steps)
+    compare_bytes(bank, frame, public, args[0], first, second)
 }
 
 // Sets the flags by the difference of bytes at two addresses.
@@ -109,18 +96,15 @@ fn compare_bytes<B: Bank>(
     len: u8,
     first: u16,
     second: u16,
-    steps: &mut Steps<B::Meter>,
 ) -> Result<Next, Halt>
     requires runs { CanRun B.Bank bank.old frame.old }
     requires len { 1 ≤ len }
-    ensures acts { CausesAct B.Bank (scene bank.old bank.new frame.old frame.new public.old public.new)
+    ensures { CausesAct B.Bank (scene bank.old bank.new frame.old frame.new public.old public.new)
         (compare_causes (frame_on_bank B.Bank bank.old frame.old) len first second)
         (flags_compared (frame_on_bank B.Bank bank.old frame.old) public.old len first second) result }
-    ensures rises { steps.old ≤ steps.new }
-    ensures reads { steps.new ≤ steps.old + 140 }
 {
-    let first = Block::read(bank, frame, public, first, len, steps)?;
-    let second = Block::read(bank, frame, public, second, len, steps)?;
+    let first = Block::read(bank, frame, public, first, len)?;
+    let second = Block::read(bank, frame, public, second, len)?;
     let flags = compare(first.bytes(), second.bytes());
     frame.set_flags(flags.c, flags.z);
     Ok(Next::Go)
@@ -129,53 +113,32 @@ fn compare_bytes<B: Bank>(
 /// Executes SHA-1 (FIPS 180-4): writes the digest of a message. The length of the message and the addresses
 /// of the message and the digest are on the stack.
 #[tactic(auto, unfolding(model_machine::specs::Primitives::later_causes, model_machine::specs::Primitives::prim_effect))]
-pub fn digest<B: Bank>(
-    bank: &mut B,
-    frame: &mut Frame,
-    public: &mut Public,
-    steps: &mut Steps<B::Meter>,
-) -> Result<Next, Halt>
+pub fn digest<B: Bank>(bank: &mut B, frame: &mut Frame, public: &mut Public) -> Result<Next, Halt>
     requires runs { CanRun B.Bank bank.old frame.old }
-    ensures acts { PrimActs B.Bank
+    ensures { PrimActs B.Bank
         (scene bank.old bank.new frame.old frame.new public.old public.new) Digest [] alone result }
-    ensures rises { steps.old ≤ steps.new }
-    ensures reads { steps.new ≤ steps.old + 140 }
 {
     let (len, from, to) = pop_three(frame)?;
     // The length of the digest does not depend on the one that was read, so its place is tested first.
-    reach(bank, frame, public, to, 20, steps)?;
+    reach(bank, frame, public, to, 20)?;
     let len = as_length(len)?;
-    let message = Block::read(bank, frame, public, from, len, steps)?;
-    store(
-        bank,
-        frame,
-        public,
-        to,
-        &Sha1::digest(message.bytes()),
-        steps,
-    )?;
+    let message = Block::read(bank, frame, public, from, len)?;
+    store(bank, frame, public, to, &Sha1::digest(message.bytes()))?;
     Ok(Next::Go)
 }
 
 /// Executes Lookup: pushes the first index of a byte, or 0, and sets Z to whether it was found. The byte and
 /// an address are on the stack; at the address are a count and the bytes among which the byte is looked up.
 #[tactic(auto, unfolding(model_machine::specs::Primitives::later_causes, model_machine::specs::Primitives::prim_effect))]
-pub fn look_up<B: Bank>(
-    bank: &mut B,
-    frame: &mut Frame,
-    public: &mut Public,
-    steps: &mut Steps<B::Meter>,
-) -> Result<Next, Halt>
+pub fn look_up<B: Bank>(bank: &mut B, frame: &mut Frame, public: &mut Public) -> Result<Next, Halt>
     requires runs { CanRun B.Bank bank.old frame.old }
     requires room { length frame.old.frame.fixed ≤ 4096 }
-    ensures acts { PrimActs B.Bank
+    ensures { PrimActs B.Bank
         (scene bank.old bank.new frame.old frame.new public.old public.new) Lookup [] alone result }
-    ensures rises { steps.old ≤ steps.new }
-    ensures reads { steps.new ≤ steps.old + 140 }
 {
     let (value, at) = pop_byte_and_word(frame)?;
-    let (count, behind) = read_count(bank, frame, public, at, steps)?;
-    let bytes = Block::read(bank, frame, public, behind, count, steps)?;
+    let (count, behind) = read_count(bank, frame, public, at)?;
+    let bytes = Block::read(bank, frame, public, behind, count)?;
     match first_place(bytes.bytes(), value) {
         Some(place) => report_place(frame, place, true),
         None => report_place(frame, 0, false),

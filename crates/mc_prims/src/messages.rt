@@ -1,5 +1,5 @@
 // The primitives that encipher, decipher and sign messages.
-ghost use Rattle.std.specs.Prelude.{◌≡◌, ◌+◌, ◌≤◌, [], ◌∷◌, false, true, get_or, slice_index};
+ghost use Rattle.std.specs.Prelude.{◌≡◌, [], ◌∷◌, false, true, get_or, slice_index};
 ghost use Rattle.model_machine.specs.Primitives as model;
 ghost use Rattle.mc_segs.specs.HeldFrames.{frame_on_bank, CanRun};
 ghost use Rattle.mc_segs.specs.Ends.{scene};
@@ -11,7 +11,6 @@ use crate::ciphers::Way;
 use crate::stack::{pop_four, pop_three};
 use crate::table::Cipher;
 use mc_bank::Bank;
-use mc_base::Steps;
 use mc_segs::{Frame, Halt, Next, Public, store};
 
 /// Enciphers or deciphers a message of a given number of bytes: its address, that of the result and that of the key
@@ -24,23 +23,20 @@ pub fn turn_message<B: Bank>(
     way: Way,
     cipher: Cipher,
     len: u8,
-    steps: &mut Steps<B::Meter>,
 ) -> Result<Next, Halt>
     requires runs { CanRun B.Bank bank.old frame.old }
     requires message { model.is_message (cipher_of cipher) len ≡ true }
-    ensures acts { CausesAct B.Bank (scene bank.old bank.new frame.old frame.new public.old public.new)
+    ensures { CausesAct B.Bank (scene bank.old bank.new frame.old frame.new public.old public.new)
         (model.cipher_causes (cipher_of cipher) len (frame_on_bank B.Bank bank.old frame.old))
         (model.effect_and_next
         (model.cipher_done (block_under_key way (cipher_of cipher)) (cipher_of cipher) len
         (frame_on_bank B.Bank bank.old frame.old) public.old)) result }
-    ensures rises { steps.old ≤ steps.new }
-    ensures reads { steps.new ≤ steps.old + 140 }
 {
     let (from, to, key) = pop_three(frame)?;
-    let mut message = Block::read(bank, frame, public, from, len, steps)?;
-    let key = Block::read(bank, frame, public, key, cipher.key_len(), steps)?;
+    let mut message = Block::read(bank, frame, public, from, len)?;
+    let key = Block::read(bank, frame, public, key, cipher.key_len())?;
     message.turn(way, cipher, key.bytes());
-    store(bank, frame, public, to, message.bytes(), steps)?;
+    store(bank, frame, public, to, message.bytes())?;
     Ok(Next::Go)
 }
 
@@ -52,20 +48,17 @@ pub fn sign_message<B: Bank>(
     public: &mut Public,
     cipher: Cipher,
     args: &[u8; 3],
-    steps: &mut Steps<B::Meter>,
 ) -> Result<Next, Halt>
     requires runs { CanRun B.Bank bank.old frame.old }
     requires message { model.is_message (cipher_of cipher) (slice_index args.now 0) ≡ true }
-    ensures acts { PrimActs B.Bank (scene bank.old bank.new frame.old frame.new public.old public.new)
+    ensures { PrimActs B.Bank (scene bank.old bank.new frame.old frame.new public.old public.new)
         (model.Sign (cipher_of cipher)) args.now alone result }
-    ensures rises { steps.old ≤ steps.new }
-    ensures reads { steps.new ≤ steps.old + 140 }
 {
     let (start, from, to, key) = pop_four(frame)?;
-    let mut last = Block::read(bank, frame, public, start, cipher.block_len(), steps)?;
-    let message = Block::read(bank, frame, public, from, args[0], steps)?;
-    let key = Block::read(bank, frame, public, key, cipher.key_len(), steps)?;
+    let mut last = Block::read(bank, frame, public, start, cipher.block_len())?;
+    let message = Block::read(bank, frame, public, from, args[0])?;
+    let key = Block::read(bank, frame, public, key, cipher.key_len())?;
     last.sign(cipher, key.bytes(), message.bytes());
-    store(bank, frame, public, to, last.bytes(), steps)?;
+    store(bank, frame, public, to, last.bytes())?;
     Ok(Next::Go)
 }

@@ -12,7 +12,7 @@ use Rattle.mc_script.specs.declared.player.Player.{Player}
 use Rattle.mc_script.specs.Players.{IsPlayerAt}
 use Rattle.mc_script.specs.Plays.{Bench}
 use Rattle.mc_script.specs.Lines.{bench_of}
-use Rattle.mc_script.specs.StepCounts.{PlayedSteps}
+use Rattle.mc_script.specs.StepCounts.{PlaySteps}
 use Rattle.mc_script.proofs.PlayLemmas.{plays_none}
 use Rattle.mc_script.proofs.StepPlayLemmas.{steps_as, steps_none, steps_then}
 use Rattle.mc_reader.specs.Frames.{frame_bytes, frames_bytes, first_frame}
@@ -96,7 +96,7 @@ module _ {N : Type 0} (state : N → DeviceState) (bench : N → BenchState) whe
         → ServedFrames here number powered fs ws (bench_of state bench p) os c → ServedFrames s n false (frames ++ fs) (worn ++ ws) v.dev (answers ++ os) c
     -- the steps so far, and those of a play of frames that are served from here
     pub done : List Step
-    pub steps : PlayedSteps 0 done v.steps heard.steps
+    pub steps : PlaySteps done v.steps heard.steps
     pub plays_rest : (fs : List (List ℕ)) (ws : List (Option FailedWrite)) → plays s (lines_of n false (frames ++ fs)) (worn ++ ws) ≡ done ++ plays here (lines_of number powered fs) ws
     pub fit : AllByRecursion LengthFits frames
     pub took : Took v.left heard.left (frames_bytes frames)
@@ -146,7 +146,7 @@ module _ {N : Type 0} (state : N → DeviceState) (bench : N → BenchState) whe
 
   -- the steps of the frames that were served
   counted_here : (s : State) (n : ℕ) (v : Start) (count : ℕ) (p : Player N) (powered : Bool) (heard : Heard) (out : Sunk)
-      (h : SessionReached s n v count p powered heard out) → PlayedSteps 0 (plays s (lines_of n false h.frames) h.worn) v.steps heard.steps
+      (h : SessionReached s n v count p powered heard out) → PlaySteps (plays s (lines_of n false h.frames) h.worn) v.steps heard.steps
   counted_here s n v count p powered heard out h =
       let none = ap (λ (ts : List Step). h.done ++ ts) (plays_none h.here) ∙ append-nil h.done in
       let all = h.plays_rest [] [] ∙ none in
@@ -212,7 +212,7 @@ module _ {N : Type 0} (state : N → DeviceState) (bench : N → BenchState) whe
   -- the steps with those of one frame more
   counted_on : (s : State) (n : ℕ) (v : Start) (count : ℕ) (p q : Player N) (powered : Bool) (heard : Heard) (more : ℕ) (out wrote : Sunk) (r : Result (Unit {0}) WriteFault)
       (h : SessionReached s n v count p powered heard out) (f : List ℕ) (served : ServesFrame state bench p h.here h.number (meaning powered f) out r q wrote heard.steps more)
-      → PlayedSteps 0 (h.done ++ steps_of_move h.here served.after h.number (line_in (meaning powered f)) (bench_of state bench p) (bench_of state bench q) served.reported served.moves) v.steps more
+      → PlaySteps (h.done ++ steps_of_move h.here served.after h.number (line_in (meaning powered f)) (bench_of state bench p) (bench_of state bench q) served.reported served.moves) v.steps more
   counted_on s n v count p q powered heard more out wrote r h f served =
       let o = line_in (meaning powered f) in
       let a = bench_of state bench p in
@@ -288,7 +288,7 @@ module _ {N : Type 0} (state : N → DeviceState) (bench : N → BenchState) whe
         answers = h.answers;
         worn = h.worn;
         served = served_here s n v count p powered heard out h;
-        steps = subst (λ (k : ℕ). PlayedSteps 0 (plays s (lines_of n false h.frames) h.worn) v.steps k) (sym still) (counted_here s n v count p powered heard out h);
+        steps = subst (λ (k : ℕ). PlaySteps (plays s (lines_of n false h.frames) h.worn) v.steps k) (sym still) (counted_here s n v count p powered heard out h);
         moments = h.moments ++ m ∷ [];
         recorded = records_append v.asked heard.asked more.asked h.moments (m ∷ []) h.recorded recorded;
         each =

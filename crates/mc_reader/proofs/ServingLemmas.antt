@@ -12,7 +12,7 @@ use Rattle.mc_script.specs.declared.player.Player.{Player}
 use Rattle.mc_script.specs.Players.{answer_value, IsPlayerAt, IsUnfused}
 use Rattle.mc_script.specs.Plays.{Bench, Played}
 use Rattle.mc_script.specs.Lines.{bench_of}
-use Rattle.mc_script.specs.StepCounts.{PlayedSteps}
+use Rattle.mc_script.specs.StepCounts.{PlaySteps}
 use Rattle.mc_script.proofs.StepPlayLemmas.{steps_none}
 use Rattle.mc_script.proofs.PlayLemmas.{plays_on, played_on, played_none}
 use Rattle.mc_reader.specs.Meanings.{Meaning, PowerOn, PowerOff, WantsAtr, Nothing, Orders, Refused, ToCard, Unheard, meaning, power_after}
@@ -118,8 +118,8 @@ steps_of_move s u n None a b reported m = []
 steps_of_move s u n (Some l) a b reported m = step s (n + 1, l) m.0 ∷ []
 
 -- they were counted
-pub move_counted : (s u : State) (n : ℕ) (o : Option DeckLine) (a b : Bench) (reported : Option LineResult) (m : Moves s n o a reported u b) (old new : ℕ) → MoveSteps s n o a reported u b m old new → PlayedSteps 0 (steps_of_move s u n o a b reported m) old new
-move_counted s u n None a b reported m old new same = subst (λ (k : ℕ). PlayedSteps 0 [] old k) (sym same) (steps_none old)
+pub move_counted : (s u : State) (n : ℕ) (o : Option DeckLine) (a b : Bench) (reported : Option LineResult) (m : Moves s n o a reported u b) (old new : ℕ) → MoveSteps s n o a reported u b m old new → PlaySteps (steps_of_move s u n o a b reported m) old new
+move_counted s u n None a b reported m old new same = subst (λ (k : ℕ). PlaySteps [] old k) (sym same) (steps_none old)
 move_counted s u n (Some l) a b reported m old new counted = counted
 
 -- a play of a line that may be missing and of those after it

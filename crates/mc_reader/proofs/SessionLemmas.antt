@@ -14,7 +14,7 @@ use Rattle.mc_base.specs.model_device.proofs.ImageLemmas.{all_append}
 use Rattle.mc_deck.specs.law_family.proofs.DeckBytes.{played_bytes}
 use Rattle.mc_deck.specs.law_family.proofs.PlayLaw.{play_law}
 use Rattle.mc_script.specs.Plays.{Bench, LeadsTo}
-use Rattle.mc_script.specs.StepCounts.{PlayedSteps}
+use Rattle.mc_script.specs.StepCounts.{PlaySteps}
 use Rattle.mc_script.proofs.StepPlayLemmas.{steps_as, steps_then}
 use Rattle.mc_script.proofs.Composing.{plays_append}
 use Rattle.mc_check.proofs.CheckedPlays.{checked_plays_law}
@@ -94,7 +94,7 @@ moment_deck deck a b u worn ws fs m leads k =
 
 -- the deck and the frames are one play, with the steps of both
 served_deck : (deck : List (ℕ × DeckLine)) (result : Result (Unit {0}) ServeError) (a : AroundSession) (b : Bench) (u : State) (worn : List (Option FailedWrite)) (mid : ℕ)
-    → IsImage a.dev_old.device.words → AllByRecursion (λ l. IsLine l.1) deck → LeadsTo (start a.dev_old.device.words) deck worn a.dev_old u b → PlayedSteps 0 (plays (start a.dev_old.device.words) deck worn) a.steps_old mid → ServedFrom u (last_number deck) result (record a { dev_old = b; steps_old = mid }) → Served deck result a
+    → IsImage a.dev_old.device.words → AllByRecursion (λ l. IsLine l.1) deck → LeadsTo (start a.dev_old.device.words) deck worn a.dev_old u b → PlaySteps (plays (start a.dev_old.device.words) deck worn) a.steps_old mid → ServedFrom u (last_number deck) result (record a { dev_old = b; steps_old = mid }) → Served deck result a
 served_deck deck result a b u worn mid image bytes leads begun h =
     let s = start a.dev_old.device.words in
     let ls = lines_of (last_number deck) false h.frames in
@@ -152,7 +152,7 @@ bench_same x y device bench =
 
 -- a session on a device that its player borrows and returns
 pub served_session : (deck : List (ℕ × DeckLine)) (result : Result (Unit {0}) ServeError) (a : AroundSession) (d b c : Bench) (u : State) (worn : List (Option FailedWrite)) (mid : ℕ)
-    → IsImage a.dev_old.device.words → AllByRecursion (λ l. IsLine l.1) deck → LeadsTo (start a.dev_old.device.words) deck worn d u b → PlayedSteps 0 (plays (start a.dev_old.device.words) deck worn) a.steps_old mid → ServedFrom u (last_number deck) result (record a { dev_old = b; dev = c; steps_old = mid })
+    → IsImage a.dev_old.device.words → AllByRecursion (λ l. IsLine l.1) deck → LeadsTo (start a.dev_old.device.words) deck worn d u b → PlaySteps (plays (start a.dev_old.device.words) deck worn) a.steps_old mid → ServedFrom u (last_number deck) result (record a { dev_old = b; dev = c; steps_old = mid })
     → d.device ≡ a.dev_old.device → d.bench ≡ a.dev_old.bench → c.device ≡ a.dev.device → c.bench ≡ a.dev.bench → Serves deck result a
 served_session deck result a d b c u worn mid image bytes leads begun h old old_bench new new_bench =
     serves deck result a (

@@ -13,7 +13,7 @@ use Rattle.mc_script.specs.declared.player.Player.{Player}
 use Rattle.mc_script.specs.Players.{IsPlayerAt}
 use Rattle.mc_script.specs.Plays.{Bench, PlayedLine, Played}
 use Rattle.mc_script.specs.Lines.{bench_of, Stepped}
-use Rattle.mc_script.specs.StepCounts.{PlayedSteps}
+use Rattle.mc_script.specs.StepCounts.{PlaySteps}
 use Rattle.mc_reader.specs.Frames.{frames_read}
 use Rattle.mc_reader.specs.Meanings.{Meaning}
 use Rattle.mc_reader.specs.Lines.{line_in, lines_of}
@@ -35,14 +35,14 @@ Moves s n (Some l) a r u b =
 -- the steps of such a line: none without a line
 abbrev pub MoveSteps : (s : State) (n : ℕ) (o : Option DeckLine) (a : Bench) (r : Option LineResult) (u : State) (b : Bench) → Moves s n o a r u b → ℕ → ℕ → Type 0
 MoveSteps s n None a r u b m old new = new ≡ old
-MoveSteps s n (Some l) a r u b m old new = PlayedSteps 0 (step s (n + 1, l) m.0 ∷ []) old new
+MoveSteps s n (Some l) a r u b m old new = PlaySteps (step s (n + 1, l) m.0 ∷ []) old new
 
 module _ {N : Type 0} (state : N → DeviceState) (bench : N → BenchState) where
   -- a line that may be missing was played, whatever its number, with its steps; without a line nothing has changed
   abbrev pub PlaysLine : Player N → Option DeckLine → Option Answer → Player N → ℕ → ℕ → Type 0
   PlaysLine p None answer q old new = (q ≡ p) × (new ≡ old)
   PlaysLine p (Some l) answer q old new =
-      (s : State) (n : ℕ) → IsPlayerAt state bench p s → (w : Option FailedWrite) × Stepped state bench p s (n, l) w (step s (n, l) w) answer q × PlayedSteps 0 (step s (n, l) w ∷ []) old new
+      (s : State) (n : ℕ) → IsPlayerAt state bench p s → (w : Option FailedWrite) × Stepped state bench p s (n, l) w (step s (n, l) w) answer q × PlaySteps (step s (n, l) w ∷ []) old new
 
   -- a frame with this meaning was served: its line was played, and its answer was written, completely or up to a fault
   pub record ServesFrame (p : Player N) (s : State) (n : ℕ) (m : Meaning) (x : Sunk) (result : Result (Unit {0}) WriteFault) (q : Player N) (y : Sunk) (old new : ℕ) : Type 0 where
@@ -83,7 +83,7 @@ pub record ServedFrom (s : State) (n : ℕ) (result : Result (Unit {0}) ServeErr
   pub answers : List (Option (List ℕ))
   pub worn : List (Option FailedWrite)
   pub served : ServedFrames s n false frames worn a.dev_old answers a.dev
-  pub steps : PlayedSteps 0 (plays s (lines_of n false frames) worn) a.steps_old a.steps
+  pub steps : PlaySteps (plays s (lines_of n false frames) worn) a.steps_old a.steps
   pub moments : List Moment
   pub recorded : Records a.asked_old moments a.asked
   pub each : AreMoments (IsServedMoment s n worn a.dev_old a.out_old) [] frames moments

@@ -12,7 +12,7 @@ use Rattle.mc_streams.specs.Streams.{Took, AtEnd, Grew}
 use Rattle.mc_streams.specs.declared.sink.Sink as sink
 use Rattle.mc_text.specs.Texts.{sunk, Sunk}
 use Rattle.mc_script.specs.Plays.{Bench, Played}
-use Rattle.mc_script.specs.StepCounts.{PlayedSteps}
+use Rattle.mc_script.specs.StepCounts.{PlaySteps}
 use Rattle.mc_check.specs.Plays.{KeepToVerdicts}
 use Rattle.mc_reader.specs.Frames.{frame_bytes, frames_bytes, frames_read}
 use Rattle.mc_reader.specs.Lines.{session_lines}
@@ -148,8 +148,8 @@ pub record Served (deck : List (ℕ × DeckLine)) (result : Result (Unit {0}) Se
   -- counts and the tape of the device, and for all that was written.
   pub worn : List (Option FailedWrite)
   pub played : Played (start a.dev_old.device.words) (session_lines deck frames) worn a.dev_old a.dev
-  -- Each executed instruction is one step, and so is each word that is read of the device, of which there are at most so many.
-  pub steps : PlayedSteps 0 (session_steps deck frames worn a) a.steps_old a.steps
+  -- Each executed instruction is one step, and the search of an OPEN for room takes at most two more than the card has gaps.
+  pub steps : PlaySteps (session_steps deck frames worn a) a.steps_old a.steps
   -- Each frame was taken when the frames before it had been served.
   pub asked : IsAskedInTurn deck worn frames a
   -- Every closed family of applications has the same results and the same bytes as on a card of its own, each line

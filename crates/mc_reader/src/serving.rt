@@ -23,15 +23,16 @@ use mc_nvm::Bench;
 use mc_script::{Answer, Player, Silent};
 use mc_streams::{Sink, WriteFault};
 use std::alloc::Global;
+use std::sync::ledger::Ledger;
 
 /// The length of the longest frame in bytes.
 const LONGEST_FRAME: usize = 65_535;
 
 // Plays the line of a request, if it has one.
-fn play_request<N: Bench>(
+fn play_request<N: Bench, L: Ledger>(
     player: &mut Player<N>,
     request: &Request<'_>,
-    steps: &mut Steps<N::Meter>,
+    steps: &mut Steps<L>,
 ) -> Option<Answer>
     requires playing { IsPlaying N.Bench player.old }
     requires good { IsGoodRequest request.now }
@@ -46,12 +47,12 @@ fn play_request<N: Bench>(
 }
 
 // Serves one frame: plays its line and writes its answer. It may switch power on or off.
-fn serve_frame<N: Bench, T: Sink>(
+fn serve_frame<N: Bench, T: Sink, L: Ledger>(
     player: &mut Player<N>,
     powered: &mut bool,
     frame: &[u8],
     out: &mut T,
-    steps: &mut Steps<N::Meter>,
+    steps: &mut Steps<L>,
 ) -> Result<(), WriteFault>
     requires { IsPlaying N.Bench player.old }
     ensures serves { (s : State) (n : ℕ) → IsPlayerAt N.Bench player.old s
@@ -68,12 +69,12 @@ fn serve_frame<N: Bench, T: Sink>(
 }
 
 // Serves frames up to the end of the input, or up to a fault. The card has no power before them.
-fn serve_frames<H: Host, T: Sink, N: Bench>(
+fn serve_frames<H: Host, T: Sink, N: Bench, L: Ledger>(
     player: &mut Player<N>,
     input: &mut H,
     out: &mut T,
     room: &mut [u8],
-    steps: &mut Steps<N::Meter>,
+    steps: &mut Steps<L>,
 ) -> Result<(), ServeError>
     requires playing { IsPlaying N.Bench player.old }
     requires room { length room.old ≡ 65535 }
@@ -118,13 +119,13 @@ fn serve_frames<H: Host, T: Sink, N: Bench>(
 ///
 /// Returns why the session ended before the end of its input. If it is out of memory, nothing was read,
 /// played or written.
-pub fn serve<H: Host, T: Sink, N: Bench>(
+pub fn serve<H: Host, T: Sink, N: Bench, L: Ledger>(
     alloc: Global,
     deck: &Deck,
     input: &mut H,
     out: &mut T,
     dev: &mut N,
-    steps: &mut Steps<N::Meter>,
+    steps: &mut Steps<L>,
 ) -> Result<(), ServeError>
     requires { IsUnfused (N.bench dev.old) }
     // Out of memory, nothing was read, played or written.

@@ -1,12 +1,14 @@
 -- Rows that depend on their frame alone, on a bank.
-use Rattle.std.proofs.Common.{◌≡◌, ℕ, false, List, Result, Ok, Err, refl, sym, ap, subst, ◌∙◌, length}
+use Rattle.std.proofs.Common.{◌≡◌, ℕ, false, List, Option, Result, Ok, Err, refl, sym, ap, subst, ◌∙◌, length}
 use Rattle.std.specs.Prelude.{IsSome}
 use Rattle.model_machine.specs.declared.instruction.Ins.{Ins}
 use Rattle.model_machine.specs.declared.machine.Abend.{Abend}
+use Rattle.model_machine.specs.model_device.specs.Orders.{Answer}
+use Rattle.mc_bank.specs.model_card.specs.Items.{BankItem}
 use Rattle.model_machine.specs.model_device.specs.Bytes.{lookup}
-use Rattle.model_machine.specs.Primitives.{Done, frame_effect}
+use Rattle.model_machine.specs.Primitives.{Done, effect_and_next, frame_effect}
 use Rattle.model_machine.specs.Row.{RowEnd, Abends, Does, row}
-use Rattle.mc_bank.specs.Bank.{app_of, name_or}
+use Rattle.mc_bank.specs.Bank.{BankState, app_of, name_or}
 use Rattle.mc_segs.specs.HeldFrames.{Held, FitsBank, app_under, frame_reading, frame_on_bank}
 use Rattle.mc_segs.specs.Ends.{EndActs, EffectDone, RowActs, scene}
 use Rattle.mc_segs.specs.declared.ends.Next.TheVariants.{Go}
@@ -14,7 +16,7 @@ use Rattle.mc_rows.specs.Rows.{alone, row_result}
 use Rattle.mc_rows.specs.FrameRows.{on_app, AreOfOneApp, FrameEnds, FrameActs, frame_row_result}
 use Rattle.mc_bank.specs.declared.bank.Bank.{Ghosts}
 
-module _ {B M : Type 0} (ghosts : Ghosts B M) where
+module _ {B : Type 0} (ghosts : Ghosts B) where
   -- a frame fits a bank if one for the same application does
   fits_still : (b : B) (h k : Held) → FitsBank (ghosts.state b) (ghosts.named b) h → AreOfOneApp h k → FitsBank (ghosts.state b) (ghosts.named b) k
   fits_still b h k fits same =

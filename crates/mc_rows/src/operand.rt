@@ -9,7 +9,6 @@ ghost use Rattle.mc_rows.specs.Rows.{FirstRead, OperandPlaced};
 
 use crate::bytes::number;
 use mc_bank::Bank;
-use mc_base::Steps;
 use mc_segs::{Abend, Frame, Public, load, pop, resolve};
 
 /// Tests that the stack has at least `count` bytes.
@@ -81,16 +80,13 @@ pub fn read_address<B: Bank>(
     frame: &Frame,
     public: &Public,
     at: u16,
-    steps: &mut Steps<B::Meter>,
 ) -> Result<u16, Abend>
     requires runs { CanRun B.Bank bank.now frame.now }
-    ensures address { GivesOrAbends result (is_outside (frame_on_bank B.Bank bank.now frame.now) at 2) Abend.A03
+    ensures { GivesOrAbends result (is_outside (frame_on_bank B.Bank bank.now frame.now) at 2) Abend.A03
         (address_at (frame_on_bank B.Bank bank.now frame.now) public.now at) }
-    ensures rises { steps.old ≤ steps.new }
-    ensures reads { steps.new ≤ steps.old + 2 }
 {
     let mut address = [0; 2];
-    load(bank, frame, public, at, &mut address, steps)?;
+    load(bank, frame, public, at, &mut address)?;
     Ok(number(address))
 }
 
@@ -108,7 +104,6 @@ pub fn read_first<B: Bank>(
     tag: u8,
     off: i16,
     into: &mut [u8],
-    steps: &mut Steps<B::Meter>,
 ) -> Result<u16, Abend>
     requires runs { CanRun B.Bank bank.now frame.now }
     requires tag { tag ≤ 7 }
@@ -117,13 +112,11 @@ pub fn read_first<B: Bank>(
     ensures first { FirstRead result (frame_on_bank B.Bank bank.now frame.now) public.now tag off
         (length into.old) into.new }
     ensures second { OnOk result (is_under frame.now.frame (length into.old) ≡ false) }
-    ensures rises { steps.old ≤ steps.new }
-    ensures reads { 8 * steps.new ≤ 8 * steps.old + (length into.old + 14) }
 {
     let count = into.len() as u16;
     need(frame, on_stack(tag, 2 * count, count))?;
     let at = operand(frame, tag, off, 2 * count)?;
-    load(bank, frame, public, at, into, steps)?;
+    load(bank, frame, public, at, into)?;
     Ok(at)
 }
 

@@ -1,5 +1,5 @@
 // Rows of n bytes at a place and the top n bytes of the stack.
-ghost use Rattle.std.specs.Prelude.{◌≡◌, ◌+◌, ◌≤◌, false, length};
+ghost use Rattle.std.specs.Prelude.{◌≡◌, ◌≤◌, false, length};
 ghost use Rattle.model_machine.specs.declared.instruction.Ins.TheVariants.{Cmpn};
 ghost use Rattle.mc_segs.specs.HeldFrames.{frame_on_bank, CanRun};
 ghost use Rattle.mc_segs.specs.Ends.{scene, EndActs, RowActs};
@@ -9,7 +9,6 @@ use crate::operand::read_first;
 use crate::operations::{Binary, check_binary, check_block, combine};
 use mc_arith::compare;
 use mc_bank::Bank;
-use mc_base::Steps;
 use mc_segs::{Frame, Halt, Public, store, top};
 
 /// Executes ADDN, SUBN, ANDN, ORN or XORN: replaces the first operand by the result with the second, which
@@ -22,42 +21,21 @@ pub fn combine_pair<B: Bank>(
     tag: u8,
     off: i16,
     n: u8,
-    steps: &mut Steps<B::Meter>,
 ) -> Result<(), Halt>
     requires runs { CanRun B.Bank bank.old frame.old }
     requires tag { tag ≤ 7 }
-    ensures acts { EndActs B.Bank (scene bank.old bank.new frame.old frame.new public.old public.new)
+    ensures { EndActs B.Bank (scene bank.old bank.new frame.old frame.new public.old public.new)
         (pair_end kind (frame_on_bank B.Bank bank.old frame.old) public.old tag off n)
         (onward result) }
-    ensures rises { steps.old ≤ steps.new }
-    ensures reads { steps.new ≤ steps.old + 66 }
 {
     check_binary(kind, n)?;
     let count = n as usize;
     match kind {
         Binary::Add | Binary::Sub => {
-            combine_in(
-                bank,
-                frame,
-                public,
-                &mut [0; 16][..count],
-                kind,
-                tag,
-                off,
-                steps,
-            )
+            combine_in(bank, frame, public, &mut [0; 16][..count], kind, tag, off)
         }
         Binary::And | Binary::Or | Binary::Xor => {
-            combine_in(
-                bank,
-                frame,
-                public,
-                &mut [0; 255][..count],
-                kind,
-                tag,
-                off,
-                steps,
-            )
+            combine_in(bank, frame, public, &mut [0; 255][..count], kind, tag, off)
         }
     }
 }
@@ -71,22 +49,19 @@ fn combine_in<B: Bank>(
     kind: Binary,
     tag: u8,
     off: i16,
-    steps: &mut Steps<B::Meter>,
 ) -> Result<(), Halt>
     requires low { 1 ≤ length first.old }
     requires high { length first.old ≤ most_binary kind }
     requires runs { CanRun B.Bank bank.old frame.old }
     requires tag { tag ≤ 7 }
-    ensures acts { EndActs B.Bank (scene bank.old bank.new frame.old frame.new public.old public.new)
+    ensures { EndActs B.Bank (scene bank.old bank.new frame.old frame.new public.old public.new)
         (paired_end kind (frame_on_bank B.Bank bank.old frame.old) public.old tag off
         (length first.old)) (onward result) }
-    ensures rises { steps.old ≤ steps.new }
-    ensures reads { steps.new ≤ steps.old + 66 }
 {
-    let at = read_first(bank, frame, public, tag, off, first, steps)?;
+    let at = read_first(bank, frame, public, tag, off, first)?;
     let second = top(frame, first.len() as u8);
     let flags = combine(kind, frame.c(), first, second);
-    store(bank, frame, public, at, first, steps)?;
+    store(bank, frame, public, at, first)?;
     frame.set_flags(flags.c, flags.z);
     Ok(())
 }
@@ -100,19 +75,16 @@ pub fn compare_pair<B: Bank>(
     tag: u8,
     off: i16,
     n: u8,
-    steps: &mut Steps<B::Meter>,
 ) -> Result<(), Halt>
     requires runs { CanRun B.Bank bank.old frame.old }
     requires tag { tag ≤ 7 }
-    ensures acts { RowActs B.Bank (scene bank.old bank.new frame.old frame.new public.old public.new)
+    ensures { RowActs B.Bank (scene bank.old bank.new frame.old frame.new public.old public.new)
         (Cmpn tag off n) alone (onward result) }
-    ensures rises { steps.old ≤ steps.new }
-    ensures reads { steps.new ≤ steps.old + 33 }
 {
     check_block(n)?;
     let mut buffer = [0; 255];
     let first = &mut buffer[..n as usize];
-    read_first(bank, frame, public, tag, off, first, steps)?;
+    read_first(bank, frame, public, tag, off, first)?;
     let flags = compare(first, top(frame, n));
     frame.set_flags(flags.c, flags.z);
     Ok(())

@@ -1,5 +1,5 @@
 // One instruction: its row, by families.
-ghost use Rattle.std.specs.Prelude.{◌≡◌, ◌+◌, ◌≤◌, false};
+ghost use Rattle.std.specs.Prelude.{◌≡◌, false};
 ghost use Rattle.model_machine.specs.Code.{Shaped};
 ghost use Rattle.mc_segs.specs.HeldFrames.{CanRun};
 ghost use Rattle.mc_segs.specs.Ends.{scene, RowActs};
@@ -18,7 +18,7 @@ use crate::transfers::{
     index, load_address, load_block, load_indirect, store_block, store_indirect,
 };
 use mc_bank::Bank;
-use mc_base::{Steps, bytes_of};
+use mc_base::bytes_of;
 use mc_segs::{Abend, Frame, Halt, Public};
 use model_machine::Ins;
 
@@ -36,15 +36,12 @@ pub fn step<B: Bank>(
     frame: &mut Frame,
     public: &mut Public,
     ins: &Ins,
-    steps: &mut Steps<B::Meter>,
 ) -> Result<Flow, Halt>
     requires runs { CanRun B.Bank bank.old frame.old }
     requires shaped { Shaped ins.now }
     requires row { IsNoPrimitive ins.now }
-    ensures acts { RowActs B.Bank
+    ensures { RowActs B.Bank
         (scene bank.old bank.new frame.old frame.new public.old public.new) ins.now alone (row_result result) }
-    ensures rises { steps.old ≤ steps.new }
-    ensures reads { steps.new ≤ steps.old + 70 }
 {
     match *ins {
         Ins::Nop
@@ -73,7 +70,7 @@ pub fn step<B: Bank>(
             Ok(()) => Ok(Flow::Go),
             Err(abend) => Err(Halt::Abend(abend)),
         },
-        _ => match step_operand(bank, frame, public, ins, steps) {
+        _ => match step_operand(bank, frame, public, ins) {
             Ok(()) => Ok(Flow::Go),
             Err(halt) => Err(halt),
         },
@@ -117,105 +114,30 @@ fn step_operand<B: Bank>(
     frame: &mut Frame,
     public: &mut Public,
     ins: &Ins,
-    steps: &mut Steps<B::Meter>,
 ) -> Result<(), Halt>
     requires runs { CanRun B.Bank bank.old frame.old }
     requires shaped { Shaped ins.now }
     requires family { HasOperand ins.now }
-    ensures acts { RowActs B.Bank
+    ensures { RowActs B.Bank
         (scene bank.old bank.new frame.old frame.new public.old public.new) ins.now alone (onward result) }
-    ensures rises { steps.old ≤ steps.new }
-    ensures reads { steps.new ≤ steps.old + 66 }
 {
     match *ins {
-        Ins::Load { tag, off, n } => load_block(bank, frame, public, tag, off, n, steps),
-        Ins::Store { tag, off, n } => store_block(bank, frame, public, tag, off, n, steps),
-        Ins::Loadi { tag, off, n } => load_indirect(bank, frame, public, tag, off, n, steps),
-        Ins::Storei { tag, off, n } => store_indirect(bank, frame, public, tag, off, n, steps),
-        Ins::Clearn { tag, off, n } => clear_block(bank, frame, public, tag, off, n, steps),
-        Ins::Testn { tag, off, n } => test_block(bank, frame, public, tag, off, n, steps),
-        Ins::Incn { tag, off, n } => change_block(
-            bank,
-            frame,
-            public,
-            Unary::Inc,
-            tag,
-            off,
-            n,
-            steps,
-        ),
-        Ins::Decn { tag, off, n } => change_block(
-            bank,
-            frame,
-            public,
-            Unary::Dec,
-            tag,
-            off,
-            n,
-            steps,
-        ),
-        Ins::Notn { tag, off, n } => change_block(
-            bank,
-            frame,
-            public,
-            Unary::Not,
-            tag,
-            off,
-            n,
-            steps,
-        ),
-        Ins::Cmpn { tag, off, n } => compare_pair(bank, frame, public, tag, off, n, steps),
-        Ins::Addn { tag, off, n } => combine_pair(
-            bank,
-            frame,
-            public,
-            Binary::Add,
-            tag,
-            off,
-            n,
-            steps,
-        ),
-        Ins::Subn { tag, off, n } => combine_pair(
-            bank,
-            frame,
-            public,
-            Binary::Sub,
-            tag,
-            off,
-            n,
-            steps,
-        ),
-        Ins::Andn { tag, off, n } => combine_pair(
-            bank,
-            frame,
-            public,
-            Binary::And,
-            tag,
-            off,
-            n,
-            steps,
-        ),
-        Ins::Orn { tag, off, n } => combine_pair(
-            bank,
-            frame,
-            public,
-            Binary::Or,
-            tag,
-            off,
-            n,
-            steps,
-        ),
-        Ins::Xorn { tag, off, n } => combine_pair(
-            bank,
-            frame,
-            public,
-            Binary::Xor,
-            tag,
-            off,
-            n,
-            steps,
-        ),
-        _ => step_immediate(bank, frame, public, ins, steps),
+        Ins::Load { tag, off, n } => load_block(bank, frame, public, tag, off, n),
+        Ins::Store { tag, off, n } => store_block(bank, frame, public, tag, off, n),
+        Ins::Loadi { tag, off, n } => load_indirect(bank, frame, public, tag, off, n),
+        Ins::Storei { tag, off, n } => store_indirect(bank, frame, public, tag, off, n),
+        Ins::Clearn { tag, off, n } => clear_block(bank, frame, public, tag, off, n),
+        Ins::Testn { tag, off, n } => test_block(bank, frame, public, tag, off, n),
+        Ins::Incn { tag, off, n } => change_block(bank, frame, public, Unary::Inc, tag, off, n),
+        Ins::Decn { tag, off, n } => change_block(bank, frame, public, Unary::Dec, tag, off, n),
+        Ins::Notn { tag, off, n } => change_block(bank, frame, public, Unary::Not, tag, off, n),
+        Ins::Cmpn { tag, off, n } => compare_pair(bank, frame, public, tag, off, n),
+        Ins::Addn { tag, off, n } => combine_pair(bank, frame, public, Binary::Add, tag, off, n),
+        Ins::Subn { tag, off, n } => combine_pair(bank, frame, public, Binary::Sub, tag, off, n),
+        Ins::Andn { tag, off, n } => combine_pair(bank, frame, public, Binary::And, tag, off, n),
+        Ins::Orn { tag, off, n } => combine_pair(bank, frame, public, Binary::Or, tag, off, n),
+        Ins::Xorn { tag, off, n } => combine_pair(bank, frame, public, Binary::Xor, tag, off, n),
+        _ => step_immediate(bank, frame, public, ins),
     }
 }
 
@@ -227,49 +149,20 @@ fn step_immediate<B: Bank>(
     frame: &mut Frame,
     public: &mut Public,
     ins: &Ins,
-    steps: &mut Steps<B::Meter>,
 ) -> Result<(), Halt>
     requires runs { CanRun B.Bank bank.old frame.old }
     requires shaped { Shaped ins.now }
     requires family { IsImmediate ins.now }
-    ensures acts { RowActs B.Bank
+    ensures { RowActs B.Bank
         (scene bank.old bank.new frame.old frame.new public.old public.new) ins.now alone (onward result) }
-    ensures rises { steps.old ≤ steps.new }
-    ensures reads { steps.new ≤ steps.old + 4 }
 {
     match *ins {
-        Ins::Setb { tag, off, b } => set(bank, frame, public, tag, off, &[b], steps),
-        Ins::Cmpb { tag, off, b } => compare_with(bank, frame, public, tag, off, &[b], steps),
-        Ins::Addb { tag, off, b } => combine_with(
-            bank,
-            frame,
-            public,
-            Binary::Add,
-            tag,
-            off,
-            &[b],
-            steps,
-        ),
-        Ins::Subb { tag, off, b } => combine_with(
-            bank,
-            frame,
-            public,
-            Binary::Sub,
-            tag,
-            off,
-            &[b],
-            steps,
-        ),
-        Ins::Setw { tag, off, w } => set(bank, frame, public, tag, off, &bytes_of(w), steps),
-        Ins::Cmpw { tag, off, w } => compare_with(
-            bank,
-            frame,
-            public,
-            tag,
-            off,
-            &bytes_of(w),
-            steps,
-        ),
+        Ins::Setb { tag, off, b } => set(bank, frame, public, tag, off, &[b]),
+        Ins::Cmpb { tag, off, b } => compare_with(bank, frame, public, tag, off, &[b]),
+        Ins::Addb { tag, off, b } => combine_with(bank, frame, public, Binary::Add, tag, off, &[b]),
+        Ins::Subb { tag, off, b } => combine_with(bank, frame, public, Binary::Sub, tag, off, &[b]),
+        Ins::Setw { tag, off, w } => set(bank, frame, public, tag, off, &bytes_of(w)),
+        Ins::Cmpw { tag, off, w } => compare_with(bank, frame, public, tag, off, &bytes_of(w)),
         Ins::Addw { tag, off, w } => combine_with(
             bank,
             frame,
@@ -278,7 +171,6 @@ fn step_immediate<B: Bank>(
             tag,
             off,
             &bytes_of(w),
-            steps,
         ),
         Ins::Subw { tag, off, w } => combine_with(
             bank,
@@ -288,7 +180,6 @@ fn step_immediate<B: Bank>(
             tag,
             off,
             &bytes_of(w),
-            steps,
         ),
         _ => unreachable!(),
     }

@@ -1,5 +1,5 @@
 // Rows that move bytes between the stack and an address.
-ghost use Rattle.std.specs.Prelude.{◌≡◌, ◌+◌, ◌≤◌, false, length};
+ghost use Rattle.std.specs.Prelude.{◌≡◌, ◌≤◌, false, length};
 ghost use Rattle.model_machine.specs.declared.instruction.Ins.TheVariants.{Load, Store, Loadi, Storei, Loada, Index};
 ghost use Rattle.mc_segs.specs.HeldFrames.{frame_on_bank, CanRun};
 ghost use Rattle.mc_segs.specs.Ends.{scene, RowActs};
@@ -9,7 +9,7 @@ ghost use Rattle.mc_rows.specs.FrameRows.{FrameActs};
 use crate::operand::{indexed, need, on_stack, operand, place, read_address};
 use crate::operations::check_block;
 use mc_bank::Bank;
-use mc_base::{Steps, bytes_of};
+use mc_base::bytes_of;
 use mc_segs::{Abend, Frame, Halt, Public, load, pop, push, store};
 
 /// The number of bytes for which a small buffer is enough: clearing a large one takes longer than most operands.
@@ -24,21 +24,18 @@ pub fn load_block<B: Bank>(
     tag: u8,
     off: i16,
     n: u8,
-    steps: &mut Steps<B::Meter>,
 ) -> Result<(), Halt>
     requires runs { CanRun B.Bank bank.old frame.old }
     requires tag { tag ≤ 7 }
-    ensures acts { RowActs B.Bank (scene bank.old bank.new frame.old frame.new public.old public.new)
+    ensures { RowActs B.Bank (scene bank.old bank.new frame.old frame.new public.old public.new)
         (Load tag off n) alone (onward result) }
-    ensures rises { steps.old ≤ steps.new }
-    ensures reads { steps.new ≤ steps.old + 33 }
 {
     check_block(n)?;
     let count = n as usize;
     if count <= FEW {
-        return load_in(bank, frame, public, &mut [0; FEW][..count], tag, off, steps);
+        return load_in(bank, frame, public, &mut [0; FEW][..count], tag, off);
     }
-    load_in(bank, frame, public, &mut [0; 255][..count], tag, off, steps)
+    load_in(bank, frame, public, &mut [0; 255][..count], tag, off)
 }
 
 // LOAD in a buffer of the operand's length.
@@ -51,19 +48,16 @@ fn load_in<B: Bank>(
     bytes: &mut [u8],
     tag: u8,
     off: i16,
-    steps: &mut Steps<B::Meter>,
 ) -> Result<(), Halt>
     requires low { 1 ≤ length bytes.old }
     requires high { length bytes.old ≤ 255 }
     requires runs { CanRun B.Bank bank.old frame.old }
     requires tag { tag ≤ 7 }
-    ensures acts { RowActs B.Bank (scene bank.old bank.new frame.old frame.new public.old public.new)
+    ensures { RowActs B.Bank (scene bank.old bank.new frame.old frame.new public.old public.new)
         (Load tag off (length bytes.old)) alone (onward result) }
-    ensures rises { steps.old ≤ steps.new }
-    ensures reads { steps.new ≤ steps.old + 33 }
 {
     let at = place(frame, tag, off, bytes.len() as u16)?;
-    load(bank, frame, public, at, bytes, steps)?;
+    load(bank, frame, public, at, bytes)?;
     push(frame, bytes)?;
     Ok(())
 }
@@ -77,21 +71,18 @@ pub fn store_block<B: Bank>(
     tag: u8,
     off: i16,
     n: u8,
-    steps: &mut Steps<B::Meter>,
 ) -> Result<(), Halt>
     requires runs { CanRun B.Bank bank.old frame.old }
     requires tag { tag ≤ 7 }
-    ensures acts { RowActs B.Bank (scene bank.old bank.new frame.old frame.new public.old public.new)
+    ensures { RowActs B.Bank (scene bank.old bank.new frame.old frame.new public.old public.new)
         (Store tag off n) alone (onward result) }
-    ensures rises { steps.old ≤ steps.new }
-    ensures reads { steps.new ≤ steps.old + 33 }
 {
     check_block(n)?;
     let count = n as usize;
     if count <= FEW {
-        return store_in(bank, frame, public, &mut [0; FEW][..count], tag, off, steps);
+        return store_in(bank, frame, public, &mut [0; FEW][..count], tag, off);
     }
-    store_in(bank, frame, public, &mut [0; 255][..count], tag, off, steps)
+    store_in(bank, frame, public, &mut [0; 255][..count], tag, off)
 }
 
 // STORE in a buffer of the operand's length.
@@ -104,22 +95,19 @@ fn store_in<B: Bank>(
     bytes: &mut [u8],
     tag: u8,
     off: i16,
-    steps: &mut Steps<B::Meter>,
 ) -> Result<(), Halt>
     requires low { 1 ≤ length bytes.old }
     requires high { length bytes.old ≤ 255 }
     requires runs { CanRun B.Bank bank.old frame.old }
     requires tag { tag ≤ 7 }
-    ensures acts { RowActs B.Bank (scene bank.old bank.new frame.old frame.new public.old public.new)
+    ensures { RowActs B.Bank (scene bank.old bank.new frame.old frame.new public.old public.new)
         (Store tag off (length bytes.old)) alone (onward result) }
-    ensures rises { steps.old ≤ steps.new }
-    ensures reads { steps.new ≤ steps.old + 33 }
 {
     let count = bytes.len() as u16;
     need(frame, on_stack(tag, 2 * count, count))?;
     let at = operand(frame, tag, off, 2 * count)?;
     pop(frame, bytes)?;
-    store(bank, frame, public, at, bytes, steps)?;
+    store(bank, frame, public, at, bytes)?;
     Ok(())
 }
 
@@ -132,21 +120,18 @@ pub fn load_indirect<B: Bank>(
     tag: u8,
     off: i16,
     n: u8,
-    steps: &mut Steps<B::Meter>,
 ) -> Result<(), Halt>
     requires runs { CanRun B.Bank bank.old frame.old }
     requires tag { tag ≤ 7 }
-    ensures acts { RowActs B.Bank (scene bank.old bank.new frame.old frame.new public.old public.new)
+    ensures { RowActs B.Bank (scene bank.old bank.new frame.old frame.new public.old public.new)
         (Loadi tag off n) alone (onward result) }
-    ensures rises { steps.old ≤ steps.new }
-    ensures reads { steps.new ≤ steps.old + 35 }
 {
     check_block(n)?;
     let at = place(frame, tag, off, 2)?;
-    let from = read_address(bank, frame, public, at, steps)?;
+    let from = read_address(bank, frame, public, at)?;
     let mut buffer = [0; 255];
     let bytes = &mut buffer[..n as usize];
-    load(bank, frame, public, from, bytes, steps)?;
+    load(bank, frame, public, from, bytes)?;
     push(frame, bytes)?;
     Ok(())
 }
@@ -160,21 +145,18 @@ pub fn store_indirect<B: Bank>(
     tag: u8,
     off: i16,
     n: u8,
-    steps: &mut Steps<B::Meter>,
 ) -> Result<(), Halt>
     requires runs { CanRun B.Bank bank.old frame.old }
     requires tag { tag ≤ 7 }
-    ensures acts { RowActs B.Bank (scene bank.old bank.new frame.old frame.new public.old public.new)
+    ensures { RowActs B.Bank (scene bank.old bank.new frame.old frame.new public.old public.new)
         (Storei tag off n) alone (onward result) }
-    ensures rises { steps.old ≤ steps.new }
-    ensures reads { steps.new ≤ steps.old + 35 }
 {
     check_block(n)?;
-    let to = address_under(bank, frame, public, n, tag, off, steps)?;
+    let to = address_under(bank, frame, public, n, tag, off)?;
     let mut buffer = [0; 255];
     let bytes = &mut buffer[..n as usize];
     pop(frame, bytes)?;
-    store(bank, frame, public, to, bytes, steps)?;
+    store(bank, frame, public, to, bytes)?;
     Ok(())
 }
 
@@ -207,16 +189,13 @@ fn address_under<B: Bank>(
     n: u8,
     tag: u8,
     off: i16,
-    steps: &mut Steps<B::Meter>,
 ) -> Result<u16, Abend>
     requires runs { CanRun B.Bank bank.now frame.now }
     requires tag { tag ≤ 7 }
-    ensures address { AddressUnder result (frame_on_bank B.Bank bank.now frame.now) public.now tag off n }
-    ensures rises { steps.old ≤ steps.new }
-    ensures reads { steps.new ≤ steps.old + 2 }
+    ensures { AddressUnder result (frame_on_bank B.Bank bank.now frame.now) public.now tag off n }
 {
     let count = n as u16;
     need(frame, on_stack(tag, count + 2, count))?;
     let at = operand(frame, tag, off, count + 2)?;
-    read_address(bank, frame, public, at, steps)
+    read_address(bank, frame, public, at)
 }

@@ -7,7 +7,6 @@ use Rattle.mc_script.specs.declared.commands.CardLine.{CardLine}
 use Rattle.mc_script.specs.declared.commands.CardLine.TheVariants as command
 use Rattle.mc_script.specs.Counting.{line_powers, line_pokes, line_cuts, line_fails}
 use Rattle.mc_script.specs.Commands.{deck_line_of}
-use Rattle.mc_script.proofs.StepRunLemmas.{sends}
 
 pub after_power_is : (c : CardLine) (w : Warm) (n : ℕ) (x : Option FailedWrite) → step (AfterPower w) (n, deck_line_of c) x ≡ card_line n (deck_line_of c) w w.live w.base x
 unfolding step
@@ -39,9 +38,6 @@ moves_before_power (command.Load u fixed session) m b a n = refl
 
 pub is_card : (c : CardLine) → is_card_line (deck_line_of c) ≡ true
 is_card c = grind arith
-
-pub are_sent : (c : CardLine) → sends (deck_line_of c) ≡ true
-are_sent c = grind arith
 
 pub no_powers : (c : CardLine) → line_powers (deck_line_of c) ≡ 0
 no_powers c = grind arith

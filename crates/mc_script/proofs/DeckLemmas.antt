@@ -16,27 +16,27 @@ use Rattle.mc_script.specs.Players.{answer_value, IsPlayerAt}
 use Rattle.mc_script.specs.Lines.{bench_of, Lined, Stepped}
 use Rattle.mc_script.specs.Writers.{write_result, text_by}
 use Rattle.mc_script.specs.Plays.{Bench}
-use Rattle.mc_script.specs.StepCounts.{answer_reads, text_reads, CountsLine, CountsFrom}
+use Rattle.mc_script.specs.StepCounts.{CountsLine, CountsFrom}
 use Rattle.model_play.proofs.PlayLemmas.{step_is}
 use Rattle.mc_script.proofs.PlayLemmas.{from_on, from_cut, from_none}
 use Rattle.mc_script.proofs.LinedLemmas.{at_stands}
-use Rattle.mc_script.proofs.StepPlayLemmas.{text_counts}
+use Rattle.mc_script.proofs.StepPlayLemmas.{step_counts}
 
 module _ {N : Type 0} (state : N → DeviceState) (bench : N → BenchState) where
   -- a player at a state of a play, with the given lines left: a play of these from here makes the play of all lines
   -- from the start
-  pub record PlayReached (looks : ℕ) (f : Step → List ℕ) (s : State) (ls : List (ℕ × DeckLine)) (a : Bench) (x : Sunk) (old : ℕ) (left : List (ℕ × DeckLine)) (p : Player N) (y : Sunk) (now : ℕ) : Type 0 where
+  pub record PlayReached (f : Step → List ℕ) (s : State) (ls : List (ℕ × DeckLine)) (a : Bench) (x : Sunk) (old : ℕ) (left : List (ℕ × DeckLine)) (p : Player N) (y : Sunk) (now : ℕ) : Type 0 where
     pub here : State
     pub at : IsPlayerAt state bench p here
-    pub rest : (r : Result (Unit {0}) WriteFault) (c : Bench) (z : Sunk) (new : ℕ) → CountsFrom looks f here left (bench_of state bench p) y r c z now new → CountsFrom looks f s ls a x r c z old new
+    pub rest : (r : Result (Unit {0}) WriteFault) (c : Bench) (z : Sunk) (new : ℕ) → CountsFrom f here left (bench_of state bench p) y r c z now new → CountsFrom f s ls a x r c z old new
 
   -- no line was played
-  pub reached_start : (looks : ℕ) (f : Step → List ℕ) (s : State) (ls : List (ℕ × DeckLine)) (p : Player N) (x : Sunk) (old : ℕ) → IsPlayerAt state bench p s → PlayReached looks f s ls (bench_of state bench p) x old ls p x old
-  reached_start looks f s ls p x old at = record { here = s; at = at; rest = λ r c z new h. h }
+  pub reached_start : (f : Step → List ℕ) (s : State) (ls : List (ℕ × DeckLine)) (p : Player N) (x : Sunk) (old : ℕ) → IsPlayerAt state bench p s → PlayReached f s ls (bench_of state bench p) x old ls p x old
+  reached_start f s ls p x old at = record { here = s; at = at; rest = λ r c z new h. h }
 
   -- all lines were played
-  pub reached_end : (looks : ℕ) (f : Step → List ℕ) (s : State) (ls : List (ℕ × DeckLine)) (a : Bench) (x y : Sunk) (p : Player N) (old now : ℕ) → PlayReached looks f s ls a x old [] p y now → CountsFrom looks f s ls a x (Ok tt) (bench_of state bench p) y old now
-  reached_end looks f s ls a x y p old now h = h.rest (Ok tt) (bench_of state bench p) y now (from_none looks f h.here (bench_of state bench p) y now (at_stands state bench p h.here h.at) h.at.unfused)
+  pub reached_end : (f : Step → List ℕ) (s : State) (ls : List (ℕ × DeckLine)) (a : Bench) (x y : Sunk) (p : Player N) (old now : ℕ) → PlayReached f s ls a x old [] p y now → CountsFrom f s ls a x (Ok tt) (bench_of state bench p) y old now
+  reached_end f s ls a x y p old now h = h.rest (Ok tt) (bench_of state bench p) y now (from_none f h.here (bench_of state bench p) y now (at_stands state bench p h.here h.at) h.at.unfused)
 
   -- the text of the result of a line
   pub result_text : (p q : Player N) (s : State) (l : ℕ × DeckLine) (w : Option FailedWrite) (answer : Option Answer) → Stepped state bench p s l w (step s l w) answer q → (let t = step s l w in line_text l.0 (option_map (answer_value state q) answer) ≡ line_text t.number t.result)
@@ -49,27 +49,26 @@ module _ {N : Type 0} (state : N → DeviceState) (bench : N → BenchState) whe
       let t = step s l w in
       subst (λ (bs : List ℕ). Puts y (text (shown_turns t.turns t.stop) ++ bs) r z) (result_text p q s l w answer lined.stepped) (reports (shown_turns t.turns t.stop) lined.reports)
 
-  module _ (looks : ℕ) (f : Step → List ℕ) (s : State) (ls : List (ℕ × DeckLine)) (a : Bench) (x : Sunk) (old : ℕ) (left : List (ℕ × DeckLine)) (n : ℕ) (l : DeckLine) (p q : Player N) (y z : Sunk) (answer : Option Answer) (now mid new : ℕ)
-      (h : PlayReached looks f s ls a x old ((n, l) ∷ left) p y now) (w : Option FailedWrite) (stepped : Stepped state bench p h.here (n, l) w (step h.here (n, l) w) answer q) (counts : CountsLine state bench looks p l answer now mid)
-      (rises : mid ≤ new) (reads : new ≤ mid + answer_reads answer) (few : answer_reads answer ≤ text_reads l) where
+  module _ (f : Step → List ℕ) (s : State) (ls : List (ℕ × DeckLine)) (a : Bench) (x : Sunk) (old : ℕ) (left : List (ℕ × DeckLine)) (n : ℕ) (l : DeckLine) (p q : Player N) (y z : Sunk) (answer : Option Answer) (now new : ℕ)
+      (h : PlayReached f s ls a x old ((n, l) ∷ left) p y now) (w : Option FailedWrite) (stepped : Stepped state bench p h.here (n, l) w (step h.here (n, l) w) answer q) (counts : CountsLine state bench p l answer now new) where
     -- a line whose text was written, by the result of its reporter
-    pub reached_written : (r : Result (Unit {0}) WriteFault) → is_err r ≡ false → Puts y (f (step h.here (n, l) w)) r z → PlayReached looks f s ls a x old left q z new
+    pub reached_written : (r : Result (Unit {0}) WriteFault) → is_err r ≡ false → Puts y (f (step h.here (n, l) w)) r z → PlayReached f s ls a x old left q z new
     reached_written (Err e) good puts = absurd (cc good)
     reached_written (Ok u) good puts =
-        let steps = text_counts state looks q h.here (n, l) w answer now mid new stepped.answers (counts h.here h.at) rises reads few in
+        let steps = step_counts state q h.here (n, l) w answer now new stepped.answers (counts h.here h.at) in
         record {
           here = (step h.here (n, l) w).after;
           at = stepped.at;
-          rest = λ r c u last rest. h.rest r c u last (from_on looks f h.here (n, l) w left (bench_of state bench p) (bench_of state bench q) c y z u r now new last stepped.played steps puts rest);
+          rest = λ r c u last rest. h.rest r c u last (from_on f h.here (n, l) w left (bench_of state bench p) (bench_of state bench q) c y z u r now new last stepped.played steps puts rest);
         }
 
     -- a line whose text was not wholly written
-    pub reached_failed : (r : Result (Unit {0}) WriteFault) → is_err r ≡ true → Puts y (f (step h.here (n, l) w)) r z → CountsFrom looks f s ls a x r (bench_of state bench q) z old new
+    pub reached_failed : (r : Result (Unit {0}) WriteFault) → is_err r ≡ true → Puts y (f (step h.here (n, l) w)) r z → CountsFrom f s ls a x r (bench_of state bench q) z old new
     reached_failed (Ok u) bad puts = absurd (cc bad)
     reached_failed (Err e) bad puts =
-        let steps = text_counts state looks q h.here (n, l) w answer now mid new stepped.answers (counts h.here h.at) rises reads few in
+        let steps = step_counts state q h.here (n, l) w answer now new stepped.answers (counts h.here h.at) in
         h.rest (Err e) (bench_of state bench q) z new
-        (from_cut looks f h.here (n, l) w left (bench_of state bench p) (bench_of state bench q) y z e now new stepped.played steps (at_stands state bench q (step h.here (n, l) w).after stepped.at) stepped.at.unfused puts)
+        (from_cut f h.here (n, l) w left (bench_of state bench p) (bench_of state bench q) y z e now new stepped.played steps (at_stands state bench q (step h.here (n, l) w).after stepped.at) stepped.at.unfused puts)
 
 -- ---- places of a deck
 

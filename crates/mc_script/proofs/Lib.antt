@@ -33,9 +33,7 @@ pub mod QuietLemmas
 pub mod FormatLemmas
 pub mod SessionLemmas
 pub mod StepLemmas
-pub mod PowerReadLemmas
 pub mod StepRunLemmas
-pub mod OwnLines
 pub mod WideLemmas
 pub mod WatchLemmas
 pub mod AloneLemmas

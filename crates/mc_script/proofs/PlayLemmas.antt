@@ -147,9 +147,9 @@ ends_cut f x y rest t e h =
 -- ---- plays
 
 -- a line that was played and written, and the play of the lines after it
-pub from_on : (looks : ℕ) (f : Step → List ℕ) (s : State) (l : ℕ × DeckLine) (w : Option FailedWrite) (ls : List (ℕ × DeckLine)) (a b c : Bench) (x y z : Sunk) (r : Result (Unit {0}) WriteFault) (old mid new : ℕ) → PlayedLine s l w (step s l w) a b → PlaySteps looks (step s l w ∷ []) old mid → Writes x (f (step s l w)) y
-    → CountsFrom looks f (step s l w).after ls b y r c z mid new → CountsFrom looks f s (l ∷ ls) a x r c z old new
-from_on looks f s l w ls a b c x y z r old mid new did steps wrote h =
+pub from_on : (f : Step → List ℕ) (s : State) (l : ℕ × DeckLine) (w : Option FailedWrite) (ls : List (ℕ × DeckLine)) (a b c : Bench) (x y z : Sunk) (r : Result (Unit {0}) WriteFault) (old mid new : ℕ) → PlayedLine s l w (step s l w) a b → PlaySteps (step s l w ∷ []) old mid → Writes x (f (step s l w)) y
+    → CountsFrom f (step s l w).after ls b y r c z mid new → CountsFrom f s (l ∷ ls) a x r c z old new
+from_on f s l w ls a b c x y z r old mid new did steps wrote h =
     let k = h.from in
     let one = plays_on s l w k.lines k.worn in
     record {
@@ -166,9 +166,9 @@ from_on looks f s l w ls a b c x y z r old mid new did steps wrote h =
     }
 
 -- a line that was played, and whose text was not wholly written
-pub from_cut : (looks : ℕ) (f : Step → List ℕ) (s : State) (l : ℕ × DeckLine) (w : Option FailedWrite) (ls : List (ℕ × DeckLine)) (a b : Bench) (x y : Sunk) (e : WriteFault) (old new : ℕ) → PlayedLine s l w (step s l w) a b → PlaySteps looks (step s l w ∷ []) old new → StandsForState b.device.words (step s l w).after → IsUnfused b.bench
-    → Fails x (f (step s l w)) y → CountsFrom looks f s (l ∷ ls) a x (Err e) b y old new
-from_cut looks f s l w ls a b x y e old new did steps stands unfused failed =
+pub from_cut : (f : Step → List ℕ) (s : State) (l : ℕ × DeckLine) (w : Option FailedWrite) (ls : List (ℕ × DeckLine)) (a b : Bench) (x y : Sunk) (e : WriteFault) (old new : ℕ) → PlayedLine s l w (step s l w) a b → PlaySteps (step s l w ∷ []) old new → StandsForState b.device.words (step s l w).after → IsUnfused b.bench
+    → Fails x (f (step s l w)) y → CountsFrom f s (l ∷ ls) a x (Err e) b y old new
+from_cut f s l w ls a b x y e old new did steps stands unfused failed =
     let all = plays_on s l w [] [] ∙ ap (λ (ts : List Step). step s l w ∷ ts) (plays_none (step s l w).after) in
     record {
       from =
@@ -184,8 +184,8 @@ from_cut looks f s l w ls a b x y e old new did steps stands unfused failed =
     }
 
 -- no line is left
-pub from_none : (looks : ℕ) (f : Step → List ℕ) (s : State) (a : Bench) (x : Sunk) (old : ℕ) → StandsForState a.device.words s → IsUnfused a.bench → CountsFrom looks f s [] a x (Ok tt) a x old old
-from_none looks f s a x old stands unfused =
+pub from_none : (f : Step → List ℕ) (s : State) (a : Bench) (x : Sunk) (old : ℕ) → StandsForState a.device.words s → IsUnfused a.bench → CountsFrom f s [] a x (Ok tt) a x old old
+from_none f s a x old stands unfused =
     record {
       from = grind (arith, played_none, plays_none, grew_none);
       steps = steps_as [] (plays s [] []) old old (sym (plays_none s)) (steps_none old);

@@ -24,21 +24,21 @@ use Rattle.mc_script.proofs.TurnLemmas.{turn_moves, is_reported, acted_counts, b
 
 -- ---- a run by its first turn
 
-pub ran_ends : (n : ℕ) (ch : Chain) (o : ModelOutcome) → (turn_of n ch).follows ≡ Ends o → run_of_chain n ch ≡ ends_with (turn_of n ch) (chain_session ch) o
+ran_ends : (n : ℕ) (ch : Chain) (o : ModelOutcome) → (turn_of n ch).follows ≡ Ends o → run_of_chain n ch ≡ ends_with (turn_of n ch) (chain_session ch) o
 unfolding run_of_chain
 ran_ends zero ch o e = let same : Abended A07 ≡ o = cc e in ap (λ (o : ModelOutcome). ends_with (turn_without_budget ch) (chain_session ch) o) same
 ran_ends (suc n) ch o e = ap (λ (f : Follows). run_after_turn (turn_of_chain ch) (chain_session ch) f (λ c. run_of_chain n c)) e
 
-pub ran_goes : (n : ℕ) (ch next : Chain) → (turn_of_chain ch).follows ≡ Continues next → run_of_chain (suc n) ch ≡ goes_on (turn_of_chain ch) (run_of_chain n next)
+ran_goes : (n : ℕ) (ch next : Chain) → (turn_of_chain ch).follows ≡ Continues next → run_of_chain (suc n) ch ≡ goes_on (turn_of_chain ch) (run_of_chain n next)
 unfolding run_of_chain
 ran_goes n ch next e = ap (λ (f : Follows). run_after_turn (turn_of_chain ch) (chain_session ch) f (λ c. run_of_chain n c)) e
 
 -- a run begins with the writes and the turn of its first turn
-pub record RunBegins (n : ℕ) (ch : Chain) : Type 0 where
-  pub writes : List Write
-  pub turns : List Turn
-  pub all_writes : (run_of_chain n ch).writes ≡ (turn_of n ch).writes ++ writes
-  pub all_turns : (run_of_chain n ch).turns ≡ (turn_of n ch).turn ∷ turns
+record RunBegins (n : ℕ) (ch : Chain) : Type 0 where
+  writes : List Write
+  turns : List Turn
+  all_writes : (run_of_chain n ch).writes ≡ (turn_of n ch).writes ++ writes
+  all_turns : (run_of_chain n ch).turns ≡ (turn_of n ch).turn ∷ turns
 
 begins_ends : (n : ℕ) (ch : Chain) (o : ModelOutcome) → (turn_of n ch).follows ≡ Ends o → RunBegins n ch
 begins_ends n ch o e =
@@ -61,7 +61,7 @@ begins_by n ch (Continues next) e =
       all_turns = ap (λ (r : Ran). r.turns) is;
     }
 
-pub begins : (n : ℕ) (ch : Chain) → RunBegins n ch
+begins : (n : ℕ) (ch : Chain) → RunBegins n ch
 begins zero ch = begins_ends zero ch (Abended A07) refl
 begins (suc n) ch = begins_by n ch (turn_of_chain ch).follows refl
 

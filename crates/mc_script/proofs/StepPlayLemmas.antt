@@ -1,5 +1,5 @@
 -- The steps of the lines of a play, and of a whole play.
-use Rattle.std.proofs.Common.{◌≡◌, ℕ, ◌+◌, ◌≤◌, Bool, true, false, List, [], ◌∷◌, ◌++◌, drop, Option, Some, None, refl, arith, ap, subst, ◌∙◌}
+use Rattle.std.proofs.Common.{◌≡◌, ℕ, ◌+◌, Bool, true, false, List, [], ◌∷◌, ◌++◌, Option, Some, None, refl, arith, ap, subst, ◌∙◌}
 use Rattle.std.specs.Prelude.{option_map}
 use Rattle.std.specs.List.{AllByRecursion}
 use Rattle.model_play.specs.model_device.specs.Device.{DeviceState}
@@ -9,7 +9,7 @@ use Rattle.model_play.specs.model_card.specs.Items.{StopAt}
 use Rattle.model_play.specs.model_card.specs.Commands.{Command}
 use Rattle.model_play.specs.DeckGrammar.{DeckLine}
 use Rattle.model_play.specs.DeckGrammar as line
-use Rattle.model_play.specs.Play.{LineResult, OffAt, FailureStop, Live, Running, Warm, State, BeforePower, AfterPower, FailedWrite, Step, step, plays, first_failure, card_line, line_says, power_says, power_result, power_moves, play_at_power, hit_of, dump_result, static_of}
+use Rattle.model_play.specs.Play.{LineResult, OffAt, FailureStop, Live, Running, Warm, State, BeforePower, AfterPower, FailedWrite, Step, step, card_line, line_says, power_says, power_result, power_moves, play_at_power, hit_of, dump_result, static_of}
 use Rattle.model_play.proofs.PlayLemmas.{step_is}
 use Rattle.mc_card.specs.declared.card.Card.{Card}
 use Rattle.mc_script.specs.declared.answer.Answer.{Answer}
@@ -17,7 +17,7 @@ use Rattle.mc_script.specs.declared.player.Power.{Power}
 use Rattle.mc_script.specs.declared.player.Player.{Player}
 use Rattle.mc_script.specs.Players.{answer_value, dump_value}
 use Rattle.mc_script.specs.Counting.{total}
-use Rattle.mc_script.specs.StepCounts.{instructions, reads_in, text_reads, texts_reads, answer_reads, instructions_on, instructions_in, is_stopped, LineSteps, StepsWithin, PlayedSteps, PlaySteps}
+use Rattle.mc_script.specs.StepCounts.{instructions, search_in, instructions_on, instructions_in, is_stopped, LineSteps, PlaySteps}
 
 -- ---- the instructions of a line, by its step
 
@@ -87,31 +87,25 @@ module _ {N : Type 0} (state : N → DeviceState) where
   -- ---- one line of a play
 
   -- the steps of a line, by its step
-  pub step_counts : (looks : ℕ) (p : Player N) (s : State) (l : ℕ × DeckLine) (w : Option FailedWrite) (a : Option Answer) (old new : ℕ) → option_map (answer_value state p) a ≡ (step s l w).result → LineSteps looks s l.1 a old new → PlayedSteps looks (step s l w ∷ []) old new
-  step_counts looks p s l w a old new says h =
+  pub step_counts : (p : Player N) (s : State) (l : ℕ × DeckLine) (w : Option FailedWrite) (a : Option Answer) (old new : ℕ) → option_map (answer_value state p) a ≡ (step s l w).result → LineSteps s l.1 a old new → PlaySteps (step s l w ∷ []) old new
+  step_counts p s l w a old new says h =
       let t = step s l w in
       let is = step_is s l w in
       let turns : instructions t.turns ≡ instructions_in s l.1 = line_turns s l w in
-      let reads : reads_in looks t.before t.line ≡ reads_in looks s l.1 = ap (λ (x : State). reads_in looks x t.line) is.before ∙ ap (λ (x : DeckLine). reads_in looks s x) is.line in
+      let search : search_in t.before t.line ≡ search_in s l.1 = ap (λ (x : State). search_in x t.line) is.before ∙ ap (λ (x : DeckLine). search_in s x) is.line in
       let high = h.most in
       record {
         least = λ none.
             let free : is_stop_result (option_map (answer_value state p) a) ≡ false = ap is_stop_result says ∙ unstopped s l w none.0 in
             let low = h.least (stop_answer p a free) in
             omega (arith, low, turns);
-        most = omega (arith, high, turns, reads);
+        most = omega (arith, high, turns, search);
       }
 
-  -- the steps of a line with its text
-  pub text_counts : (looks : ℕ) (p : Player N) (s : State) (l : ℕ × DeckLine) (w : Option FailedWrite) (a : Option Answer) (old mid new : ℕ) → option_map (answer_value state p) a ≡ (step s l w).result → LineSteps looks s l.1 a old mid
-      → mid ≤ new → new ≤ mid + answer_reads a → answer_reads a ≤ text_reads l.1 → PlaySteps looks (step s l w ∷ []) old new
-  text_counts looks p s l w a old mid new says h rises reads few =
-      let one = step_counts looks p s l w a old mid says h in
-      let text : text_reads (step s l w).line ≡ text_reads l.1 = ap text_reads (step_is s l w).line in
-      let high = one.most in
-      record { least = λ none. let low = one.least none in omega (arith, low, rises); most = omega (arith, high, reads, few, text) }
-
 -- ---- more lines
+
+pub steps_none : (old : ℕ) → PlaySteps [] old old
+steps_none old = record { least = λ none. omega arith; most = omega arith }
 
 total_append : (f : Step → ℕ) (ts us : List Step) → total f (ts ++ us) ≡ total f ts + total f us
 total_append f [] us = omega arith
@@ -121,45 +115,10 @@ all_front : (ts us : List Step) → AllByRecursion (λ t. t.stop ≡ None) (ts +
 all_front [] us h = (tt, h)
 all_front (t ∷ ts) us h = let r = all_front ts us h.1 in ((h.0, r.0), r.1)
 
-module _ {most_of : Step → ℕ} where
-  pub steps_none : (old : ℕ) → StepsWithin most_of [] old old
-  steps_none old = record { least = λ none. omega arith; most = omega arith }
+-- the steps of lines, and of the lines after them
+pub steps_then : (ts us : List Step) (old mid new : ℕ) → PlaySteps ts old mid → PlaySteps us mid new → PlaySteps (ts ++ us) old new
+steps_then ts us old mid new first rest = grind (arith, total_append, all_front)
 
-  -- the steps of lines, and of the lines after them
-  pub steps_then : (ts us : List Step) (old mid new : ℕ) → StepsWithin most_of ts old mid → StepsWithin most_of us mid new → StepsWithin most_of (ts ++ us) old new
-  steps_then ts us old mid new first rest =
-      let executed = total_append (λ t. instructions t.turns) ts us in
-      let all = total_append most_of ts us in
-      let high = first.most in
-      let last = rest.most in
-      record {
-        least = λ none.
-            let parts = all_front ts us none in
-            let low = first.least parts.0 in
-            let more = rest.least parts.1 in
-            omega (arith, executed, low, more);
-        most = omega (arith, all, high, last);
-      }
-
-  -- the same steps, of another expression for the lines
-  pub steps_as : (ts us : List Step) (old new : ℕ) → ts ≡ us → StepsWithin most_of ts old new → StepsWithin most_of us old new
-  steps_as ts us old new is h = subst (λ (x : List Step). StepsWithin most_of x old new) is h
-
--- ---- the texts of lines
-
-total_texts : (looks : ℕ) (s : State) (ls : List (ℕ × DeckLine)) (ws : List (Option FailedWrite))
-    → total (λ t. instructions t.turns + (reads_in looks t.before t.line + text_reads t.line)) (plays s ls ws) ≡ total (λ t. instructions t.turns + reads_in looks t.before t.line) (plays s ls ws) + texts_reads ls
-unfolding plays
-total_texts looks s [] ws = refl
-total_texts looks s (l ∷ ls) ws =
-    let t = step s l (first_failure ws) in
-    let text : text_reads t.line ≡ text_reads l.1 = ap text_reads (step_is s l (first_failure ws)).line in
-    let rest = total_texts looks t.after ls (drop 1 ws) in
-    omega (arith, text, rest)
-
--- the steps of lines whose texts come after all of them
-pub with_texts : (looks : ℕ) (s : State) (ls : List (ℕ × DeckLine)) (ws : List (Option FailedWrite)) (old mid new : ℕ) → PlayedSteps looks (plays s ls ws) old mid → mid ≤ new → new ≤ mid + texts_reads ls → PlaySteps looks (plays s ls ws) old new
-with_texts looks s ls ws old mid new h rises reads =
-    let all = total_texts looks s ls ws in
-    let high = h.most in
-    record { least = λ none. let low = h.least none in omega (arith, low, rises); most = omega (arith, high, reads, all) }
+-- the same steps, of another expression for the lines
+pub steps_as : (ts us : List Step) (old new : ℕ) → ts ≡ us → PlaySteps ts old new → PlaySteps us old new
+steps_as ts us old new is h = subst (λ (x : List Step). PlaySteps x old new) is h

@@ -17,7 +17,7 @@ use Rattle.mc_script.specs.declared.summary.Counts.{Counts}
 use Rattle.mc_script.specs.Players.{answer_value, IsPlayerAt}
 use Rattle.mc_script.specs.Lines.{bench_of, LineDone}
 use Rattle.mc_script.specs.Plays.{Bench, Played}
-use Rattle.mc_script.specs.StepCounts.{CountsLine, PlayedSteps}
+use Rattle.mc_script.specs.StepCounts.{CountsLine, PlaySteps}
 use Rattle.mc_script.specs.Sums.{Counted, result_list, DumpsLast, result_line, dump_text, dumps_text, Tallied}
 use Rattle.mc_script.proofs.PlayLemmas.{plays_on, plays_none, played_on, played_none}
 use Rattle.mc_script.proofs.LinedLemmas.{at_stands}
@@ -155,8 +155,8 @@ module _ {N : Type 0} (state : N → DeviceState) (bench : N → BenchState) whe
     pub done : List LineResult
     pub counted : Counted c done
     pub few : length done ≤ i
-    pub rest : (ws : List (Option FailedWrite)) (b : Bench) (new : ℕ) → Played here left ws (bench_of state bench p) b → PlayedSteps 0 (plays here left ws) now new
-        → (vs : List (Option FailedWrite)) × Played s ls vs a b × PlayedSteps 0 (plays s ls vs) old new × (results (plays s ls vs) ≡ done ++ results (plays here left ws)) × (last_state s (plays s ls vs) ≡ last_state here (plays here left ws))
+    pub rest : (ws : List (Option FailedWrite)) (b : Bench) (new : ℕ) → Played here left ws (bench_of state bench p) b → PlaySteps (plays here left ws) now new
+        → (vs : List (Option FailedWrite)) × Played s ls vs a b × PlaySteps (plays s ls vs) old new × (results (plays s ls vs) ≡ done ++ results (plays here left ws)) × (last_state s (plays s ls vs) ≡ last_state here (plays here left ws))
 
   pub counting_start : (s : State) (ls : List (ℕ × DeckLine)) (p : Player N) (c : Counts) (old : ℕ) → IsPlayerAt state bench p s → Counted c [] → Counting s ls (bench_of state bench p) old ls p c 0 old
   counting_start s ls p c old at counted = record { here = s; at = at; done = []; counted = counted; few = omega arith; rest = λ ws b new h k. (ws, h, k, refl, refl) }
@@ -180,14 +180,14 @@ module _ {N : Type 0} (state : N → DeviceState) (bench : N → BenchState) whe
   few_on (Some r) rs i h = let e : length (rs ++ r ∷ []) ≡ length rs + 1 = length-append rs (r ∷ []) in omega (arith, h, e)
 
   pub counting_on : {R : Type 0} (reported : R → List Turn → R → Type 0) (s : State) (ls : List (ℕ × DeckLine)) (a : Bench) (left : List (ℕ × DeckLine)) (n : ℕ) (l : DeckLine) (p q : Player N) (c d : Counts) (i : ℕ) (before after : R) (answer : Option Answer) (old now new : ℕ)
-      → (h : Counting s ls a old ((n, l) ∷ left) p c i now) → LineDone state bench reported p l before after answer q → CountsLine state bench 0 p l answer now new → Counted d (h.done ++ result_list (option_map (answer_value state q) answer))
+      → (h : Counting s ls a old ((n, l) ∷ left) p c i now) → LineDone state bench reported p l before after answer q → CountsLine state bench p l answer now new → Counted d (h.done ++ result_list (option_map (answer_value state q) answer))
       → Counting s ls a old left q d (i + 1) new
   counting_on reported s ls a left n l p q c d i before after answer old now new h done counts counted =
       let line = done h.here n h.at in
       let w = line.0 in
       let t = step h.here (n, l) w in
       let end = line.1.stepped in
-      let steps = step_counts state 0 q h.here (n, l) w answer now new end.answers (counts h.here h.at) in
+      let steps = step_counts state q h.here (n, l) w answer now new end.answers (counts h.here h.at) in
       record {
         here = t.after;
         at = end.at;

@@ -1,9 +1,9 @@
 -- A command that is run turn by turn before a watcher: the rest of its run makes the whole command.
-use Rattle.std.proofs.Common.{◌≡◌, ℕ, ◌+◌, ◌-◌, ◌≤◌, true, false, List, [], ◌++◌, Some, None, Result, Ok, Err, arith, ap, subst}
+use Rattle.std.proofs.Common.{◌≡◌, ℕ, ◌+◌, ◌-◌, ◌≤◌, true, List, ◌++◌, Some, None, Result, Ok, Err, arith, ap, subst, ◌∙◌}
 use Rattle.model_play.specs.model_device.specs.declared.device.Stop.{Stop}
 use Rattle.model_play.specs.model_device.specs.Orders.{Answer}
 use Rattle.model_play.specs.model_device.specs.Device.{DeviceState, Wrote}
-use Rattle.model_play.specs.model_machine.specs.Chain.{Chain, Turn, run_of_chain, start, turn_of}
+use Rattle.model_play.specs.model_machine.specs.Chain.{Chain, run_of_chain, start, turn_of}
 use Rattle.model_play.specs.model_card.specs.Commands.{Command}
 use Rattle.model_play.specs.model_card.specs.Manager.{route}
 use Rattle.mc_machine.specs.declared.outcome.Outcome.{Outcome}
@@ -12,34 +12,23 @@ use Rattle.mc_card.specs.declared.card.Card.{Card}
 use Rattle.mc_card.specs.Parts.{card_in, session_state_in, due, RunsChain}
 use Rattle.mc_card.specs.Ends.{BeginSteps, ChainTurned, PassedToChain}
 use Rattle.mc_script.specs.Runs.{RanAndReported, sent_to}
-use Rattle.mc_script.specs.StepCounts.{instructions, reads_of_turns, command_reads, StepsOf, TurnSteps}
+use Rattle.mc_script.specs.StepCounts.{instructions}
 use Rattle.mc_script.specs.Watching.{IsWide, Watches, WatchesTurn, seen_of_run}
 use Rattle.mc_script.proofs.CommandLemmas.{command_is, passed_ran}
-use Rattle.mc_script.proofs.RanLemmas.{RunOf, begins, run_ends, run_goes, run_on, run_stops}
-use Rattle.mc_script.proofs.StepLemmas.{passed_begin}
-use Rattle.mc_script.proofs.StepRunLemmas.{StepsLeft, left_after, ends_so, ends_turns, goes_turns}
+use Rattle.mc_script.proofs.RanLemmas.{RunOf, run_ends, run_goes, run_on, run_stops}
+use Rattle.mc_script.proofs.StepLemmas.{passed_begin, run_count}
+use Rattle.mc_script.proofs.StepRunLemmas.{end_count, ends_so, first_count, goes_at}
 use Rattle.mc_script.proofs.TurnLemmas.{is_reported}
 use Rattle.mc_script.proofs.UpLemmas.{up_on}
 use Rattle.mc_script.proofs.WideLemmas.{next_wide, start_wide}
 
--- the steps of a turn, whichever its chain, before a watcher that looks at as many words
-pub turned_steps : {N : Type 0} (state : N → DeviceState) (j k : ℕ) (m : Card N) (now new : ℕ) → j ≡ k → ((ch : Chain) (left : ℕ) → RunsChain state m ch left → TurnSteps j (turn_of left ch) now new) → (ch : Chain) (left : ℕ) → RunsChain state m ch left
-    → TurnSteps k (turn_of left ch) now new
-turned_steps state j k m now new same h ch left runs = subst (λ (n : ℕ). TurnSteps n (turn_of left ch) now new) same (h ch left runs)
-
 module _ {N R X : Type 0} (state : N → DeviceState) (wrote : N → ℕ → List ℕ → Answer → N → Type 0)
     (obeys : (d : N) (at : ℕ) (w : List ℕ) (a : Answer) (e : N) → (state d).on ≡ true → wrote d at w a e → Wrote (state d) at w a (state e))
     (seen : ℕ → Chain → X) (watched : R → List X → R → Type 0)
-    (onward : (q r s : R) (ts us : List X) → watched q ts r → watched r us s → watched q (ts ++ us) s) (looks : ℕ) where
-  -- the number of steps that a command which begins at a number reaches at least
-  abbrev pub least_step : Card N → List ℕ → ℕ → ℕ → ℕ
-  least_step c bytes budget old = old + instructions (due state c bytes budget).turns
-
-  -- the number of steps that such a command does not pass
-  abbrev pub most_step : Card N → List ℕ → ℕ → ℕ → ℕ
-  most_step c bytes budget old =
-      let ts = (due state c bytes budget).turns in
-      old + (instructions ts + command_reads looks (card_in state c) bytes ts)
+    (onward : (q r s : R) (ts us : List X) → watched q ts r → watched r us s → watched q (ts ++ us) s) where
+  -- the number of steps of a command that begins at a number
+  abbrev pub last_step : Card N → List ℕ → ℕ → ℕ → ℕ
+  last_step c bytes budget old = old + instructions (due state c bytes budget).turns
 
   -- the rest of a run, with n instructions left: its writes, what is recorded of its turns, and its steps make up those
   -- of the whole command
@@ -47,7 +36,7 @@ module _ {N R X : Type 0} (state : N → DeviceState) (wrote : N → ℕ → Lis
     pub chain : Chain
     pub runs : RunsChain state m chain n
     pub wide : IsWide chain
-    pub ahead : StepsLeft looks (run_of_chain n chain).turns now (least_step c bytes budget old) (most_step c bytes budget old)
+    pub ahead : now + (run_of_chain n chain).count ≡ last_step c bytes budget old
     pub rest : (result : Result Outcome Stop) (d : Card N) (r : R) → RunOf state wrote obeys seen watched onward (run_of_chain n chain) (seen_of_run seen n chain) m result d p r
         → RanAndReported state wrote (Watches seen watched (sent_to state c bytes budget)) c (due state c bytes budget) result d q r
 
@@ -55,48 +44,42 @@ module _ {N R X : Type 0} (state : N → DeviceState) (wrote : N → ℕ → Lis
   pub record TurnDoes (m : Card N) (result : Result CodeTurn Stop) (d : Card N) (p r : R) (now new : ℕ) : Type 0 where
     pub done : (ch : Chain) (left : ℕ) → RunsChain state m ch left → ChainTurned state wrote m ch left (turn_of left ch) result d
     pub watches : (ch : Chain) (left : ℕ) → RunsChain state m ch left → IsWide ch → WatchesTurn seen watched left ch result p r
-    pub steps : (ch : Chain) (left : ℕ) → RunsChain state m ch left → TurnSteps looks (turn_of left ch) now new
+    pub steps : (ch : Chain) (left : ℕ) → RunsChain state m ch left → new ≡ now + (turn_of left ch).count
 
   -- the beginning of a command that is passed on
   pub leads_begin : (c m : Card N) (bytes : List ℕ) (budget : ℕ) (q : R) (old now : ℕ) → PassedToChain state wrote c bytes budget m → BeginSteps (card_in state c) (route bytes) old now → RunLeads c bytes budget q old budget m q now
   leads_begin c m bytes budget q old now h begun =
       let s = h.selected in
       let ch = start (card_in state c).apps s.name s.session h.apdu in
-      let first = passed_begin (card_in state c) bytes h.apdu old now h.routed begun in
-      let low = first.0 in
-      let high = first.1 in
-      let are : (due state c bytes budget).turns ≡ (run_of_chain budget ch).turns = ap (λ (k : Command). k.turns) (command_is (card_in state c) (session_state_in state c) bytes budget h.apdu s h.routed h.is) in
-      let executes = ap instructions are in
-      let reads = ap (λ (ts : List Turn). reads_of_turns looks ts) are in
+      let same : now ≡ old = passed_begin (card_in state c) bytes h.apdu old now h.routed begun in
+      let is : instructions (due state c bytes budget).turns ≡ (run_of_chain budget ch).count = ap (λ (k : Command). instructions k.turns) (command_is (card_in state c) (session_state_in state c) bytes budget h.apdu s h.routed h.is) ∙ run_count budget ch in
       record {
         chain = ch;
         runs = h.runs;
         wide = start_wide (card_in state c).apps s.name s.session h.apdu;
-        ahead = record { low = omega (arith, low, executes); high = omega (arith, high, executes, reads) };
+        ahead = omega (arith, same, is);
         rest = λ result d r ran. passed_ran state wrote obeys seen watched onward result c m d bytes budget q r h ran;
       }
 
   -- a turn whose write stopped
   pub leads_stop : (c m d : Card N) (bytes : List ℕ) (budget : ℕ) (q : R) (old n : ℕ) (p r : R) (now new : ℕ) (s : Stop) → RunLeads c bytes budget q old n m p now → TurnDoes m (Err s) d p r now new
-      → RanAndReported state wrote (Watches seen watched (sent_to state c bytes budget)) c (due state c bytes budget) (Err s) d q r × (new ≤ most_step c bytes budget old)
+      → RanAndReported state wrote (Watches seen watched (sent_to state c bytes budget)) c (due state c bytes budget) (Err s) d q r × (new ≤ last_step c bytes budget old)
   leads_stop c m d bytes budget q old n p r now new s h t =
-      let run = begins n h.chain in
-      let left = left_after looks n h.chain (run_of_chain n h.chain).turns run.turns now new (least_step c bytes budget old) (most_step c bytes budget old) run.all_turns h.ahead (t.steps h.chain n h.runs) in
-      let high = left.high in
-      (h.rest (Err s) d r (run_stops state wrote obeys seen watched onward m d h.chain n s p r (t.done h.chain n h.runs) (t.watches h.chain n h.runs h.wide)), omega (arith, high))
+      let one = t.steps h.chain n h.runs in
+      let few = first_count n h.chain in
+      let all = h.ahead in
+      (h.rest (Err s) d r (run_stops state wrote obeys seen watched onward m d h.chain n s p r (t.done h.chain n h.runs) (t.watches h.chain n h.runs h.wide)), omega (arith, one, few, all))
 
   -- a turn that ends its chain
   pub leads_end : (c m d : Card N) (bytes : List ℕ) (budget : ℕ) (q : R) (old n : ℕ) (p r : R) (now new : ℕ) (turn : CodeTurn) (o : Outcome) → RunLeads c bytes budget q old n m p now → TurnDoes m (Ok turn) d p r now new → turn.end ≡ Some o
-      → RanAndReported state wrote (Watches seen watched (sent_to state c bytes budget)) c (due state c bytes budget) (Ok o) d q r
-      × (let ts = (due state c bytes budget).turns in StepsOf (instructions ts) (command_reads looks (card_in state c) bytes ts) false old new)
+      → RanAndReported state wrote (Watches seen watched (sent_to state c bytes budget)) c (due state c bytes budget) (Ok o) d q r × (new ≡ last_step c bytes budget old)
   leads_end c m d bytes budget q old n p r now new turn o h t end =
       let ch = h.chain in
       let turned = t.done ch n h.runs in
-      let last = ends_turns n ch _ (ends_so (turn_of n ch) turn o turned.turn (is_reported n ch).end end) in
-      let left = left_after looks n ch (run_of_chain n ch).turns [] now new (least_step c bytes budget old) (most_step c bytes budget old) last h.ahead (t.steps ch n h.runs) in
-      let low = left.low in
-      let high = left.high in
-      (h.rest (Ok o) d r (run_ends state wrote obeys seen watched onward m d ch n turn o p r turned end (t.watches ch n h.runs h.wide)), record { least = λ e. omega (arith, low); most = omega (arith, high) })
+      let last = end_count n ch _ (ends_so (turn_of n ch) turn o turned.turn (is_reported n ch).end end) in
+      let one = t.steps ch n h.runs in
+      let all = h.ahead in
+      (h.rest (Ok o) d r (run_ends state wrote obeys seen watched onward m d ch n turn o p r turned end (t.watches ch n h.runs h.wide)), omega (arith, one, last, all))
 
   -- a turn that goes on, and takes one instruction of the budget
   pub leads_on : (c m d : Card N) (bytes : List ℕ) (budget : ℕ) (q : R) (old n : ℕ) (p r : R) (now new : ℕ) (turn : CodeTurn) → RunLeads c bytes budget q old n m p now → TurnDoes m (Ok turn) d p r now new → turn.end ≡ None
@@ -105,7 +88,9 @@ module _ {N R X : Type 0} (state : N → DeviceState) (wrote : N → ℕ → Lis
       let ch = h.chain in
       let turned = t.done ch n h.runs in
       let goes = run_goes state wrote obeys m d ch n turn turned end in
-      let next = goes_turns n goes.left ch goes.next goes.is goes.follows in
+      let next = goes_at n goes.left ch goes.next goes.is goes.follows in
+      let one = t.steps ch n h.runs in
+      let all = h.ahead in
       let is = goes.is in
       let left : goes.left ≡ n - 1 = omega (arith, is) in (
         omega (arith, is),
@@ -113,7 +98,7 @@ module _ {N R X : Type 0} (state : N → DeviceState) (wrote : N → ℕ → Lis
           chain = goes.next;
           runs = goes.runs;
           wide = next_wide ch goes.next goes.follows h.wide;
-          ahead = left_after looks n ch (run_of_chain n ch).turns (run_of_chain goes.left goes.next).turns now new (least_step c bytes budget old) (most_step c bytes budget old) next h.ahead (t.steps ch n h.runs);
+          ahead = omega (arith, one, next, all);
           rest = λ result e s ran.
               h.rest result e s (run_on state wrote obeys seen watched onward m d e ch n turn result p r s goes (up_on state m h.runs.up) turned (t.watches ch n h.runs h.wide) ran);
         }),

@@ -50,7 +50,7 @@ abbrev pub LineDone : {N R : Type 0} → BenchMembers N → (R → List Turn →
 LineDone n = lines.LineDone n.state n.bench
 
 -- the steps of a line of a player at a state of a play
-abbrev pub CountsLine : {N : Type 0} → BenchMembers N → ℕ → Player N → DeckLine → Option Answer → ℕ → ℕ → Type 0
+abbrev pub CountsLine : {N : Type 0} → BenchMembers N → Player N → DeckLine → Option Answer → ℕ → ℕ → Type 0
 CountsLine n = steps.CountsLine n.state n.bench
 
 -- ---- decks
@@ -60,7 +60,7 @@ abbrev pub DeckPlayed : {N : Type 0} → BenchMembers N → Player N → State �
 DeckPlayed n = lines.DeckPlayed n.state n.bench
 
 -- all lines were played from a state, with their steps
-abbrev pub CountsPlayed : {N : Type 0} → BenchMembers N → ℕ → Player N → State → List (ℕ × DeckLine) → Player N → ℕ → ℕ → Type 0
+abbrev pub CountsPlayed : {N : Type 0} → BenchMembers N → Player N → State → List (ℕ × DeckLine) → Player N → ℕ → ℕ → Type 0
 CountsPlayed n = steps.CountsPlayed n.state n.bench
 
 -- all lines were played, and their results and steps were counted

@@ -14,7 +14,7 @@ use Rattle.mc_script.specs.declared.player.Player.{Player}
 use Rattle.mc_script.specs.Players.{IsPlayerAt}
 use Rattle.mc_script.specs.Plays.{Bench, Played}
 use Rattle.mc_script.specs.Lines.{bench_of}
-use Rattle.mc_script.specs.StepCounts.{PlaySteps, PlayedSteps}
+use Rattle.mc_script.specs.StepCounts.{PlaySteps}
 
 -- ---- counts
 
@@ -63,11 +63,11 @@ module _ {N : Type 0} (state : N → DeviceState) (bench : N → BenchState) whe
     pub played : Played s ls worn a (bench_of state bench p)
     pub at : IsPlayerAt state bench p (last_state s (plays s ls worn))
     pub counted : Counted c (results (plays s ls worn))
-    pub steps : PlayedSteps 0 (plays s ls worn) old new
+    pub steps : PlaySteps (plays s ls worn) old new
 
 -- lines were played from a state, and a text of the whole play was written
 pub record SumsFrom (f : List Step → List ℕ) (s : State) (ls : List (ℕ × DeckLine)) (a : Bench) (x : Sunk) (result : Result (Unit {0}) WriteFault) (b : Bench) (y : Sunk) (old new : ℕ) : Type 0 where
   pub worn : List (Option FailedWrite)
   pub played : Played s ls worn a b
-  pub steps : PlaySteps 0 (plays s ls worn) old new
+  pub steps : PlaySteps (plays s ls worn) old new
   pub text : Puts x (f (plays s ls worn)) result y

@@ -5,7 +5,7 @@ ghost use Rattle.mc_deck.specs.Lines.{GoodLine};
 ghost use Rattle.mc_card.specs.Parts.{device_in, card_in, session_state_in, IsReadyCard};
 ghost use Rattle.mc_script.specs.Commands.{deck_line_of};
 ghost use Rattle.mc_script.specs.Runs.{RanAndReported, line_bytes, sent_to};
-ghost use Rattle.mc_script.specs.StepCounts.{instructions, line_reads, StepsOf};
+ghost use Rattle.mc_script.specs.StepCounts.{instructions, line_search, StepsOf};
 ghost use Rattle.mc_card.specs.Ends.{outcome_or_stop};
 
 use crate::loading::{LoadCommands, send};
@@ -16,6 +16,7 @@ use mc_card::Card;
 use mc_machine::Outcome;
 use mc_nvm::Nvm;
 use mc_unit::Unit;
+use std::sync::ledger::Ledger;
 
 /// A line that is one command to a card, or the commands of a load.
 #[derive(Clone, Copy, Debug)]
@@ -42,13 +43,13 @@ fn with_name(header: [u8; 4], aid: &Aid) -> ArrayVec<u8, 21>
 }
 
 /// Runs the command or the commands of a line on a card, and writes the last outcome to `into`.
-pub fn run_line<N: Nvm, R: Runner>(
+pub fn run_line<N: Nvm, R: Runner, L: Ledger>(
     card: &mut Card<N>,
     command: &CardLine<'_>,
     budget: u32,
     runner: &mut R,
     into: &mut Outcome,
-    steps: &mut Steps<N::Meter>,
+    steps: &mut Steps<L>,
 ) -> Result<(), Stop>
     requires ready { IsReadyCard N.state card.old }
     requires some { 1 ≤ budget }
@@ -61,9 +62,7 @@ pub fn run_line<N: Nvm, R: Runner>(
     ensures steps { StepsOf
         (instructions (line_command (card_in N.state card.old) (session_state_in N.state card.old) budget
         (deck_line_of command.now)).turns)
-        (line_reads (R.looks runner.old) (card_in N.state card.old) (session_state_in N.state card.old) budget
-        (deck_line_of command.now)) (is_err result) steps.old steps.new }
-    ensures looks { R.looks runner.new ≡ R.looks runner.old }
+        (line_search (card_in N.state card.old) (deck_line_of command.now)) (is_err result) steps.old steps.new }
     ensures keeps_device { N.same (device_in card.old) (device_in card.new) }
 {
     match command {

@@ -8,15 +8,16 @@ use crate::runner::Silent;
 use mc_base::Steps;
 use mc_deck::Deck;
 use mc_nvm::Bench;
+use std::sync::ledger::Ledger;
 
 impl<N: Bench> Player<N> {
     /// Plays all lines of a deck, and writes nothing.
-    pub fn deck(&mut self, deck: &Deck, steps: &mut Steps<N::Meter>)
+    pub fn deck<L: Ledger>(&mut self, deck: &Deck, steps: &mut Steps<L>)
         requires playing { IsPlaying N.Bench self.old }
         ensures done { (s : State) → IsPlayerAt N.Bench self.old s
             → DeckPlayed N.Bench self.old s deck.now self.new }
         ensures steps { (s : State) → IsPlayerAt N.Bench self.old s
-            → CountsPlayed N.Bench 0 self.old s deck.now self.new steps.old steps.new }
+            → CountsPlayed N.Bench self.old s deck.now self.new steps.old steps.new }
         ensures keeps_device { N.same (device_of self.old) (device_of self.new) }
     {
         for i in 0..deck.len() {

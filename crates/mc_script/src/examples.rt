@@ -3,12 +3,12 @@ ghost use Rattle.std.specs.Prelude.{◌≡◌, true, false, [], ◌∷◌, Some,
 ghost use Rattle.model_play.specs.model_device.specs.declared.device.Stop.TheVariants.{Off, Worn};
 ghost use Rattle.model_play.specs.model_device.specs.Bytes.{zeros};
 ghost use Rattle.model_play.specs.model_device.specs.Device.{blank_words};
-ghost use Rattle.model_play.specs.model_machine.specs.declared.instruction.Ins.TheVariants.{Nop, Prim};
+ghost use Rattle.model_play.specs.model_machine.specs.declared.instruction.Ins.TheVariants.{Nop};
 ghost use Rattle.model_play.specs.DeckGrammar as line;
 ghost use Rattle.model_play.specs.Play.{start, formatted_image};
 ghost use Rattle.mc_script.specs.Counting.{on_after};
 ghost use Rattle.mc_script.specs.Plays.{words_after};
-ghost use Rattle.mc_script.specs.StepCounts.{instructions, reads_of_turns, command_search, command_reads, commands_reads};
+ghost use Rattle.mc_script.specs.StepCounts.{instructions, command_search};
 
 /// Whether power is on after a line.
 pub fn power_after_lines()
@@ -30,8 +30,7 @@ pub fn words_after_lines()
         (None ∷ None ∷ []) [] ≡ formatted_image (blank_words 256) }
 {}
 
-/// The instructions of turns, the words that a command's search for room reads, and the most words that turns and commands
-/// read.
+/// The steps of turns and of commands.
 pub fn steps_of_commands()
     ensures turns { instructions (
         record { depth = 1; at = 0; ins = Some Nop; dt = 0; c = false; z = false; end = None; wrote = None }
@@ -40,14 +39,4 @@ pub fn steps_of_commands()
     ensures open { command_search (record { size = 256; layout = 2; apps = [] }) (0xBE ∷ 0x12 ∷ 0 ∷ 0 ∷ []) ≡ 3 }
     ensures create { command_search (record { size = 256; layout = 2; apps = [] }) (0xBE ∷ 0x16 ∷ 0 ∷ 0 ∷ []) ≡ 0 }
     ensures select { command_search (record { size = 256; layout = 2; apps = [] }) (0 ∷ 0x12 ∷ 0 ∷ 0 ∷ []) ≡ 0 }
-    // A turn reads at most 74 words, or 499 with a primitive, and 2 without an instruction, beside what looks at it.
-    ensures watched { reads_of_turns 5 (
-        record { depth = 1; at = 0; ins = Some Nop; dt = 0; c = false; z = false; end = None; wrote = None }
-        ∷ record { depth = 1; at = 1; ins = Some (Prim 0 1 (0 ∷ 0 ∷ 0 ∷ [])); dt = 0; c = false; z = false; end = None; wrote = None }
-        ∷ record { depth = 1; at = 4; ins = None; dt = 0; c = false; z = false; end = None; wrote = None }
-        ∷ []) ≡ 590 }
-    ensures opened { command_reads 0 (record { size = 256; layout = 2; apps = [] }) (0xBE ∷ 0x12 ∷ 0 ∷ 0 ∷ []) []
-        ≡ 407 }
-    ensures load { commands_reads (record { size = 256; layout = 2; apps = [] })
-        ((0xBE ∷ 0x12 ∷ 0 ∷ 0 ∷ []) ∷ (0xBE ∷ 0x16 ∷ 0 ∷ 0 ∷ []) ∷ []) ≡ 811 }
 {}

@@ -1,12 +1,11 @@
 // One line of a deck.
-ghost use Rattle.std.specs.Prelude.{◌≡◌, ◌≤◌};
+ghost use Rattle.std.specs.Prelude.{◌≡◌};
 ghost use Rattle.mc_deck.specs.Lines.{line_of, GoodLine};
 ghost use Rattle.mc_script.specs.Players.{device_of};
 ghost use Rattle.mc_script.specs.Counting.{count_after_rises, line_powers};
 ghost use Rattle.mc_script.specs.Arming.{on_after_answer};
 ghost use Rattle.mc_script.specs.Runs.{sent_by};
 ghost use Rattle.mc_script.specs.Benches.{CountsLine, IsPlaying, LineDone};
-ghost use Rattle.mc_script.specs.StepCounts.{answer_reads, text_reads};
 
 use crate::answer::Answer;
 use crate::commands::CardLine;
@@ -15,18 +14,19 @@ use crate::runner::Runner;
 use mc_base::Steps;
 use mc_deck::Line;
 use mc_nvm::Bench;
+use std::sync::ledger::Ledger;
 
 impl<N: Bench> Player<N> {
     /// Plays one line of a deck, and returns its result, or `None` if it has none.
     ///
     /// A line to the card meets the stop that is armed, and `runner` records the turns that the line shows.
-    /// The result is that of the player as the line leaves it. Each executed instruction is one step, and so
-    /// is each word that is read.
-    pub fn line<R: Runner>(
+    /// The result is that of the player as the line leaves it. Each executed instruction is one step, and the search of
+    /// an OPEN for room takes at most two steps more than the card has gaps.
+    pub fn line<R: Runner, L: Ledger>(
         &mut self,
         line: &Line<'_>,
         runner: &mut R,
-        steps: &mut Steps<N::Meter>,
+        steps: &mut Steps<L>,
     ) -> Option<Answer>
         requires playing { IsPlaying N.Bench self.old }
         requires good { GoodLine (line_of line.now) }
@@ -40,19 +40,14 @@ impl<N: Bench> Player<N> {
         // A cut takes the power; else it is on after a `power` line, and after any other line as it was.
         ensures power { (N.state (device_of self.new)).on
             ≡ on_after_answer (N.state (device_of self.old)).on (line_of line.now) result }
-        // Its steps are those of its instructions and of the words that it reads; a line that a stop hits makes no more
-        // than the whole line may.
-        ensures steps { CountsLine N.Bench (R.looks runner.old) self.old (line_of line.now) result steps.old steps.new }
-        // The text of its answer reads no more than that of the line.
-        ensures text { answer_reads result ≤ text_reads (line_of line.now) }
-        // The runner looks at as many words in each turn as before.
-        ensures looks { R.looks runner.new ≡ R.looks runner.old }
+        // Its steps are those of its instructions and of its search for room; a line that a stop hits makes no more.
+        ensures steps { CountsLine N.Bench self.old (line_of line.now) result steps.old steps.new }
         // The device is the same one.
         ensures keeps_device { N.same (device_of self.old) (device_of self.new) }
     {
         match line {
             Line::Format => self.format(),
-            Line::Power => Some(self.power_line(steps)),
+            Line::Power => Some(self.power_line()),
             Line::Named => None,
             Line::Load {
                 unit,

@@ -10,7 +10,7 @@ ghost use Rattle.mc_machine.specs.Turns.{outcome_value};
 ghost use Rattle.mc_card.specs.Parts.{device_in, card_in, session_state_in, IsReadyCard};
 ghost use Rattle.mc_script.specs.Classes.{IsManaged};
 ghost use Rattle.mc_script.specs.Runs.{RanAndReported, sent_to};
-ghost use Rattle.mc_script.specs.StepCounts.{commands_reads, instructions, OnlyFirstOpens, StepsOf};
+ghost use Rattle.mc_script.specs.StepCounts.{OnlyFirstOpens, first_search, instructions, StepsOf};
 ghost use Rattle.mc_card.specs.Ends.{outcome_or_stop};
 
 use crate::runner::Runner;
@@ -21,6 +21,7 @@ use mc_machine::Outcome;
 use mc_nvm::Nvm;
 use mc_unit::Unit;
 use std::marker::Model;
+use std::sync::ledger::Ledger;
 
 /// The most bytes of a section that one command sends.
 const PIECE: usize = 248;
@@ -223,13 +224,13 @@ fn is_done(outcome: &Outcome) -> bool
 
 /// Sends commands of class BE to a card in turn, up to the first that is not answered by 9000 alone, and
 /// writes the last outcome to `into`. None but the first of them is an OPEN.
-pub fn send<N: Nvm, R: Runner>(
+pub fn send<N: Nvm, R: Runner, L: Ledger>(
     card: &mut Card<N>,
     commands: &mut LoadCommands<'_>,
     budget: u32,
     runner: &mut R,
     into: &mut Outcome,
-    steps: &mut Steps<N::Meter>,
+    steps: &mut Steps<L>,
 ) -> Result<(), Stop>
     requires ready { IsReadyCard N.state card.old }
     requires some { 1 ≤ budget }
@@ -241,8 +242,7 @@ pub fn send<N: Nvm, R: Runner>(
         (outcome_or_stop result into.new) card.new runner.old runner.new }
     ensures steps { StepsOf
         (instructions (send (card_in N.state card.old) (session_state_in N.state card.old) budget commands.old).turns)
-        (commands_reads (card_in N.state card.old) commands.old) (is_err result) steps.old steps.new }
-    ensures looks { R.looks runner.new ≡ R.looks runner.old }
+        (first_search (card_in N.state card.old) commands.old) (is_err result) steps.old steps.new }
     ensures keeps_device { N.same (device_in card.old) (device_in card.new) }
 {
     let mut bytes = ArrayVec::new();

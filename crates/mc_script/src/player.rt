@@ -26,9 +26,8 @@ pub enum Power {
 /// A play between two lines: its card, of which only the device is valid if no card runs, the budget of the
 /// commands to come, the stop that is armed for the next card line, and how the last command ended (9000
 /// before the first). The device itself has no fuse then: a stop is passed to it with its line.
-// Without a bound, as `Card` is: its value would have the type of the device's ledger as a parameter, too.
 #[derive(Drop)]
-pub struct Player<N> {
+pub struct Player<N: Bench> {
     pub(crate) card: Card<N>,
     pub(crate) power: Power,
     pub(crate) budget: u32,

@@ -20,19 +20,20 @@ use mc_base::Steps;
 use mc_deck::Deck;
 use mc_nvm::Bench;
 use mc_streams::{Sink, WriteFault};
+use std::sync::ledger::Ledger;
 
 /// Plays a deck on a device before a reporter, up to the first line whose text is not wholly written. That line is
 /// played whole.
-pub fn play_lines<N: Bench, R: Reporter>(
+pub fn play_lines<N: Bench, R: Reporter, L: Ledger>(
     deck: &Deck,
     device: N,
     reporter: &mut R,
-    steps: &mut Steps<N::Meter>,
+    steps: &mut Steps<L>,
 ) -> N
     requires fuses { IsUnfused (N.bench device) }
     requires fault { (R.log reporter.old).fault ≡ None }
     // The lines are the steps of a play, and what is written is their text, as the reporter writes it.
-    ensures plays { CountsFrom (R.looks reporter.old) (R.text reporter.old) (start (N.state device).words) deck.now
+    ensures plays { CountsFrom (R.text reporter.old) (start (N.state device).words) deck.now
         (bench_at N.Bench device) (R.log reporter.old).out (write_result (R.log reporter.new).fault)
         (bench_at N.Bench result) (R.log reporter.new).out steps.old steps.new }
     ensures image { IsImage (N.state device).words }
@@ -46,7 +47,7 @@ pub fn play_lines<N: Bench, R: Reporter>(
     for i in 0..deck.len() {
         let (number, line) = deck.line(i);
         let answer = player.line(&line, reporter, steps);
-        reporter.report(number, &player, &answer, steps);
+        reporter.report(number, &player, &answer);
         if reporter.ended().is_err() {
             return player.into_dev();
         }
@@ -63,11 +64,11 @@ pub fn play_lines<N: Bench, R: Reporter>(
 /// # Errors
 ///
 /// Returns the fault of the sink.
-pub fn play<N: Bench, T: Sink>(
+pub fn play<N: Bench, T: Sink, L: Ledger>(
     deck: &Deck,
     dev: &mut N,
     out: &mut T,
-    steps: &mut Steps<N::Meter>,
+    steps: &mut Steps<L>,
 ) -> Result<(), WriteFault>
     requires { IsUnfused (N.bench dev.old) }
     // The lines are played in order, up to the first whose text is not wholly written. The words, the power, the calls
@@ -76,9 +77,9 @@ pub fn play<N: Bench, T: Sink>(
         (record { taken = T.taken out.old; faults = T.faults out.old }) result
         (bench_at N.Bench dev.new)
         (record { taken = T.taken out.new; faults = T.faults out.new }) }
-    // Each executed instruction is one step, and so is each word that is read. A line that a stop hits makes no more
-    // steps than the whole line may.
-    ensures steps { CountsDeck 0 plain_text deck.now (bench_at N.Bench dev.old)
+    // Each executed instruction is one step, and the search of an OPEN for room takes at most two more than the card
+    // has gaps. A line that a stop hits makes no more steps than the whole line.
+    ensures steps { CountsDeck plain_text deck.now (bench_at N.Bench dev.old)
         (record { taken = T.taken out.old; faults = T.faults out.old }) result
         (bench_at N.Bench dev.new)
         (record { taken = T.taken out.new; faults = T.faults out.new }) steps.old steps.new }
@@ -96,11 +97,11 @@ pub fn play<N: Bench, T: Sink>(
 /// # Errors
 ///
 /// Returns the fault of the sink.
-pub fn trace<N: Bench, T: Sink>(
+pub fn trace<N: Bench, T: Sink, L: Ledger>(
     deck: &Deck,
     dev: &mut N,
     out: &mut T,
-    steps: &mut Steps<N::Meter>,
+    steps: &mut Steps<L>,
 ) -> Result<(), WriteFault>
     requires { IsUnfused (N.bench dev.old) }
     // The lines are played in order, up to the first whose text is not wholly written. The words, the power, the calls
@@ -109,9 +110,9 @@ pub fn trace<N: Bench, T: Sink>(
         (record { taken = T.taken out.old; faults = T.faults out.old }) result
         (bench_at N.Bench dev.new)
         (record { taken = T.taken out.new; faults = T.faults out.new }) }
-    // Each executed instruction is one step, and so is each word that is read. A line that a stop hits makes no more
-    // steps than the whole line may.
-    ensures steps { CountsDeck 0 traced_text deck.now (bench_at N.Bench dev.old)
+    // Each executed instruction is one step, and the search of an OPEN for room takes at most two more than the card
+    // has gaps. A line that a stop hits makes no more steps than the whole line.
+    ensures steps { CountsDeck traced_text deck.now (bench_at N.Bench dev.old)
         (record { taken = T.taken out.old; faults = T.faults out.old }) result
         (bench_at N.Bench dev.new)
         (record { taken = T.taken out.new; faults = T.faults out.new }) steps.old steps.new }
@@ -130,11 +131,11 @@ pub fn trace<N: Bench, T: Sink>(
 /// # Errors
 ///
 /// Returns the fault of the sink.
-pub fn summarise<N: Bench, T: Sink>(
+pub fn summarise<N: Bench, T: Sink, L: Ledger>(
     deck: &Deck,
     dev: &mut N,
     out: &mut T,
-    steps: &mut Steps<N::Meter>,
+    steps: &mut Steps<L>,
 ) -> Result<(), WriteFault>
     requires fuses { IsUnfused (N.bench dev.old) }
     requires dumps { DumpsLast deck.now }
@@ -144,9 +145,9 @@ pub fn summarise<N: Bench, T: Sink>(
         (record { taken = T.taken out.old; faults = T.faults out.old }) result
         (bench_at N.Bench dev.new)
         (record { taken = T.taken out.new; faults = T.faults out.new }) }
-    // Each executed instruction is one step, and so is each word that is read. A line that a stop hits makes no more
-    // steps than the whole line may.
-    ensures steps { CountsSum 0 summary deck.now (bench_at N.Bench dev.old)
+    // Each executed instruction is one step, and the search of an OPEN for room takes at most two more than the card
+    // has gaps. A line that a stop hits makes no more steps than the whole line.
+    ensures steps { CountsSum summary deck.now (bench_at N.Bench dev.old)
         (record { taken = T.taken out.old; faults = T.faults out.old }) result
         (bench_at N.Bench dev.new)
         (record { taken = T.taken out.new; faults = T.faults out.new }) steps.old steps.new }

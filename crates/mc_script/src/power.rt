@@ -1,5 +1,5 @@
 // Power lines, card lines, and how a stop ends them.
-ghost use Rattle.std.specs.Prelude.{◌≡◌, ℕ, ◌≤◌, Some};
+ghost use Rattle.std.specs.Prelude.{◌≡◌, ◌≤◌, Some};
 ghost use Rattle.model_play.specs.DeckGrammar as line;
 ghost use Rattle.mc_deck.specs.Lines.{GoodLine};
 ghost use Rattle.mc_card.specs.Parts.{device_in, with_device, IsReadyCard};
@@ -10,7 +10,6 @@ ghost use Rattle.mc_script.specs.declared.player.Power.TheVariants as live;
 ghost use Rattle.mc_script.specs.Commands.{deck_line_of};
 ghost use Rattle.mc_script.specs.Runs.{sent_by};
 ghost use Rattle.mc_script.specs.Benches.{CountsLine, IsPlaying, LineDone, SilentDone};
-ghost use Rattle.mc_script.specs.StepCounts.{answer_reads};
 
 use crate::answer::Answer;
 use crate::armed::Armed;
@@ -20,6 +19,7 @@ use crate::runner::Runner;
 use mc_base::{Steps, Stop};
 use mc_card::{Card, Up};
 use mc_nvm::Bench;
+use std::sync::ledger::Ledger;
 
 /// The word that a failed write leaves.
 const WORN: [u8; 8] = [0; 8];
@@ -81,11 +81,9 @@ fn answer_after_failure(up: Up, armed: Armed) -> Answer
 
 impl<N: Bench> Player<N> {
     /// Plays a `power` line: turns power on and looks for the card, under the armed stop.
-    pub(crate) fn power_line(&mut self, steps: &mut Steps<N::Meter>) -> Answer
+    pub(crate) fn power_line(&mut self) -> Answer
         requires { IsPlaying N.Bench self.old }
         ensures done { SilentDone N.Bench self.old line.Power (Some result) self.new }
-        ensures steps { (looks : ℕ) → CountsLine N.Bench looks self.old line.Power (Some result) steps.old steps.new }
-        ensures text { answer_reads (Some result) ≡ 0 }
         ensures keeps_device { N.same (device_of self.old) (device_of self.new) }
     {
         let armed = self.armed;
@@ -93,7 +91,7 @@ impl<N: Bench> Player<N> {
         let _size = self.card.len();
         self.card.power();
         arm(&mut self.card, armed);
-        let up = self.card.restart(steps);
+        let up = self.card.restart();
         self.card.disarm();
         match up {
             Ok(writes) => {
@@ -108,20 +106,18 @@ impl<N: Bench> Player<N> {
     }
 
     /// Plays a line of commands, which needs a card that runs. The armed stop is used up with it.
-    pub(crate) fn card_line<R: Runner>(
+    pub(crate) fn card_line<R: Runner, L: Ledger>(
         &mut self,
         command: &CardLine<'_>,
         runner: &mut R,
-        steps: &mut Steps<N::Meter>,
+        steps: &mut Steps<L>,
     ) -> Answer
         requires playing { IsPlaying N.Bench self.old }
         requires good { GoodLine (deck_line_of command.now) }
         ensures done { LineDone N.Bench (R.reported (sent_by N.state self.old (deck_line_of command.now)))
             self.old (deck_line_of command.now) runner.old runner.new (Some result) self.new }
-        ensures steps { CountsLine N.Bench (R.looks runner.old) self.old (deck_line_of command.now) (Some result)
-            steps.old steps.new }
-        ensures text { answer_reads (Some result) ≡ 0 }
-        ensures looks { R.looks runner.new ≡ R.looks runner.old }
+        ensures steps { CountsLine N.Bench self.old (deck_line_of command.now) (Some result) steps.old
+            steps.new }
         ensures keeps_device { N.same (device_of self.old) (device_of self.new) }
     {
         match self.power {
@@ -142,11 +138,11 @@ impl<N: Bench> Player<N> {
     }
 
     // Plays a line of commands to a card that runs, under the armed stop.
-    fn run_on<R: Runner>(
+    fn run_on<R: Runner, L: Ledger>(
         &mut self,
         command: &CardLine<'_>,
         runner: &mut R,
-        steps: &mut Steps<N::Meter>,
+        steps: &mut Steps<L>,
     ) -> Answer
         requires on { self.old.power ≡ live.On }
         requires ready { IsReadyCard N.state self.old.card }
@@ -156,10 +152,8 @@ impl<N: Bench> Player<N> {
         requires good { GoodLine (deck_line_of command.now) }
         ensures done { LineDone N.Bench (R.reported (sent_by N.state self.old (deck_line_of command.now)))
             self.old (deck_line_of command.now) runner.old runner.new (Some result) self.new }
-        ensures steps { CountsLine N.Bench (R.looks runner.old) self.old (deck_line_of command.now) (Some result)
-            steps.old steps.new }
-        ensures text { answer_reads (Some result) ≡ 0 }
-        ensures looks { R.looks runner.new ≡ R.looks runner.old }
+        ensures steps { CountsLine N.Bench self.old (deck_line_of command.now) (Some result) steps.old
+            steps.new }
         ensures keeps_device { N.same (device_of self.old) (device_of self.new) }
     {
         let armed = self.armed;

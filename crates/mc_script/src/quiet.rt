@@ -8,7 +8,6 @@ ghost use Rattle.model_play.specs.Play.{formatted_image};
 ghost use Rattle.mc_card.specs.Parts.{device_in};
 ghost use Rattle.mc_script.specs.Players.{device_of};
 ghost use Rattle.mc_script.specs.Benches.{SilentDone};
-ghost use Rattle.mc_script.specs.StepCounts.{answer_reads};
 
 use crate::answer::Answer;
 use crate::armed::Armed;
@@ -88,7 +87,6 @@ impl<N: Bench> Player<N> {
     /// Plays a `format` line, which does nothing after the first power line.
     pub(crate) fn format(&mut self) -> Option<Answer>
         ensures done { SilentDone N.Bench self.old line.Format result self.new }
-        ensures text { answer_reads result ≡ 0 }
         ensures keeps_device { N.same (device_of self.old) (device_of self.new) }
     {
         match self.power {

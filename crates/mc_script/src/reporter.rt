@@ -1,5 +1,5 @@
 // What runs the commands of a play and writes its text.
-ghost use Rattle.std.specs.Prelude.{◌≡◌, ◌+◌, ◌≤◌, ℕ, List, Option, None};
+ghost use Rattle.std.specs.Prelude.{◌≡◌, ℕ, List, Option, None};
 ghost use Rattle.model_play.specs.model_machine.specs.Chain.{Turn as ModelTurn};
 ghost use Rattle.model_play.specs.DeckGrammar.{DeckLine};
 ghost use Rattle.model_play.specs.Play.{FailedWrite, State, Step, step};
@@ -9,12 +9,10 @@ ghost use Rattle.mc_script.specs.Benches.{IsPlayerAt, IsPlaying};
 ghost use Rattle.mc_script.specs.Lines.{Lined};
 ghost use Rattle.mc_script.specs.Runs.{SentCommand, sent_by};
 ghost use Rattle.mc_script.specs.Writers.{write_result};
-ghost use Rattle.mc_script.specs.StepCounts.{answer_reads};
 
 use crate::answer::Answer;
 use crate::player::Player;
 use crate::runner::Runner;
-use mc_base::Steps;
 use mc_nvm::Bench;
 use mc_streams::WriteFault;
 
@@ -31,13 +29,7 @@ pub trait Reporter: Runner {
     ghost same: { Self → Self → Type 0 };
 
     /// Writes the result of a line, if it has one, after what was written of its turns.
-    fn report<N: Bench>(
-        &mut self,
-        number: u32,
-        player: &Player<N>,
-        answer: &Option<Answer>,
-        steps: &mut Steps<N::Meter>,
-    )
+    fn report<N: Bench>(&mut self, number: u32, player: &Player<N>, answer: &Option<Answer>)
         requires playing { IsPlaying N.Bench player.now }
         // What was written since the line began is the text of the line, unless the sink had failed before.
         ensures reports { (before : Self) (p : Player N) (s : State) (l : DeckLine) (w : Option FailedWrite)
@@ -45,12 +37,7 @@ pub trait Reporter: Runner {
             → Lined N.state N.bench (Self.reported (sent_by N.state p l)) p s (number, l) w before self.old answer.now
             player.now → Puts (log before).out (text before (step s (number, l) w)) (write_result (log self.new).fault)
             (log self.new).out }
-        ensures same { same self.old self.new }
-        // It looks at as many words in each turn as before.
-        ensures looks { Self.looks self.new ≡ Self.looks self.old }
-        // It reads no more than what it shows of a `dump` line.
-        ensures rises { steps.old ≤ steps.new }
-        ensures reads { steps.new ≤ steps.old + answer_reads answer.now };
+        ensures same { same self.old self.new };
 
     /// Returns `Ok` if all was written, or else the fault of the sink.
     fn ended(&self) -> Result<(), WriteFault>

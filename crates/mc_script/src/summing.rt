@@ -1,5 +1,5 @@
 // A deck that is played and counted, and the results of its dump lines.
-ghost use Rattle.std.specs.Prelude.{◌≡◌, ◌+◌, ◌≤◌, ◌++◌, List};
+ghost use Rattle.std.specs.Prelude.{◌≡◌, ◌++◌, List};
 ghost use Rattle.std.specs.List.{AllByRecursion};
 ghost use Rattle.model_play.specs.model_device.specs.Device.{IsImage};
 ghost use Rattle.model_play.specs.Play.{start, State, LineResult};
@@ -11,7 +11,6 @@ ghost use Rattle.mc_script.specs.Players.{device_of, IsUnfused};
 ghost use Rattle.mc_script.specs.Benches.{bench_at, bench_of, IsPlayerAt, IsPlaying, Tallied};
 ghost use Rattle.mc_script.specs.Writers.{write_result};
 ghost use Rattle.mc_script.specs.Sums.{Counted, DumpsLast, dump_text, dumps_text, SumsFrom};
-ghost use Rattle.mc_script.specs.StepCounts.{text_reads, texts_reads};
 
 use crate::answer::Answer;
 use crate::player::Player;
@@ -24,9 +23,10 @@ use mc_deck::{Deck, Line};
 use mc_nvm::Bench;
 use mc_streams::{Sink, WriteFault};
 use mc_text::{add, put};
+use std::sync::ledger::Ledger;
 
 // Plays all lines of a deck, and counts their results.
-fn tally<N: Bench>(player: &mut Player<N>, deck: &Deck, steps: &mut Steps<N::Meter>) -> Counts
+fn tally<N: Bench, L: Ledger>(player: &mut Player<N>, deck: &Deck, steps: &mut Steps<L>) -> Counts
     requires { IsPlaying N.Bench player.old }
     ensures tallied { (s : State) → IsPlayerAt N.Bench player.old s
         → Tallied N.Bench s deck.now (bench_of N.Bench player.old) player.new result
@@ -49,20 +49,17 @@ fn put_dump<N: Bench, T: Sink>(
     text: &mut Text,
     player: &Player<N>,
     line: &Line<'_>,
-    steps: &mut Steps<N::Meter>,
 ) -> Result<(), WriteFault>
     requires { IsPlaying N.Bench player.now }
-    ensures value { (s : State) → IsPlayerAt N.Bench player.now s
+    ensures { (s : State) → IsPlayerAt N.Bench player.now s
         → Puts (sunk T.Sink out.old) (dump_text s (line_of line.now)) result
         (sunk T.Sink out.new) }
-    ensures rises { steps.old ≤ steps.new }
-    ensures reads { steps.new ≤ steps.old + text_reads (line_of line.now) }
 {
     let Line::Dump(aid) = line else {
         return Ok(());
     };
     text.clear();
-    add_result(text, player, &Answer::Dump(*aid), steps);
+    add_result(text, player, &Answer::Dump(*aid));
     add(text, b"\n");
     put(out, text.as_slice())
 }
@@ -73,17 +70,14 @@ fn put_dumps<N: Bench, T: Sink>(
     text: &mut Text,
     player: &Player<N>,
     deck: &Deck,
-    steps: &mut Steps<N::Meter>,
 ) -> Result<(), WriteFault>
     requires { IsPlaying N.Bench player.now }
-    ensures value { (s : State) → IsPlayerAt N.Bench player.now s
+    ensures { (s : State) → IsPlayerAt N.Bench player.now s
         → Puts (sunk T.Sink out.old) (dumps_text s deck.now) result (sunk T.Sink out.new) }
-    ensures rises { steps.old ≤ steps.new }
-    ensures reads { steps.new ≤ steps.old + texts_reads deck.now }
 {
     for i in 0..deck.len() {
         let (_number, line) = deck.line(i);
-        put_dump(out, text, player, &line, steps)?;
+        put_dump(out, text, player, &line)?;
     }
     Ok(())
 }
@@ -95,25 +89,22 @@ fn put_summary<N: Bench, T: Sink>(
     counts: &Counts,
     player: &Player<N>,
     deck: &Deck,
-    steps: &mut Steps<N::Meter>,
 ) -> Result<(), WriteFault>
     requires { IsPlaying N.Bench player.now }
-    ensures value { (s : State) (rs : List LineResult) → IsPlayerAt N.Bench player.now s → Counted counts.now rs
+    ensures { (s : State) (rs : List LineResult) → IsPlayerAt N.Bench player.now s → Counted counts.now rs
         → Puts (sunk T.Sink out.old) (count_line rs
         ++ dumps_text s deck.now) result (sunk T.Sink out.new) }
-    ensures rises { steps.old ≤ steps.new }
-    ensures reads { steps.new ≤ steps.old + texts_reads deck.now }
 {
     put_counts(out, counts)?;
-    put_dumps(out, text, player, deck, steps)
+    put_dumps(out, text, player, deck)
 }
 
 /// Plays all lines of a deck on a device, and writes the summary of the play.
-pub fn sum_lines<N: Bench, T: Sink>(
+pub fn sum_lines<N: Bench, T: Sink, L: Ledger>(
     deck: &Deck,
     device: N,
     writer: &mut Writer<'_, T>,
-    steps: &mut Steps<N::Meter>,
+    steps: &mut Steps<L>,
 ) -> N
     requires fuses { IsUnfused (N.bench device) }
     requires dumps { DumpsLast deck.now }
@@ -130,6 +121,6 @@ pub fn sum_lines<N: Bench, T: Sink>(
     let _lines = deck.len();
     let mut player = Player::new(device);
     let counts = tally(&mut player, deck, steps);
-    writer.fault = put_summary(writer.out, &mut writer.line, &counts, &player, deck, steps).err();
+    writer.fault = put_summary(writer.out, &mut writer.line, &counts, &player, deck).err();
     player.into_dev()
 }

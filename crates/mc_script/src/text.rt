@@ -13,13 +13,12 @@ ghost use Rattle.mc_card.specs.Parts.{card_in, IsUp};
 ghost use Rattle.mc_script.specs.Players.{answer_value, dump_value};
 ghost use Rattle.mc_script.specs.Benches.{IsPlaying};
 ghost use Rattle.mc_text.specs.Texts.{sunk, Puts};
-ghost use Rattle.mc_script.specs.StepCounts.{answer_reads};
 
 use crate::answer::Answer;
 use crate::player::{Player, Power};
 use arrayvec::ArrayVec;
 use mc_apdu::Reply;
-use mc_base::{Aid, Steps};
+use mc_base::Aid;
 use mc_blocks::Unusable;
 use mc_card::Card;
 use mc_machine::Outcome;
@@ -108,14 +107,7 @@ fn write_digits(bytes: &[u8], into: &mut [u8])
 }
 
 // Adds `count` static bytes of an application in hexadecimal, from place `at` on.
-fn add_piece<N: Nvm>(
-    text: &mut Text,
-    card: &Card<N>,
-    aid: &Aid,
-    at: u16,
-    count: usize,
-    steps: &mut Steps<N::Meter>,
-)
+fn add_piece<N: Nvm>(text: &mut Text, card: &Card<N>, aid: &Aid, at: u16, count: usize)
     requires up { IsUp N.state card.now }
     requires there { IsSome (lookup (card_in N.state card.now).apps aid.now) }
     requires range { at + count ≤ length (app_of (card_in N.state card.now).apps (Some aid.now)).fixed }
@@ -124,12 +116,10 @@ fn add_piece<N: Nvm>(
     ensures text { text.new.items ≡ text.old.items
         ++ hex_text (take count (drop at (app_of (card_in N.state card.now).apps (Some aid.now)).fixed)) }
     ensures length { array_vec_len text.new ≡ array_vec_len text.old + 2 * count }
-    ensures rises { steps.old ≤ steps.new }
-    ensures reads { steps.new ≤ steps.old + 358 }
 {
     let mut bytes = [0; PIECE];
     let piece = &mut bytes[..count];
-    card.static_of(aid, at, piece, steps);
+    card.static_of(aid, at, piece);
     let mut digits = [0; DIGITS];
     let digits = &mut digits[..2 * count];
     write_digits(piece, digits);
@@ -137,13 +127,7 @@ fn add_piece<N: Nvm>(
 }
 
 // Adds the static bytes of an application in hexadecimal.
-fn add_bytes<N: Nvm>(
-    text: &mut Text,
-    card: &Card<N>,
-    aid: &Aid,
-    len: u16,
-    steps: &mut Steps<N::Meter>,
-)
+fn add_bytes<N: Nvm>(text: &mut Text, card: &Card<N>, aid: &Aid, len: u16)
     requires up { IsUp N.state card.now }
     requires there { IsSome (lookup (card_in N.state card.now).apps aid.now) }
     requires len { len ≡ length (app_of (card_in N.state card.now).apps (Some aid.now)).fixed }
@@ -152,68 +136,55 @@ fn add_bytes<N: Nvm>(
     ensures text { text.new.items ≡ text.old.items
         ++ hex_text (app_of (card_in N.state card.now).apps (Some aid.now)).fixed }
     ensures short { array_vec_len text.new ≤ 8210 }
-    ensures rises { steps.old ≤ steps.new }
-    ensures reads { steps.new ≤ steps.old + 5728 }
 {
     let mut at = 0;
     while at < len {
         let count = ((len - at) as usize).min(PIECE);
-        add_piece(text, card, aid, at, count, steps);
+        add_piece(text, card, aid, at, count);
         at += count as u16;
     }
 }
 
 // Adds the result of a `dump` line for a name on a card that runs.
-fn add_static<N: Nvm>(text: &mut Text, card: &Card<N>, aid: &Aid, steps: &mut Steps<N::Meter>)
+fn add_static<N: Nvm>(text: &mut Text, card: &Card<N>, aid: &Aid)
     requires up { IsUp N.state card.now }
     requires room { array_vec_len text.old ≤ 11 }
     ensures text { text.new.items ≡ text.old.items
         ++ text_of_result (static_of (lookup (card_in N.state card.now).apps aid.now)) }
     ensures short { array_vec_len text.new ≤ 8210 }
-    ensures rises { steps.old ≤ steps.new }
-    ensures reads { steps.new ≤ steps.old + 6057 }
 {
-    match card.static_len(aid, steps) {
+    match card.static_len(aid) {
         None => add(text, b"absent"),
         Some(0) => add(text, b"static"),
         Some(len) => {
             add(text, b"static ");
-            add_bytes(text, card, aid, len, steps);
+            add_bytes(text, card, aid, len);
         }
     }
 }
 
 // Adds the result of a `dump` line for a name.
-fn add_dump<N: Bench>(text: &mut Text, player: &Player<N>, aid: &Aid, steps: &mut Steps<N::Meter>)
+fn add_dump<N: Bench>(text: &mut Text, player: &Player<N>, aid: &Aid)
     requires playing { IsPlaying N.Bench player.now }
     requires room { array_vec_len text.old ≤ 11 }
     ensures text { text.new.items ≡ text.old.items
         ++ text_of_result (dump_value N.state player.now.power player.now.card aid.now) }
     ensures short { array_vec_len text.new ≤ 8210 }
-    ensures rises { steps.old ≤ steps.new }
-    ensures reads { steps.new ≤ steps.old + 6057 }
 {
     match player.power {
         Power::BeforePower => add(text, b"off"),
         Power::Off => add(text, b"off"),
         Power::Mute => add(text, b"mute"),
-        Power::On => add_static(text, &player.card, aid, steps),
+        Power::On => add_static(text, &player.card, aid),
     }
 }
 
 /// Adds a result of a player, as a transcript has it after its number and a blank.
-pub fn add_result<N: Bench>(
-    text: &mut Text,
-    player: &Player<N>,
-    answer: &Answer,
-    steps: &mut Steps<N::Meter>,
-)
+pub fn add_result<N: Bench>(text: &mut Text, player: &Player<N>, answer: &Answer)
     requires playing { IsPlaying N.Bench player.now }
     requires room { array_vec_len text.old ≤ 11 }
     ensures text { text.new.items ≡ text.old.items ++ text_of_result (answer_value N.state player.now answer.now) }
     ensures short { array_vec_len text.new ≤ 8210 }
-    ensures rises { steps.old ≤ steps.new }
-    ensures reads { steps.new ≤ steps.old + answer_reads (Some answer.now) }
 {
     match answer {
         Answer::Formatted => add(text, b"formatted"),
@@ -224,7 +195,7 @@ pub fn add_result<N: Bench>(
         Answer::NoCard => add(text, b"off"),
         Answer::Mute => add(text, b"mute"),
         Answer::Outcome => add_outcome(text, &player.outcome),
-        Answer::Dump(aid) => add_dump(text, player, aid, steps),
+        Answer::Dump(aid) => add_dump(text, player, aid),
     }
 }
 
@@ -240,22 +211,14 @@ fn add_number(text: &mut Text, word: &[u8], number: u32)
 }
 
 /// Gathers the line of a result: its number, a blank, the result and a line feed.
-pub fn gather_result<N: Bench>(
-    text: &mut Text,
-    number: u32,
-    player: &Player<N>,
-    answer: &Answer,
-    steps: &mut Steps<N::Meter>,
-)
+pub fn gather_result<N: Bench>(text: &mut Text, number: u32, player: &Player<N>, answer: &Answer)
     requires playing { IsPlaying N.Bench player.now }
-    ensures value { text.new.items ≡ line_text number (Some (answer_value N.state player.now answer.now)) }
-    ensures rises { steps.old ≤ steps.new }
-    ensures reads { steps.new ≤ steps.old + answer_reads (Some answer.now) }
+    ensures { text.new.items ≡ line_text number (Some (answer_value N.state player.now answer.now)) }
 {
     text.clear();
     add_decimal(text, number);
     add(text, b" ");
-    add_result(text, player, answer, steps);
+    add_result(text, player, answer);
     add(text, b"\n");
 }
 
@@ -266,18 +229,15 @@ pub fn put_answer<N: Bench, T: Sink>(
     number: u32,
     player: &Player<N>,
     answer: &Option<Answer>,
-    steps: &mut Steps<N::Meter>,
 ) -> Result<(), WriteFault>
     requires playing { IsPlaying N.Bench player.now }
-    ensures value { Puts (sunk T.Sink out.old)
+    ensures { Puts (sunk T.Sink out.old)
         (line_text number (option_map (answer_value N.state player.now) answer.now)) result
         (sunk T.Sink out.new) }
-    ensures rises { steps.old ≤ steps.new }
-    ensures reads { steps.new ≤ steps.old + answer_reads answer.now }
 {
     match answer {
         Some(answer) => {
-            gather_result(text, number, player, answer, steps);
+            gather_result(text, number, player, answer);
             put(out, text.as_slice())
         }
         None => Ok(()),

@@ -5,35 +5,31 @@ ghost use Rattle.mc_machine.specs.Turns.{brief_result};
 ghost use Rattle.mc_card.specs.Parts.{card_in, device_in, due, IsReadyCard, IsRunning, RunsChain};
 ghost use Rattle.mc_card.specs.Ends.{outcome_or_stop, ChainTurned};
 ghost use Rattle.mc_script.specs.Runs.{RanAndReported, sent_to};
-ghost use Rattle.mc_script.specs.StepCounts.{command_reads, instructions, StepsOf, TurnSteps};
+ghost use Rattle.mc_script.specs.StepCounts.{command_search, instructions, StepsOf};
 ghost use Rattle.mc_script.specs.Watching.{IsWide, Watches, WatchesTurn};
 
 use mc_base::{Steps, Stop};
 use mc_card::{BriefTurn, Card};
 use mc_machine::Outcome;
 use mc_nvm::Nvm;
+use std::sync::ledger::Ledger;
 
 /// Watches the turns of the applications of a play: `run_watched` has it run each turn of a command, and so lets it look
 /// at the card before and after the turn.
 ///
 /// An `impl` says in `Seen` and `seen` what it sees of a turn, as a function of the chain before the turn and of the
 /// instructions that are left of the budget: `Turn` and `turn_alone` for the turn alone, or a record with what surrounds
-/// it. `watched` says what it then holds, and `looks` how many words it reads at the most to see a turn. `turn` calls
-/// `card.brief_turn(into, steps)?` once, looks at the card before and after, and returns the turn: of its clauses only
-/// `watches`, `steps` and `looks` are the watcher's own.
+/// it. `watched` says what it then holds. `turn` calls `card.brief_turn(into, steps)?` once, looks at the card before and
+/// after, and returns the turn: of its clauses only `watches` is the watcher's own.
 ///
 /// A watcher is made a `Runner` by `run` with `run_watched` as its body and these members, by the laws of the watcher:
-/// `reported` is `Watches seen watched`, `looks` is the watcher's, `silent` is `λ c. silent`, and `onward` is
-/// `λ c d q r s. onward q r s [] []`.
+/// `reported` is `Watches seen watched`, `silent` is `λ c. silent`, and `onward` is `λ c d q r s. onward q r s [] []`.
 pub trait Watcher {
     /// What is seen of a turn.
     ghost Seen: { Type 0 };
 
     /// What is seen of the turn of a chain, if this many instructions are left of the budget.
     ghost seen: { ℕ → Chain → Self.Seen };
-
-    /// The most words by which it looks at the card in each turn.
-    ghost looks: { Self → ℕ };
 
     /// The watcher before and after it recorded what is seen of some turns, in order.
     ghost watched: { Self → List Self.Seen → Self → Type 0 };
@@ -44,11 +40,11 @@ pub trait Watcher {
     /// # Errors
     ///
     /// Returns the `Stop` of the write that stopped; nothing is recorded of its turn.
-    fn turn<N: Nvm>(
+    fn turn<N: Nvm, L: Ledger>(
         &mut self,
         card: &mut Card<N>,
         into: &mut Outcome,
-        steps: &mut Steps<N::Meter>,
+        steps: &mut Steps<L>,
     ) -> Result<BriefTurn, Stop>
         requires { IsRunning N.state card.old }
         ensures done { (ch : Chain) (left : ℕ) → RunsChain N.state card.old ch left
@@ -56,8 +52,7 @@ pub trait Watcher {
         ensures watches { (ch : Chain) (left : ℕ) → RunsChain N.state card.old ch left → IsWide ch
             → WatchesTurn Self.seen Self.watched left ch (brief_result result into.new) self.old self.new }
         ensures steps { (ch : Chain) (left : ℕ) → RunsChain N.state card.old ch left
-            → TurnSteps (Self.looks self.old) (turn_of left ch) steps.old steps.new }
-        ensures looks { Self.looks self.new ≡ Self.looks self.old }
+            → steps.new ≡ steps.old + (turn_of left ch).count }
         ensures keeps_device { N.same (device_in card.old) (device_in card.new) };
 
     /// Without turns nothing is recorded.
@@ -73,13 +68,13 @@ pub trait Watcher {
 /// # Errors
 ///
 /// Returns the `Stop` of the write that stopped, whose turn the watcher does not record.
-pub fn run_watched<N: Nvm, W: Watcher>(
+pub fn run_watched<N: Nvm, W: Watcher, L: Ledger>(
     watcher: &mut W,
     card: &mut Card<N>,
     bytes: &[u8],
     budget: u32,
     into: &mut Outcome,
-    steps: &mut Steps<N::Meter>,
+    steps: &mut Steps<L>,
 ) -> Result<(), Stop>
     requires ready { IsReadyCard N.state card.old }
     requires some { 1 ≤ budget }
@@ -88,9 +83,7 @@ pub fn run_watched<N: Nvm, W: Watcher>(
         card.old (due N.state card.old bytes.now budget) (outcome_or_stop result into.new) card.new watcher.old
         watcher.new }
     ensures steps { StepsOf (instructions (due N.state card.old bytes.now budget).turns)
-        (command_reads (W.looks watcher.old) (card_in N.state card.old) bytes.now
-        (due N.state card.old bytes.now budget).turns) (is_err result) steps.old steps.new }
-    ensures looks { W.looks watcher.new ≡ W.looks watcher.old }
+        (command_search (card_in N.state card.old) bytes.now) (is_err result) steps.old steps.new }
     ensures keeps_device { N.same (device_in card.old) (device_in card.new) }
 {
     if let Some(outcome) = card.begin(bytes, budget, steps)? {

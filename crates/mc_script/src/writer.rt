@@ -1,5 +1,5 @@
 // The text of a play, written line by line.
-ghost use Rattle.std.specs.Prelude.{◌≡◌, ◌+◌, ◌≤◌, ◌++◌, ◌∷◌, [], ℕ, List, Option, None, IfSome, option_map};
+ghost use Rattle.std.specs.Prelude.{◌≡◌, ◌≤◌, ◌++◌, ◌∷◌, [], ℕ, List, Option, None, IfSome, option_map};
 ghost use Rattle.model_play.specs.model_machine.specs.Chain.{Turn as ModelTurn};
 ghost use Rattle.model_play.specs.model_machine.specs.Code.{Shaped};
 ghost use Rattle.model_play.specs.Transcript.{line_text};
@@ -11,7 +11,6 @@ ghost use Rattle.mc_script.specs.Benches.{IsPlaying};
 ghost use Rattle.mc_script.specs.Watching.{turn_alone};
 ghost use Rattle.mc_script.specs.Writers.{keeps_none, keeps_on, log_in, same_after, same_itself, same_kept, same_texts, text_by, turns_text, write_result, IsSameWriter, WriterKeeps};
 ghost use Rattle.mc_script.specs.declared.writer.Reporting.TheVariants as reporting;
-ghost use Rattle.mc_script.specs.StepCounts.{answer_reads};
 
 use crate::answer::Answer;
 use crate::player::Player;
@@ -27,6 +26,7 @@ use mc_nvm::{Bench, Nvm};
 use mc_streams::{Sink, WriteFault};
 use mc_text::put;
 use mc_trace::line_of_brief;
+use std::sync::ledger::Ledger;
 
 /// The text of each line of a play: its result, or the lines of its turns and its result.
 #[derive(Clone, Copy, Debug)]
@@ -71,13 +71,7 @@ impl<'a, T: Sink> Writer<'a, T> {
     }
 
     // Writes the result of a line after the text of the turns that were recorded in it, unless its sink failed before.
-    fn put_result<N: Bench>(
-        &mut self,
-        number: u32,
-        player: &Player<N>,
-        answer: &Option<Answer>,
-        steps: &mut Steps<N::Meter>,
-    )
+    fn put_result<N: Bench>(&mut self, number: u32, player: &Player<N>, answer: &Option<Answer>)
         requires playing { IsPlaying N.Bench player.now }
         ensures reports { (before : Writer T) (ts : List ModelTurn) → before.fault ≡ None
             → WriterKeeps T.Sink before ts self.old
@@ -86,11 +80,9 @@ impl<'a, T: Sink> Writer<'a, T> {
             (sunk T.Sink self.new.out.now) }
         ensures same { self.new.out.ghost_name ≡ self.old.out.ghost_name }
         ensures reporting { self.new.reporting ≡ self.old.reporting }
-        ensures rises { steps.old ≤ steps.new }
-        ensures reads { steps.new ≤ steps.old + answer_reads answer.now }
     {
         if self.fault.is_none() {
-            self.fault = put_answer(self.out, &mut self.line, number, player, answer, steps).err();
+            self.fault = put_answer(self.out, &mut self.line, number, player, answer).err();
         }
     }
 
@@ -128,19 +120,17 @@ impl<'a, T: Sink> Watcher for Writer<'a, T> {
 
     ghost seen = { turn_alone };
 
-    ghost looks = { λ q. 0 };
-
     ghost watched = { WriterKeeps T.Sink };
 
     ghost silent = { keeps_none T.Sink };
 
     ghost onward = { keeps_on T.Sink };
 
-    fn turn<N: Nvm>(
+    fn turn<N: Nvm, L: Ledger>(
         &mut self,
         card: &mut Card<N>,
         into: &mut Outcome,
-        steps: &mut Steps<N::Meter>,
+        steps: &mut Steps<L>,
     ) -> Result<BriefTurn, Stop> {
         let turn = card.brief_turn(into, steps)?;
         self.report_turn(&turn);
@@ -151,19 +141,17 @@ impl<'a, T: Sink> Watcher for Writer<'a, T> {
 impl<'a, T: Sink> Runner for Writer<'a, T> {
     ghost reported = { λ c. WriterKeeps T.Sink };
 
-    ghost looks = { λ q. 0 };
-
     ghost silent = { λ c. keeps_none T.Sink };
 
     ghost onward = { λ c d q r s. keeps_on T.Sink q r s [] [] };
 
-    fn run<N: Nvm>(
+    fn run<N: Nvm, L: Ledger>(
         &mut self,
         card: &mut Card<N>,
         bytes: &[u8],
         budget: u32,
         into: &mut Outcome,
-        steps: &mut Steps<N::Meter>,
+        steps: &mut Steps<L>,
     ) -> Result<(), Stop> {
         match self.reporting {
             Reporting::Results => card.command_into(bytes, budget, into, steps),
@@ -187,14 +175,8 @@ impl<'a, T: Sink> Reporter for Writer<'a, T> {
 
     ghost texts = { same_texts };
 
-    fn report<N: Bench>(
-        &mut self,
-        number: u32,
-        player: &Player<N>,
-        answer: &Option<Answer>,
-        steps: &mut Steps<N::Meter>,
-    ) {
-        self.put_result(number, player, answer, steps);
+    fn report<N: Bench>(&mut self, number: u32, player: &Player<N>, answer: &Option<Answer>) {
+        self.put_result(number, player, answer);
     }
 
     fn ended(&self) -> Result<(), WriteFault> {

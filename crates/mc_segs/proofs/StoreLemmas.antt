@@ -73,10 +73,10 @@ is_committed s s' named named' h ps ws fits lie held apps slots =
 -- ---- at once
 
 -- the static bytes of a frame on a bank
-abbrev pub fixed_under : {B M : Type 0} → Ghosts B M → B → Held → List ℕ
+abbrev pub fixed_under : {B : Type 0} → Ghosts B → B → Held → List ℕ
 fixed_under ghosts b h = (app_under (ghosts.state b) (ghosts.named b) h).fixed
 
-module _ {B M : Type 0} (ghosts : Ghosts B M) where
+module _ {B : Type 0} (ghosts : Ghosts B) where
   commit_items : (b e : B) (h : Held) (at : ℕ) (from : List ℕ) (ws : List (ℕ × List ℕ)) (a : Answer) → PutsBytes (fixed_under ghosts b h) [] at from ws → InOrder ghosts.did b (Commit (name_or (ghosts.named b h.slot)) ws ∷ []) a e
       → IsOneCommit ghosts.did (name_or (ghosts.named b h.slot)) (fixed_under ghosts b h) (Some ((at, from) ∷ [])) b a e
   commit_items b e h at from ws a puts items = (ws, puts.holds [] tt (none_held (fixed_under ghosts b h)), items, puts.pending.few)
@@ -160,7 +160,7 @@ limit_is m l ws at n pieces are some =
     words_counted l (pieces_of (length l) ws) ws at (zeros n) (pieces_held l ws are) (omega (arith, len)) ∙ ap (λ (k : ℕ). length ws + not_pending (at / 8) (words_under at k) ws) len in
     ap (λ (ps : List (ℕ × List ℕ)). nat_lt 64 (length (touched_words (ps ++ (at, zeros n) ∷ [])))) pieces ∙ ap (λ (k : ℕ). nat_lt 64 k) count
 
-module _ {B M : Type 0} (ghosts : Ghosts B M) where
+module _ {B : Type 0} (ghosts : Ghosts B) where
   pub kept_later : (b : B) (f : Inside) (h : Held) (at : ℕ) (from : List ℕ) (ws : List (ℕ × List ℕ)) → frame_value f ≡ h → FitsBank (ghosts.state b) (ghosts.named b) h → HasWords (fixed_under ghosts b h) f.fixed_len f.pending h → (ghosts.state b).stopped ≡ false
       → 1 ≤ length from → at + length from ≤ length h.frame.fixed → PutsBytes (fixed_under ghosts b h) f.pending at from ws
       → EffectDone ghosts (scene b b h (frame_value (record f { pending = ws })) [] []) (static_written true (frame_on_bank ghosts b h) [] at from)
@@ -203,7 +203,7 @@ some_changed : {B : Type 0} (did : B → BankItem → Answer → B → Type 0) (
 some_changed did b e name l m [] a some few held items = absurd (omega arith)
 some_changed did b e name l m (w ∷ ws) a some few held items = (w ∷ ws, held, items, few)
 
-module _ {B M : Type 0} (ghosts : Ghosts B M) where
+module _ {B : Type 0} (ghosts : Ghosts B) where
   abbrev pub pending_changed : B → B → Held → Answer → Type 0
   pending_changed b e h a = IsOneCommit ghosts.did (name_or (ghosts.named b h.slot)) (fixed_under ghosts b h) (changes_of (frame_on_bank ghosts b h) h.frame.pieces) b a e
 

@@ -5,8 +5,11 @@ use Rattle.std.proofs.lemmas.Bool.{ne_eqb}
 use Rattle.mc_apdu.specs.model_machine.specs.declared.machine.Abend.{Abend}
 use Rattle.mc_apdu.specs.model_machine.specs.declared.machine.Abend.TheVariants.{A08}
 use Rattle.mc_base.specs.model_device.specs.declared.device.Stop.{Stop}
+use Rattle.mc_base.specs.model_device.specs.Orders.{Answer}
+use Rattle.mc_bank.specs.model_card.specs.Items.{BankItem}
 use Rattle.mc_base.specs.model_device.specs.Bytes.{splice}
 use Rattle.mc_apdu.specs.model_machine.specs.Frame.{Frame, Effect, Place, Static, Dynamic, Public, where_is, is_outside, passes_limit, too_many, static_written, write_effect_at, write_effect}
+use Rattle.mc_bank.specs.Bank.{BankState}
 use Rattle.mc_segs.specs.HeldFrames.{Held, FitsBank, frame_on_bank}
 use Rattle.mc_segs.specs.Inside.{frame_value}
 use Rattle.mc_segs.specs.Ends.{EffectDone, Commits, CanWrite, Stores, scene}
@@ -45,7 +48,7 @@ written_is f public a b p is = sym (ap (λ (o : Option Place). write_effect_at f
 static_is : (f : Frame) (public : List ℕ) (a i : ℕ) (b : List ℕ) (on : Bool) → f.protected ≡ on → where_is f a (length b) ≡ Some (Static i) → static_written on f public i b ≡ write_effect f public a b
 static_is f public a i b on protected is = ap (λ (t : Bool). static_written t f public i b) (sym protected) ∙ written_is f public a b (Some (Static i)) is
 
-module _ {B M : Type 0} (ghosts : Ghosts B M) where
+module _ {B : Type 0} (ghosts : Ghosts B) where
   -- a call that does not touch the public segment leaves it as it is
   with_public : (b e : B) (h h' : Held) (f : Effect) (public : List ℕ) → EffectDone ghosts (scene b e h h' [] []) f → EffectDone ghosts (scene b e h h' public public) (record f { public = public })
   with_public b e h h' f public left = record { commits = left.commits; bytes = left.bytes; frame = left.frame; public = refl; slot = left.slot; fits = left.fits; going = left.going }

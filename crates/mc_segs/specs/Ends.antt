@@ -10,6 +10,7 @@ use Rattle.mc_base.specs.model_device.specs.Pieces.{laid_pieces, HoldPieces}
 use Rattle.mc_apdu.specs.model_machine.specs.Frame.{Frame, Effect, is_outside, too_many}
 use Rattle.mc_apdu.specs.model_machine.specs.Primitives.{Around, Then, Goes, Exits, Delegates}
 use Rattle.mc_apdu.specs.model_machine.specs.Row.{RowEnd, Abends, Does, row}
+use Rattle.mc_bank.specs.Bank.{BankState}
 use Rattle.mc_segs.specs.HeldFrames.{Held, FitsBank, frame_on_bank, frame_reading}
 use Rattle.mc_segs.specs.declared.ends.Halt.{Halt}
 use Rattle.mc_segs.specs.declared.ends.Halt.TheVariants as halt
@@ -58,19 +59,19 @@ pub record Scene (B : Type 0) : Type 0 where
 -- In what follows the first parameters are the bank's relation of items, its state and the names of its slots.
 
 -- the frame on the bank before a call
-abbrev pub before : {B M : Type 0} → Ghosts B M → Scene B → Frame
+abbrev pub before : {B : Type 0} → Ghosts B → Scene B → Frame
 before ghosts s = frame_on_bank ghosts s.bank s.held
 
 -- the frame on the bank after a call
-abbrev pub after : {B M : Type 0} → Ghosts B M → Scene B → Frame
+abbrev pub after : {B : Type 0} → Ghosts B → Scene B → Frame
 after ghosts s = frame_on_bank ghosts s.bank_after s.held_after
 
 -- the static change of an effect, as a commit of the bank with this result
-abbrev pub Commits : {B M : Type 0} → Ghosts B M → Scene B → Effect → Answer → Type 0
+abbrev pub Commits : {B : Type 0} → Ghosts B → Scene B → Effect → Answer → Type 0
 Commits ghosts s e a = IsOneCommit ghosts.did (before ghosts s).name (before ghosts s).fixed e.changes s.bank a s.bank_after
 
 -- an effect that was done: the state after it is the effect's, the frame fits the bank, and the bank has not stopped
-pub record EffectDone {B M : Type 0} (ghosts : Ghosts B M) (s : Scene B) (e : Effect) : Type 0 where
+pub record EffectDone {B : Type 0} (ghosts : Ghosts B) (s : Scene B) (e : Effect) : Type 0 where
   pub commits : Commits ghosts s e (Ok tt)
   pub bytes : (after ghosts s).fixed ≡ changed_bytes (before ghosts s).fixed e.changes
   pub frame : frame_reading (after ghosts s) ≡ frame_reading e.frame
@@ -97,7 +98,7 @@ abbrev pub scene : {B : Type 0} → B → B → Held → Held → List ℕ → L
 scene b c h k p q = record { bank = b; bank_after = c; held = h; held_after = k; public = p; public_after = q }
 
 -- the end of a row agrees with the result of the call
-abbrev pub EndActs : {B M : Type 0} → Ghosts B M → Scene B → RowEnd → Result Next Halt → Type 0
+abbrev pub EndActs : {B : Type 0} → Ghosts B → Scene B → RowEnd → Result Next Halt → Type 0
 EndActs ghosts s (Abends a) (Ok next) = ⊥
 EndActs ghosts s (Abends a) (Err (halt.Abend b)) = (b ≡ a) × WroteNoByte s
 EndActs ghosts s (Abends a) (Err (halt.Stop stop)) = ⊥
@@ -106,7 +107,7 @@ EndActs ghosts s (Does d) (Err (halt.Abend b)) = ⊥
 EndActs ghosts s (Does d) (Err (halt.Stop stop)) = Commits ghosts s d.effect (Err stop)
 
 -- the result and the state after the call are those of the row of the instruction
-abbrev pub RowActs : {B M : Type 0} → Ghosts B M → Scene B → Ins → Around → Result Next Halt → Type 0
+abbrev pub RowActs : {B : Type 0} → Ghosts B → Scene B → Ins → Around → Result Next Halt → Type 0
 RowActs ghosts s i x r = EndActs ghosts s (row i (before ghosts s) s.public x) r
 
 -- why a write of n bytes abends: 03 if they lie in no segment, else 08 if too many words would be pending
@@ -118,12 +119,12 @@ abbrev pub CanWrite : Frame → ℕ → ℕ → Type 0
 CanWrite f a n = (is_outside f a n ≡ false) × (too_many f a n ≡ false)
 
 -- a write of n bytes at an address: how its effect and the result of the call agree
-abbrev pub Stores : {B M : Type 0} → Ghosts B M → Scene B → ℕ → ℕ → Effect → Result (Unit {0}) Halt → Type 0
+abbrev pub Stores : {B : Type 0} → Ghosts B → Scene B → ℕ → ℕ → Effect → Result (Unit {0}) Halt → Type 0
 Stores ghosts s a n e (Ok u) = CanWrite (before ghosts s) a n × EffectDone ghosts s e
 Stores ghosts s a n e (Err (halt.Abend b)) = WriteAbends (before ghosts s) a n b × (s.bank_after ≡ s.bank) × (s.held_after ≡ s.held) × (s.public_after ≡ s.public)
 Stores ghosts s a n e (Err (halt.Stop stop)) = CanWrite (before ghosts s) a n × Commits ghosts s e (Err stop)
 
 -- a change of protection: how its effect and the result of the call agree
-abbrev pub Protects : {B M : Type 0} → Ghosts B M → Scene B → Effect → Result (Unit {0}) Stop → Type 0
+abbrev pub Protects : {B : Type 0} → Ghosts B → Scene B → Effect → Result (Unit {0}) Stop → Type 0
 Protects ghosts s e (Ok u) = EffectDone ghosts s e
 Protects ghosts s e (Err stop) = Commits ghosts s e (Err stop)

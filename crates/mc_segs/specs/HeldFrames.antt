@@ -51,12 +51,12 @@ pub record FitsBank (s : BankState) (named : ℕ → Option (List ℕ)) (h : Hel
   pub deny : h.frame.deny ≡ (app_under s named h).deny
   pub session : h.frame.session ≡ (app_under s named h).session
 
--- the machine's frame on a bank, which counts its reads on a ledger M
-abbrev pub frame_on_bank : {B M : Type 0} → Ghosts B M → B → Held → Frame
+-- the machine's frame on a bank
+abbrev pub frame_on_bank : {B : Type 0} → Ghosts B → B → Held → Frame
 frame_on_bank ghosts bank h = frame_with (ghosts.state bank) (ghosts.named bank) h
 
 -- an instruction may run: the bank takes changes, and the frame fits it
-pub record CanRun {B M : Type 0} (ghosts : Ghosts B M) (bank : B) (h : Held) : Type 0 where
+pub record CanRun {B : Type 0} (ghosts : Ghosts B) (bank : B) (h : Held) : Type 0 where
   pub going : (ghosts.state bank).stopped ≡ false
   pub fits : FitsBank (ghosts.state bank) (ghosts.named bank) h
 

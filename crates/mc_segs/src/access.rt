@@ -13,7 +13,6 @@ use crate::protection::{commit_static, keep_static};
 use crate::public::Public;
 use mc_apdu::model_machine::Abend;
 use mc_bank::Bank;
-use mc_base::Steps;
 
 /// PB, the address of the first public byte.
 const PUBLIC: u16 = 0xC000;
@@ -96,7 +95,6 @@ pub fn load<B: Bank>(
     public: &Public,
     at: u16,
     into: &mut [u8],
-    steps: &mut Steps<B::Meter>,
 ) -> Result<(), Abend>
     requires runs { CanRun B.Bank bank.now frame.now }
     ensures abend { IfDue result (model.is_outside (frame_on_bank B.Bank bank.now frame.now) at
@@ -105,14 +103,12 @@ pub fn load<B: Bank>(
         ≡ model.bytes_at (frame_on_bank B.Bank bank.now frame.now) public.now at
         (length into.old)) }
     ensures unchanged { OnErr result (into.new ≡ into.old) }
-    ensures rises { steps.old ≤ steps.new }
-    ensures reads { 8 * steps.new ≤ 8 * steps.old + (length into.old + 14) }
 {
     if into.is_empty() {
         return Ok(());
     }
     match place_of(frame, at, into.len()) {
-        Some(Place::Static(i)) => read_static(bank, frame, i, into, steps),
+        Some(Place::Static(i)) => read_static(bank, frame, i, into),
         Some(Place::Dynamic(i)) => read(&frame.dynamic, i, into),
         Some(Place::Public(i)) => read(&public.bytes, i, into),
         None => return Err(Abend::A03),
@@ -123,21 +119,13 @@ pub fn load<B: Bank>(
 /// Reads static bytes: those of the bank, and over them the pending words. Separate from the other segments,
 /// whose bytes are copied in place.
 #[inline(never)]
-pub fn read_static<B: Bank>(
-    bank: &B,
-    frame: &Frame,
-    at: u16,
-    into: &mut [u8],
-    steps: &mut Steps<B::Meter>,
-)
+pub fn read_static<B: Bank>(bank: &B, frame: &Frame, at: u16, into: &mut [u8])
     requires runs { CanRun B.Bank bank.now frame.now }
     requires range { at + length into.old ≤ length frame.now.frame.fixed }
-    ensures bytes { into.new ≡ take (length into.old)
+    ensures { into.new ≡ take (length into.old)
         (drop at (model.static_bytes (frame_on_bank B.Bank bank.now frame.now))) }
-    ensures rises { steps.old ≤ steps.new }
-    ensures reads { 8 * steps.new ≤ 8 * steps.old + (length into.old + 14) }
 {
-    bank.fixed(frame.slot, at, into, steps);
+    bank.fixed(frame.slot, at, into);
     for (number, word) in frame.pending.list() {
         overlay(into, at as usize, 8 * *number as usize, word);
     }
@@ -170,20 +158,17 @@ pub fn store<B: Bank>(
     public: &mut Public,
     at: u16,
     from: &[u8],
-    steps: &mut Steps<B::Meter>,
 ) -> Result<(), Halt>
     requires runs { CanRun B.Bank bank.old frame.old }
     requires low { 1 ≤ length from.now }
     requires high { length from.now ≤ 255 }
-    ensures stores { Stores B.Bank (scene bank.old bank.new frame.old frame.new public.old public.new) at
+    ensures { Stores B.Bank (scene bank.old bank.new frame.old frame.new public.old public.new) at
         (length from.now)
         (model.write_effect (frame_on_bank B.Bank bank.old frame.old) public.old at from.now) result }
-    ensures rises { steps.old ≤ steps.new }
-    ensures reads { 8 * steps.new ≤ 8 * steps.old + (length from.now + 14) }
 {
     match place_of(frame, at, from.len()) {
-        Some(Place::Static(i)) if frame.protected => keep_static(bank, frame, i, from, steps)?,
-        Some(Place::Static(i)) => commit_static(bank, frame, i, from, steps)?,
+        Some(Place::Static(i)) if frame.protected => keep_static(bank, frame, i, from)?,
+        Some(Place::Static(i)) => commit_static(bank, frame, i, from)?,
         Some(Place::Dynamic(i)) => write(&mut frame.dynamic, i, from),
         Some(Place::Public(i)) => write(&mut public.bytes, i, from),
         None => return Err(Halt::Abend(Abend::A03)),

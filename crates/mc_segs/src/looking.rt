@@ -1,5 +1,5 @@
 // What an observer reads of a frame between two instructions.
-ghost use Rattle.std.specs.Prelude.{◌≡◌, ◌+◌, ◌-◌, ◌*◌, ◌≤◌, length, nat_le, take, drop, true, false, Some};
+ghost use Rattle.std.specs.Prelude.{◌≡◌, ◌+◌, ◌-◌, length, nat_le, take, drop, true, false, Some};
 ghost use Rattle.mc_apdu.specs.model_machine.specs.Frame as model;
 ghost use Rattle.mc_segs.specs.HeldFrames.{frame_on_bank, CanRun};
 ghost use Rattle.mc_segs.specs.Places.{lies_in_segment, place_value};
@@ -9,7 +9,6 @@ use crate::bytes::read;
 use crate::frame::{DYNAMIC, Frame};
 use crate::public::Public;
 use mc_bank::Bank;
-use mc_base::Steps;
 
 impl Frame {
     /// Returns the bytes of the stack, which begin after the session bytes and end before DT.
@@ -37,22 +36,19 @@ pub fn look<B: Bank>(
     public: &Public,
     place: Place,
     into: &mut [u8],
-    steps: &mut Steps<B::Meter>,
 ) -> bool
     requires runs { CanRun B.Bank bank.now frame.now }
     ensures whole { result ≡ lies_in_segment frame.now.frame public.now place (length into.old) }
     ensures bytes { result ≡ true → into.new ≡ model.bytes_in (frame_on_bank B.Bank bank.now frame.now) public.now
         (length into.old) (Some (place_value place)) }
     ensures unchanged { result ≡ false → into.new ≡ into.old }
-    ensures rises { steps.old ≤ steps.new }
-    ensures reads { 8 * steps.new ≤ 8 * steps.old + (length into.old + 14) }
 {
     match place {
         Place::Static(at) => {
             if !fits(at as usize, into.len(), frame.fixed_len as usize) {
                 return false;
             }
-            read_static(bank, frame, at, into, steps);
+            read_static(bank, frame, at, into);
         }
         Place::Dynamic(at) => {
             if !fits(at, into.len(), 512) {

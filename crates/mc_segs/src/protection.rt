@@ -12,7 +12,7 @@ use crate::bytes::write;
 use crate::frame::Frame;
 use mc_apdu::model_machine::Abend;
 use mc_bank::{Bank, Slot};
-use mc_base::{Steps, Stop, Word};
+use mc_base::{Stop, Word};
 use mc_trans::Pending;
 
 /// Sets the protection of static writes: mode 0 drops the pending words and ends it, 1 commits them and ends
@@ -74,13 +74,7 @@ fn commit_pending<B: Bank>(bank: &mut B, frame: &Frame) -> Result<(), Stop>
 /// # Errors
 ///
 /// Returns the `Stop` of the bank if the commit stopped.
-pub fn commit_static<B: Bank>(
-    bank: &mut B,
-    frame: &Frame,
-    at: u16,
-    from: &[u8],
-    steps: &mut Steps<B::Meter>,
-) -> Result<(), Stop>
+pub fn commit_static<B: Bank>(bank: &mut B, frame: &Frame, at: u16, from: &[u8]) -> Result<(), Stop>
     requires runs { CanRun B.Bank bank.old frame.now }
     requires low { 1 ≤ length from.now }
     requires high { length from.now ≤ 255 }
@@ -89,24 +83,16 @@ pub fn commit_static<B: Bank>(
         (model.static_written false (frame_on_bank B.Bank bank.old frame.now) [] at from.now) result }
     ensures done { OnOk result (EffectDone B.Bank (scene bank.old bank.new frame.now frame.now [] [])
         (model.static_written false (frame_on_bank B.Bank bank.old frame.now) [] at from.now)) }
-    ensures rises { steps.old ≤ steps.new }
-    ensures reads { 8 * steps.new ≤ 8 * steps.old + (length from.now + 14) }
 {
     if (at % 8) as usize + from.len() <= 8 {
-        commit_word(bank, frame, at, from, steps)
+        commit_word(bank, frame, at, from)
     } else {
-        commit_words(bank, frame, at, from, steps)
+        commit_words(bank, frame, at, from)
     }
 }
 
 // Writes static bytes that lie in one word, as most writes do: without a list of pending words.
-fn commit_word<B: Bank>(
-    bank: &mut B,
-    frame: &Frame,
-    at: u16,
-    from: &[u8],
-    steps: &mut Steps<B::Meter>,
-) -> Result<(), Stop>
+fn commit_word<B: Bank>(bank: &mut B, frame: &Frame, at: u16, from: &[u8]) -> Result<(), Stop>
     requires runs { CanRun B.Bank bank.old frame.now }
     requires low { 1 ≤ length from.now }
     requires high { length from.now ≤ 255 }
@@ -116,21 +102,13 @@ fn commit_word<B: Bank>(
         (model.static_written false (frame_on_bank B.Bank bank.old frame.now) [] at from.now) result }
     ensures done { OnOk result (EffectDone B.Bank (scene bank.old bank.new frame.now frame.now [] [])
         (model.static_written false (frame_on_bank B.Bank bank.old frame.now) [] at from.now)) }
-    ensures rises { steps.old ≤ steps.new }
-    ensures reads { steps.new ≤ steps.old + 1 }
 {
-    let word = word_with(bank, frame.slot, frame.fixed_len, at, from, steps);
+    let word = word_with(bank, frame.slot, frame.fixed_len, at, from);
     bank.commit(frame.slot, &[(at / 8, word)])
 }
 
 // Writes static bytes that may lie in several words.
-fn commit_words<B: Bank>(
-    bank: &mut B,
-    frame: &Frame,
-    at: u16,
-    from: &[u8],
-    steps: &mut Steps<B::Meter>,
-) -> Result<(), Stop>
+fn commit_words<B: Bank>(bank: &mut B, frame: &Frame, at: u16, from: &[u8]) -> Result<(), Stop>
     requires runs { CanRun B.Bank bank.old frame.now }
     requires low { 1 ≤ length from.now }
     requires high { length from.now ≤ 255 }
@@ -139,43 +117,24 @@ fn commit_words<B: Bank>(
         (model.static_written false (frame_on_bank B.Bank bank.old frame.now) [] at from.now) result }
     ensures done { OnOk result (EffectDone B.Bank (scene bank.old bank.new frame.now frame.now [] [])
         (model.static_written false (frame_on_bank B.Bank bank.old frame.now) [] at from.now)) }
-    ensures rises { steps.old ≤ steps.new }
-    ensures reads { 8 * steps.new ≤ 8 * steps.old + (length from.now + 14) }
 {
     let mut words = Pending::new();
-    put_bytes(
-        bank,
-        frame.slot,
-        frame.fixed_len,
-        &mut words,
-        at,
-        from,
-        steps,
-    );
+    put_bytes(bank, frame.slot, frame.fixed_len, &mut words, at, from);
     bank.commit(frame.slot, words.list())
 }
 
 // The one word of the static segment that bytes lie in, with them.
-fn word_with<B: Bank>(
-    bank: &B,
-    slot: Slot,
-    len: u16,
-    at: u16,
-    from: &[u8],
-    steps: &mut Steps<B::Meter>,
-) -> Word
+fn word_with<B: Bank>(bank: &B, slot: Slot, len: u16, at: u16, from: &[u8]) -> Word
     requires going { (B.state bank.now).stopped ≡ false }
     requires there { IsSome (B.named bank.now slot) }
     requires len { len ≡ length (app_of (B.state bank.now).apps (B.named bank.now slot)).fixed }
     requires low { 1 ≤ length from.now }
     requires range { at + length from.now ≤ len }
     requires one { at % 8 + length from.now ≤ 8 }
-    ensures puts { PutsBytes (app_of (B.state bank.now).apps (B.named bank.now slot)).fixed [] at from.now
+    ensures { PutsBytes (app_of (B.state bank.now).apps (B.named bank.now slot)).fixed [] at from.now
         ((at / 8, result) ∷ []) }
-    ensures rises { steps.old ≤ steps.new }
-    ensures reads { steps.new ≤ steps.old + 1 }
 {
-    let mut word = fresh_word(bank, slot, len, at / 8, steps);
+    let mut word = fresh_word(bank, slot, len, at / 8);
     write(&mut word, (at % 8) as usize, from);
     word
 }
@@ -185,13 +144,7 @@ fn word_with<B: Bank>(
 /// # Errors
 ///
 /// Returns abend 08, and changes nothing, if more than 64 words would be pending.
-pub fn keep_static<B: Bank>(
-    bank: &B,
-    frame: &mut Frame,
-    at: u16,
-    from: &[u8],
-    steps: &mut Steps<B::Meter>,
-) -> Result<(), Abend>
+pub fn keep_static<B: Bank>(bank: &B, frame: &mut Frame, at: u16, from: &[u8]) -> Result<(), Abend>
     requires runs { CanRun B.Bank bank.now frame.old }
     requires low { 1 ≤ length from.now }
     requires high { length from.now ≤ 255 }
@@ -202,8 +155,6 @@ pub fn keep_static<B: Bank>(
     ensures kept { OnOk result (EffectDone B.Bank (scene bank.now bank.now frame.old frame.new [] [])
         (model.static_written true (frame_on_bank B.Bank bank.now frame.old) [] at from.now)) }
     ensures unchanged { OnErr result (frame.new ≡ frame.old) }
-    ensures rises { steps.old ≤ steps.new }
-    ensures reads { 8 * steps.new ≤ 8 * steps.old + (length from.now + 14) }
 {
     let count = (at % 8 + from.len() as u16 - 1) / 8 + 1;
     let more = missing(&frame.pending, at / 8, count);
@@ -217,7 +168,6 @@ pub fn keep_static<B: Bank>(
         &mut frame.pending,
         at,
         from,
-        steps,
     );
     Ok(())
 }
@@ -239,15 +189,7 @@ fn missing(pending: &Pending, first: u16, count: u16) -> u16
 
 // Puts bytes into the pending words of the static segment of `len` bytes, word by word; a word that is not
 // yet pending begins with the bank's bytes.
-fn put_bytes<B: Bank>(
-    bank: &B,
-    slot: Slot,
-    len: u16,
-    words: &mut Pending,
-    at: u16,
-    from: &[u8],
-    steps: &mut Steps<B::Meter>,
-)
+fn put_bytes<B: Bank>(bank: &B, slot: Slot, len: u16, words: &mut Pending, at: u16, from: &[u8])
     requires going { (B.state bank.now).stopped ≡ false }
     requires there { IsSome (B.named bank.now slot) }
     requires len { len ≡ length (app_of (B.state bank.now).apps (B.named bank.now slot)).fixed }
@@ -256,10 +198,7 @@ fn put_bytes<B: Bank>(
     requires range { at + length from.now ≤ len }
     requires pending { ArePendingIn len words.old }
     requires room { length words.old + not_pending (at / 8) (words_under at (length from.now)) words.old ≤ 64 }
-    ensures puts { PutsBytes (app_of (B.state bank.now).apps (B.named bank.now slot)).fixed words.old at from.now
-        words.new }
-    ensures rises { steps.old ≤ steps.new }
-    ensures reads { 8 * steps.new ≤ 8 * steps.old + (length from.now + 14) }
+    ensures { PutsBytes (app_of (B.state bank.now).apps (B.named bank.now slot)).fixed words.old at from.now words.new }
 {
     let begin = at as usize;
     let end = begin + from.len();
@@ -275,7 +214,6 @@ fn put_bytes<B: Bank>(
             number as u16,
             low - 8 * number,
             piece,
-            steps,
         );
     }
 }
@@ -289,7 +227,6 @@ fn put_piece<B: Bank>(
     number: u16,
     at: usize,
     piece: &[u8],
-    steps: &mut Steps<B::Meter>,
 )
     requires going { (B.state bank.now).stopped ≡ false }
     requires there { IsSome (B.named bank.now slot) }
@@ -297,19 +234,17 @@ fn put_piece<B: Bank>(
     requires range { 8 * number < len }
     requires place { at + length piece.now ≤ 8 }
     requires room { pending_at words.old number ≡ None → length words.old < 64 }
-    ensures puts { PutsPiece (app_of (B.state bank.now).apps (B.named bank.now slot)).fixed words.old number at
-        piece.now words.new }
-    ensures rises { steps.old ≤ steps.new }
-    ensures reads { steps.new ≤ steps.old + 1 }
+    ensures { PutsPiece (app_of (B.state bank.now).apps (B.named bank.now slot)).fixed words.old number at piece.now
+        words.new }
 {
     if piece.len() == 8 {
         // Nothing of the old word is left, so the compiler drops the read.
-        let mut word = word_of(bank, slot, len, words, number, steps);
+        let mut word = word_of(bank, slot, len, words, number);
         write(&mut word, 0, piece);
         put(words, number, word);
         return;
     }
-    let mut word = word_of(bank, slot, len, words, number, steps);
+    let mut word = word_of(bank, slot, len, words, number);
     write(&mut word, at, piece);
     put(words, number, word);
 }
@@ -323,36 +258,21 @@ fn put(words: &mut Pending, number: u16, word: Word)
 }
 
 // A word of the static segment: the pending one, or else the bank's bytes with zeros after the segment's end.
-fn word_of<B: Bank>(
-    bank: &B,
-    slot: Slot,
-    len: u16,
-    words: &Pending,
-    number: u16,
-    steps: &mut Steps<B::Meter>,
-) -> Word
+fn word_of<B: Bank>(bank: &B, slot: Slot, len: u16, words: &Pending, number: u16) -> Word
     requires going { (B.state bank.now).stopped ≡ false }
     requires there { IsSome (B.named bank.now slot) }
     requires len { len ≡ length (app_of (B.state bank.now).apps (B.named bank.now slot)).fixed }
     requires range { 8 * number < len }
-    ensures word { IsWordOf (app_of (B.state bank.now).apps (B.named bank.now slot)).fixed words.now number result }
-    ensures rises { steps.old ≤ steps.new }
-    ensures reads { steps.new ≤ steps.old + 1 }
+    ensures { IsWordOf (app_of (B.state bank.now).apps (B.named bank.now slot)).fixed words.now number result }
 {
     match words.get(number) {
         Some(word) => word,
-        None => fresh_word(bank, slot, len, number, steps),
+        None => fresh_word(bank, slot, len, number),
     }
 }
 
 // A word of the static segment as the bank has it, with zeros after the segment's end.
-fn fresh_word<B: Bank>(
-    bank: &B,
-    slot: Slot,
-    len: u16,
-    number: u16,
-    steps: &mut Steps<B::Meter>,
-) -> Word
+fn fresh_word<B: Bank>(bank: &B, slot: Slot, len: u16, number: u16) -> Word
     requires going { (B.state bank.now).stopped ≡ false }
     requires there { IsSome (B.named bank.now slot) }
     requires len { len ≡ length (app_of (B.state bank.now).apps (B.named bank.now slot)).fixed }
@@ -361,11 +281,9 @@ fn fresh_word<B: Bank>(
     ensures bytes { (k : ℕ) → k < 8 → 8 * number + k < len
         → slice_index result k
         ≡ slice_index (app_of (B.state bank.now).apps (B.named bank.now slot)).fixed (8 * number + k) }
-    ensures rises { steps.old ≤ steps.new }
-    ensures reads { steps.new ≤ steps.old + 1 }
 {
     let mut word = [0; 8];
     let count = (len - 8 * number).min(8) as usize;
-    bank.fixed(slot, 8 * number, &mut word[..count], steps);
+    bank.fixed(slot, 8 * number, &mut word[..count]);
     word
 }

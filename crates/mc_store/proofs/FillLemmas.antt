@@ -1,7 +1,7 @@
 -- Bytes of a section set word by word: the parts of a piece, and what each write requires and leaves.
 use Rattle.std.proofs.Common.{◌≡◌, ◌⊎◌, ℕ, zero, suc, ◌+◌, ◌-◌, ◌%◌, ◌/◌, ◌<◌, ◌≤◌, true, List, [], ◌∷◌, length, take, drop, map, Ok, Err, refl, sym, ◌∙◌, ap, subst, inl, inr, arith}
 use Rattle.std.specs.Prelude.{OnOk}
-use Rattle.std.proofs.lemmas.List.{length-drop, length-take-le, drop-drop, take_all, drop_all}
+use Rattle.std.proofs.lemmas.List.{length-drop, drop-drop, take_all, drop_all}
 use Rattle.mc_bank.specs.model_card.specs.declared.card.Part.{Part}
 use Rattle.mc_base.specs.model_device.specs.declared.device.Stop.{Stop}
 use Rattle.mc_base.specs.model_device.specs.Orders.{Answer, InOrder}
@@ -17,29 +17,6 @@ use Rattle.mc_store.specs.CreationLaws.{at_site}
 use Rattle.mc_store.specs.TurnLaws.{CardChanged, SiteBytes, site_bytes_of, turns, parted}
 use Rattle.mc_base.specs.model_device.proofs.LayoutLemmas.{closed_means}
 use Rattle.mc_store.proofs.SiteLemmas.{no_words}
-
--- ---- the words that are read
-
--- of the bytes from `from` on to `end` those before `at` are written, and of their words those were read that are not
--- written whole: the first and the last one at the most
-pub record EndsRead (old new from at end : ℕ) : Type 0 where
-  pub low : from ≤ at
-  pub rises : old ≤ new
-  pub most : new ≤ old + 2
-  pub few : at < end → new ≤ old + 1
-  pub first : at ≡ from → new ≡ old
-  pub here : at < end → (at ≡ from) ⊎ (at % 8 ≡ 0)
-
--- after the bytes of one word more, of those that are left
-pub ends_on : (old mid new from at count left next end : ℕ) → EndsRead old mid from at end → at + left ≡ end → next ≡ at + count → 1 ≤ count → count ≤ left → at % 8 + count ≤ 8 → (count ≡ left) ⊎ (at % 8 + count ≡ 8) → mid ≤ new → new ≤ mid + 1 → (count ≡ 8 → new ≡ mid)
-    → EndsRead old new from next end
-ends_on old mid new from at count left next end h is then some room word least rises reads whole = grind arith
-
--- the bytes of that word are as many
-pub as_many : (b : List ℕ) (done count : ℕ) → count ≤ length b - done → length (take ((done + count) - done) (drop done b)) ≡ count
-as_many b done count room =
-    let long = length-drop done b in
-    length-take-le ((done + count) - done) (drop done b) (omega (arith, long)) ∙ (let e : (done + count) - done ≡ count = omega arith in e)
 
 -- ---- the parts of a piece
 

@@ -31,7 +31,6 @@ pub record BlockStands (m : List (List ℕ)) (p : ℕ) (used : Bool) (words : �
   pub high : p + words ≤ length m
   pub block : used ≡ true → IsUsedBlock m p
   pub next : Walk m (p + words) (blocks_at m (p + words))
-  pub count : length (blocks_at m p) ≡ 1 + length (blocks_at m (p + words))
   pub first : (n : List ℕ) → first_named m (blocks_at m p) n ≡ cond (used && bytes_eq (name_at m p) n) (Some p) (first_named m (blocks_at m (p + words)) n)
 
 module _ (m : List (List ℕ)) where
@@ -53,7 +52,6 @@ module _ (m : List (List ℕ)) where
         high = w.read.1;
         block = λ h. record { words = b.words; good = w.records.0 h; end = w.read.1 };
         next = subst (λ (l : List Block). Walk m (b.place + b.words) l) rest tail;
-        count = let long = ap length step in omega (arith, long);
         first = λ n. ap (λ (l : List Block). first_named m l n) step ∙ first_is b (blocks_at m (b.place + b.words)) n;
       }
 

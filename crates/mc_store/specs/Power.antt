@@ -1,6 +1,6 @@
 -- What a power-up does: recovery (the replay of the open journal), then the migration of a card of layout 1; and what a
 -- stop leaves.
-use Rattle.std.specs.Prelude.{◌≡◌, ◌≢◌, ℕ, ◌+◌, ◌-◌, ◌*◌, ◌<◌, ◌≤◌, true, cond, ◌==◌, List, [], ◌∷◌, ◌++◌, length, slice_set, Some, None, Result, Ok, Err}
+use Rattle.std.specs.Prelude.{◌≡◌, ◌≢◌, ℕ, ◌+◌, ◌-◌, ◌<◌, ◌≤◌, true, cond, ◌==◌, List, [], ◌∷◌, ◌++◌, length, slice_set, Some, None, Result, Ok, Err}
 use Rattle.mc_base.specs.model_device.specs.declared.cause.Cause.{Cause}
 use Rattle.mc_base.specs.model_device.specs.declared.cause.Cause.TheVariants.{BadJournal}
 use Rattle.mc_base.specs.model_device.specs.declared.device.Stop.{Stop}
@@ -8,7 +8,7 @@ use Rattle.mc_base.specs.model_device.specs.Orders.{Answer}
 use Rattle.mc_base.specs.model_device.specs.Image.{Journal, One, look, which, count_of_recovery_writes, Only, Closed, Refused}
 use Rattle.mc_base.specs.model_device.specs.Device.{DeviceState, Ended, GrowsBy, done_entries, torn_entries}
 use Rattle.mc_base.specs.model_device.specs.Stopped.{writes, owed_writes, image_after_stop, stands, owes, remains}
-use Rattle.mc_base.specs.model_device.specs.Card.{word, blocks, means}
+use Rattle.mc_base.specs.model_device.specs.Card.{word, means}
 use Rattle.mc_base.specs.model_device.specs.Layout.{fault}
 use Rattle.mc_base.specs.model_device.specs.PowerUp.{Base, OnCard, AtFault, base_of, migration, base_after_migration, pending_journal}
 use Rattle.mc_store.specs.Store.{settled_words, is_going}
@@ -39,11 +39,6 @@ power_writes m = owed_writes (look m) ++ migration_writes (base_of_words m) (set
 -- the number of device writes of a power-up
 abbrev pub power_count : List (List ℕ) → ℕ
 power_count m = count_of_recovery_writes m + migration (base_of_words m)
-
--- the most words that a power-up reads: two gates, 130 of the journal that is open, 8 and 10 for each block of the walk
--- after the replay, and the root of a migration
-abbrev pub most_power_reads : List (List ℕ) → ℕ
-most_power_reads m = 141 + 10 * length (blocks (settled_words m))
 
 -- ---- how it ends
 

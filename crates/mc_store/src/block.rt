@@ -1,5 +1,5 @@
 // The used blocks of a card and their records, read by their places.
-ghost use Rattle.std.specs.Prelude.{◌≡◌, ◌+◌, ◌*◌, ◌<◌, ◌≤◌, ◌&&◌, ◌==◌, None, IfSome, is_some, option_map, length, take, bytes_eq, true};
+ghost use Rattle.std.specs.Prelude.{◌≡◌, ◌+◌, ◌<◌, ◌≤◌, ◌&&◌, ◌==◌, None, IfSome, is_some, option_map, length, take, bytes_eq, true};
 ghost use Rattle.mc_base.specs.model_device.specs.Device.{IsImage};
 ghost use Rattle.mc_base.specs.model_device.specs.Card.{blocks, record_at, name_at};
 ghost use Rattle.mc_base.specs.model_device.specs.Layout.{words_fault};
@@ -7,27 +7,25 @@ ghost use Rattle.mc_bank.specs.Slots.{slot_place, slot_sizes};
 ghost use Rattle.mc_store.specs.Slots.{first_named, record_sizes, IsUsedBlock};
 
 use mc_bank::{Sizes, Slot};
-use mc_base::{Aid, Steps, Word, number_of};
+use mc_base::{Aid, Word, number_of};
 use mc_blocks::{HEAP, Header, Record, name_of, read_header, read_record, record_from};
 use mc_nvm::Nvm;
 
 /// Returns the slot of the used block that has this name, or `None` if there is none, on words without a fault.
-pub fn find_block<N: Nvm>(device: &N, aid: &Aid, steps: &mut Steps<N::Meter>) -> Option<Slot>
+pub fn find_block<N: Nvm>(device: &N, aid: &Aid) -> Option<Slot>
     requires laid { words_fault (N.state device.now).words ≡ None }
     ensures place { option_map slot_place result
         ≡ first_named (N.state device.now).words (blocks (N.state device.now).words) aid.now }
     ensures sizes { IfSome result (λ slot. slot_sizes slot
         ≡ record_sizes (record_at (N.state device.now).words (slot_place slot))) }
     ensures image { IsImage (N.state device.now).words }
-    ensures rises { steps.old ≤ steps.new }
-    ensures reads { steps.new ≤ steps.old + 5 * length (blocks (N.state device.now).words) }
 {
     let size = device.len();
     let head = head_of(aid);
     let mut place = HEAP;
     while place < size {
-        let header = read_header(device, place, steps);
-        if let Some(sizes) = sizes_of_name(device, place, &header, aid, &head, steps) {
+        let header = read_header(device, place);
+        if let Some(sizes) = sizes_of_name(device, place, &header, aid, &head) {
             return Some(Slot::new(place as u16, sizes));
         }
         place += header.words as u32;
@@ -42,25 +40,22 @@ fn sizes_of_name<N: Nvm>(
     header: &Header,
     aid: &Aid,
     head: &[u8; 5],
-    steps: &mut Steps<N::Meter>,
 ) -> Option<Sizes>
     requires fits { header.now.used ≡ true → place + 5 ≤ length (N.state device.now).words }
     requires head { head.now ≡ take 5 aid.now }
     requires name { 5 ≤ length aid.now }
     ensures name { is_some result ≡ (header.now.used && bytes_eq (name_at (N.state device.now).words place) aid.now) }
     ensures sizes { IfSome result (λ sizes. sizes ≡ record_sizes (record_at (N.state device.now).words place)) }
-    ensures rises { steps.old ≤ steps.new }
-    ensures reads { steps.new ≤ steps.old + 4 }
 {
     if !header.used {
         return None;
     }
     let _size = device.len();
-    let first = device.read(place + 1, steps);
+    let first = device.read(place + 1);
     if !begins(&first, head) {
         return None;
     }
-    let entry = record_from(device, place, first, steps);
+    let entry = record_from(device, place, first);
     if name_of(&entry) == aid.bytes() {
         Some(sizes_of(&entry))
     } else {
@@ -90,13 +85,12 @@ fn begins(first: &Word, head: &[u8; 5]) -> bool
 }
 
 /// Returns the name in the record of the used block at a place.
-pub fn name_of_block<N: Nvm>(device: &N, place: u16, steps: &mut Steps<N::Meter>) -> Aid
+pub fn name_of_block<N: Nvm>(device: &N, place: u16) -> Aid
     requires { IsUsedBlock (N.state device.now).words place }
-    ensures name { result ≡ name_at (N.state device.now).words place }
-    ensures ticks { steps.new ≡ steps.old + 4 }
+    ensures { result ≡ name_at (N.state device.now).words place }
 {
     let _size = device.len();
-    let entry = read_record(device, place as u32, steps);
+    let entry = read_record(device, place as u32);
     Aid::new(name_of(&entry)).unwrap()
 }
 

@@ -14,7 +14,7 @@ use crate::place::part_place;
 use crate::store::Store;
 use arrayvec::ArrayVec;
 use mc_bank::{Part, Slot};
-use mc_base::{Steps, Stop, Word};
+use mc_base::{Stop, Word};
 use mc_blocks::free_plan;
 use mc_nvm::Nvm;
 use mc_packed::write_words;
@@ -84,20 +84,14 @@ fn shifted(first: u16, list: &[(u16, Word)]) -> ArrayVec<(u16, Word), 64>
 /// # Errors
 ///
 /// Returns the stop of a write; the application is there or not then.
-pub fn delete<N: Nvm>(
-    store: &mut Store<N>,
-    slot: Slot,
-    steps: &mut Steps<N::Meter>,
-) -> Result<(), Stop>
+pub fn delete<N: Nvm>(store: &mut Store<N>, slot: Slot) -> Result<(), Stop>
     requires going { is_going (N.state store.old.device) store.old.count ≡ true }
     requires there { IsSome (store_named (N.state store.old.device) slot) }
     ensures did { store_did N.state N.wrote store.old
         (Remove (name_or (store_named (N.state store.old.device) slot))) result store.new }
-    ensures rises { steps.old ≤ steps.new }
-    ensures reads { steps.new ≤ steps.old + 37 }
 {
     let _size = store.device.len();
-    let plan = free_plan(&store.device, slot.index(), steps);
+    let plan = free_plan(&store.device, slot.index());
     write_words(&mut store.device, plan.as_slice())?;
     store.count -= 1;
     Ok(())

@@ -16,7 +16,7 @@ use crate::filling::{room_in_word, write_part};
 use crate::place::{needed_words, part_place};
 use crate::store::Store;
 use mc_bank::{Part, Site, Sizes};
-use mc_base::{Aid, Steps, Stop, Word};
+use mc_base::{Aid, Stop, Word};
 use mc_blocks::take_plan;
 use mc_nvm::Nvm;
 use mc_packed::write_words;
@@ -26,28 +26,21 @@ use mc_packed::write_words;
 /// # Errors
 ///
 /// Returns the stop of a write; the application is there or not then.
-pub fn create<N: Nvm>(
-    store: &mut Store<N>,
-    site: &Site,
-    aid: &Aid,
-    steps: &mut Steps<N::Meter>,
-) -> Result<(), Stop>
+pub fn create<N: Nvm>(store: &mut Store<N>, site: &Site, aid: &Aid) -> Result<(), Stop>
     requires going { is_going (N.state store.old.device) store.old.count ≡ true }
     requires good { IsGoodIn (N.state store.old.device).words site.now }
     requires fresh { lookup (means (N.state store.old.device).words).apps aid.now ≡ None }
     ensures items { InOrder (store_did N.state N.wrote) store.old (create_items site.now aid.now) result store.new }
-    ensures rises { steps.old ≤ steps.new }
-    ensures reads { steps.new ≤ steps.old + 38 }
 {
     let _size = store.device.len();
     let _name = aid.bytes();
-    clear(store, site, steps)?;
+    clear(store, site)?;
     note(store, site, aid)?;
-    enter(store, site, aid, steps)
+    enter(store, site, aid)
 }
 
 // Writes zeros after the data, as far as the static bytes go.
-fn clear<N: Nvm>(store: &mut Store<N>, site: &Site, steps: &mut Steps<N::Meter>) -> Result<(), Stop>
+fn clear<N: Nvm>(store: &mut Store<N>, site: &Site) -> Result<(), Stop>
     requires going { is_going (N.state store.old.device) store.old.count ≡ true }
     requires good { IsGoodIn (N.state store.old.device).words site.now }
     ensures items { InOrder (store_did N.state N.wrote) store.old
@@ -55,15 +48,13 @@ fn clear<N: Nvm>(store: &mut Store<N>, site: &Site, steps: &mut Steps<N::Meter>)
         store.new }
     ensures going { OnOk result (is_going (N.state store.new.device) store.new.count ≡ true) }
     ensures good { OnOk result (IsGoodIn (N.state store.new.device).words site.now) }
-    ensures rises { steps.old ≤ steps.new }
-    ensures reads { steps.new ≤ steps.old + 2 }
 {
     let sizes = site.sizes();
     let from = part_place(Part::Data, &sizes, site.place());
     let mut at = sizes.init;
     while at < sizes.fixed {
         let count = room_in_word(at, (sizes.fixed - at) as usize);
-        put_zeros(store, site, from, at, count, steps)?;
+        put_zeros(store, site, from, at, count)?;
         at += count as u16;
     }
     Ok(())
@@ -76,7 +67,6 @@ fn put_zeros<N: Nvm>(
     from: u32,
     at: u16,
     count: usize,
-    steps: &mut Steps<N::Meter>,
 ) -> Result<(), Stop>
     requires going { is_going (N.state store.old.device) store.old.count ≡ true }
     requires good { IsGoodIn (N.state store.old.device).words site.now }
@@ -85,12 +75,9 @@ fn put_zeros<N: Nvm>(
     ensures did { store_did N.state N.wrote store.old (Blank site.now at count) result store.new }
     ensures going { OnOk result (is_going (N.state store.new.device) store.new.count ≡ true) }
     ensures good { OnOk result (IsGoodIn (N.state store.new.device).words site.now) }
-    ensures rises { steps.old ≤ steps.new }
-    ensures reads { steps.new ≤ steps.old + 1 }
-    ensures whole { count ≡ 8 → steps.new ≡ steps.old }
 {
     let _size = store.device.len();
-    write_part(&mut store.device, from, at, &[0; 8][..count], steps)
+    write_part(&mut store.device, from, at, &[0; 8][..count])
 }
 
 // Writes the four words of the record.
@@ -202,25 +189,13 @@ fn access_word(sizes: &Sizes) -> Word
 }
 
 // Makes the application, whose record and sections are there.
-fn enter<N: Nvm>(
-    store: &mut Store<N>,
-    site: &Site,
-    aid: &Aid,
-    steps: &mut Steps<N::Meter>,
-) -> Result<(), Stop>
+fn enter<N: Nvm>(store: &mut Store<N>, site: &Site, aid: &Aid) -> Result<(), Stop>
     requires going { is_going (N.state store.old.device) store.old.count ≡ true }
     requires ready { IsReadySite (N.state store.old.device).words site.now aid.now }
     ensures did { store_did N.state N.wrote store.old (Enter site.now aid.now) result store.new }
-    ensures rises { steps.old ≤ steps.new }
-    ensures reads { steps.new ≤ steps.old + 36 }
 {
     let _size = store.device.len();
-    let plan = take_plan(
-        &store.device,
-        site.place(),
-        needed_words(&site.sizes()),
-        steps,
-    );
+    let plan = take_plan(&store.device, site.place(), needed_words(&site.sizes()));
     write_words(&mut store.device, plan.as_slice())?;
     store.count += 1;
     Ok(())

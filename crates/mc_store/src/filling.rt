@@ -12,7 +12,7 @@ ghost use Rattle.mc_store.specs.StoreItems.{store_did};
 use crate::place::part_place;
 use crate::store::Store;
 use mc_bank::{Part, Site};
-use mc_base::{Steps, Stop, Word};
+use mc_base::{Stop, Word};
 use mc_nvm::Nvm;
 
 /// Sets bytes of a section of a site that has room.
@@ -26,30 +26,19 @@ pub fn fill<N: Nvm>(
     part: Part,
     at: u16,
     piece: &[u8],
-    steps: &mut Steps<N::Meter>,
 ) -> Result<(), Stop>
     requires going { is_going (N.state store.old.device) store.old.count ≡ true }
     requires good { IsGoodIn (N.state store.old.device).words site.now }
     requires range { at + length piece.now ≤ part_len part site.now.sizes }
     ensures items { InOrder (store_did N.state N.wrote) store.old (map
         (λ c. Piece site.now part c.0 c.1) (word_parts at piece.now)) result store.new }
-    ensures rises { steps.old ≤ steps.new }
-    ensures reads { steps.new ≤ steps.old + 2 }
 {
     let place = part_place(part, &site.sizes(), site.place());
     let mut done = 0;
     while done < piece.len() {
         let from = at + done as u16;
         let count = room_in_word(from, piece.len() - done);
-        put_part(
-            store,
-            site,
-            part,
-            place,
-            from,
-            &piece[done..done + count],
-            steps,
-        )?;
+        put_part(store, site, part, place, from, &piece[done..done + count])?;
         done += count;
     }
     Ok(())
@@ -74,7 +63,6 @@ fn put_part<N: Nvm>(
     place: u32,
     at: u16,
     bytes: &[u8],
-    steps: &mut Steps<N::Meter>,
 ) -> Result<(), Stop>
     requires going { is_going (N.state store.old.device) store.old.count ≡ true }
     requires good { IsGoodIn (N.state store.old.device).words site.now }
@@ -83,12 +71,9 @@ fn put_part<N: Nvm>(
     ensures did { store_did N.state N.wrote store.old (Piece site.now part at bytes.now) result store.new }
     ensures going { OnOk result (is_going (N.state store.new.device) store.new.count ≡ true) }
     ensures good { OnOk result (IsGoodIn (N.state store.new.device).words site.now) }
-    ensures rises { steps.old ≤ steps.new }
-    ensures reads { steps.new ≤ steps.old + 1 }
-    ensures whole { length bytes.now ≡ 8 → steps.new ≡ steps.old }
 {
     let _size = store.device.len();
-    write_part(&mut store.device, place, at, bytes, steps)
+    write_part(&mut store.device, place, at, bytes)
 }
 
 /// Writes bytes into one word of those from a place on; its other bytes stay. A word that is written whole is not
@@ -97,28 +82,19 @@ fn put_part<N: Nvm>(
 /// # Errors
 ///
 /// Returns the stop of the write; the word may hold anything then.
-pub fn write_part<N: Nvm>(
-    device: &mut N,
-    from: u32,
-    at: u16,
-    bytes: &[u8],
-    steps: &mut Steps<N::Meter>,
-) -> Result<(), Stop>
+pub fn write_part<N: Nvm>(device: &mut N, from: u32, at: u16, bytes: &[u8]) -> Result<(), Stop>
     requires power { (N.state device.old).on ≡ true }
     requires place { from + at / 8 < length (N.state device.old).words }
     requires word { at % 8 + length bytes.now ≤ 8 }
     ensures wrote { N.wrote device.old (from + at / 8)
         (splice (word (N.state device.old).words (from + at / 8)) (at % 8) bytes.now) result device.new }
-    ensures rises { steps.old ≤ steps.new }
-    ensures reads { steps.new ≤ steps.old + 1 }
-    ensures whole { length bytes.now ≡ 8 → steps.new ≡ steps.old }
 {
     let _size = device.len();
     let place = from + (at / 8) as u32;
     if bytes.len() == 8 {
         return device.write(place, whole_word(bytes));
     }
-    let word = with_bytes(device.read(place, steps), (at % 8) as usize, bytes);
+    let word = with_bytes(device.read(place), (at % 8) as usize, bytes);
     device.write(place, word)
 }
 

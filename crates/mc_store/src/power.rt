@@ -1,17 +1,17 @@
 // A power-up: the journal that is open is replayed, the words are checked, and a card of layout 1 is migrated.
-ghost use Rattle.std.specs.Prelude.{◌≡◌, ◌+◌, ◌*◌, ◌≤◌, ◌==◌, [], ◌∷◌, None, length, slice_set, cond, true, false, IfOk, IfErr};
+ghost use Rattle.std.specs.Prelude.{◌≡◌, ◌≤◌, ◌==◌, [], ◌∷◌, None, length, slice_set, cond, true, false, IfOk, IfErr};
 ghost use Rattle.mc_base.specs.model_device.specs.Orders.{answer_of};
 ghost use Rattle.mc_base.specs.model_device.specs.Device.{Makes, IsImage};
 ghost use Rattle.mc_base.specs.model_device.specs.Image.{One, Closed, look, look_j, is_open};
 ghost use Rattle.mc_base.specs.model_device.specs.Stopped.{writes, owed_writes, outcome_answer, RecoverEnds};
-ghost use Rattle.mc_base.specs.model_device.specs.Card.{blocks, means, word};
+ghost use Rattle.mc_base.specs.model_device.specs.Card.{means, word};
 ghost use Rattle.mc_base.specs.model_device.specs.Layout.{fault};
 ghost use Rattle.mc_gate.specs.Layouts.{journal_of};
 ghost use Rattle.mc_gate.specs.Recovery.{outcome_of};
 ghost use Rattle.mc_store.specs.Store.{settled_words};
-ghost use Rattle.mc_store.specs.Power.{new_root, base_of_words, migration_writes, power_writes, power_answer, most_power_reads, PowersUp, PowerFollows, RecoverFollows, FinishFollows, recovery_end, preparation_end};
+ghost use Rattle.mc_store.specs.Power.{new_root, base_of_words, migration_writes, power_writes, power_answer, PowersUp, PowerFollows, RecoverFollows, FinishFollows, recovery_end, preparation_end};
 
-use mc_base::{Steps, Stop, Word};
+use mc_base::{Stop, Word};
 use mc_blocks::{Cause, Shape, Unusable, walk};
 use mc_gate::{Layout, Recover, is_gate_open};
 use mc_nvm::Nvm;
@@ -40,38 +40,34 @@ pub struct Ready {
 ///
 /// Returns `Up::Stop` if a write stopped, and `Up::Unusable` with the first fault and its place if the words are no
 /// card.
-pub fn prepare<N: Nvm>(device: &mut N, steps: &mut Steps<N::Meter>) -> Result<Ready, Up>
+pub fn prepare<N: Nvm>(device: &mut N) -> Result<Ready, Up>
     requires power { (N.state device.old).on ≡ true }
     ensures makes { Makes N.wrote device.old (power_writes (N.state device.old).words)
         (power_answer (preparation_end result)) device.new }
     ensures ends { PowersUp (N.state device.old) (preparation_end result) (N.state device.new) }
     ensures keeps_device { N.same device.old device.new }
-    ensures rises { steps.old ≤ steps.new }
-    ensures reads { steps.new ≤ steps.old + most_power_reads (N.state device.old).words }
 {
     let _size = device.len();
-    recover_and_finish(device, steps)
+    recover_and_finish(device)
 }
 
 // Does the work of `prepare`; its contract is by the list of writes.
-fn recover_and_finish<N: Nvm>(device: &mut N, steps: &mut Steps<N::Meter>) -> Result<Ready, Up>
+fn recover_and_finish<N: Nvm>(device: &mut N) -> Result<Ready, Up>
     requires power { (N.state device.old).on ≡ true }
     ensures makes { Makes N.wrote device.old (power_writes (N.state device.old).words)
         (power_answer (preparation_end result)) device.new }
     ensures follows { PowerFollows (N.state device.old).words (preparation_end result) }
     ensures keeps_device { N.same device.old device.new }
-    ensures rises { steps.old ≤ steps.new }
-    ensures reads { steps.new ≤ steps.old + most_power_reads (N.state device.old).words }
 {
-    match recover(device, steps) {
-        Ok(owed) => finish(device, owed, steps),
+    match recover(device) {
+        Ok(owed) => finish(device, owed),
         Err(up) => Err(up),
     }
 }
 
 // Replays the journal that is open, if one is, and returns the number of writes. The gate of layout 2 is looked at
 // first.
-fn recover<N: Nvm>(device: &mut N, steps: &mut Steps<N::Meter>) -> Result<u16, Up>
+fn recover<N: Nvm>(device: &mut N) -> Result<u16, Up>
     requires power { (N.state device.old).on ≡ true }
     ensures makes { Makes N.wrote device.old (owed_writes (look (N.state device.old).words))
         (power_answer (recovery_end result)) device.new }
@@ -82,40 +78,32 @@ fn recover<N: Nvm>(device: &mut N, steps: &mut Steps<N::Meter>) -> Result<u16, U
     ensures few { IfOk result (λ n. n ≤ 65) }
     ensures low { 256 ≤ length (N.state device.old).words }
     ensures keeps_device { N.same device.old device.new }
-    ensures rises { steps.old ≤ steps.new }
-    ensures reads { steps.new ≤ steps.old + 132 }
 {
     let _size = device.len();
-    replay_open(device, steps)
+    replay_open(device)
 }
 
 // Does the work of `recover`; its contract is by the list of writes.
-fn replay_open<N: Nvm>(device: &mut N, steps: &mut Steps<N::Meter>) -> Result<u16, Up>
+fn replay_open<N: Nvm>(device: &mut N) -> Result<u16, Up>
     requires power { (N.state device.old).on ≡ true }
     ensures makes { Makes N.wrote device.old (owed_writes (look (N.state device.old).words))
         (power_answer (recovery_end result)) device.new }
     ensures follows { RecoverFollows (N.state device.old).words (recovery_end result) }
     ensures few { IfOk result (λ n. n ≤ 65) }
     ensures keeps_device { N.same device.old device.new }
-    ensures rises { steps.old ≤ steps.new }
-    ensures reads { steps.new ≤ steps.old + 132 }
 {
-    let packed = is_gate_open(device, Layout::V2, steps);
-    let plain = is_gate_open(device, Layout::V1, steps);
+    let packed = is_gate_open(device, Layout::V2);
+    let plain = is_gate_open(device, Layout::V1);
     match (packed, plain) {
         (true, true) => Err(bad_journal(Layout::V1.gate() as u16)),
-        (true, false) => replay_alone(device, Layout::V2, steps),
-        (false, true) => replay_alone(device, Layout::V1, steps),
+        (true, false) => replay_alone(device, Layout::V2),
+        (false, true) => replay_alone(device, Layout::V1),
         (false, false) => Ok(0),
     }
 }
 
 // Replays a journal, which alone is open.
-fn replay_alone<N: Nvm>(
-    device: &mut N,
-    layout: Layout,
-    steps: &mut Steps<N::Meter>,
-) -> Result<u16, Up>
+fn replay_alone<N: Nvm>(device: &mut N, layout: Layout) -> Result<u16, Up>
     requires power { (N.state device.old).on ≡ true }
     requires low { 256 ≤ length (N.state device.old).words }
     requires alone { look (N.state device.old).words ≡ look_j (journal_of layout) (N.state device.old).words }
@@ -124,10 +112,8 @@ fn replay_alone<N: Nvm>(
     ensures follows { RecoverFollows (N.state device.old).words (recovery_end result) }
     ensures few { IfOk result (λ n. n ≤ 65) }
     ensures keeps_device { N.same device.old device.new }
-    ensures rises { steps.old ≤ steps.new }
-    ensures reads { steps.new ≤ steps.old + 130 }
 {
-    match replay(device, layout, steps) {
+    match replay(device, layout) {
         Ok(writes) => Ok(writes),
         Err(Recover::Stop(stop)) => Err(Up::Stop(stop)),
         Err(Recover::BadJournal(place)) => Err(bad_journal(place)),
@@ -135,23 +121,17 @@ fn replay_alone<N: Nvm>(
 }
 
 // Replays a journal by the recovery of its layout.
-fn replay<N: Nvm>(
-    device: &mut N,
-    layout: Layout,
-    steps: &mut Steps<N::Meter>,
-) -> Result<u16, Recover>
+fn replay<N: Nvm>(device: &mut N, layout: Layout) -> Result<u16, Recover>
     requires power { (N.state device.old).on ≡ true }
     ensures makes { Makes N.wrote device.old (owed_writes (look_j (journal_of layout) (N.state device.old).words))
         (outcome_answer (outcome_of result)) device.new }
     ensures ends { RecoverEnds (journal_of layout) (look_j (journal_of layout) (N.state device.old).words)
         (N.state device.old) (outcome_of result) (N.state device.new) }
     ensures keeps_device { N.same device.old device.new }
-    ensures rises { steps.old ≤ steps.new }
-    ensures reads { steps.new ≤ steps.old + 130 }
 {
     match layout {
-        Layout::V1 => mc_journal::recover(device, steps),
-        Layout::V2 => mc_packed::recover(device, steps),
+        Layout::V1 => mc_journal::recover(device),
+        Layout::V2 => mc_packed::recover(device),
     }
 }
 
@@ -166,7 +146,7 @@ fn bad_journal(place: u16) -> Up
 }
 
 // Checks words with no open journal, and migrates a card of layout 1, after `owed` writes of recovery.
-fn finish<N: Nvm>(device: &mut N, owed: u16, steps: &mut Steps<N::Meter>) -> Result<Ready, Up>
+fn finish<N: Nvm>(device: &mut N, owed: u16) -> Result<Ready, Up>
     requires power { (N.state device.old).on ≡ true }
     requires closed { look (N.state device.old).words ≡ Closed }
     requires few { owed ≤ 65 }
@@ -175,22 +155,15 @@ fn finish<N: Nvm>(device: &mut N, owed: u16, steps: &mut Steps<N::Meter>) -> Res
         (power_answer (preparation_end result)) device.new }
     ensures follows { FinishFollows (N.state device.old).words owed (preparation_end result) }
     ensures keeps_device { N.same device.old device.new }
-    ensures rises { steps.old ≤ steps.new }
-    ensures reads { steps.new ≤ steps.old + (9 + 10 * length (blocks (N.state device.old).words)) }
 {
-    match walk(device, steps) {
-        Ok(shape) => upgrade(device, owed, &shape, steps),
+    match walk(device) {
+        Ok(shape) => upgrade(device, owed, &shape),
         Err(unusable) => Err(Up::Unusable(unusable)),
     }
 }
 
 // Migrates a card of layout 1, and leaves one of layout 2 as it is.
-fn upgrade<N: Nvm>(
-    device: &mut N,
-    owed: u16,
-    shape: &Shape,
-    steps: &mut Steps<N::Meter>,
-) -> Result<Ready, Up>
+fn upgrade<N: Nvm>(device: &mut N, owed: u16, shape: &Shape) -> Result<Ready, Up>
     requires power { (N.state device.old).on ≡ true }
     requires closed { look (N.state device.old).words ≡ Closed }
     requires card { fault (N.state device.old).words ≡ None }
@@ -202,10 +175,8 @@ fn upgrade<N: Nvm>(
         (power_answer (preparation_end result)) device.new }
     ensures follows { FinishFollows (N.state device.old).words owed (preparation_end result) }
     ensures keeps_device { N.same device.old device.new }
-    ensures rises { steps.old ≤ steps.new }
-    ensures reads { steps.new ≤ steps.old + 1 }
 {
-    match migrate(device, shape.layout, steps) {
+    match migrate(device, shape.layout) {
         Ok(moved) => Ok(Ready {
             writes: owed + moved,
             count: shape.used,
@@ -216,30 +187,27 @@ fn upgrade<N: Nvm>(
 
 // Writes version 2 into a root of layout 1 by one atomic write of the journal of layout 1, and returns the number of
 // device writes.
-fn migrate<N: Nvm>(device: &mut N, layout: u8, steps: &mut Steps<N::Meter>) -> Result<u16, Stop>
+fn migrate<N: Nvm>(device: &mut N, layout: u8) -> Result<u16, Stop>
     requires power { (N.state device.old).on ≡ true }
     requires gate { is_open One (N.state device.old).words ≡ false }
     ensures makes { Makes N.wrote device.old
         (cond (layout == 1) (writes One (new_root (N.state device.old).words)) []) (answer_of result) device.new }
     ensures count { IfOk result (λ n. n ≡ cond (layout == 1) 6 0) }
     ensures keeps_device { N.same device.old device.new }
-    ensures rises { steps.old ≤ steps.new }
-    ensures reads { steps.new ≤ steps.old + 1 }
 {
     if layout != 1 {
         return Ok(0);
     }
-    let root = upgraded_root(device, steps);
+    let root = upgraded_root(device);
     write_root(device, root)
 }
 
 // Returns the root with version 2.
-fn upgraded_root<N: Nvm>(device: &N, steps: &mut Steps<N::Meter>) -> Word
-    ensures root { result ≡ slice_set (word (N.state device.now).words 0) 3 2 }
-    ensures ticks { steps.new ≡ steps.old + 1 }
+fn upgraded_root<N: Nvm>(device: &N) -> Word
+    ensures { result ≡ slice_set (word (N.state device.now).words 0) 3 2 }
 {
     let _size = device.len();
-    let mut root = device.read(0, steps);
+    let mut root = device.read(0);
     root[VERSION] = 2;
     root
 }

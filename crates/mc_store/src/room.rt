@@ -12,7 +12,8 @@ use crate::place::needed_words;
 use mc_bank::{OpenRefusal, Site, Sizes};
 use mc_base::Steps;
 use mc_blocks::first_fit;
-use mc_nvm::Nvm;
+use mc_nvm::{Nvm, Probe};
+use std::sync::ledger::Ledger;
 
 /// The greatest number of applications of a card.
 const APPS: u16 = 32;
@@ -23,11 +24,11 @@ const APPS: u16 = 32;
 /// # Errors
 ///
 /// Returns `Apps` if 32 applications are there, else `NoRoom` if no hole is long enough.
-pub fn find_room<N: Nvm>(
+pub fn find_room<N: Nvm, L: Ledger>(
     device: &N,
     count: u16,
     sizes: &Sizes,
-    steps: &mut Steps<N::Meter>,
+    steps: &mut Steps<L>,
 ) -> Result<Site, OpenRefusal>
     requires going { (store_state (N.state device.now) count).stopped ≡ false }
     requires limits { FitsLimits sizes.now }
@@ -44,10 +45,10 @@ pub fn find_room<N: Nvm>(
 }
 
 // Looks for a hole if fewer than 32 applications are there.
-fn first_room<N: Nvm>(
+fn first_room<N: Nvm, L: Ledger>(
     device: &N,
     sizes: &Sizes,
-    steps: &mut Steps<N::Meter>,
+    steps: &mut Steps<L>,
 ) -> Result<Site, OpenRefusal>
     requires image { IsImage (N.state device.now).words }
     requires closed { look (N.state device.now).words ≡ Closed }
@@ -57,7 +58,7 @@ fn first_room<N: Nvm>(
     ensures ticks { steps.new ≡ steps.old
         + (1 + count_of_searched_gaps (words_of_sizes sizes.now) (gaps (means (N.state device.now).words))) }
 {
-    match first_fit(device, needed_words(sizes), steps) {
+    match first_fit(&Probe::new(device), needed_words(sizes), steps) {
         Some(place) => Ok(Site::new(*sizes, place)),
         None => Err(OpenRefusal::NoRoom),
     }

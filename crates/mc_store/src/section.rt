@@ -1,37 +1,26 @@
 // Bytes of the sections of a block, read word by word.
-ghost use Rattle.std.specs.Prelude.{◌≡◌, ◌+◌, ◌*◌, ◌%◌, ◌<◌, ◌≤◌, cond, length, take, drop, true};
+ghost use Rattle.std.specs.Prelude.{◌≡◌, ◌+◌, ◌*◌, ◌<◌, ◌≤◌, length, take, drop, true};
 ghost use Rattle.mc_base.specs.model_device.specs.Card.{word};
 ghost use Rattle.mc_store.specs.Slots.{flat};
 
-use mc_base::{Steps, Word};
+use mc_base::Word;
 use mc_nvm::Nvm;
 
 // Copies at most seven bytes of the words of a device, from `skip` bytes after the start of the word at a place on.
 // They lie in two words at the most.
 #[inline(always)]
-fn read_few<N: Nvm>(
-    device: &N,
-    place: u32,
-    skip: usize,
-    into: &mut [u8],
-    steps: &mut Steps<N::Meter>,
-)
+fn read_few<N: Nvm>(device: &N, place: u32, skip: usize, into: &mut [u8])
     requires skip { skip < 8 }
     requires few { length into.old < 8 }
     requires range { 8 * place + skip + length into.old ≤ 8 * length (N.state device.now).words }
-    ensures bytes { into.new ≡ take (length into.old) (drop (8 * place + skip) (flat (N.state device.now).words)) }
-    ensures rises { steps.old ≤ steps.new }
-    ensures reads { 8 * steps.new ≤ 8 * steps.old + (skip + length into.old + 7) }
+    ensures { into.new ≡ take (length into.old) (drop (8 * place + skip) (flat (N.state device.now).words)) }
 {
     if into.is_empty() {
         return;
     }
     let _size = device.len();
     let end = skip + into.len();
-    let words = [
-        device.read(place, steps),
-        word_where(device, place + 1, end > 8, steps),
-    ];
+    let words = [device.read(place), word_where(device, place + 1, end > 8)];
     copy_few(into, &words.as_flattened()[skip..end]);
 }
 
@@ -76,38 +65,25 @@ fn copy_few(into: &mut [u8], from: &[u8])
 
 // Returns the word at a place if it is asked for.
 #[inline(always)]
-fn word_where<N: Nvm>(device: &N, place: u32, asked: bool, steps: &mut Steps<N::Meter>) -> Word
+fn word_where<N: Nvm>(device: &N, place: u32, asked: bool) -> Word
     requires { asked ≡ true → place < length (N.state device.now).words }
-    ensures word { asked ≡ true → result ≡ word (N.state device.now).words place }
-    ensures ticks { steps.new ≡ steps.old + cond asked 1 0 }
+    ensures { asked ≡ true → result ≡ word (N.state device.now).words place }
 {
-    if asked {
-        device.read(place, steps)
-    } else {
-        [0; 8]
-    }
+    if asked { device.read(place) } else { [0; 8] }
 }
 
 /// Copies bytes of the words of a device into the whole of `into`, from `at` bytes after the start of the word `from`
 /// on.
-pub fn read_bytes<N: Nvm>(
-    device: &N,
-    from: u32,
-    at: u16,
-    into: &mut [u8],
-    steps: &mut Steps<N::Meter>,
-)
+pub fn read_bytes<N: Nvm>(device: &N, from: u32, at: u16, into: &mut [u8])
     requires { 8 * from + at + length into.old ≤ 8 * length (N.state device.now).words }
-    ensures bytes { into.new ≡ take (length into.old) (drop (8 * from + at) (flat (N.state device.now).words)) }
-    ensures rises { steps.old ≤ steps.new }
-    ensures reads { 8 * steps.new ≤ 8 * steps.old + (at % 8 + length into.old + 7) }
+    ensures { into.new ≡ take (length into.old) (drop (8 * from + at) (flat (N.state device.now).words)) }
 {
     let _size = device.len();
     let mut place = from + (at / 8) as u32;
     let mut skip = (at % 8) as usize;
     let mut done = 0;
     while done < into.len() {
-        let word = device.read(place, steps);
+        let word = device.read(place);
         let count = (8 - skip).min(into.len() - done);
         into[done..done + count].copy_from_slice(&word[skip..skip + count]);
         done += count;
@@ -118,28 +94,14 @@ pub fn read_bytes<N: Nvm>(
 
 /// Copies bytes as `read_bytes` does, without a loop if there are few.
 #[inline(always)]
-pub fn read_window<N: Nvm>(
-    device: &N,
-    from: u32,
-    at: u16,
-    into: &mut [u8],
-    steps: &mut Steps<N::Meter>,
-)
+pub fn read_window<N: Nvm>(device: &N, from: u32, at: u16, into: &mut [u8])
     requires { 8 * from + at + length into.old ≤ 8 * length (N.state device.now).words }
-    ensures bytes { into.new ≡ take (length into.old) (drop (8 * from + at) (flat (N.state device.now).words)) }
-    ensures rises { steps.old ≤ steps.new }
-    ensures reads { 8 * steps.new ≤ 8 * steps.old + (at % 8 + length into.old + 7) }
+    ensures { into.new ≡ take (length into.old) (drop (8 * from + at) (flat (N.state device.now).words)) }
 {
     let _size = device.len();
     if into.len() < 8 {
-        read_few(
-            device,
-            from + (at / 8) as u32,
-            (at % 8) as usize,
-            into,
-            steps,
-        );
+        read_few(device, from + (at / 8) as u32, (at % 8) as usize, into);
     } else {
-        read_bytes(device, from, at, into, steps);
+        read_bytes(device, from, at, into);
     }
 }

@@ -1,7 +1,7 @@
-ghost use Rattle.std.specs.Prelude.{◌≡◌, ◌+◌, ◌≤◌, true, length};
+ghost use Rattle.std.specs.Prelude.{◌≡◌, true, length};
 ghost use Rattle.mc_base.specs.model_device.specs.Device.{Makes, IsImage};
 ghost use Rattle.std.specs.Borrow.{Lends, sem};
-ghost use Rattle.mc_store.specs.Power.{power_writes, power_answer, most_power_reads, power_up_end, restart_end, device_of, device_after, over, PowersUp};
+ghost use Rattle.mc_store.specs.Power.{power_writes, power_answer, power_up_end, restart_end, device_of, device_after, over, PowersUp};
 ghost use Rattle.mc_store.specs.contracts.store.Store.{the_row};
 
 use crate::block::{find_block, name_of_block};
@@ -12,13 +12,12 @@ use crate::{changes, creation, filling};
 use mc_bank::{Bank, Facts, OpenRefusal, Part, Site, Sizes, Slot};
 use mc_base::{Aid, Steps, Stop, Word};
 use mc_nvm::Nvm;
+use std::sync::ledger::Ledger;
 
 /// The applications of a card, in the words of its device. It keeps the number of applications, so that a search for
 /// room reads no more than the chain of holes.
-// With the bound here, and not at the impls alone, its value would also have the type of the device's ledger as a
-// parameter.
 #[derive(Drop)]
-pub struct Store<N> {
+pub struct Store<N: Nvm> {
     pub(crate) device: N,
     pub(crate) count: u16,
 }
@@ -34,7 +33,7 @@ impl<N: Nvm> Store<N> {
     /// Returns the device with `Up::Stop` if a write was cut or failed, and with `Up::Unusable`, the first fault and
     /// its place, if the
     /// words are no card.
-    pub fn power_up(dev: N, steps: &mut Steps<N::Meter>) -> Result<(Store<N>, u16), (N, Up)>
+    pub fn power_up(dev: N) -> Result<(Store<N>, u16), (N, Up)>
         requires power { (N.state dev).on ≡ true }
         // Up to the first one that stops it makes the writes that recovery still has to make and then those of the
         // migration.
@@ -45,11 +44,9 @@ impl<N: Nvm> Store<N> {
         ensures ends { PowersUp (N.state dev) (power_up_end result) (N.state (device_after result)) }
         // The device is the one that came in.
         ensures keeps_device { N.same dev (device_after result) }
-        ensures rises { steps.old ≤ steps.new }
-        ensures reads { steps.new ≤ steps.old + most_power_reads (N.state dev).words }
     {
         let mut store = Store::asleep(dev);
-        match store.restart(steps) {
+        match store.restart() {
             Ok(writes) => Ok((store, writes)),
             Err(up) => Err((store.into_dev(), up)),
         }
@@ -76,7 +73,7 @@ impl<N: Nvm> Store<N> {
     /// Returns `Up::Stop` if a write was cut or failed, and `Up::Unusable`, the first fault and its place, if the
     /// words are no
     /// card. After either only `into_dev` and `restart` may be called.
-    pub fn restart(&mut self, steps: &mut Steps<N::Meter>) -> Result<u16, Up>
+    pub fn restart(&mut self) -> Result<u16, Up>
         requires power { (N.state (device_of self.old)).on ≡ true }
         // Up to the first one that stops it makes the writes that recovery still has to make and then those of the
         // migration.
@@ -88,10 +85,8 @@ impl<N: Nvm> Store<N> {
             (N.state (device_of self.new)) }
         // The device is the one that was there.
         ensures keeps_device { N.same (device_of self.old) (device_of self.new) }
-        ensures rises { steps.old ≤ steps.new }
-        ensures reads { steps.new ≤ steps.old + most_power_reads (N.state (device_of self.old)).words }
     {
-        let Ready { writes, count } = prepare(&mut self.device, steps)?;
+        let Ready { writes, count } = prepare(&mut self.device)?;
         self.count = count;
         Ok(writes)
     }
@@ -123,8 +118,6 @@ impl<N: Nvm> Store<N> {
 }
 
 impl<N: Nvm> Bank for Store<N> {
-    type Meter = N::Meter;
-
     ghost use Rattle.mc_bank.specs.Slots.{slot_place};
     ghost use Rattle.mc_bank.specs.SlotLaws.{slot_sized};
     ghost use Rattle.mc_store.specs.Store.{apps_in, place_named, store_state, store_named, store_room, store_site_bytes, StoreDid};
@@ -153,8 +146,8 @@ impl<N: Nvm> Bank for Store<N> {
     ghost leaves = { λ s n ws a e did. store_leaves N.state N.wrote N.obeys s.device e.device s.count e.count n ws a
         did };
 
-    fn find(&self, aid: &Aid, steps: &mut Steps<N::Meter>) -> Option<Slot> {
-        find_block(&self.device, aid, steps)
+    fn find(&self, aid: &Aid) -> Option<Slot> {
+        find_block(&self.device, aid)
     }
 
     fn count(&self) -> u16 {
@@ -162,51 +155,44 @@ impl<N: Nvm> Bank for Store<N> {
         self.count
     }
 
-    fn facts(&self, slot: Slot, steps: &mut Steps<N::Meter>) -> Facts {
+    fn facts(&self, slot: Slot) -> Facts {
         let _size = self.device.len();
         Facts {
-            aid: name_of_block(&self.device, slot.index(), steps),
+            aid: name_of_block(&self.device, slot.index()),
             sizes: slot.sizes(),
         }
     }
 
     #[inline(always)]
-    fn code(&self, slot: Slot, at: u16, into: &mut [u8], steps: &mut Steps<N::Meter>) {
-        read_code(self, slot, at, into, steps);
+    fn code(&self, slot: Slot, at: u16, into: &mut [u8]) {
+        read_code(self, slot, at, into);
     }
 
-    fn fixed(&self, slot: Slot, at: u16, into: &mut [u8], steps: &mut Steps<N::Meter>) {
-        read_section(self, slot, Part::Data, at, into, steps);
+    fn fixed(&self, slot: Slot, at: u16, into: &mut [u8]) {
+        read_section(self, slot, Part::Data, at, into);
     }
 
-    fn fci(&self, slot: Slot, at: u16, into: &mut [u8], steps: &mut Steps<N::Meter>) {
-        read_section(self, slot, Part::Fci, at, into, steps);
+    fn fci(&self, slot: Slot, at: u16, into: &mut [u8]) {
+        read_section(self, slot, Part::Fci, at, into);
     }
 
     fn commit(&mut self, slot: Slot, list: &[(u16, Word)]) -> Result<(), Stop> {
         changes::commit(self, slot, list)
     }
 
-    fn open(&self, sizes: &Sizes, steps: &mut Steps<N::Meter>) -> Result<Site, OpenRefusal> {
+    fn open<L: Ledger>(&self, sizes: &Sizes, steps: &mut Steps<L>) -> Result<Site, OpenRefusal> {
         find_room(&self.device, self.count, sizes, steps)
     }
 
-    fn fill(
-        &mut self,
-        site: &Site,
-        part: Part,
-        at: u16,
-        piece: &[u8],
-        steps: &mut Steps<N::Meter>,
-    ) -> Result<(), Stop> {
-        filling::fill(self, site, part, at, piece, steps)
+    fn fill(&mut self, site: &Site, part: Part, at: u16, piece: &[u8]) -> Result<(), Stop> {
+        filling::fill(self, site, part, at, piece)
     }
 
-    fn create(&mut self, site: &Site, aid: &Aid, steps: &mut Steps<N::Meter>) -> Result<(), Stop> {
-        creation::create(self, site, aid, steps)
+    fn create(&mut self, site: &Site, aid: &Aid) -> Result<(), Stop> {
+        creation::create(self, site, aid)
     }
 
-    fn delete(&mut self, slot: Slot, steps: &mut Steps<N::Meter>) -> Result<(), Stop> {
-        changes::delete(self, slot, steps)
+    fn delete(&mut self, slot: Slot) -> Result<(), Stop> {
+        changes::delete(self, slot)
     }
 }

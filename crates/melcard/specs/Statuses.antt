@@ -74,12 +74,12 @@ abbrev pub text_of_step : Reporting → Step → List ℕ
 text_of_step Transcript = plain_text
 text_of_step Trace = traced_text
 
--- A deck was played and its output written, completely or up to a fault, with a step for each executed instruction and for
--- each word that was read of the device. Accepted code on its card keeps to its verdict.
+-- A deck was played and its output written, completely or up to a fault, with a step for each executed instruction and
+-- those of the searches for room. Accepted code on its card keeps to its verdict.
 pub record IsPlayed (t : Reporting) (lines : List (ℕ × DeckLine)) (s : Status) (dev_old : Bench) (out_old : Sunk) (dev : Bench) (out : Sunk) (steps_old steps : ℕ) : Type 0 where
   pub result : Result (Unit {0}) Fault
   pub status : s ≡ status_after_writing Done result
-  pub counts : CountsDeck 0 (text_of_step t) lines dev_old out_old result dev out steps_old steps
+  pub counts : CountsDeck (text_of_step t) lines dev_old out_old result dev out steps_old steps
   pub checked : KeepToVerdicts (play.plays (play.start dev_old.device.words) counts.deck.from.lines counts.deck.from.worn)
 
 -- A deck was played and summarised, completely or up to a fault, with its steps. Accepted code on its card keeps to its
@@ -87,7 +87,7 @@ pub record IsPlayed (t : Reporting) (lines : List (ℕ × DeckLine)) (s : Status
 pub record IsSummed (lines : List (ℕ × DeckLine)) (s : Status) (dev_old : Bench) (out_old : Sunk) (dev : Bench) (out : Sunk) (steps_old steps : ℕ) : Type 0 where
   pub result : Result (Unit {0}) Fault
   pub status : s ≡ status_after_writing Done result
-  pub counts : CountsSum 0 summary lines dev_old out_old result dev out steps_old steps
+  pub counts : CountsSum summary lines dev_old out_old result dev out steps_old steps
   pub checked : KeepToVerdicts (play.plays (play.start dev_old.device.words) lines counts.deck.worn)
 
 -- the verdict on an input was carried out

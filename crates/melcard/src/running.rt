@@ -25,17 +25,18 @@ use mc_nvm::Bench;
 use mc_script::{play, summarise, trace};
 use mc_streams::{Sink, Source, WriteFault, put_all};
 use std::alloc::Global;
+use std::sync::ledger::Ledger;
 
 // Plays a deck and writes the output of the play.
-fn play_as<T: Sink, N: Bench>(
+fn play_as<T: Sink, N: Bench, L: Ledger>(
     reporting: Reporting,
     deck: &Deck,
     out: &mut T,
     dev: &mut N,
-    steps: &mut Steps<N::Meter>,
+    steps: &mut Steps<L>,
 ) -> Result<(), WriteFault>
     requires { IsUnfused (N.bench dev.old) }
-    ensures { CountsDeck 0 (text_of_step reporting) deck.now (bench_at N.Bench dev.old)
+    ensures { CountsDeck (text_of_step reporting) deck.now (bench_at N.Bench dev.old)
         (sunk T.Sink out.old) result (bench_at N.Bench dev.new)
         (sunk T.Sink out.new) steps.old steps.new }
 {
@@ -46,13 +47,13 @@ fn play_as<T: Sink, N: Bench>(
 }
 
 // Plays the deck that an input spells, and writes the output of the play.
-fn report<S: Source, T: Sink, N: Bench>(
+fn report<S: Source, T: Sink, N: Bench, L: Ledger>(
     alloc: Global,
     reporting: Reporting,
     input: &mut S,
     out: &mut T,
     dev: &mut N,
-    steps: &mut Steps<N::Meter>,
+    steps: &mut Steps<L>,
 ) -> Result<Status, Rejection>
     requires { IsUnfused (N.bench dev.old) }
     ensures done { IfOk result (λ s. PlaysInput reporting s
@@ -68,12 +69,12 @@ fn report<S: Source, T: Sink, N: Bench>(
 }
 
 // Plays the deck that a number generates, and writes a summary of the play.
-fn sum<T: Sink, N: Bench>(
+fn sum<T: Sink, N: Bench, L: Ledger>(
     alloc: Global,
     number: u32,
     out: &mut T,
     dev: &mut N,
-    steps: &mut Steps<N::Meter>,
+    steps: &mut Steps<L>,
 ) -> Result<Status, Rejection>
     requires number { number ≤ greatest_number }
     requires fuses { IsUnfused (N.bench dev.old) }
@@ -108,13 +109,13 @@ fn write<S: Source, T: Sink>(
 }
 
 // Does a job.
-fn run<S: Source, T: Sink, N: Bench>(
+fn run<S: Source, T: Sink, N: Bench, L: Ledger>(
     alloc: Global,
     job: Job,
     input: &mut S,
     out: &mut T,
     dev: &mut N,
-    steps: &mut Steps<N::Meter>,
+    steps: &mut Steps<L>,
 ) -> Status
     requires fits { JobFits job }
     requires fuses { IsUnfused (N.bench dev.old) }
@@ -133,13 +134,13 @@ fn run<S: Source, T: Sink, N: Bench>(
 }
 
 // Does the job that the words select, or writes the usage line, and returns its status.
-fn run_words<S: Source, T: Sink, N: Bench>(
+fn run_words<S: Source, T: Sink, N: Bench, L: Ledger>(
     alloc: Global,
     words: &[String],
     input: &mut S,
     out: &mut T,
     dev: &mut N,
-    steps: &mut Steps<N::Meter>,
+    steps: &mut Steps<L>,
 ) -> Status
     requires { IsUnfused (N.bench dev.old) }
     ensures { MelcardSays (dev.new ≡ dev.old) result (job_of words.now)
@@ -154,13 +155,13 @@ fn run_words<S: Source, T: Sink, N: Bench>(
 
 /// Does the job that the words select, over a source, a sink and a device without an armed stop, and returns
 /// its status.
-pub fn melcard<S: Source, T: Sink, N: Bench>(
+pub fn melcard<S: Source, T: Sink, N: Bench, L: Ledger>(
     alloc: Global,
     words: &[String],
     input: &mut S,
     out: &mut T,
     dev: &mut N,
-    steps: &mut Steps<N::Meter>,
+    steps: &mut Steps<L>,
 ) -> u8
     requires { IsUnfused (N.bench dev.old) }
     // 0: the input was read to its end, the job is done, and all its text was written.

@@ -21,14 +21,15 @@ use mc_nvm::Bench;
 use mc_script::JobFault;
 use mc_streams::{Sink, Source};
 use std::alloc::Global;
+use std::sync::ledger::Ledger;
 
 // Plays a deck and writes its trace under the sections of its draft.
-fn write_trace<T: Sink, N: Bench>(
+fn write_trace<T: Sink, N: Bench, L: Ledger>(
     sections: &Sections<'_>,
     deck: &Deck,
     out: &mut T,
     dev: &mut N,
-    steps: &mut Steps<N::Meter>,
+    steps: &mut Steps<L>,
 ) -> Status
     requires { IsUnfused (N.bench dev.old) }
     ensures { IsTraced sections.now deck.now result (bench_at N.Bench dev.old)
@@ -38,13 +39,13 @@ fn write_trace<T: Sink, N: Bench>(
 }
 
 // Plays a deck, whose text is `text`, and writes its lines and turns as JSON Lines under the sections of its draft.
-fn write_steps<T: Sink, N: Bench>(
+fn write_steps<T: Sink, N: Bench, L: Ledger>(
     sections: &Sections<'_>,
     text: &[u8],
     deck: &Deck,
     out: &mut T,
     dev: &mut N,
-    steps: &mut Steps<N::Meter>,
+    steps: &mut Steps<L>,
 ) -> Status
     requires { IsUnfused (N.bench dev.old) }
     ensures { IsStepped sections.now text.now deck.now result (bench_at N.Bench dev.old)
@@ -57,14 +58,14 @@ fn write_steps<T: Sink, N: Bench>(
 }
 
 // Plays a deck and writes how often each line of its draft's code ran, as a record for the file `name`.
-fn write_coverage<T: Sink, N: Bench>(
+fn write_coverage<T: Sink, N: Bench, L: Ledger>(
     alloc: Global,
     name: &[u8],
     sections: &Sections<'_>,
     deck: &Deck,
     out: &mut T,
     dev: &mut N,
-    steps: &mut Steps<N::Meter>,
+    steps: &mut Steps<L>,
 ) -> Result<Status, Rejection>
     requires { IsUnfused (N.bench dev.old) }
     ensures covered { IfOk result (λ s. IsCovered name.now sections.now deck.now s
@@ -82,7 +83,7 @@ fn write_coverage<T: Sink, N: Bench>(
 }
 
 // Plays a deck, whose text is `text`, under the sections of its draft, and writes what a job shows of the play.
-fn play_deck<T: Sink, N: Bench>(
+fn play_deck<T: Sink, N: Bench, L: Ledger>(
     alloc: Global,
     play: Play<'_>,
     sections: &Sections<'_>,
@@ -90,7 +91,7 @@ fn play_deck<T: Sink, N: Bench>(
     deck: &Deck,
     out: &mut T,
     dev: &mut N,
-    steps: &mut Steps<N::Meter>,
+    steps: &mut Steps<L>,
 ) -> Result<Status, Rejection>
     requires { IsUnfused (N.bench dev.old) }
     ensures shown { IfOk result (λ s. IsShown (shown_by play.entry) sections.now text.now deck.now s
@@ -108,13 +109,13 @@ fn play_deck<T: Sink, N: Bench>(
 }
 
 // Plays the deck of a draft under its sections, and writes what a job shows of the play.
-fn play_desk<T: Sink, N: Bench>(
+fn play_desk<T: Sink, N: Bench, L: Ledger>(
     alloc: Global,
     play: Play<'_>,
     desk: &Desk<'_>,
     out: &mut T,
     dev: &mut N,
-    steps: &mut Steps<N::Meter>,
+    steps: &mut Steps<L>,
 ) -> Result<Status, Rejection>
     requires { IsUnfused (N.bench dev.old) }
     ensures shown { IfOk result (λ s. IsShown (shown_by play.entry)
@@ -139,13 +140,13 @@ fn play_desk<T: Sink, N: Bench>(
 }
 
 // Plays the deck of a draft that is read, and writes what a job shows of the play.
-fn play_draft<S: Source, T: Sink, N: Bench>(
+fn play_draft<S: Source, T: Sink, N: Bench, L: Ledger>(
     alloc: Global,
     play: Play<'_>,
     input: &mut S,
     out: &mut T,
     dev: &mut N,
-    steps: &mut Steps<N::Meter>,
+    steps: &mut Steps<L>,
 ) -> Result<Status, Rejection>
     requires { IsUnfused (N.bench dev.old) }
     ensures shown { IfOk result (λ s. ShowsDraft (shown_by play.entry) s
@@ -164,13 +165,13 @@ fn play_draft<S: Source, T: Sink, N: Bench>(
 
 /// Plays the deck of a draft that is read, writes what a job shows of the play, and returns the status of the job. A
 /// draft that is refused is not played: the line that refuses it is written.
-pub fn show<S: Source, T: Sink, N: Bench>(
+pub fn show<S: Source, T: Sink, N: Bench, L: Ledger>(
     alloc: Global,
     play: Play<'_>,
     input: &mut S,
     out: &mut T,
     dev: &mut N,
-    steps: &mut Steps<N::Meter>,
+    steps: &mut Steps<L>,
 ) -> Status
     requires { IsUnfused (N.bench dev.old) }
     ensures { ShowSays (dev.new ≡ dev.old) (shown_by play.entry) result

@@ -33,6 +33,7 @@ use mc_filter::{
 use mc_nvm::Bench;
 use mc_streams::{Sink, Source, put_all};
 use std::alloc::Global;
+use std::sync::ledger::Ledger;
 
 // The text that is written if the words select no job.
 const USAGE: &[u8] =
@@ -265,14 +266,14 @@ fn make_deck<S: Source, T: Sink, E: Sink>(
 }
 
 // Does a job.
-fn run<S: Source, T: Sink, E: Sink, N: Bench>(
+fn run<S: Source, T: Sink, E: Sink, N: Bench, L: Ledger>(
     alloc: Global,
     job: Job<'_>,
     input: &mut S,
     out: &mut T,
     err: &mut E,
     dev: &mut N,
-    steps: &mut Steps<N::Meter>,
+    steps: &mut Steps<L>,
 ) -> Status
     requires { IsUnfused (N.bench dev.old) }
     ensures { MeldeskSays (dev.new ≡ dev.old) result (Some (job_value job.entry))
@@ -291,14 +292,14 @@ fn run<S: Source, T: Sink, E: Sink, N: Bench>(
 }
 
 // Does the job that the words select, or writes the usage line, and returns its status.
-fn run_words<S: Source, T: Sink, E: Sink, N: Bench>(
+fn run_words<S: Source, T: Sink, E: Sink, N: Bench, L: Ledger>(
     alloc: Global,
     words: &[String],
     input: &mut S,
     out: &mut T,
     err: &mut E,
     dev: &mut N,
-    steps: &mut Steps<N::Meter>,
+    steps: &mut Steps<L>,
 ) -> Status
     requires { IsUnfused (N.bench dev.old) }
     ensures { MeldeskSays (dev.new ≡ dev.old) result (job_of words.now)
@@ -313,14 +314,14 @@ fn run_words<S: Source, T: Sink, E: Sink, N: Bench>(
 
 /// Does the job that the words select, over a source, a sink, a sink of the refusals of decks and a device without an
 /// armed stop, and returns its status.
-pub fn meldesk<S: Source, T: Sink, E: Sink, N: Bench>(
+pub fn meldesk<S: Source, T: Sink, E: Sink, N: Bench, L: Ledger>(
     alloc: Global,
     words: &[String],
     input: &mut S,
     out: &mut T,
     err: &mut E,
     dev: &mut N,
-    steps: &mut Steps<N::Meter>,
+    steps: &mut Steps<L>,
 ) -> u8
     requires { IsUnfused (N.bench dev.old) }
     // 0: the draft was read to its end, or the job needs none, the job is done, and all its text was written.

@@ -16,6 +16,7 @@ use mc_nvm::Bench;
 use mc_reader::{ServeError, serve};
 use mc_streams::{Sink, Source};
 use std::alloc::Global;
+use std::sync::ledger::Ledger;
 
 // Writes why a session ended before the end of its input, and returns its status.
 fn fail<E: Sink>(err: &mut E, error: ServeError) -> Status
@@ -40,14 +41,14 @@ fn end<E: Sink>(err: &mut E, served: Result<(), ServeError>) -> Status
 }
 
 // Plays the deck that was found and serves the frames of a host, or writes why there is no deck.
-fn session<S: Source, T: Sink, E: Sink, N: Bench>(
+fn session<S: Source, T: Sink, E: Sink, N: Bench, L: Ledger>(
     alloc: Global,
     found: Result<Deck, Rejection>,
     input: &mut S,
     out: &mut T,
     err: &mut E,
     dev: &mut N,
-    steps: &mut Steps<N::Meter>,
+    steps: &mut Steps<L>,
 ) -> Status
     requires { IsUnfused (N.bench dev.old) }
     ensures { (a b : Option Stream) → HasDeck a b found
@@ -67,14 +68,14 @@ fn session<S: Source, T: Sink, E: Sink, N: Bench>(
 /// Only answers are written to `out`, and to `err` the line of a refused deck, or `frame N Short`. The
 /// results of the deck are not written. A deck that is refused leaves `input`, `out` and the device
 /// unchanged.
-pub fn melreader<D: Source, S: Source, T: Sink, E: Sink, N: Bench>(
+pub fn melreader<D: Source, S: Source, T: Sink, E: Sink, N: Bench, L: Ledger>(
     alloc: Global,
     deck: Option<&mut D>,
     input: &mut S,
     out: &mut T,
     err: &mut E,
     dev: &mut N,
-    steps: &mut Steps<N::Meter>,
+    steps: &mut Steps<L>,
 ) -> u8
     requires { IsUnfused (N.bench dev.old) }
     // 0: the deck was played, each frame was served, and the input ended between two frames. 1: the deck is refused, its

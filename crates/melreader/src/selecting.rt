@@ -66,7 +66,7 @@ fn blank_card<S: Source, T: Sink, E: Sink, L: Ledger>(
     })) result }
 {
     match blank_device(alloc) {
-        Ok(mut device) => melreader::<StdSource<File>, S, T, E, SimNvm<L>>(
+        Ok(mut device) => melreader::<StdSource<File>, S, T, E, SimNvm, L>(
             alloc,
             None,
             input,

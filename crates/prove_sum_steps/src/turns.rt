@@ -1,7 +1,7 @@
 // The instruction at a place of which a table of sums is checked.
 
 use crate::goals::Goal;
-use mc_isa::Ins;
+use model_text::model_machine::Ins;
 use prove_arrivals::Subject;
 use prove_events::Rules;
 use prove_keys::PlaceKey;

@@ -4,7 +4,7 @@ ghost use Rattle.model_device.specs.Stopped.{IsAtomic};
 
 use crate::journals::rule::{Journal, ZERO, old_word, target, value, word_after};
 use arrayvec::ArrayVec;
-use mc_base::{Steps, Stop, Word};
+use mc_base::{Stop, Word};
 use mc_gate::{Recover, is_gate_open, is_within};
 use mc_nvm::Bench;
 
@@ -33,9 +33,9 @@ fn set<N: Bench>(device: &mut N, at: u32, word: Word) {
 }
 
 /// Returns the word at a place, or zeros past the last place.
-pub fn word_of<N: Bench>(device: &N, at: u32, steps: &mut Steps<N::Meter>) -> Word {
+pub fn word_of<N: Bench>(device: &N, at: u32) -> Word {
     if at < device.len() {
-        device.read(at, steps)
+        device.read(at)
     } else {
         ZERO
     }
@@ -53,25 +53,20 @@ pub fn stop_at<N: Bench>(device: &mut N, stop: Stop, k: u16, fill: Word) {
 }
 
 /// Does an atomic write of `w` words on a device with power.
-pub fn write<N: Bench>(
-    device: &mut N,
-    journal: Journal,
-    w: u8,
-    steps: &mut Steps<N::Meter>,
-) -> Answer {
+pub fn write<N: Bench>(device: &mut N, journal: Journal, w: u8) -> Answer {
     let list = list_of(w);
     match journal {
-        Journal::One => write_one(device, list.as_slice(), steps),
-        Journal::Two => write_two(device, list.as_slice(), steps),
+        Journal::One => write_one(device, list.as_slice()),
+        Journal::Two => write_two(device, list.as_slice()),
     }
 }
 
 /// Turns power on and recovers the device.
-pub fn recover<N: Bench>(device: &mut N, journal: Journal, steps: &mut Steps<N::Meter>) -> Answer {
+pub fn recover<N: Bench>(device: &mut N, journal: Journal) -> Answer {
     device.power();
     let recovered = match journal {
-        Journal::One => mc_journal::recover(device, steps),
-        Journal::Two => mc_packed::recover(device, steps),
+        Journal::One => mc_journal::recover(device),
+        Journal::Two => mc_packed::recover(device),
     };
     match recovered {
         Ok(writes) => Answer::Recovered(writes),
@@ -82,15 +77,9 @@ pub fn recover<N: Bench>(device: &mut N, journal: Journal, steps: &mut Steps<N::
 
 /// Returns the first place outside the journal that does not hold the word due there, or `None` if there is
 /// none.
-pub fn wrong_place<N: Bench>(
-    device: &N,
-    journal: Journal,
-    w: u8,
-    stands: bool,
-    steps: &mut Steps<N::Meter>,
-) -> Option<u32> {
+pub fn wrong_place<N: Bench>(device: &N, journal: Journal, w: u8, stands: bool) -> Option<u32> {
     for at in 0..device.len() {
-        if !journal.has(at) && word_of(device, at, steps) != word_after(at, w, stands) {
+        if !journal.has(at) && word_of(device, at) != word_after(at, w, stands) {
             return Some(at);
         }
     }
@@ -106,13 +95,9 @@ fn list_of(w: u8) -> ArrayVec<(u16, Word), 64> {
     list
 }
 
-fn write_one<N: Bench>(
-    device: &mut N,
-    list: &[(u16, Word)],
-    steps: &mut Steps<N::Meter>,
-) -> Answer {
+fn write_one<N: Bench>(device: &mut N, list: &[(u16, Word)]) -> Answer {
     device.power();
-    if !is_atomic(device, list) || is_gate_open(device, mc_gate::Layout::V1, steps) {
+    if !is_atomic(device, list) || is_gate_open(device, mc_gate::Layout::V1) {
         return Answer::NotTried;
     }
     match mc_journal::write_words(device, list) {
@@ -121,13 +106,9 @@ fn write_one<N: Bench>(
     }
 }
 
-fn write_two<N: Bench>(
-    device: &mut N,
-    list: &[(u16, Word)],
-    steps: &mut Steps<N::Meter>,
-) -> Answer {
+fn write_two<N: Bench>(device: &mut N, list: &[(u16, Word)]) -> Answer {
     device.power();
-    if !is_atomic(device, list) || is_gate_open(device, mc_gate::Layout::V2, steps) {
+    if !is_atomic(device, list) || is_gate_open(device, mc_gate::Layout::V2) {
         return Answer::NotTried;
     }
     match mc_packed::write_words(device, list) {

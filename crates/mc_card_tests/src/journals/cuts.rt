@@ -1,12 +1,8 @@
-ghost use Rattle.std.specs.Prelude.{◌≡◌, ◌<◌};
-
 use crate::journals::bench::{Answer, prepare, recover, stop_at, word_of, write, wrong_place};
 use crate::journals::rule::{Journal, ZERO, device_write};
-use mc_base::{NoMemory, Steps, Stop, Word};
+use mc_base::{NoMemory, Stop, Word};
 use mc_nvm::{SimNvm, TapeNvm};
 use std::alloc::Global;
-use std::marker::Brand;
-use std::sync::ledger::{Blank, Ledger};
 use std::test::Fail;
 
 /// The answer of an atomic write that was stopped, the word that the stop left, the answers of the recovery
@@ -23,43 +19,22 @@ struct Seen {
 // An atomic write that is stopped at any device write is durable as a whole or not at all, by the rule.
 #[test]
 fn stopped_writes(rt: HostRuntime) -> Result<(), Fail> {
+    let mut device = SimNvm::new(rt.alloc(), 256)?;
     for journal in [Journal::One, Journal::Two] {
         for w in [1, 2, 3, 64] {
-            let wrong = first_wrong::<Brand>(rt.alloc(), Blank::new(1), journal, w)?;
-            assert_eq!(rt; wrong, None, "{w} words");
+            assert_eq!(rt; wrong_write(&mut device, journal, w), None, "{w} words");
         }
     }
     Ok(())
 }
 
-// Each write of some words, stopped at each of its device writes, with steps of their own.
-fn first_wrong<L: Ledger>(
-    alloc: Global,
-    blank: Blank,
-    journal: Journal,
-    w: u8,
-) -> Result<Option<(u16, Seen)>, NoMemory>
-    requires name { blank.name ≡ L.name }
-    requires parts { blank.parts ≡ L.parts }
-    requires some { 0 < blank.parts }
-{
-    let mut steps = Steps::<L>::new(blank);
-    let mut device = SimNvm::new(alloc, 256)?;
-    Ok(wrong_write(&mut device, journal, w, &mut steps))
-}
-
 // The first device write at which a stop does not go by the rule, and what was seen of it, whatever the stop leaves in
 // its word: zeros, the word that opens the gate, or the word due.
-fn wrong_write<L: Ledger>(
-    device: &mut SimNvm<L>,
-    journal: Journal,
-    w: u8,
-    steps: &mut Steps<L>,
-) -> Option<(u16, Seen)> {
+fn wrong_write(device: &mut SimNvm, journal: Journal, w: u8) -> Option<(u16, Seen)> {
     for k in 1..=journal.cost(w) {
         let due = device_write(journal, w, k).1;
         for fill in [ZERO, journal.opening(), due] {
-            if let Some(seen) = wrong_stop(device, journal, w, k, fill, steps) {
+            if let Some(seen) = wrong_stop(device, journal, w, k, fill) {
                 return Some((k, seen));
             }
         }
@@ -68,16 +43,9 @@ fn wrong_write<L: Ledger>(
 }
 
 // What was seen of a power cut or a failed write that does not go by the rule.
-fn wrong_stop<L: Ledger>(
-    device: &mut SimNvm<L>,
-    journal: Journal,
-    w: u8,
-    k: u16,
-    fill: Word,
-    steps: &mut Steps<L>,
-) -> Option<Seen> {
+fn wrong_stop(device: &mut SimNvm, journal: Journal, w: u8, k: u16, fill: Word) -> Option<Seen> {
     for stop in [Stop::Off, Stop::Worn] {
-        let seen = observe(device, journal, w, stop, k, fill, steps);
+        let seen = observe(device, journal, w, stop, k, fill);
         if seen != by_rule(journal, w, stop, k, fill) {
             return Some(seen);
         }
@@ -85,26 +53,18 @@ fn wrong_stop<L: Ledger>(
     None
 }
 
-fn observe<L: Ledger>(
-    device: &mut SimNvm<L>,
-    journal: Journal,
-    w: u8,
-    stop: Stop,
-    k: u16,
-    fill: Word,
-    steps: &mut Steps<L>,
-) -> Seen {
+fn observe(device: &mut SimNvm, journal: Journal, w: u8, stop: Stop, k: u16, fill: Word) -> Seen {
     prepare(device);
     stop_at(device, stop, k, fill);
-    let answer = write(device, journal, w, steps);
-    let left = word_of(device, device_write(journal, w, k).0, steps);
-    let recovery = recover(device, journal, steps);
-    let wrong = wrong_place(device, journal, w, journal.stands(w, k, fill), steps);
+    let answer = write(device, journal, w);
+    let left = word_of(device, device_write(journal, w, k).0);
+    let recovery = recover(device, journal);
+    let wrong = wrong_place(device, journal, w, journal.stands(w, k, fill));
     Seen {
         write: answer,
         left,
         recovery,
-        again: recover(device, journal, steps),
+        again: recover(device, journal),
         wrong,
     }
 }
@@ -126,12 +86,12 @@ fn whole_writes(rt: HostRuntime) -> Result<(), Fail> {
     for journal in [Journal::One, Journal::Two] {
         for w in [1, 2, 3, 64] {
             assert_eq!(rt;
-                whole::<Brand>(rt.alloc(), Blank::new(1), journal, w)?,
+                whole(rt.alloc(), journal, w)?,
                 (Answer::Written, None, Answer::Recovered(0), true),
                 "{w} words"
             );
             assert_eq!(rt;
-                narrow::<Brand>(rt.alloc(), Blank::new(1), journal, w)?,
+                narrow(rt.alloc(), journal, w)?,
                 (Answer::Written, false),
                 "{w} words"
             );
@@ -142,63 +102,39 @@ fn whole_writes(rt: HostRuntime) -> Result<(), Fail> {
 
 // The answer of an atomic write without a stop, the first place that does not hold the word due there, the answer of
 // the recovery after it, and whether a tape with room for the writes shows them.
-fn whole<L: Ledger>(
+fn whole(
     alloc: Global,
-    blank: Blank,
     journal: Journal,
     w: u8,
-) -> Result<(Answer, Option<u32>, Answer, bool), NoMemory>
-    requires name { blank.name ≡ L.name }
-    requires parts { blank.parts ≡ L.parts }
-    requires some { 0 < blank.parts }
-{
-    let mut steps = Steps::<L>::new(blank);
+) -> Result<(Answer, Option<u32>, Answer, bool), NoMemory> {
     let mut device = TapeNvm::new(alloc, 256, journal.cost(w) as usize, &[])?;
     prepare(&mut device);
-    let answer = write(&mut device, journal, w, &mut steps);
-    let wrong = wrong_place(&device, journal, w, true, &mut steps);
-    let recovery = recover(&mut device, journal, &mut steps);
+    let answer = write(&mut device, journal, w);
+    let wrong = wrong_place(&device, journal, w, true);
+    let recovery = recover(&mut device, journal);
     Ok((answer, wrong, recovery, device.tape().is_some()))
 }
 
 // The answer of such a write, and whether a tape with room for one write less shows anything.
-fn narrow<L: Ledger>(
-    alloc: Global,
-    blank: Blank,
-    journal: Journal,
-    w: u8,
-) -> Result<(Answer, bool), NoMemory>
-    requires name { blank.name ≡ L.name }
-    requires parts { blank.parts ≡ L.parts }
-    requires some { 0 < blank.parts }
-{
-    let mut steps = Steps::<L>::new(blank);
+fn narrow(alloc: Global, journal: Journal, w: u8) -> Result<(Answer, bool), NoMemory> {
     let room = (journal.cost(w) as usize).saturating_sub(1);
     let mut device = TapeNvm::new(alloc, 256, room, &[])?;
-    let answer = write(&mut device, journal, w, &mut steps);
+    let answer = write(&mut device, journal, w);
     Ok((answer, device.tape().is_some()))
 }
 
 // Of two stops at one write the power cut comes first, and leaves its own word.
 #[test]
 fn both_fuses(rt: HostRuntime) -> Result<(), Fail> {
-    assert_eq!(rt;
-        both::<Brand>(rt.alloc(), Blank::new(1))?,
-        (Answer::Stopped(Stop::Off), [5; 8])
-    );
+    assert_eq!(rt; both(rt.alloc())?, (Answer::Stopped(Stop::Off), [5; 8]));
     Ok(())
 }
 
 // The answer of an atomic write with both stops at its first write, and the word of that write.
-fn both<L: Ledger>(alloc: Global, blank: Blank) -> Result<(Answer, Word), NoMemory>
-    requires name { blank.name ≡ L.name }
-    requires parts { blank.parts ≡ L.parts }
-    requires some { 0 < blank.parts }
-{
-    let mut steps = Steps::<L>::new(blank);
+fn both(alloc: Global) -> Result<(Answer, Word), NoMemory> {
     let mut device = SimNvm::new(alloc, 256)?;
     stop_at(&mut device, Stop::Off, 1, [5; 8]);
     stop_at(&mut device, Stop::Worn, 1, [6; 8]);
-    let answer = write(&mut device, Journal::Two, 1, &mut steps);
-    Ok((answer, word_of(&device, 3, &mut steps)))
+    let answer = write(&mut device, Journal::Two, 1);
+    Ok((answer, word_of(&device, 3)))
 }

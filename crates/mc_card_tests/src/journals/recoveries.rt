@@ -1,12 +1,7 @@
-ghost use Rattle.std.specs.Prelude.{◌≡◌, ◌<◌};
-
 use crate::journals::bench::{Answer, prepare, recover, stop_at, write, wrong_place};
 use crate::journals::rule::{Journal, ZERO, is_tried, recovery_write};
-use mc_base::{NoMemory, Steps, Stop, Word};
+use mc_base::{Stop, Word};
 use mc_nvm::SimNvm;
-use std::alloc::Global;
-use std::marker::Brand;
-use std::sync::ledger::{Blank, Ledger};
 use std::test::Fail;
 
 /// The answer of an atomic write that was stopped, those of its recovery that was stopped too and of the two
@@ -35,42 +30,21 @@ struct Stops {
 // and that one finishes it.
 #[test]
 fn stopped_recoveries(rt: HostRuntime) -> Result<(), Fail> {
+    let mut device = SimNvm::new(rt.alloc(), 256)?;
     for journal in [Journal::One, Journal::Two] {
         for w in [1, 2, 3, 64] {
-            let wrong = first_wrong::<Brand>(rt.alloc(), Blank::new(1), journal, w)?;
-            assert_eq!(rt; wrong, None, "{w} words");
+            assert_eq!(rt; wrong_write(&mut device, journal, w), None, "{w} words");
         }
     }
     Ok(())
 }
 
-// Each write of some words, and its recovery stopped, with steps of their own.
-fn first_wrong<L: Ledger>(
-    alloc: Global,
-    blank: Blank,
-    journal: Journal,
-    w: u8,
-) -> Result<Option<(u16, u16)>, NoMemory>
-    requires name { blank.name ≡ L.name }
-    requires parts { blank.parts ≡ L.parts }
-    requires some { 0 < blank.parts }
-{
-    let mut steps = Steps::<L>::new(blank);
-    let mut device = SimNvm::new(alloc, 256)?;
-    Ok(wrong_write(&mut device, journal, w, &mut steps))
-}
-
 // The first stops that do not go by the rule: one of the tried stops of a write of w words, at the opening of
 // its gate or after it, and one of its recovery.
-fn wrong_write<L: Ledger>(
-    device: &mut SimNvm<L>,
-    journal: Journal,
-    w: u8,
-    steps: &mut Steps<L>,
-) -> Option<(u16, u16)> {
+fn wrong_write(device: &mut SimNvm, journal: Journal, w: u8) -> Option<(u16, u16)> {
     for first in journal.opens_at(w)..=journal.cost(w) {
         if is_tried(w, journal.cost(w).saturating_sub(first)) {
-            if let Some(second) = wrong_recovery(device, journal, w, first, steps) {
+            if let Some(second) = wrong_recovery(device, journal, w, first) {
                 return Some((first, second));
             }
         }
@@ -79,13 +53,7 @@ fn wrong_write<L: Ledger>(
 }
 
 // The first write of a recovery at which a stop does not go by the rule.
-fn wrong_recovery<L: Ledger>(
-    device: &mut SimNvm<L>,
-    journal: Journal,
-    w: u8,
-    first: u16,
-    steps: &mut Steps<L>,
-) -> Option<u16> {
+fn wrong_recovery(device: &mut SimNvm, journal: Journal, w: u8, first: u16) -> Option<u16> {
     for second in 1..=w as u16 + 1 {
         for stop in [Stop::Off, Stop::Worn] {
             let stops = Stops {
@@ -95,7 +63,7 @@ fn wrong_recovery<L: Ledger>(
                 first,
                 second,
             };
-            if !goes_by_rule(device, stops, steps) {
+            if !goes_by_rule(device, stops) {
                 return Some(second);
             }
         }
@@ -105,10 +73,10 @@ fn wrong_recovery<L: Ledger>(
 
 // Whether both go by the rule, whatever the stop leaves in its word: zeros, the word that opens the gate, or
 // the word due.
-fn goes_by_rule<L: Ledger>(device: &mut SimNvm<L>, stops: Stops, steps: &mut Steps<L>) -> bool {
+fn goes_by_rule(device: &mut SimNvm, stops: Stops) -> bool {
     let due = recovery_write(stops.journal, stops.w, stops.second).1;
     for fill in [ZERO, stops.journal.opening(), due] {
-        if observe(device, stops, fill, steps) != by_rule(stops, fill) {
+        if observe(device, stops, fill) != by_rule(stops, fill) {
             return false;
         }
     }
@@ -117,12 +85,7 @@ fn goes_by_rule<L: Ledger>(device: &mut SimNvm<L>, stops: Stops, steps: &mut Ste
 
 // Observes a write that is stopped at the opening of the gate or after it and leaves the opening word: it is
 // durable, and recovery has all its writes to make.
-fn observe<L: Ledger>(
-    device: &mut SimNvm<L>,
-    stops: Stops,
-    fill: Word,
-    steps: &mut Steps<L>,
-) -> Seen {
+fn observe(device: &mut SimNvm, stops: Stops, fill: Word) -> Seen {
     let Stops {
         journal,
         w,
@@ -132,16 +95,16 @@ fn observe<L: Ledger>(
     } = stops;
     prepare(device);
     stop_at(device, stop, first, journal.opening());
-    let answer = write(device, journal, w, steps);
+    let answer = write(device, journal, w);
     stop_at(device, stop, second, fill);
-    let stopped = recover(device, journal, steps);
-    let finished = recover(device, journal, steps);
+    let stopped = recover(device, journal);
+    let finished = recover(device, journal);
     Seen {
         write: answer,
         recovery: stopped,
         second: finished,
-        third: recover(device, journal, steps),
-        wrong: wrong_place(device, journal, w, true, steps),
+        third: recover(device, journal),
+        wrong: wrong_place(device, journal, w, true),
     }
 }
 

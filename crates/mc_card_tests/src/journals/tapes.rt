@@ -1,12 +1,8 @@
-ghost use Rattle.std.specs.Prelude.{◌≡◌, ◌<◌};
-
 use crate::journals::bench::{Answer, prepare, recover, write, wrong_place};
 use crate::journals::rule::{Journal, ZERO, device_write, is_tried, recovery_write};
-use mc_base::{NoMemory, Steps, Stop};
+use mc_base::{NoMemory, Stop};
 use mc_nvm::{Entry, TapeNvm};
 use std::alloc::Global;
-use std::marker::Brand;
-use std::sync::ledger::{Blank, Ledger};
 use std::test::Fail;
 
 /// An atomic write of `w` words whose device write `first` failed, and, if `second` is not 0, its recovery
@@ -61,7 +57,7 @@ fn wrong_recovery(
             first,
             second,
         };
-        if (all || is_tried(w, second)) && !goes_by_rule::<Brand>(alloc, Blank::new(1), refusals)? {
+        if (all || is_tried(w, second)) && !goes_by_rule(alloc, refusals)? {
             return Ok(Some(second));
         }
     }
@@ -69,30 +65,17 @@ fn wrong_recovery(
 }
 
 // Whether the answers, the words and the tape of a device that refuses these writes are those of the rule.
-fn goes_by_rule<L: Ledger>(
-    alloc: Global,
-    blank: Blank,
-    refusals: Refusals,
-) -> Result<bool, NoMemory>
-    requires name { blank.name ≡ L.name }
-    requires parts { blank.parts ≡ L.parts }
-    requires some { 0 < blank.parts }
-{
-    let mut steps = Steps::<L>::new(blank);
+fn goes_by_rule(alloc: Global, refusals: Refusals) -> Result<bool, NoMemory> {
     let first = refusals.first as u32;
     let worn = [first, first + refusals.second as u32];
     let mut device = TapeNvm::new(alloc, 256, 512, &worn)?;
     prepare(&mut device);
-    let answers = is_answered(&mut device, refusals, &mut steps);
-    Ok(answers && is_left(&device, refusals, &mut steps))
+    let answers = is_answered(&mut device, refusals);
+    Ok(answers && is_left(&device, refusals))
 }
 
 // Whether the write and its recovery are refused, and the next recovery has the writes to make that are left.
-fn is_answered<L: Ledger>(
-    device: &mut TapeNvm<L>,
-    refusals: Refusals,
-    steps: &mut Steps<L>,
-) -> bool {
+fn is_answered(device: &mut TapeNvm, refusals: Refusals) -> bool {
     let Refusals {
         journal,
         w,
@@ -100,16 +83,14 @@ fn is_answered<L: Ledger>(
         ..
     } = refusals;
     let refused = Answer::Stopped(Stop::Worn);
-    if write(device, journal, w, steps) != refused
-        || second > 0 && recover(device, journal, steps) != refused
-    {
+    if write(device, journal, w) != refused || second > 0 && recover(device, journal) != refused {
         return false;
     }
-    recover(device, journal, steps) == Answer::Recovered(left_to_do(refusals))
+    recover(device, journal) == Answer::Recovered(left_to_do(refusals))
 }
 
 // Whether the words and the tape are those of the rule.
-fn is_left<L: Ledger>(device: &TapeNvm<L>, refusals: Refusals, steps: &mut Steps<L>) -> bool {
+fn is_left(device: &TapeNvm, refusals: Refusals) -> bool {
     let Refusals {
         journal,
         w,
@@ -117,7 +98,7 @@ fn is_left<L: Ledger>(device: &TapeNvm<L>, refusals: Refusals, steps: &mut Steps
         ..
     } = refusals;
     let stands = journal.stands(w, first, ZERO);
-    wrong_place(device, journal, w, stands, steps).is_none()
+    wrong_place(device, journal, w, stands).is_none()
         && wrong_entry(device.tape(), refusals).is_none()
 }
 

@@ -61,11 +61,7 @@ fn sizes_of(unit: &Unit<'_>) -> Option<Sizes>
 }
 
 /// Returns a good site for a load of these sizes.
-fn site_for<L: Ledger>(
-    bank: &MemBank<L>,
-    sizes: &Sizes,
-    steps: &mut Steps<L>,
-) -> Result<Site, Fault>
+fn site_for<L: Ledger>(bank: &MemBank, sizes: &Sizes, steps: &mut Steps<L>) -> Result<Site, Fault>
     requires limits { FitsLimits sizes.now }
     ensures good { IfOk result (λ site. IsGoodSite (memory_state bank.now).apps (memory_room bank.now) site) }
     ensures sizes { IfOk result (λ site. site.sizes ≡ sizes.now) }
@@ -78,7 +74,7 @@ fn site_for<L: Ledger>(
 
 /// Loads an application under a name.
 pub fn load<L: Ledger>(
-    bank: &mut MemBank<L>,
+    bank: &mut MemBank,
     name: &Aid,
     unit: &Unit<'_>,
     steps: &mut Steps<L>,
@@ -87,16 +83,16 @@ pub fn load<L: Ledger>(
         return Err(Fault::AboveLimits);
     };
     let site = site_for(bank, &sizes, steps)?;
-    if bank.fill(&site, Part::Code, 0, unit.code, steps).is_err() {
+    if bank.fill(&site, Part::Code, 0, unit.code).is_err() {
         return Err(Fault::Stopped);
     }
-    if bank.fill(&site, Part::Data, 0, unit.data, steps).is_err() {
+    if bank.fill(&site, Part::Data, 0, unit.data).is_err() {
         return Err(Fault::Stopped);
     }
-    if bank.find(name, steps).is_some() {
+    if bank.find(name).is_some() {
         return Err(Fault::NameTwice);
     }
-    match bank.create(&site, name, steps) {
+    match bank.create(&site, name) {
         Ok(()) => Ok(()),
         Err(_) => Err(Fault::Stopped),
     }
@@ -104,7 +100,7 @@ pub fn load<L: Ledger>(
 
 /// Runs a command to an application under a budget, from session bytes of zero.
 pub fn command<L: Ledger>(
-    bank: &mut MemBank<L>,
+    bank: &mut MemBank,
     name: &Aid,
     bytes: &[u8],
     budget: u32,
@@ -113,13 +109,13 @@ pub fn command<L: Ledger>(
     if budget < 1 || budget > 65536 {
         return Err(Fault::BadBudget);
     }
-    let Some(slot) = bank.find(name, steps) else {
+    let Some(slot) = bank.find(name) else {
         return Err(Fault::Absent);
     };
     let Ok(apdu) = parse(bytes) else {
         return Err(Fault::WrongLength);
     };
-    let mut session = Session::new(bank.facts(slot, steps).sizes.session);
+    let mut session = Session::new(bank.facts(slot).sizes.session);
     match run(bank, slot, &mut session, &apdu, budget, steps) {
         Ok(outcome) => Ok(outcome),
         Err(_) => Err(Fault::Stopped),
@@ -127,18 +123,13 @@ pub fn command<L: Ledger>(
 }
 
 /// Returns the static bytes of an application.
-pub fn static_bytes<L: Ledger>(
-    alloc: Global,
-    bank: &MemBank<L>,
-    name: &Aid,
-    steps: &mut Steps<L>,
-) -> Result<Vec<u8>, Fault> {
-    let Some(slot) = bank.find(name, steps) else {
+pub fn static_bytes(alloc: Global, bank: &MemBank, name: &Aid) -> Result<Vec<u8>, Fault> {
+    let Some(slot) = bank.find(name) else {
         return Err(Fault::Absent);
     };
-    let Ok(mut bytes) = vec![in alloc; 0; bank.facts(slot, steps).sizes.fixed as usize] else {
+    let Ok(mut bytes) = vec![in alloc; 0; bank.facts(slot).sizes.fixed as usize] else {
         return Err(Fault::NoMemory);
     };
-    bank.fixed(slot, 0, bytes.as_mut_slice(), steps);
+    bank.fixed(slot, 0, bytes.as_mut_slice());
     Ok(bytes)
 }

@@ -61,7 +61,7 @@ pub fn wrong_at<L: Ledger>(
 
 fn wrong_in<L: Ledger>(
     alloc: Global,
-    bank: &mut MemBank<L>,
+    bank: &mut MemBank,
     name: &Aid,
     row: &Row<'_>,
     steps: &mut Steps<L>,
@@ -71,13 +71,13 @@ fn wrong_in<L: Ledger>(
     }
     match wrong_command(alloc, bank, name, row, steps)? {
         Some(at) => Ok(Some(at)),
-        None => wrong_bytes(alloc, bank, name, row, steps),
+        None => wrong_bytes(alloc, bank, name, row),
     }
 }
 
 fn load_app<L: Ledger>(
     alloc: Global,
-    bank: &mut MemBank<L>,
+    bank: &mut MemBank,
     app: &App<'_>,
     steps: &mut Steps<L>,
 ) -> Result<(), Fault> {
@@ -94,15 +94,14 @@ fn load_app<L: Ledger>(
 }
 
 // The number of commands, if other static bytes are left.
-fn wrong_bytes<L: Ledger>(
+fn wrong_bytes(
     alloc: Global,
-    bank: &MemBank<L>,
+    bank: &MemBank,
     name: &Aid,
     row: &Row<'_>,
-    steps: &mut Steps<L>,
 ) -> Result<Option<usize>, Fault> {
     let due = bytes_of(alloc, row.left)?;
-    let left = static_bytes(alloc, bank, name, steps)?;
+    let left = static_bytes(alloc, bank, name)?;
     if left.as_slice() == due.as_slice() {
         Ok(None)
     } else {
@@ -112,7 +111,7 @@ fn wrong_bytes<L: Ledger>(
 
 fn wrong_command<L: Ledger>(
     alloc: Global,
-    bank: &mut MemBank<L>,
+    bank: &mut MemBank,
     name: &Aid,
     row: &Row<'_>,
     steps: &mut Steps<L>,
@@ -128,7 +127,7 @@ fn wrong_command<L: Ledger>(
 // Whether a command in hexadecimal has an answer.
 fn is_due<L: Ledger>(
     alloc: Global,
-    bank: &mut MemBank<L>,
+    bank: &mut MemBank,
     name: &Aid,
     text: &str,
     budget: u32,
@@ -206,12 +205,12 @@ pub fn lone<L: Ledger>(
 // The outcome of a command, and the static bytes that it leaves.
 fn ended<L: Ledger>(
     alloc: Global,
-    bank: &mut MemBank<L>,
+    bank: &mut MemBank,
     name: &Aid,
     bytes: &[u8],
     budget: u32,
     steps: &mut Steps<L>,
 ) -> Result<(Outcome, Vec<u8>), Fault> {
     let outcome = command(bank, name, bytes, budget, steps)?;
-    Ok((outcome, static_bytes(alloc, bank, name, steps)?))
+    Ok((outcome, static_bytes(alloc, bank, name)?))
 }

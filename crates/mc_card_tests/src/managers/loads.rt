@@ -7,6 +7,7 @@ use arrayvec::ArrayVec;
 use mc_bank::Bank;
 use mc_base::Steps;
 use mc_manager::Manager;
+use std::sync::ledger::Ledger;
 
 const DONE: Want = Want::Status(0x9000);
 
@@ -31,10 +32,10 @@ fn open(code: u16, init: u8) -> ArrayVec<u8, 1031> {
 
 /// Returns whether an application whose name is A0000000 and one byte is loaded, each section in pieces of
 /// this length.
-pub fn loads<B: Bank>(
+pub fn loads<B: Bank, L: Ledger>(
     manager: &mut Manager,
     bank: &mut B,
-    steps: &mut Steps<B::Meter>,
+    steps: &mut Steps<L>,
     name: u8,
     code: &[u8],
     init: &[u8],
@@ -60,10 +61,10 @@ pub fn loads<B: Bank>(
 }
 
 // Whether a section is loaded by the commands with this INS, in pieces of this length.
-fn fills<B: Bank>(
+fn fills<B: Bank, L: Ledger>(
     manager: &mut Manager,
     bank: &mut B,
-    steps: &mut Steps<B::Meter>,
+    steps: &mut Steps<L>,
     ins: u8,
     section: &[u8],
     piece: usize,
@@ -93,7 +94,11 @@ fn fills<B: Bank>(
 
 /// Returns whether a card of 32 applications has no room for one more until one of them, A000000009, is
 /// deleted.
-pub fn is_full<B: Bank>(manager: &mut Manager, bank: &mut B, steps: &mut Steps<B::Meter>) -> bool
+pub fn is_full<B: Bank, L: Ledger>(
+    manager: &mut Manager,
+    bank: &mut B,
+    steps: &mut Steps<L>,
+) -> bool
     requires going { (B.state bank.old).stopped ≡ false }
     requires fits { ManagerFits (view_of B.Bank bank.old) manager.old }
 {

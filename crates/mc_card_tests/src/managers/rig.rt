@@ -7,6 +7,7 @@ use mc_bank::{Bank, Slot};
 use mc_base::{Aid, Steps};
 use mc_manager::{Manager, Routed};
 use std::alloc::Global;
+use std::sync::ledger::Ledger;
 
 /// The result that a command is to have.
 #[derive(Clone, Copy, Debug, PartialEq, Eq)]
@@ -22,10 +23,10 @@ pub enum Want {
 }
 
 /// Returns whether a command has the result that it is to have.
-pub fn comes_to<B: Bank>(
+pub fn comes_to<B: Bank, L: Ledger>(
     manager: &mut Manager,
     bank: &mut B,
-    steps: &mut Steps<B::Meter>,
+    steps: &mut Steps<L>,
     command: &[u8],
     want: Want,
 ) -> bool
@@ -61,11 +62,11 @@ fn is_fresh(reply: &Reply, want: Want) -> bool {
 
 /// Returns the number of the first row whose command, in hexadecimal, does not have the result that it is to
 /// have, or `None` if there is none.
-pub fn first_wrong<B: Bank>(
+pub fn first_wrong<B: Bank, L: Ledger>(
     alloc: Global,
     manager: &mut Manager,
     bank: &mut B,
-    steps: &mut Steps<B::Meter>,
+    steps: &mut Steps<L>,
     rows: &[(&'static str, Want)],
 ) -> Option<usize>
     requires going { (B.state bank.old).stopped ≡ false }
@@ -85,48 +86,43 @@ pub fn first_wrong<B: Bank>(
 }
 
 /// Returns the static bytes of an application that has eight, or `None`.
-pub fn fixed_of<B: Bank>(bank: &B, name: &[u8], steps: &mut Steps<B::Meter>) -> Option<[u8; 8]>
+pub fn fixed_of<B: Bank>(bank: &B, name: &[u8]) -> Option<[u8; 8]>
     requires { (B.state bank.now).stopped ≡ false }
 {
-    let slot = slot_of(bank, name, steps)?;
-    if bank.facts(slot, steps).sizes.fixed != 8 {
+    let slot = slot_of(bank, name)?;
+    if bank.facts(slot).sizes.fixed != 8 {
         return None;
     }
     let mut fixed = [0xFF; 8];
-    bank.fixed(slot, 0, &mut fixed, steps);
+    bank.fixed(slot, 0, &mut fixed);
     Some(fixed)
 }
 
 /// Returns the access list of an application, or `None` if it is not on the card.
-pub fn deny_of<B: Bank>(bank: &B, name: &[u8], steps: &mut Steps<B::Meter>) -> Option<u16>
+pub fn deny_of<B: Bank>(bank: &B, name: &[u8]) -> Option<u16>
     requires { (B.state bank.now).stopped ≡ false }
 {
-    Some(bank.facts(slot_of(bank, name, steps)?, steps).sizes.deny)
+    Some(bank.facts(slot_of(bank, name)?).sizes.deny)
 }
 
 /// Returns whether an application has this code.
-pub fn has_code<B: Bank>(
-    bank: &B,
-    name: &[u8],
-    code: &[u8; 1024],
-    steps: &mut Steps<B::Meter>,
-) -> bool
+pub fn has_code<B: Bank>(bank: &B, name: &[u8], code: &[u8; 1024]) -> bool
     requires { (B.state bank.now).stopped ≡ false }
 {
-    let Some(slot) = slot_of(bank, name, steps) else {
+    let Some(slot) = slot_of(bank, name) else {
         return false;
     };
-    if bank.facts(slot, steps).sizes.code != 1024 {
+    if bank.facts(slot).sizes.code != 1024 {
         return false;
     }
     let mut found = [0; 1024];
-    bank.code(slot, 0, &mut found, steps);
+    bank.code(slot, 0, &mut found);
     found == *code
 }
 
-fn slot_of<B: Bank>(bank: &B, name: &[u8], steps: &mut Steps<B::Meter>) -> Option<Slot>
+fn slot_of<B: Bank>(bank: &B, name: &[u8]) -> Option<Slot>
     requires { (B.state bank.now).stopped ≡ false }
     ensures { IfSome result (λ slot. IsSome (B.named bank.now slot)) }
 {
-    bank.find(&Aid::new(name)?, steps)
+    bank.find(&Aid::new(name)?)
 }

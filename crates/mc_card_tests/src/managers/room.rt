@@ -70,7 +70,7 @@ enum Session {
     Played(Option<usize>, [u64; 3]),
 }
 
-fn formatted<L: Ledger>(alloc: Global) -> Result<SimNvm<L>, NoMemory> {
+fn formatted(alloc: Global) -> Result<SimNvm, NoMemory> {
     let mut device = SimNvm::new(alloc, 256)?;
     for (at, word) in format_words(256) {
         if (at as u32) < device.len() {
@@ -80,11 +80,11 @@ fn formatted<L: Ledger>(alloc: Global) -> Result<SimNvm<L>, NoMemory> {
     Ok(device)
 }
 
-fn number_at<L: Ledger>(device: &SimNvm<L>, at: u32, steps: &mut Steps<L>) -> u64
+fn number_at(device: &SimNvm, at: u32) -> u64
     requires { at < 256 }
 {
     let _size = device.len();
-    u64::from_be_bytes(device.read(at, steps))
+    u64::from_be_bytes(device.read(at))
 }
 
 fn played<L: Ledger>(alloc: Global, blank: Blank) -> Result<Session, NoMemory>
@@ -92,19 +92,19 @@ fn played<L: Ledger>(alloc: Global, blank: Blank) -> Result<Session, NoMemory>
     requires parts { blank.parts ≡ L.parts }
     requires some { 0 < blank.parts }
 {
-    let mut steps = Steps::<L>::new(blank);
     let mut device = formatted(alloc)?;
     device.power();
-    let Ok((mut store, _)) = Store::power_up(device, &mut steps) else {
+    let Ok((mut store, _)) = Store::power_up(device) else {
         return Ok(Session::NoCard);
     };
     let mut manager = Manager::new();
+    let mut steps = Steps::<L>::new(blank);
     let wrong = first_wrong(alloc, &mut manager, &mut store, &mut steps, ROWS);
     let device = store.into_dev();
     let words = [
-        number_at(&device, 0, &mut steps),
-        number_at(&device, 131, &mut steps),
-        number_at(&device, 192, &mut steps),
+        number_at(&device, 0),
+        number_at(&device, 131),
+        number_at(&device, 192),
     ];
     Ok(Session::Played(wrong, words))
 }

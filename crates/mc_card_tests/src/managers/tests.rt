@@ -33,9 +33,9 @@ fn played<L: Ledger>(alloc: Global, blank: Blank) -> Result<Session, NoMemory>
     Ok(Session {
         wrong,
         count: bank.count(),
-        deny: deny_of(&bank, b"\xA0\x00\x00\x00\x03", &mut steps),
-        empty: fixed_of(&bank, b"\xA0\x00\x00\x00\x07", &mut steps),
-        begun: fixed_of(&bank, b"\xA0\x00\x00\x00\x08", &mut steps),
+        deny: deny_of(&bank, b"\xA0\x00\x00\x00\x03"),
+        empty: fixed_of(&bank, b"\xA0\x00\x00\x00\x07"),
+        begun: fixed_of(&bank, b"\xA0\x00\x00\x00\x08"),
     })
 }
 
@@ -84,9 +84,7 @@ fn first_missing<L: Ledger>(alloc: Global, blank: Blank) -> Result<u8, NoMemory>
         }
         let aid = [0xA0, 0, 0, 0, name];
         let fixed = [name, 2, 3, 0, 0, 0, 0, 0];
-        if !has_code(&bank, &aid, &code, &mut steps)
-            || fixed_of(&bank, &aid, &mut steps) != Some(fixed)
-        {
+        if !has_code(&bank, &aid, &code) || fixed_of(&bank, &aid) != Some(fixed) {
             return Ok(name);
         }
     }

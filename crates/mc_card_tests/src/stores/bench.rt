@@ -1,7 +1,7 @@
 // Devices with words set by hand, and their power-ups.
 ghost use Rattle.std.specs.Prelude.{◌≡◌};
 
-use mc_base::{Steps, Stop, Word};
+use mc_base::{Stop, Word};
 use mc_blocks::{Cause, Unusable};
 use mc_nvm::Bench;
 use mc_store::{Store, Up};
@@ -38,9 +38,9 @@ pub fn set_number<N: Bench>(device: &mut N, at: u16, number: u64) {
 }
 
 /// Returns the word at a place as a number, or 0 past the last place.
-pub fn number_at<N: Bench>(device: &N, at: u16, steps: &mut Steps<N::Meter>) -> u64 {
+pub fn number_at<N: Bench>(device: &N, at: u16) -> u64 {
     if (at as u32) < device.len() {
-        u64::from_be_bytes(device.read(at as u32, steps))
+        u64::from_be_bytes(device.read(at as u32))
     } else {
         0
     }
@@ -54,9 +54,9 @@ pub fn format<N: Bench>(device: &mut N) {
 }
 
 /// Turns power on, and returns the result of the power-up.
-pub fn power_up<N: Bench>(device: &mut N, steps: &mut Steps<N::Meter>) -> Power {
+pub fn power_up<N: Bench>(device: &mut N) -> Power {
     device.power();
-    match Store::power_up(device, steps) {
+    match Store::power_up(device) {
         Ok((store, writes)) => {
             let _device = store.into_dev();
             Power::Ready(writes)

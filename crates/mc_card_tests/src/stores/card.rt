@@ -4,6 +4,7 @@ ghost use Rattle.mc_bank.specs.Bank.{FitsLimits, IsGoodSite};
 
 use mc_bank::{Bank, OpenRefusal, Part, Site, Sizes, Slot};
 use mc_base::{Aid, Steps, Stop, Word};
+use std::sync::ledger::Ledger;
 
 /// An application: its name, its code, the data that its static segment begins with, and the size of that segment. Its
 /// DIR and its FCI name it.
@@ -73,7 +74,11 @@ pub fn sizes_of(unit: &Unit) -> Option<Sizes>
 }
 
 /// Loads an application.
-pub fn load<B: Bank>(bank: &mut B, unit: &Unit, steps: &mut Steps<B::Meter>) -> Result<Came, Stop>
+pub fn load<B: Bank, L: Ledger>(
+    bank: &mut B,
+    unit: &Unit,
+    steps: &mut Steps<L>,
+) -> Result<Came, Stop>
     requires going { (B.state bank.old).stopped ≡ false }
     ensures going { OnOk result ((B.state bank.new).stopped ≡ false) }
 {
@@ -82,8 +87,8 @@ pub fn load<B: Bank>(bank: &mut B, unit: &Unit, steps: &mut Steps<B::Meter>) -> 
     };
     match bank.open(&sizes, steps) {
         Ok(site) => {
-            fill(bank, &site, unit, steps)?;
-            create(bank, &site, unit, steps)
+            fill(bank, &site, unit)?;
+            create(bank, &site, unit)
         }
         Err(OpenRefusal::Apps) => Ok(Came::Apps),
         Err(OpenRefusal::NoRoom) => Ok(Came::NoRoom),
@@ -91,12 +96,7 @@ pub fn load<B: Bank>(bank: &mut B, unit: &Unit, steps: &mut Steps<B::Meter>) -> 
 }
 
 /// Fills the sections of a site.
-pub fn fill<B: Bank>(
-    bank: &mut B,
-    site: &Site,
-    unit: &Unit,
-    steps: &mut Steps<B::Meter>,
-) -> Result<(), Stop>
+pub fn fill<B: Bank>(bank: &mut B, site: &Site, unit: &Unit) -> Result<(), Stop>
     requires going { (B.state bank.old).stopped ≡ false }
     requires good { IsGoodSite (B.state bank.old).apps (B.room bank.old) site.now }
     requires code { site.now.sizes.code ≡ length unit.now.code.now }
@@ -107,31 +107,14 @@ pub fn fill<B: Bank>(
     ensures good { OnOk result (IsGoodSite (B.state bank.new).apps (B.room bank.new) site.now) }
 {
     let [a, b, c, d, e] = unit.name;
-    bank.fill(site, Part::Code, 0, unit.code, steps)?;
-    bank.fill(site, Part::Data, 0, unit.init, steps)?;
-    bank.fill(
-        site,
-        Part::Dir,
-        0,
-        &[0x61, 7, 0x4F, 5, a, b, c, d, e],
-        steps,
-    )?;
-    bank.fill(
-        site,
-        Part::Fci,
-        0,
-        &[0x6F, 7, 0x84, 5, a, b, c, d, e],
-        steps,
-    )
+    bank.fill(site, Part::Code, 0, unit.code)?;
+    bank.fill(site, Part::Data, 0, unit.init)?;
+    bank.fill(site, Part::Dir, 0, &[0x61, 7, 0x4F, 5, a, b, c, d, e])?;
+    bank.fill(site, Part::Fci, 0, &[0x6F, 7, 0x84, 5, a, b, c, d, e])
 }
 
 /// Makes an application of the bytes at a site.
-pub fn create<B: Bank>(
-    bank: &mut B,
-    site: &Site,
-    unit: &Unit,
-    steps: &mut Steps<B::Meter>,
-) -> Result<Came, Stop>
+pub fn create<B: Bank>(bank: &mut B, site: &Site, unit: &Unit) -> Result<Came, Stop>
     requires going { (B.state bank.old).stopped ≡ false }
     requires good { IsGoodSite (B.state bank.old).apps (B.room bank.old) site.now }
     ensures going { OnOk result ((B.state bank.new).stopped ≡ false) }
@@ -139,22 +122,22 @@ pub fn create<B: Bank>(
     let Some(aid) = Aid::new(&unit.name) else {
         return Ok(Came::AboveLimits);
     };
-    if bank.find(&aid, steps).is_some() {
+    if bank.find(&aid).is_some() {
         return Ok(Came::NameTwice);
     }
-    bank.create(site, &aid, steps)?;
+    bank.create(site, &aid)?;
     Ok(Came::Done)
 }
 
 /// Deletes an application.
-pub fn delete<B: Bank>(bank: &mut B, unit: &Unit, steps: &mut Steps<B::Meter>) -> Result<Came, Stop>
+pub fn delete<B: Bank>(bank: &mut B, unit: &Unit) -> Result<Came, Stop>
     requires going { (B.state bank.old).stopped ≡ false }
     ensures going { OnOk result ((B.state bank.new).stopped ≡ false) }
 {
-    let Some(slot) = slot_of(bank, &unit.name, steps) else {
+    let Some(slot) = slot_of(bank, &unit.name) else {
         return Ok(Came::Absent);
     };
-    bank.delete(slot, steps)?;
+    bank.delete(slot)?;
     Ok(Came::Done)
 }
 
@@ -164,15 +147,14 @@ pub fn commit<B: Bank>(
     unit: &Unit,
     first: Word,
     other: (u16, Word),
-    steps: &mut Steps<B::Meter>,
 ) -> Result<Came, Stop>
     requires going { (B.state bank.old).stopped ≡ false }
     ensures going { OnOk result ((B.state bank.new).stopped ≡ false) }
 {
-    let Some(slot) = slot_of(bank, &unit.name, steps) else {
+    let Some(slot) = slot_of(bank, &unit.name) else {
         return Ok(Came::Absent);
     };
-    let fixed = bank.facts(slot, steps).sizes.fixed;
+    let fixed = bank.facts(slot).sizes.fixed;
     if other.0 < 1 || other.0 as u32 * 8 >= fixed as u32 {
         return Ok(Came::AboveLimits);
     }
@@ -181,24 +163,20 @@ pub fn commit<B: Bank>(
 }
 
 /// Returns the slot of a name, or `None` if there is none.
-pub fn slot_of<B: Bank>(bank: &B, name: &[u8; 5], steps: &mut Steps<B::Meter>) -> Option<Slot>
+pub fn slot_of<B: Bank>(bank: &B, name: &[u8; 5]) -> Option<Slot>
     requires { (B.state bank.now).stopped ≡ false }
     ensures { IfSome result (λ slot. IsSome (B.named bank.now slot)) }
 {
-    bank.find(&Aid::new(name)?, steps)
+    bank.find(&Aid::new(name)?)
 }
 
 /// Returns the first of these applications that is not in the bank with its code and static bytes, if those
 /// are at most 64, or the number of applications if the bank has others; `None` if there is none.
-pub fn first_wrong<B: Bank>(
-    bank: &B,
-    apps: &[(Unit, &'static [u8])],
-    steps: &mut Steps<B::Meter>,
-) -> Option<usize>
+pub fn first_wrong<B: Bank>(bank: &B, apps: &[(Unit, &'static [u8])]) -> Option<usize>
     requires { (B.state bank.now).stopped ≡ false }
 {
     for (i, (unit, fixed)) in apps.iter().enumerate() {
-        if !has(bank, unit, fixed, steps) {
+        if !has(bank, unit, fixed) {
             return Some(i);
         }
     }
@@ -210,37 +188,37 @@ pub fn first_wrong<B: Bank>(
 }
 
 // Whether a bank has an application with its code and these static bytes.
-fn has<B: Bank>(bank: &B, unit: &Unit, fixed: &[u8], steps: &mut Steps<B::Meter>) -> bool
+fn has<B: Bank>(bank: &B, unit: &Unit, fixed: &[u8]) -> bool
     requires { (B.state bank.now).stopped ≡ false }
 {
-    let Some(slot) = slot_of(bank, &unit.name, steps) else {
+    let Some(slot) = slot_of(bank, &unit.name) else {
         return false;
     };
-    has_code(bank, slot, unit.code, steps) && has_fixed(bank, slot, fixed, steps)
+    has_code(bank, slot, unit.code) && has_fixed(bank, slot, fixed)
 }
 
-fn has_code<B: Bank>(bank: &B, slot: Slot, code: &[u8], steps: &mut Steps<B::Meter>) -> bool
+fn has_code<B: Bank>(bank: &B, slot: Slot, code: &[u8]) -> bool
     requires going { (B.state bank.now).stopped ≡ false }
     requires there { IsSome (B.named bank.now slot) }
 {
-    let size = bank.facts(slot, steps).sizes.code as usize;
+    let size = bank.facts(slot).sizes.code as usize;
     if size != code.len() || size > 64 {
         return false;
     }
     let mut found = [0; 64];
-    bank.code(slot, 0, &mut found[..size], steps);
+    bank.code(slot, 0, &mut found[..size]);
     &found[..size] == code
 }
 
-fn has_fixed<B: Bank>(bank: &B, slot: Slot, fixed: &[u8], steps: &mut Steps<B::Meter>) -> bool
+fn has_fixed<B: Bank>(bank: &B, slot: Slot, fixed: &[u8]) -> bool
     requires going { (B.state bank.now).stopped ≡ false }
     requires there { IsSome (B.named bank.now slot) }
 {
-    let size = bank.facts(slot, steps).sizes.fixed as usize;
+    let size = bank.facts(slot).sizes.fixed as usize;
     if size != fixed.len() || size > 64 {
         return false;
     }
     let mut found = [0; 64];
-    bank.fixed(slot, 0, &mut found[..size], steps);
+    bank.fixed(slot, 0, &mut found[..size]);
     &found[..size] == fixed
 }

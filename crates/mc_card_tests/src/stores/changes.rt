@@ -8,6 +8,7 @@ use mc_base::{NoMemory, Steps, Stop, Word};
 use mc_nvm::Bench;
 use mc_store::Store;
 use std::alloc::Global;
+use std::sync::ledger::Ledger;
 
 /// A load, a deletion, or a commit of the first word of the static bytes and another.
 #[derive(Clone, Copy, Debug, PartialEq, Eq)]
@@ -47,23 +48,27 @@ pub fn chain_of(alloc: Global, count: u8, deleted: &[u8]) -> Result<Vec<(Change,
 }
 
 /// Makes one change.
-pub fn make<B: Bank>(
+pub fn make<B: Bank, L: Ledger>(
     bank: &mut B,
     change: &Change,
-    steps: &mut Steps<B::Meter>,
+    steps: &mut Steps<L>,
 ) -> Result<Came, Stop>
     requires going { (B.state bank.old).stopped ≡ false }
     ensures going { OnOk result ((B.state bank.new).stopped ≡ false) }
 {
     match change {
         Change::Load(unit) => load(bank, unit, steps),
-        Change::Delete(unit) => delete(bank, unit, steps),
-        Change::Commit(unit, first, other) => commit(bank, unit, *first, *other, steps),
+        Change::Delete(unit) => delete(bank, unit),
+        Change::Commit(unit, first, other) => commit(bank, unit, *first, *other),
     }
 }
 
 /// Makes changes in sequence until one has another result than the one due.
-pub fn make_all<B: Bank>(bank: &mut B, rows: &[(Change, Came)], steps: &mut Steps<B::Meter>) -> Went
+pub fn make_all<B: Bank, L: Ledger>(
+    bank: &mut B,
+    rows: &[(Change, Came)],
+    steps: &mut Steps<L>,
+) -> Went
     requires going { (B.state bank.old).stopped ≡ false }
     ensures going { result ≡ Went.Through → (B.state bank.new).stopped ≡ false }
 {
@@ -78,13 +83,13 @@ pub fn make_all<B: Bank>(bank: &mut B, rows: &[(Change, Came)], steps: &mut Step
 }
 
 /// Turns power on, and makes changes on the store of the words.
-pub fn play<N: Bench>(
+pub fn play<N: Bench, L: Ledger>(
     device: &mut N,
     rows: &[(Change, Came)],
-    steps: &mut Steps<N::Meter>,
+    steps: &mut Steps<L>,
 ) -> Went {
     device.power();
-    match Store::power_up(device, steps) {
+    match Store::power_up(device) {
         Ok((mut store, _)) => {
             let went = make_all(&mut store, rows, steps);
             let _device = store.into_dev();
@@ -102,11 +107,11 @@ pub struct Shown {
 }
 
 /// Turns power on, and compares the applications.
-pub fn show<N: Bench>(device: &mut N, apps: &[App], steps: &mut Steps<N::Meter>) -> Shown {
+pub fn show<N: Bench>(device: &mut N, apps: &[App]) -> Shown {
     device.power();
-    match Store::power_up(device, steps) {
+    match Store::power_up(device) {
         Ok((store, writes)) => {
-            let wrong = first_wrong(&store, apps, steps);
+            let wrong = first_wrong(&store, apps);
             let _device = store.into_dev();
             Shown {
                 power: Power::Ready(writes),

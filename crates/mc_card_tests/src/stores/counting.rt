@@ -1,19 +1,16 @@
 // A device in memory that counts its reads.
-use mc_base::{Steps, Stop, Word};
+use mc_base::{Stop, Word};
 use mc_nvm::{Nvm, SimNvm};
 use std::cell::Cell;
-use std::sync::ledger::Ledger;
 
 /// A device that counts its reads in a cell.
 #[derive(Drop)]
-pub struct Counting<'a, L: Ledger> {
-    pub device: SimNvm<L>,
+pub struct Counting<'a> {
+    pub device: SimNvm,
     pub reads: &'a Cell<u32>,
 }
 
-impl<'a, L: Ledger> Nvm for Counting<'a, L> {
-    type Meter = L;
-
+impl<'a> Nvm for Counting<'a> {
     ghost use Rattle.mc_nvm.specs.Sim.{sim_state, SimWrote, sim_obeys};
 
     ghost state = { λ d. sim_state d.device };
@@ -36,9 +33,9 @@ impl<'a, L: Ledger> Nvm for Counting<'a, L> {
         self.device.len()
     }
 
-    fn read(&self, at: u32, steps: &mut Steps<L>) -> Word {
+    fn read(&self, at: u32) -> Word {
         self.reads.set(self.reads.get().saturating_add(1));
-        self.device.read(at, steps)
+        self.device.read(at)
     }
 
     fn write(&mut self, at: u32, word: Word) -> Result<(), Stop> {

@@ -170,7 +170,7 @@ struct Seen {
 }
 
 fn observe<L: Ledger>(
-    device: &mut SimNvm<L>,
+    device: &mut SimNvm,
     image: &Image,
     case: &Case,
     stops: Stops,
@@ -181,8 +181,8 @@ fn observe<L: Ledger>(
     stop_at(device, stops.stop, stops.first, stops.left);
     let went = play(device, &[(case.change, Came::Done)], steps);
     stop_at(device, stops.stop, stops.second, stops.then);
-    let recovery = power_up(device, steps);
-    let finish = power_up(device, steps);
+    let recovery = power_up(device);
+    let finish = power_up(device);
     let apps = if stands(case, &atomic, stops.first, stops.left) {
         case.new
     } else {
@@ -192,7 +192,7 @@ fn observe<L: Ledger>(
         went,
         recovery,
         finish,
-        shown: show(device, apps, steps),
+        shown: show(device, apps),
     }
 }
 
@@ -251,7 +251,7 @@ fn try_case<L: Ledger>(alloc: Global, blank: Blank, case: &Case) -> Result<Tried
     let mut device = SimNvm::new(alloc, 256)?;
     format(&mut device);
     let _made = play(&mut device, case.made, &mut steps);
-    let image = image_of(&device, &mut steps);
+    let image = image_of(&device);
     let mut taped = TapeNvm::new(alloc, 256, 64, &[])?;
     restore(&mut taped, &image);
     let _went = play(&mut taped, &[(case.change, Came::Done)], &mut steps);
@@ -263,10 +263,10 @@ fn try_case<L: Ledger>(alloc: Global, blank: Blank, case: &Case) -> Result<Tried
 
 // The first stops with another result.
 fn other_stops<L: Ledger>(
-    device: &mut SimNvm<L>,
+    device: &mut SimNvm,
     image: &Image,
     case: &Case,
-    taped: &TapeNvm<L>,
+    taped: &TapeNvm,
     steps: &mut Steps<L>,
 ) -> Option<(Stops, Seen)> {
     for first in 1..=writes_of(taped) {
@@ -281,12 +281,12 @@ fn other_stops<L: Ledger>(
 
 // A power cut and a failed write as the first stop, and each second one.
 fn both_ways<L: Ledger>(
-    device: &mut SimNvm<L>,
+    device: &mut SimNvm,
     image: &Image,
     case: &Case,
     first: u16,
     left: Word,
-    taped: &TapeNvm<L>,
+    taped: &TapeNvm,
     steps: &mut Steps<L>,
 ) -> Option<(Stops, Seen)> {
     for stop in [Stop::Off, Stop::Worn] {
@@ -311,11 +311,11 @@ fn trial(alloc: Global, case: &Case) -> Result<Tried, NoMemory> {
 
 // Each second stop after one first stop.
 fn second_stops<L: Ledger>(
-    device: &mut SimNvm<L>,
+    device: &mut SimNvm,
     image: &Image,
     case: &Case,
     first: Stops,
-    taped: &TapeNvm<L>,
+    taped: &TapeNvm,
     steps: &mut Steps<L>,
 ) -> Option<(Stops, Seen)> {
     let atomic = Atomic::packed(case.words);

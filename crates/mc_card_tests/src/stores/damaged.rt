@@ -1,13 +1,9 @@
 // Words that are not a card, and words that are.
-ghost use Rattle.std.specs.Prelude.{◌≡◌, ◌<◌};
-
 use crate::stores::bench::{Power, format, power_up, set_number};
-use mc_base::{NoMemory, Steps};
+use mc_base::NoMemory;
 use mc_blocks::Cause;
 use mc_nvm::{DEVICE_WORDS, SimNvm};
 use std::alloc::Global;
-use std::marker::Brand;
-use std::sync::ledger::{Blank, Ledger};
 use std::test::Fail;
 
 /// The words that open the journals of layout 1 and of layout 2.
@@ -198,25 +194,15 @@ const RECORDS: &[Row] = &[
 ];
 
 // The result of the power-up of an empty card with words set.
-fn came<L: Ledger>(
-    alloc: Global,
-    blank: Blank,
-    base: &[(u16, u64)],
-    words: &[(u16, u64)],
-) -> Result<Power, NoMemory>
-    requires name { blank.name ≡ L.name }
-    requires parts { blank.parts ≡ L.parts }
-    requires some { 0 < blank.parts }
-{
-    let mut steps = Steps::<L>::new(blank);
+fn came(alloc: Global, base: &[(u16, u64)], words: &[(u16, u64)]) -> Result<Power, NoMemory> {
     let mut device = SimNvm::new(alloc, DEVICE_WORDS)?;
     format(&mut device);
     set_all(&mut device, base);
     set_all(&mut device, words);
-    Ok(power_up(&mut device, &mut steps))
+    Ok(power_up(&mut device))
 }
 
-fn set_all<L: Ledger>(device: &mut SimNvm<L>, words: &[(u16, u64)]) {
+fn set_all(device: &mut SimNvm, words: &[(u16, u64)]) {
     for (at, number) in words {
         set_number(device, *at, *number);
     }
@@ -229,7 +215,7 @@ fn first_other(
     rows: &[Row],
 ) -> Result<Option<usize>, NoMemory> {
     for (i, (words, due)) in rows.iter().enumerate() {
-        if came::<Brand>(alloc, Blank::new(1), base, words)? != *due {
+        if came(alloc, base, words)? != *due {
             return Ok(Some(i));
         }
     }

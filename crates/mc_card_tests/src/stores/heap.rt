@@ -43,7 +43,7 @@ fn played<L: Ledger>(
     let went = play(&mut device, rows, &mut steps);
     Ok(Seen {
         went,
-        wrong: wrong_word(&device, words, &mut steps),
+        wrong: wrong_word(&device, words),
     })
 }
 
@@ -60,13 +60,9 @@ fn words_after(
     played::<Brand>(alloc, Blank::new(1), size, rows, words)
 }
 
-fn wrong_word<L: Ledger>(
-    device: &SimNvm<L>,
-    words: &[(u16, u64)],
-    steps: &mut Steps<L>,
-) -> Option<u16> {
+fn wrong_word(device: &SimNvm, words: &[(u16, u64)]) -> Option<u16> {
     for (at, word) in words {
-        if number_at(device, *at, steps) != *word {
+        if number_at(device, *at) != *word {
             return Some(*at);
         }
     }
@@ -82,43 +78,26 @@ fn empty_cards(rt: HostRuntime) -> Result<(), Fail> {
         Power::Ready(0),
         Power::Ready(0),
     );
-    let large = empty_card::<Brand>(
-        rt.alloc(),
-        Blank::new(1),
-        8192,
-        0x4D454C0220000083,
-        0x48001F7D00000000,
-    )?;
+    let large = empty_card(rt.alloc(), 8192, 0x4D454C0220000083, 0x48001F7D00000000)?;
     assert_eq!(rt; large, due);
-    let small = empty_card::<Brand>(
-        rt.alloc(),
-        Blank::new(1),
-        256,
-        0x4D454C0201000083,
-        0x4800007D00000000,
-    )?;
+    let small = empty_card(rt.alloc(), 256, 0x4D454C0201000083, 0x4800007D00000000)?;
     assert_eq!(rt; small, due);
     Ok(())
 }
 
 // The result of the power-up of a blank device, the first word of the empty card on it that is not as due, and the
 // results of two power-ups of the card.
-fn empty_card<L: Ledger>(
+fn empty_card(
     alloc: Global,
-    blank: Blank,
     size: u32,
     root: u64,
     hole: u64,
 ) -> Result<(Power, Option<u16>, Power, Power), NoMemory>
     requires low { 256 ≤ size }
     requires high { size ≤ 16384 }
-    requires name { blank.name ≡ L.name }
-    requires parts { blank.parts ≡ L.parts }
-    requires some { 0 < blank.parts }
 {
-    let mut steps = Steps::<L>::new(blank);
     let mut device = SimNvm::new(alloc, size)?;
-    let blank = power_up(&mut device, &mut steps);
+    let blank = power_up(&mut device);
     format(&mut device);
     let words = [
         (0, root),
@@ -128,9 +107,9 @@ fn empty_card<L: Ledger>(
         (130, 0x534855542D2D2D2D),
         (131, hole),
     ];
-    let wrong = wrong_word(&device, &words, &mut steps);
-    let first = power_up(&mut device, &mut steps);
-    Ok((blank, wrong, first, power_up(&mut device, &mut steps)))
+    let wrong = wrong_word(&device, &words);
+    let first = power_up(&mut device);
+    Ok((blank, wrong, first, power_up(&mut device)))
 }
 
 // The counter with two static bytes, under three names.
@@ -274,7 +253,7 @@ fn left_by<L: Ledger>(
     format(&mut device);
     stop_at(&mut device, Stop::Off, k, fill);
     let went = play(&mut device, rows, &mut steps);
-    Ok((went, show(&mut device, apps, &mut steps)))
+    Ok((went, show(&mut device, apps)))
 }
 
 // The card after such changes, with steps of their own.

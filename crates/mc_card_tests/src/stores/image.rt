@@ -1,19 +1,18 @@
 // The words of a device of 256 words, saved and restored, and the writes on a tape.
 use crate::stores::bench::set;
-use mc_base::{Steps, Word};
+use mc_base::Word;
 use mc_nvm::{Bench, Nvm, TapeNvm};
-use std::sync::ledger::Ledger;
 
 /// The words of a device of 256 words.
 pub type Image = [Word; 256];
 
 /// Returns the words of the device.
-pub fn image_of<N: Nvm>(device: &N, steps: &mut Steps<N::Meter>) -> Image {
+pub fn image_of<N: Nvm>(device: &N) -> Image {
     let size = device.len();
     let mut image = [[0; 8]; 256];
     for at in 0..256 {
         if at < size {
-            image[at as usize] = device.read(at, steps);
+            image[at as usize] = device.read(at);
         }
     }
     image
@@ -28,7 +27,7 @@ pub fn restore<N: Bench>(device: &mut N, image: &Image) {
 }
 
 /// Returns the number of writes on a tape.
-pub fn writes_of<L: Ledger>(device: &TapeNvm<L>) -> u16 {
+pub fn writes_of(device: &TapeNvm) -> u16 {
     match device.tape() {
         Some(entries) => entries.len().min(1000) as u16,
         None => 0,
@@ -36,7 +35,7 @@ pub fn writes_of<L: Ledger>(device: &TapeNvm<L>) -> u16 {
 }
 
 /// Returns the word that write `k`, counted from 1, left.
-pub fn due_word<L: Ledger>(device: &TapeNvm<L>, k: u16) -> Word {
+pub fn due_word(device: &TapeNvm, k: u16) -> Word {
     let Some(entries) = device.tape() else {
         return [0; 8];
     };

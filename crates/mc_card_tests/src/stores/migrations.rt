@@ -61,12 +61,7 @@ const ROWS: &[Row] = &[
 const ROOT_1: u64 = 0x4D454C0120000083;
 
 // The first power-up with another result.
-fn first_other<L: Ledger>(alloc: Global, blank: Blank, row: &Row) -> Result<Option<usize>, NoMemory>
-    requires name { blank.name ≡ L.name }
-    requires parts { blank.parts ≡ L.parts }
-    requires some { 0 < blank.parts }
-{
-    let mut steps = Steps::<L>::new(blank);
+fn first_other(alloc: Global, row: &Row) -> Result<Option<usize>, NoMemory> {
     let (words, ups) = row;
     let mut device = SimNvm::new(alloc, DEVICE_WORDS)?;
     format(&mut device);
@@ -74,17 +69,13 @@ fn first_other<L: Ledger>(alloc: Global, blank: Blank, row: &Row) -> Result<Opti
     for (at, number) in *words {
         set_number(&mut device, *at, *number);
     }
-    Ok(other_power(&mut device, ups, &mut steps))
+    Ok(other_power(&mut device, ups))
 }
 
-fn other_power<L: Ledger>(
-    device: &mut SimNvm<L>,
-    ups: &[(u16, Word, Power)],
-    steps: &mut Steps<L>,
-) -> Option<usize> {
+fn other_power(device: &mut SimNvm, ups: &[(u16, Word, Power)]) -> Option<usize> {
     for (i, (k, fill, due)) in ups.iter().enumerate() {
         stop_at(device, Stop::Off, *k, *fill);
-        if power_up(device, steps) != *due {
+        if power_up(device) != *due {
             return Some(i);
         }
     }
@@ -95,11 +86,7 @@ fn other_power<L: Ledger>(
 #[test]
 fn migrations(rt: HostRuntime) -> Result<(), Fail> {
     for (i, row) in ROWS.iter().enumerate() {
-        assert_eq!(rt;
-            first_other::<Brand>(rt.alloc(), Blank::new(1), row)?,
-            None,
-            "row {i}"
-        );
+        assert_eq!(rt; first_other(rt.alloc(), row)?, None, "row {i}");
     }
     Ok(())
 }
@@ -147,24 +134,19 @@ struct Seen {
     version: u64,
 }
 
-fn observe<L: Ledger>(
-    device: &mut SimNvm<L>,
-    image: &Image,
-    stops: Stops,
-    steps: &mut Steps<L>,
-) -> Seen {
+fn observe(device: &mut SimNvm, image: &Image, stops: Stops) -> Seen {
     restore(device, image);
     stop_at(device, stops.stop, stops.first, stops.left);
-    let first = power_up(device, steps);
+    let first = power_up(device);
     stop_at(device, stops.stop, stops.second, stops.then);
-    let second = power_up(device, steps);
-    let third = power_up(device, steps);
+    let second = power_up(device);
+    let third = power_up(device);
     Seen {
         first,
         second,
         third,
-        shown: show(device, APPS, steps),
-        version: number_at(device, 0, steps) / 0x100000000 % 0x100,
+        shown: show(device, APPS),
+        version: number_at(device, 0) / 0x100000000 % 0x100,
     }
 }
 
@@ -224,23 +206,18 @@ fn first_stops<L: Ledger>(
     format(&mut device);
     let _made = play(&mut device, LOADS, &mut steps);
     set_number(&mut device, 0, 0x4D454C0101000083);
-    let image = image_of(&device, &mut steps);
+    let image = image_of(&device);
     let mut taped = TapeNvm::new(alloc, 256, 64, &[])?;
     restore(&mut taped, &image);
-    let _whole = power_up(&mut taped, &mut steps);
-    let other = other_stops(&mut device, &image, &taped, &mut steps);
+    let _whole = power_up(&mut taped);
+    let other = other_stops(&mut device, &image, &taped);
     Ok((writes_of(&taped), other))
 }
 
-fn other_stops<L: Ledger>(
-    device: &mut SimNvm<L>,
-    image: &Image,
-    taped: &TapeNvm<L>,
-    steps: &mut Steps<L>,
-) -> Option<(Stops, Seen)> {
+fn other_stops(device: &mut SimNvm, image: &Image, taped: &TapeNvm) -> Option<(Stops, Seen)> {
     for first in 1..7 {
         for left in [ZERO, OPEN_1, OPEN_2, due_word(taped, first)] {
-            if let Some(other) = both_ways(device, image, first, left, taped, steps) {
+            if let Some(other) = both_ways(device, image, first, left, taped) {
                 return Some(other);
             }
         }
@@ -249,13 +226,12 @@ fn other_stops<L: Ledger>(
 }
 
 // A power cut and a failed write as the first stop, and each second one.
-fn both_ways<L: Ledger>(
-    device: &mut SimNvm<L>,
+fn both_ways(
+    device: &mut SimNvm,
     image: &Image,
     first: u16,
     left: Word,
-    taped: &TapeNvm<L>,
-    steps: &mut Steps<L>,
+    taped: &TapeNvm,
 ) -> Option<(Stops, Seen)> {
     for stop in [Stop::Off, Stop::Worn] {
         let stops = Stops {
@@ -265,7 +241,7 @@ fn both_ways<L: Ledger>(
             second: 0,
             then: ZERO,
         };
-        if let Some(other) = second_stops(device, image, stops, taped, steps) {
+        if let Some(other) = second_stops(device, image, stops, taped) {
             return Some(other);
         }
     }
@@ -273,12 +249,11 @@ fn both_ways<L: Ledger>(
 }
 
 // Each second stop after one first stop.
-fn second_stops<L: Ledger>(
-    device: &mut SimNvm<L>,
+fn second_stops(
+    device: &mut SimNvm,
     image: &Image,
     first: Stops,
-    taped: &TapeNvm<L>,
-    steps: &mut Steps<L>,
+    taped: &TapeNvm,
 ) -> Option<(Stops, Seen)> {
     let due = due_writes(first.first, first.left);
     for second in 0..=due {
@@ -289,7 +264,7 @@ fn second_stops<L: Ledger>(
                 then,
                 ..first
             };
-            let seen = observe(device, image, stops, steps);
+            let seen = observe(device, image, stops);
             if seen != by_rule(stops) {
                 return Some((stops, seen));
             }

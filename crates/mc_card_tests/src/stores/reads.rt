@@ -15,7 +15,7 @@ use crate::stores::counting::Counting;
 use mc_bank::{Bank, Slot};
 use mc_base::{Aid, NoMemory, Steps};
 use mc_blocks::{first_fit, fits_room, free_plan, take_plan};
-use mc_nvm::{Bench, DEVICE_WORDS, Nvm, SimNvm};
+use mc_nvm::{Bench, DEVICE_WORDS, Nvm, Probe, SimNvm};
 use mc_store::Store;
 use std::alloc::Global;
 use std::cell::Cell;
@@ -51,12 +51,12 @@ struct Plans {
 }
 
 // The reads of a load and of a deletion.
-fn count_reads<B: Bank>(
+fn count_reads<B: Bank, L: Ledger>(
     bank: &mut B,
     loaded: &Unit,
     deleted: &Unit,
     reads: &Cell<u32>,
-    steps: &mut Steps<B::Meter>,
+    steps: &mut Steps<L>,
 ) -> Option<Reads>
     requires going { (B.state bank.old).stopped ≡ false }
 {
@@ -65,18 +65,18 @@ fn count_reads<B: Bank>(
     reads.set(0);
     let site = bank.open(&sizes, steps).ok()?;
     let open = reads.get();
-    fill(bank, &site, loaded, steps).ok()?;
-    if bank.find(&aid, steps).is_some() {
+    fill(bank, &site, loaded).ok()?;
+    if bank.find(&aid).is_some() {
         return None;
     }
     reads.set(0);
-    bank.create(&site, &aid, steps).ok()?;
+    bank.create(&site, &aid).ok()?;
     let create = reads.get();
-    let made = slot_of(bank, &loaded.name, steps)?;
-    let bytes = count_fetches(bank, made, reads, steps)?;
-    let slot = slot_of(bank, &deleted.name, steps)?;
+    let made = slot_of(bank, &loaded.name)?;
+    let bytes = count_fetches(bank, made, reads)?;
+    let slot = slot_of(bank, &deleted.name)?;
     reads.set(0);
-    bank.delete(slot, steps).ok()?;
+    bank.delete(slot).ok()?;
     Some(Reads {
         open,
         create,
@@ -86,28 +86,23 @@ fn count_reads<B: Bank>(
 }
 
 // The reads of bytes of an application with at least nine bytes of code and two static bytes.
-fn count_fetches<B: Bank>(
-    bank: &B,
-    slot: Slot,
-    reads: &Cell<u32>,
-    steps: &mut Steps<B::Meter>,
-) -> Option<Fetches>
+fn count_fetches<B: Bank>(bank: &B, slot: Slot, reads: &Cell<u32>) -> Option<Fetches>
     requires going { (B.state bank.now).stopped ≡ false }
     requires there { IsSome (B.named bank.now slot) }
 {
-    let sizes = bank.facts(slot, steps).sizes;
+    let sizes = bank.facts(slot).sizes;
     if sizes.code < 9 || sizes.fixed < 2 {
         return None;
     }
     let mut window = [0; 6];
     reads.set(0);
-    bank.code(slot, 1, &mut window, steps);
+    bank.code(slot, 1, &mut window);
     let one = reads.get();
     reads.set(0);
-    bank.code(slot, 3, &mut window, steps);
+    bank.code(slot, 3, &mut window);
     let two = reads.get();
     reads.set(0);
-    bank.fixed(slot, 0, &mut window[..2], steps);
+    bank.fixed(slot, 0, &mut window[..2]);
     Some(Fetches {
         one,
         two,
@@ -116,7 +111,7 @@ fn count_fetches<B: Bank>(
 }
 
 // A device of 8,192 words with an empty card and power.
-fn empty_card<L: Ledger>(alloc: Global) -> Result<SimNvm<L>, NoMemory>
+fn empty_card(alloc: Global) -> Result<SimNvm, NoMemory>
     ensures { IfOk result (λ device. (sim_state device).on ≡ true) }
 {
     let mut device = SimNvm::new(alloc, DEVICE_WORDS)?;
@@ -125,12 +120,11 @@ fn empty_card<L: Ledger>(alloc: Global) -> Result<SimNvm<L>, NoMemory>
     Ok(device)
 }
 
-// The reads on a card with `count` applications, after some of them are deleted.
+// The reads on a card after some changes.
 fn reads_over<L: Ledger>(
     alloc: Global,
     blank: Blank,
-    count: u8,
-    deleted: &[u8],
+    rows: &[(Change, Came)],
 ) -> Result<Option<Reads>, NoMemory>
     requires name { blank.name ≡ L.name }
     requires parts { blank.parts ≡ L.parts }
@@ -142,36 +136,31 @@ fn reads_over<L: Ledger>(
         device: empty_card(alloc)?,
         reads: &reads,
     };
-    let Ok((mut store, _)) = Store::power_up(device, &mut steps) else {
+    let Ok((mut store, _)) = Store::power_up(device) else {
         return Ok(None);
     };
-    let seen = reads_of(alloc, &mut store, count, deleted, &reads, &mut steps)?;
+    let seen = reads_of(&mut store, rows, &reads, &mut steps);
     let _device = store.into_dev();
     Ok(seen)
 }
 
-fn reads_of<B: Bank>(
-    alloc: Global,
+fn reads_of<B: Bank, L: Ledger>(
     bank: &mut B,
-    count: u8,
-    deleted: &[u8],
+    rows: &[(Change, Came)],
     reads: &Cell<u32>,
-    steps: &mut Steps<B::Meter>,
-) -> Result<Option<Reads>, NoMemory>
+    steps: &mut Steps<L>,
+) -> Option<Reads>
     requires going { (B.state bank.old).stopped ≡ false }
 {
-    let rows = chain_of(alloc, count, deleted)?;
-    match slot_of_twentieth(bank, rows.as_slice(), steps) {
-        Some(_) => Ok(count_reads(bank, &chained(33), &chained(20), reads, steps)),
-        None => Ok(None),
-    }
+    let _last = slot_of_twentieth(bank, rows, steps)?;
+    count_reads(bank, &chained(33), &chained(20), reads, steps)
 }
 
 // Makes changes, and returns the slot of the twentieth application.
-fn slot_of_twentieth<B: Bank>(
+fn slot_of_twentieth<B: Bank, L: Ledger>(
     bank: &mut B,
     rows: &[(Change, Came)],
-    steps: &mut Steps<B::Meter>,
+    steps: &mut Steps<L>,
 ) -> Option<Slot>
     requires going { (B.state bank.old).stopped ≡ false }
     ensures going { IfSome result (λ slot. (B.state bank.new).stopped ≡ false) }
@@ -180,29 +169,14 @@ fn slot_of_twentieth<B: Bank>(
     if make_all(bank, rows, steps) != Went::Through {
         return None;
     }
-    slot_of(bank, &chained(20).name, steps)
+    slot_of(bank, &chained(20).name)
 }
 
-// Loads twenty applications, deletes some of them, and returns the slot of the twentieth.
-fn slot_among<B: Bank>(
-    alloc: Global,
-    bank: &mut B,
-    deleted: &[u8],
-    steps: &mut Steps<B::Meter>,
-) -> Result<Option<Slot>, NoMemory>
-    requires going { (B.state bank.old).stopped ≡ false }
-    ensures going { IfOk result (λ r. IfSome r (λ slot. (B.state bank.new).stopped ≡ false)) }
-    ensures there { IfOk result (λ r. IfSome r (λ slot. IsSome (B.named bank.new slot))) }
-{
-    let rows = chain_of(alloc, 20, deleted)?;
-    Ok(slot_of_twentieth(bank, rows.as_slice(), steps))
-}
-
-// The reads of the search and of the plans on a card with twenty applications, after some of them are deleted.
+// The reads of the search and of the plans on such cards.
 fn plans_over<L: Ledger>(
     alloc: Global,
     blank: Blank,
-    deleted: &[u8],
+    rows: &[(Change, Came)],
 ) -> Result<Option<Plans>, NoMemory>
     requires name { blank.name ≡ L.name }
     requires parts { blank.parts ≡ L.parts }
@@ -214,10 +188,10 @@ fn plans_over<L: Ledger>(
         device: empty_card(alloc)?,
         reads: &reads,
     };
-    let Ok((mut store, _)) = Store::power_up(device, &mut steps) else {
+    let Ok((mut store, _)) = Store::power_up(device) else {
         return Ok(None);
     };
-    match slot_among(alloc, &mut store, deleted, &mut steps)? {
+    match slot_of_twentieth(&mut store, rows, &mut steps) {
         Some(slot) => Ok(count_plans(store, slot, &reads, &mut steps)),
         None => {
             let _device = store.into_dev();
@@ -227,7 +201,7 @@ fn plans_over<L: Ledger>(
 }
 
 fn count_plans<L: Ledger>(
-    store: Store<Counting<'_, L>>,
+    store: Store<Counting<'_>>,
     slot: Slot,
     reads: &Cell<u32>,
     steps: &mut Steps<L>,
@@ -241,11 +215,11 @@ fn count_plans<L: Ledger>(
 }
 
 // The reads on words that are a card with a used block at this place.
-fn plans_of<N: Nvm>(
+fn plans_of<N: Nvm, L: Ledger>(
     device: &N,
     block: u16,
     reads: &Cell<u32>,
-    steps: &mut Steps<N::Meter>,
+    steps: &mut Steps<L>,
 ) -> Option<Plans>
     requires closed { look (N.state device.now).words ≡ Closed }
     requires laid { IsWellLaid (N.state device.now).words }
@@ -254,13 +228,13 @@ fn plans_of<N: Nvm>(
     let _size = device.len();
     fits_room();
     reads.set(0);
-    let place = first_fit(device, 13, steps)?;
+    let place = first_fit(&Probe::new(device), 13, steps)?;
     let search = reads.get();
     reads.set(0);
-    let _taken = take_plan(device, place, 13, steps);
+    let _taken = take_plan(device, place, 13);
     let take = reads.get();
     reads.set(0);
-    let _freed = free_plan(device, block, steps);
+    let _freed = free_plan(device, block);
     Some(Plans {
         place,
         search,
@@ -269,14 +243,16 @@ fn plans_of<N: Nvm>(
     })
 }
 
-// The reads on a card, with steps of their own.
+// The reads on a card with `count` applications, after some of them are deleted.
 fn store_reads(alloc: Global, count: u8, deleted: &[u8]) -> Result<Option<Reads>, NoMemory> {
-    reads_over::<Brand>(alloc, Blank::new(1), count, deleted)
+    let rows = chain_of(alloc, count, deleted)?;
+    reads_over::<Brand>(alloc, Blank::new(1), rows.as_slice())
 }
 
-// The reads of plans on a card, with steps of their own.
+// The reads of plans on a card with twenty applications, after some of them are deleted.
 fn plan_reads(alloc: Global, deleted: &[u8]) -> Result<Option<Plans>, NoMemory> {
-    plans_over::<Brand>(alloc, Blank::new(1), deleted)
+    let rows = chain_of(alloc, 20, deleted)?;
+    plans_over::<Brand>(alloc, Blank::new(1), rows.as_slice())
 }
 
 const CARDS: &[(u8, &[u8], u32)] = &[

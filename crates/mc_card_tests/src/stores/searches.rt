@@ -20,7 +20,7 @@ use std::sync::ledger::{Blank, Ledger};
 use std::test::Fail;
 
 /// The reads of a search for a name that is there, for one that begins otherwise, and for a longer one that begins
-/// with the five bytes of one; of a command of 13 instructions; and of a power-up.
+/// with the first eight bytes of each; of a command of 13 instructions; and of a power-up.
 #[derive(Clone, Copy, Debug, PartialEq, Eq, Drop)]
 struct Reads {
     found: u32,
@@ -49,34 +49,29 @@ fn load(last: u8, code: &'static [u8]) -> (Change, Came) {
 }
 
 // The reads of a search for a name.
-fn count_find<B: Bank>(
-    bank: &B,
-    name: &[u8],
-    reads: &Cell<u32>,
-    steps: &mut Steps<B::Meter>,
-) -> Option<u32>
+fn count_find<B: Bank>(bank: &B, name: &[u8], reads: &Cell<u32>) -> Option<u32>
     requires going { (B.state bank.now).stopped ≡ false }
 {
     let aid = Aid::new(name)?;
     reads.set(0);
-    let _slot = bank.find(&aid, steps);
+    let _slot = bank.find(&aid);
     Some(reads.get())
 }
 
 // The reads of a command to the application with a name.
-fn count_command<B: Bank>(
+fn count_command<B: Bank, L: Ledger>(
     bank: &mut B,
     name: &[u8; 5],
     reads: &Cell<u32>,
-    steps: &mut Steps<B::Meter>,
+    steps: &mut Steps<L>,
 ) -> Option<u32>
     requires going { (B.state bank.old).stopped ≡ false }
 {
-    let slot = slot_of(bank, name, steps)?;
+    let slot = slot_of(bank, name)?;
     let Ok(apdu) = parse(&[0x80, 1, 0, 0]) else {
         return None;
     };
-    let mut session = Session::new(bank.facts(slot, steps).sizes.session);
+    let mut session = Session::new(bank.facts(slot).sizes.session);
     reads.set(0);
     match run(bank, slot, &mut session, &apdu, 100, steps) {
         Ok(_) => Some(reads.get()),
@@ -85,7 +80,7 @@ fn count_command<B: Bank>(
 }
 
 // A device of 8,192 words with an empty card and power.
-fn empty_card<L: Ledger>(alloc: Global) -> Result<SimNvm<L>, NoMemory>
+fn empty_card(alloc: Global) -> Result<SimNvm, NoMemory>
     ensures { IfOk result (λ device. (sim_state device).on ≡ true) }
 {
     let mut device = SimNvm::new(alloc, DEVICE_WORDS)?;
@@ -95,7 +90,7 @@ fn empty_card<L: Ledger>(alloc: Global) -> Result<SimNvm<L>, NoMemory>
 }
 
 // Loads the application that does nothing, and `count` counters.
-fn load_all<B: Bank>(bank: &mut B, count: u8, steps: &mut Steps<B::Meter>) -> bool
+fn load_all<B: Bank, L: Ledger>(bank: &mut B, count: u8, steps: &mut Steps<L>) -> bool
     requires going { (B.state bank.old).stopped ≡ false }
     ensures going { result ≡ true → (B.state bank.new).stopped ≡ false }
 {
@@ -111,13 +106,17 @@ fn load_all<B: Bank>(bank: &mut B, count: u8, steps: &mut Steps<B::Meter>) -> bo
 }
 
 // The reads on a card.
-fn count_on<B: Bank>(bank: &mut B, reads: &Cell<u32>, steps: &mut Steps<B::Meter>) -> Option<Reads>
+fn count_on<B: Bank, L: Ledger>(
+    bank: &mut B,
+    reads: &Cell<u32>,
+    steps: &mut Steps<L>,
+) -> Option<Reads>
     requires going { (B.state bank.old).stopped ≡ false }
 {
     Some(Reads {
-        found: count_find(bank, &[0xA0, 0, 0, 1, 0], reads, steps)?,
-        absent: count_find(bank, &[0xB0, 0, 0, 1, 0], reads, steps)?,
-        alike: count_find(bank, &[0xA0, 0, 0, 1, 0, 0xFF, 0xFF, 0xFF, 1], reads, steps)?,
+        found: count_find(bank, &[0xA0, 0, 0, 1, 0], reads)?,
+        absent: count_find(bank, &[0xB0, 0, 0, 1, 0], reads)?,
+        alike: count_find(bank, &[0xA0, 0, 0, 1, 0, 0xFF, 0xFF, 0xFF, 1], reads)?,
         command: count_command(bank, &[0xA0, 0, 0, 1, 0], reads, steps)?,
         power: 0,
     })
@@ -135,7 +134,7 @@ fn reads_over<L: Ledger>(alloc: Global, blank: Blank, count: u8) -> Result<Optio
         device: empty_card(alloc)?,
         reads: &reads,
     };
-    let Ok((mut store, _)) = Store::power_up(device, &mut steps) else {
+    let Ok((mut store, _)) = Store::power_up(device) else {
         return Ok(None);
     };
     if !load_all(&mut store, count, &mut steps) {
@@ -147,7 +146,7 @@ fn reads_over<L: Ledger>(alloc: Global, blank: Blank, count: u8) -> Result<Optio
     let mut device = store.into_dev();
     device.device.power();
     reads.set(0);
-    match Store::power_up(device, &mut steps) {
+    match Store::power_up(device) {
         Ok(_) => Ok(Some(Reads {
             power: reads.get(),
             ..seen
@@ -161,9 +160,9 @@ fn searches(alloc: Global, count: u8) -> Result<Option<Reads>, NoMemory> {
     reads_over::<Brand>(alloc, Blank::new(1), count)
 }
 
-// A search reads two words of each application and one of the gap, three more where the first five bytes of the name
-// are those of its application, and no more once the name is found. A command reads the record of its application, and
-// at each instruction the words that the next six bytes of code lie in. A power-up reads nine words of each application.
+// A search reads two words of each block, three more where the first eight bytes of the name are those of its
+// application, and no more once the name is found. A command reads the record of its application, and at each
+// instruction the words that the next six bytes of code lie in. A power-up reads nine words of each application.
 #[test]
 fn reads_of_searches(rt: HostRuntime) -> Result<(), Fail> {
     for count in [0, 1, 2, 31] {

@@ -1,4 +1,4 @@
-use Rattle.std.proofs.Common.{◌+◌, false, List, Option, Ok, Err, refl, arith, ap, sym, subst, ◌∙◌}
+use Rattle.std.proofs.Common.{false, List, Option, Ok, Err, arith, ap, sym, subst, ◌∙◌}
 use Rattle.std.specs.Prelude.{is_err}
 use Rattle.std.proofs.lemmas.Result.{err_from_is_err_and}
 use Rattle.mc_machine.specs.declared.outcome.Outcome.{Outcome}
@@ -7,16 +7,14 @@ use Rattle.mc_machine.proofs.EndLemmas.{end_there, end_missing}
 use Rattle.mc_card.specs.Ends.{Begun}
 use Rattle.mc_card.specs.Parts.{card_in, session_state_in, due}
 use Rattle.mc_script.specs.Runs.{sent_to}
-use Rattle.mc_script.specs.StepCounts.{instructions, command_reads}
+use Rattle.mc_script.specs.StepCounts.{instructions, command_search}
 use Rattle.mc_script.specs.Watching.{Watches}
 use Rattle.mc_script.proofs.CommandLemmas.{answered_ran}
-use Rattle.mc_script.proofs.StepLemmas.{answered_steps, stopped_early}
+use Rattle.mc_script.proofs.StepLemmas.{answered_steps, exact, stopped_early}
 use Rattle.mc_script.proofs.WatchLemmas.{leads_begin, leads_end, leads_on, leads_stop}
 use Rattle.desk_cover.specs.Known.{Knows}
 use Rattle.desk_draft.specs.Listings.{Source}
-use Rattle.desk_cover.specs.Looks.{section_looks}
 use Rattle.desk_cover.proofs.KnownLemmas.{known_on}
-use Rattle.desk_cover.proofs.StepLemmas.{followed_steps}
 use Rattle.desk_cover.proofs.WatchLemmas.{turned_watched}
 use Rattle.desk_cover.proofs.following.run_followed.Goals as goal
 
@@ -28,7 +26,7 @@ returns-in_err-outcome-clause-done g c =
 
 pub returns-in_err-outcome-clause-steps : goal.returns-in_err-outcome-clause-steps
 returns-in_err-outcome-clause-steps g c =
-    answered_steps (g.W.Follower.looks c.args.follower.now + section_looks c.args.sections.now) (card_in g.N.Nvm.state c.args.card.now) (session_state_in g.N.Nvm.state c.args.card.now) c.args.bytes.now c.args.budget c.args.steps.now c.begin.new.steps (is_err c.from_residual.result) c.in_err-outcome.ensures.done.stays c.begin.ensures.steps
+    answered_steps (card_in g.N.Nvm.state c.args.card.now) (session_state_in g.N.Nvm.state c.args.card.now) c.args.bytes.now c.args.budget c.args.steps.now c.begin.new.steps (is_err c.from_residual.result) c.in_err-outcome.ensures.done.stays c.begin.ensures.steps
 
 pub returns-in-Some-clause-done : goal.returns-in-Some-clause-done
 returns-in-Some-clause-done g c =
@@ -38,20 +36,16 @@ returns-in-Some-clause-done g c =
 pub returns-in-Some-clause-steps : goal.returns-in-Some-clause-steps
 returns-in-Some-clause-steps g c =
     let done = subst (λ (o : Option Outcome). Begun g.N.Nvm.state g.N.Nvm.wrote c.args.card.now c.args.bytes.now c.args.budget (Ok o) c.begin.new.self) c.in-Some.is c.in_ok-outcome.ensures.done in
-    answered_steps (g.W.Follower.looks c.args.follower.now + section_looks c.args.sections.now) (card_in g.N.Nvm.state c.args.card.now) (session_state_in g.N.Nvm.state c.args.card.now) c.args.bytes.now c.args.budget c.args.steps.now c.begin.new.steps false done.stays c.begin.ensures.steps
+    answered_steps (card_in g.N.Nvm.state c.args.card.now) (session_state_in g.N.Nvm.state c.args.card.now) c.args.bytes.now c.args.budget c.args.steps.now c.begin.new.steps false done.stays c.begin.ensures.steps
 
 pub turns-init : goal.turns-init
 turns-init g c =
     let passed = subst (λ (o : Option Outcome). Begun g.N.Nvm.state g.N.Nvm.wrote c.args.card.now c.args.bytes.now c.args.budget (Ok o) c.begin.new.self) c.in_default.is c.in_ok-outcome.ensures.done in
-    let looks = g.W.Follower.looks c.args.follower.now + section_looks c.args.sections.now in
-    let look = c.new-known.ensures in
-    let few = look.reads in
     record {
-      leads = (c.begin.new.steps, look.rises, omega (arith, few), leads_begin g.N.Nvm.state g.N.Nvm.wrote g.met.N.Nvm.obeys g.W.Follower.seen g.W.Follower.watched g.met.W.Follower.onward looks c.args.card.now c.begin.new.self c.args.bytes.now c.args.budget c.args.follower.now c.args.steps.now c.begin.new.steps passed c.begin.ensures.steps);
-      looks = refl;
+      leads = leads_begin g.N.Nvm.state g.N.Nvm.wrote g.met.N.Nvm.obeys g.W.Follower.seen g.W.Follower.watched g.met.W.Follower.onward c.args.card.now c.begin.new.self c.args.bytes.now c.args.budget c.args.follower.now c.args.steps.now c.begin.new.steps passed c.begin.ensures.steps;
       keeps_device = c.begin.ensures.keeps_device;
       sources = c.requires.sources;
-      known = look.value;
+      known = c.new-known.ensures;
     }
 
 pub new-known-requires : goal.new-known-requires
@@ -60,7 +54,7 @@ new-known-requires g c =
     (_, c.args.budget, passed.runs)
 
 pub turn-requires-clause-running : goal.turn-requires-clause-running
-turn-requires-clause-running g c = let h = c.turns.invariant.leads.3 in (h.chain, c.turns.left, h.runs)
+turn-requires-clause-running g c = let h = c.turns.invariant.leads in (h.chain, c.turns.left, h.runs)
 
 pub turn-requires-clause-known : goal.turn-requires-clause-known
 turn-requires-clause-known g c =
@@ -70,7 +64,7 @@ turn-requires-clause-known g c =
 pub follow-requires : goal.follow-requires
 follow-requires g c =
     let l = c.turns in
-    let h = l.invariant.leads.3 in
+    let h = l.invariant.leads in
     turned_watched g.N.Nvm.state g.N.Nvm.wrote l.card c.turn.new.card (full_turn c.in_ok-turn.turn c.turn.new.into) (h.chain, l.left, h.runs) c.in_ok-turn.ensures.done
 
 pub returns-in_err-turn : goal.returns-in_err-turn
@@ -78,15 +72,10 @@ returns-in_err-turn g c =
     let p = err_from_is_err_and c.from_residual-in_err-turn.result c.from_residual-in_err-turn.ensures.1 in
     let l = c.turns in
     let e = c.in_err-turn.ensures in
-    let looks = g.W.Follower.looks c.args.follower.now + section_looks c.args.sections.now in
-    let steps = followed_steps g.N.Nvm.state (g.W.Follower.looks l.follower) (g.W.Follower.looks c.args.follower.now) (section_looks c.args.sections.now) l.card l.invariant.leads.0 l.steps c.turn.new.steps l.invariant.looks l.invariant.leads.1 l.invariant.leads.2 c.turn.ensures.steps in
-    let stop = leads_stop g.N.Nvm.state g.N.Nvm.wrote g.met.N.Nvm.obeys g.W.Follower.seen g.W.Follower.watched g.met.W.Follower.onward looks c.args.card.now l.card c.turn.new.card c.args.bytes.now c.args.budget c.args.follower.now c.args.steps.now l.left l.follower c.turn.new.self l.invariant.leads.0 c.turn.new.steps c.in_err-turn.field-0.0 l.invariant.leads.3 (record { done = e.done; watches = e.watches; steps = steps }) in
-    let h = l.invariant.leads.3 in
+    let stop = leads_stop g.N.Nvm.state g.N.Nvm.wrote g.met.N.Nvm.obeys g.W.Follower.seen g.W.Follower.watched g.met.W.Follower.onward c.args.card.now l.card c.turn.new.card c.args.bytes.now c.args.budget c.args.follower.now c.args.steps.now l.left l.follower c.turn.new.self l.steps c.turn.new.steps c.in_err-turn.field-0.0 l.invariant.leads (record { done = e.done; watches = e.watches; steps = c.turn.ensures.steps }) in
     record {
       done = rw (p.1, p.2) stop.0;
-      steps = stopped_early (instructions (due g.N.Nvm.state c.args.card.now c.args.bytes.now c.args.budget).turns) (command_reads looks (card_in g.N.Nvm.state c.args.card.now) c.args.bytes.now (due g.N.Nvm.state c.args.card.now c.args.bytes.now c.args.budget).turns) c.args.steps.now c.turn.new.steps (is_err c.from_residual-in_err-turn.result) (ap is_err p.1) stop.1;
-      looks = c.turn.ensures.looks ∙ l.invariant.looks;
-      sources = g.met.W.Follower.stays l.follower c.turn.new.self _ (e.watches h.chain l.left h.runs h.wide) ∙ l.invariant.sources ∙ sym c.requires.sources;
+      steps = stopped_early (instructions (due g.N.Nvm.state c.args.card.now c.args.bytes.now c.args.budget).turns) (command_search (card_in g.N.Nvm.state c.args.card.now) c.args.bytes.now) c.args.steps.now c.turn.new.steps (is_err c.from_residual-in_err-turn.result) (ap is_err p.1) stop.1;
       keeps_device = g.met.N.Nvm.onward _ _ _ l.invariant.keeps_device c.turn.ensures.keeps_device;
     }
 
@@ -95,15 +84,10 @@ returns-then-is_some g c =
     let l = c.turns in
     let e = c.in_ok-turn.ensures in
     let end = end_there c.in_ok-turn.turn.end c.turn.new.into (sym c.is_some.ensures ∙ c.if-is_some.true) in
-    let looks = g.W.Follower.looks c.args.follower.now + section_looks c.args.sections.now in
-    let steps = followed_steps g.N.Nvm.state (g.W.Follower.looks l.follower) (g.W.Follower.looks c.args.follower.now) (section_looks c.args.sections.now) l.card l.invariant.leads.0 l.steps c.turn.new.steps l.invariant.looks l.invariant.leads.1 l.invariant.leads.2 c.turn.ensures.steps in
-    let last = leads_end g.N.Nvm.state g.N.Nvm.wrote g.met.N.Nvm.obeys g.W.Follower.seen g.W.Follower.watched g.met.W.Follower.onward looks c.args.card.now l.card c.turn.new.card c.args.bytes.now c.args.budget c.args.follower.now c.args.steps.now l.left l.follower c.turn.new.self l.invariant.leads.0 c.turn.new.steps (full_turn c.in_ok-turn.turn c.turn.new.into) c.turn.new.into l.invariant.leads.3 (record { done = e.done; watches = e.watches; steps = steps }) end in
-    let h = l.invariant.leads.3 in
+    let last = leads_end g.N.Nvm.state g.N.Nvm.wrote g.met.N.Nvm.obeys g.W.Follower.seen g.W.Follower.watched g.met.W.Follower.onward c.args.card.now l.card c.turn.new.card c.args.bytes.now c.args.budget c.args.follower.now c.args.steps.now l.left l.follower c.turn.new.self l.steps c.turn.new.steps (full_turn c.in_ok-turn.turn c.turn.new.into) c.turn.new.into l.invariant.leads (record { done = e.done; watches = e.watches; steps = c.turn.ensures.steps }) end in
     record {
       done = last.0;
-      steps = last.1;
-      looks = c.turn.ensures.looks ∙ l.invariant.looks;
-      sources = g.met.W.Follower.stays l.follower c.turn.new.self _ (e.watches h.chain l.left h.runs h.wide) ∙ l.invariant.sources ∙ sym c.requires.sources;
+      steps = exact (instructions (due g.N.Nvm.state c.args.card.now c.args.bytes.now c.args.budget).turns) (command_search (card_in g.N.Nvm.state c.args.card.now) c.args.bytes.now) c.args.steps.now c.turn.new.steps false last.1;
       keeps_device = g.met.N.Nvm.onward _ _ _ l.invariant.keeps_device c.turn.ensures.keeps_device;
     }
 
@@ -111,18 +95,14 @@ pub overflow_sub-left : goal.overflow_sub-left
 overflow_sub-left g c =
     let l = c.turns in
     let e = c.in_ok-turn.ensures in
-    let looks = g.W.Follower.looks c.args.follower.now + section_looks c.args.sections.now in
-    let steps = followed_steps g.N.Nvm.state (g.W.Follower.looks l.follower) (g.W.Follower.looks c.args.follower.now) (section_looks c.args.sections.now) l.card l.invariant.leads.0 l.steps c.turn.new.steps l.invariant.looks l.invariant.leads.1 l.invariant.leads.2 c.turn.ensures.steps in
-    let on = leads_on g.N.Nvm.state g.N.Nvm.wrote g.met.N.Nvm.obeys g.W.Follower.seen g.W.Follower.watched g.met.W.Follower.onward looks c.args.card.now l.card c.turn.new.card c.args.bytes.now c.args.budget c.args.follower.now c.args.steps.now l.left l.follower c.turn.new.self l.invariant.leads.0 c.turn.new.steps (full_turn c.in_ok-turn.turn c.turn.new.into) l.invariant.leads.3 (record { done = e.done; watches = e.watches; steps = steps }) (end_missing c.in_ok-turn.turn.end c.turn.new.into (sym c.is_some.ensures ∙ c.if-is_some.false)) in
+    let on = leads_on g.N.Nvm.state g.N.Nvm.wrote g.met.N.Nvm.obeys g.W.Follower.seen g.W.Follower.watched g.met.W.Follower.onward c.args.card.now l.card c.turn.new.card c.args.bytes.now c.args.budget c.args.follower.now c.args.steps.now l.left l.follower c.turn.new.self l.steps c.turn.new.steps (full_turn c.in_ok-turn.turn c.turn.new.into) l.invariant.leads (record { done = e.done; watches = e.watches; steps = c.turn.ensures.steps }) (end_missing c.in_ok-turn.turn.end c.turn.new.into (sym c.is_some.ensures ∙ c.if-is_some.false)) in
     on.0
 
 pub turns-smaller : goal.turns-smaller
 turns-smaller g c =
     let l = c.turns in
     let e = c.in_ok-turn.ensures in
-    let looks = g.W.Follower.looks c.args.follower.now + section_looks c.args.sections.now in
-    let steps = followed_steps g.N.Nvm.state (g.W.Follower.looks l.follower) (g.W.Follower.looks c.args.follower.now) (section_looks c.args.sections.now) l.card l.invariant.leads.0 l.steps c.turn.new.steps l.invariant.looks l.invariant.leads.1 l.invariant.leads.2 c.turn.ensures.steps in
-    let on = leads_on g.N.Nvm.state g.N.Nvm.wrote g.met.N.Nvm.obeys g.W.Follower.seen g.W.Follower.watched g.met.W.Follower.onward looks c.args.card.now l.card c.turn.new.card c.args.bytes.now c.args.budget c.args.follower.now c.args.steps.now l.left l.follower c.turn.new.self l.invariant.leads.0 c.turn.new.steps (full_turn c.in_ok-turn.turn c.turn.new.into) l.invariant.leads.3 (record { done = e.done; watches = e.watches; steps = steps }) (end_missing c.in_ok-turn.turn.end c.turn.new.into (sym c.is_some.ensures ∙ c.if-is_some.false)) in
+    let on = leads_on g.N.Nvm.state g.N.Nvm.wrote g.met.N.Nvm.obeys g.W.Follower.seen g.W.Follower.watched g.met.W.Follower.onward c.args.card.now l.card c.turn.new.card c.args.bytes.now c.args.budget c.args.follower.now c.args.steps.now l.left l.follower c.turn.new.self l.steps c.turn.new.steps (full_turn c.in_ok-turn.turn c.turn.new.into) l.invariant.leads (record { done = e.done; watches = e.watches; steps = c.turn.ensures.steps }) (end_missing c.in_ok-turn.turn.end c.turn.new.into (sym c.is_some.ensures ∙ c.if-is_some.false)) in
     let some = on.0 in
     omega (arith, some)
 
@@ -130,15 +110,11 @@ pub turns-preserved : goal.turns-preserved
 turns-preserved g c =
     let l = c.turns in
     let e = c.in_ok-turn.ensures in
-    let looks = g.W.Follower.looks c.args.follower.now + section_looks c.args.sections.now in
-    let steps = followed_steps g.N.Nvm.state (g.W.Follower.looks l.follower) (g.W.Follower.looks c.args.follower.now) (section_looks c.args.sections.now) l.card l.invariant.leads.0 l.steps c.turn.new.steps l.invariant.looks l.invariant.leads.1 l.invariant.leads.2 c.turn.ensures.steps in
-    let on = leads_on g.N.Nvm.state g.N.Nvm.wrote g.met.N.Nvm.obeys g.W.Follower.seen g.W.Follower.watched g.met.W.Follower.onward looks c.args.card.now l.card c.turn.new.card c.args.bytes.now c.args.budget c.args.follower.now c.args.steps.now l.left l.follower c.turn.new.self l.invariant.leads.0 c.turn.new.steps (full_turn c.in_ok-turn.turn c.turn.new.into) l.invariant.leads.3 (record { done = e.done; watches = e.watches; steps = steps }) (end_missing c.in_ok-turn.turn.end c.turn.new.into (sym c.is_some.ensures ∙ c.if-is_some.false)) in
-    let h = l.invariant.leads.3 in
-    let look = c.follow.ensures in
+    let on = leads_on g.N.Nvm.state g.N.Nvm.wrote g.met.N.Nvm.obeys g.W.Follower.seen g.W.Follower.watched g.met.W.Follower.onward c.args.card.now l.card c.turn.new.card c.args.bytes.now c.args.budget c.args.follower.now c.args.steps.now l.left l.follower c.turn.new.self l.steps c.turn.new.steps (full_turn c.in_ok-turn.turn c.turn.new.into) l.invariant.leads (record { done = e.done; watches = e.watches; steps = c.turn.ensures.steps }) (end_missing c.in_ok-turn.turn.end c.turn.new.into (sym c.is_some.ensures ∙ c.if-is_some.false)) in
+    let h = l.invariant.leads in
     record {
-      leads = (c.turn.new.steps, look.rises, look.reads, on.1);
-      looks = c.turn.ensures.looks ∙ l.invariant.looks;
+      leads = on.1;
       keeps_device = g.met.N.Nvm.onward _ _ _ l.invariant.keeps_device c.turn.ensures.keeps_device;
       sources = g.met.W.Follower.stays l.follower c.turn.new.self _ (e.watches h.chain l.left h.runs h.wide) ∙ l.invariant.sources;
-      known = known_on g.N.Nvm.state g.N.Nvm.wrote c.args.sections.now l.card c.turn.new.card h.chain l.left (full_turn c.in_ok-turn.turn c.turn.new.into) l.known c.follow.new.self h.runs l.invariant.known (e.done h.chain l.left h.runs) look.value;
+      known = known_on g.N.Nvm.state g.N.Nvm.wrote c.args.sections.now l.card c.turn.new.card h.chain l.left (full_turn c.in_ok-turn.turn c.turn.new.into) l.known c.follow.new.self h.runs l.invariant.known (e.done h.chain l.left h.runs) c.follow.ensures;
     }

@@ -10,13 +10,10 @@ loop-at-preserved g c =
     record {
       at = search (rules, arith);
       alike = alike_more app c.args.code.now c.loop-at.at c.min-count.result c.loop-at.invariant.alike piece;
-      word = search (rules, arith);
-      rises = search (rules, arith);
-      reads = search (rules, arith);
     }
 
-pub returns-clause-value : goal.returns-clause-value
-returns-clause-value g c =
+pub returns : goal.returns
+returns g c =
     let app = (app_of (g.B.Bank.state c.args.bank.now).apps (g.B.Bank.named c.args.bank.now c.args.slot)).code in
     let all : length c.args.code.now ≤ c.loop-at.at = search (rules, arith) in
     let same = c.requires.size in

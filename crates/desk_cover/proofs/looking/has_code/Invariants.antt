@@ -1,16 +1,13 @@
-use Rattle.std.proofs.Common.{◌≡◌, ◌+◌, ◌-◌, ◌*◌, ◌%◌, ◌<◌, ◌≤◌, length, take}
+use Rattle.std.proofs.Common.{◌≡◌, ◌-◌, ◌≤◌, length, take}
 use Rattle.mc_bank.specs.Bank.{app_of}
 use Rattle.desk_cover.proofs.looking.has_code.Given as goal
 
--- The bytes before a place are alike. If more are left, they begin a word, so that no word was read twice.
+-- the bytes before a place are alike
 abbrev pub invariant-loop-at : goal.invariant-loop-at
 invariant-loop-at g l =
     record {
       at : l.at ≤ length l.code;
       alike : take l.at (app_of (g.B.Bank.state l.bank).apps (g.B.Bank.named l.bank l.slot)).code ≡ take l.at l.code;
-      word : l.at < length l.code → l.at % 8 ≡ 0;
-      rises : l.fn.steps ≤ l.steps;
-      reads : 8 * l.steps ≤ 8 * l.fn.steps + (l.at + 7);
     }
 
 abbrev pub decreases-loop-at : goal.decreases-loop-at

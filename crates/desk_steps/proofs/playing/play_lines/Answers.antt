@@ -36,9 +36,9 @@ loop-i-preserved g c =
     let begun = c.begin_line.ensures in
     record {
       recording =
-          recording_on g.T.Sink state bench c.args.text.now first deck a c.args.recorder.now (drop (c.loop-i.i + 1) deck) line.0 (line_of line.1) c.loop-i.player c.line-answer.new.self c.loop-i.recorder c.begin_line.new.self c.line-answer.new.runner c.record_line.new.recorder c.line-answer.result c.statement-statement.result.now (c.record_line.ensures.puts).0 c.args.steps.now c.loop-i.steps c.line-answer.new.steps c.record_line.new.steps h
+          recording_on g.T.Sink state bench c.args.text.now first deck a c.args.recorder.now (drop (c.loop-i.i + 1) deck) line.0 (line_of line.1) c.loop-i.player c.line-answer.new.self c.loop-i.recorder c.begin_line.new.self c.line-answer.new.runner c.record_line.new.recorder c.line-answer.result c.statement-statement.result.now (c.record_line.ensures.puts).0 c.args.steps.now c.loop-i.steps c.line-answer.new.steps h
           (c.statement-statement.ensures.value ∙ ap (λ (t : List ℕ). statement_at line.0 t) c.loop-i.invariant.text)
-          begun.out begun.fault (record { sections = begun.sections; turns = begun.turns; first = begun.first; command = begun.command; opens = begun.opens; guards = begun.guards; writes = begun.writes }) c.line-answer.ensures.done c.line-answer.ensures.steps c.record_line.ensures.rises c.record_line.ensures.reads c.line-answer.ensures.text (c.record_line.ensures.puts).1 (c.record_line.ensures.puts).2 c.record_line.ensures.sections;
+          begun.out begun.fault (record { sections = begun.sections; turns = begun.turns; first = begun.first; command = begun.command; opens = begun.opens; guards = begun.guards; writes = begun.writes }) c.line-answer.ensures.done c.line-answer.ensures.steps (c.record_line.ensures.puts).1 (c.record_line.ensures.puts).2 c.record_line.ensures.sections;
       stands = c.statement-statement.ensures.stands;
       text = c.statement-statement.ensures.text ∙ c.loop-i.invariant.text;
       keeps_device = g.met.N.Nvm.onward _ _ _ c.loop-i.invariant.keeps_device c.line-answer.ensures.keeps_device;

@@ -3,8 +3,8 @@ use Rattle.mc_text.specs.Texts.{sunk}
 use Rattle.desk_json.proofs.SheetLemmas.{sheet_put}
 use Rattle.desk_steps.proofs.playing.write_line.Goals as goal
 
-pub returns-clause-value : goal.returns-clause-value
-returns-clause-value g c =
+pub returns : goal.returns
+returns g c =
     let sink = g.T.Sink in
     let q = c.new-sheet.result in
     let e = c.new-sheet.ensures in

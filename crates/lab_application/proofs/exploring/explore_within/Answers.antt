@@ -2,7 +2,7 @@ use Rattle.lab_application.proofs.DepthLemmas.{app_stops, deck_breaks}
 use Rattle.std.proofs.Common.{ap, arith, length}
 use Rattle.law_histories.specs.law_explore.specs.States.{play_of_deck}
 use Rattle.lab_record.specs.RecordSteps.{most_of_chronicle}
-use Rattle.lab_search.specs.ExplorationSteps.{most_of_beginning}
+use Rattle.lab_search.specs.ExplorationSteps.{most_of_deck}
 use Rattle.lab_application.proofs.StepLemmas.{takes_all, takes_none}
 use Rattle.lab_application.proofs.exploring.explore_within.Goals as goal
 
@@ -47,7 +47,7 @@ returns-in_err-search-clause-steps g c =
     let recorded = c.chronicle.ensures.steps in
     let same = ap most_of_chronicle h.deck in
     let played = c.start.ensures.steps in
-    let alike = ap most_of_beginning h.deck in
+    let alike = ap most_of_deck h.deck in
     takes_none ls ms c.args.limit c.args.steps.now c.start.new.steps (omega (arith, recorded, same, played, alike))
 
 pub returns-clause-steps : goal.returns-clause-steps
@@ -56,5 +56,5 @@ returns-clause-steps g c =
     let recorded = c.chronicle.ensures.steps in
     let same = ap most_of_chronicle h.deck in
     let played = c.start.ensures.steps in
-    let alike = ap most_of_beginning h.deck in
+    let alike = ap most_of_deck h.deck in
     takes_all ls ms c.args.limit c.args.steps.now c.start.new.steps c.search_on.new.steps (omega (arith, recorded, same, played, alike)) (c.search_on.ensures.steps ls ms (length c.as_slice.result.now) c.args.limit h (c.in_ok-search.ensures.starts ls ms h))

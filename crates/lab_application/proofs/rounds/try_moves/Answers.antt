@@ -2,8 +2,7 @@ use Rattle.std.proofs.Common.{arith, rules, sym, ◌∙◌}
 use Rattle.lab_search.proofs.RoundLemmas.{found_later}
 use Rattle.lab_application.proofs.SearchLemmas.{comes_goes, comes_then, more_none, more_then}
 use Rattle.lab_application.proofs.ShadowLemmas.{move_within}
-use Rattle.lab_search.proofs.StepCountLemmas.{sum_more, sum_within}
-use Rattle.lab_application.proofs.StepLemmas.{moves_from}
+use Rattle.lab_application.proofs.StepLemmas.{moves_from, sum_more, sum_within}
 use Rattle.lab_application.proofs.rounds.try_moves.Goals as goal
 
 pub loop-chosen-init : goal.loop-chosen-init

@@ -10,7 +10,7 @@ use Rattle.lab_application.proofs.SearchLemmas.{on_ok}
 use Rattle.lab_application.proofs.statics.statics_in.Goals as goal
 
 pub statics_at-requires : goal.statics_at-requires
-statics_at-requires g c =
+statics_at-requires c =
     let q = c.requires in
     let live = c.in-Some.saved.live.now in
     let shown = c.in-Some.ensures (root_of c.args.laboratory.now) (q.1).base (q.1).live (q.2).card in
@@ -20,12 +20,12 @@ statics_at-requires g c =
     readable (device_of c.deref_mut-2.result.now).device.words live ((q.1).base, (q.1).live, here)
 
 pub returns-clause-root : goal.returns-clause-root
-returns-clause-root g c =
+returns-clause-root c =
     let before = c.put_card.ensures.root ∙ ap (λ (p : Player BranchState). (device_of p).root) c.deref_mut.ensures.value in
     on_ok c.statics_at.result _ (c.statics_at.ensures ∙ ap (λ (p : Player BranchState). (device_of p).root) c.deref_mut-2.ensures.value ∙ before)
 
 pub returns-clause-budget : goal.returns-clause-budget
-returns-clause-budget g c = on_ok c.statics_at.result _ refl
+returns-clause-budget c = on_ok c.statics_at.result _ refl
 
 pub returns-clause-counts : goal.returns-clause-counts
-returns-clause-counts g c = on_ok c.statics_at.result _ refl
+returns-clause-counts c = on_ok c.statics_at.result _ refl

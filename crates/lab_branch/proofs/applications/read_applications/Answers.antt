@@ -6,7 +6,7 @@ use Rattle.lab_branch.proofs.applications.read_applications.Goals as goal
 
 pub loop-place-init : goal.loop-place-init
 loop-place-init g c =
-    let m = c.args.device.now.device.words in
+    let m = (g.N.Nvm.state c.args.device.now).words in
     let low : 256 ≤ length m = c.len-size.ensures.image.low in
     record {
       high = omega arith;
@@ -15,25 +15,25 @@ loop-place-init g c =
 
 pub add_block-requires-clause-block : goal.add_block-requires-clause-block
 add_block-requires-clause-block g c =
-    let m = c.args.device.now.device.words in
+    let m = (g.N.Nvm.state c.args.device.now).words in
     let l = c.loop-place in
-    let h = c.header_at-header in
+    let h = c.read_header-header in
     let lt : l.place < length m = subst (λ (n : ℕ). l.place < n) c.len-size.ensures.len c.loop-place-test.true in
     (gathers_next m l.place h.result.used h.result.words l.applications.items lt l.invariant.gathers h.ensures.used h.ensures.words).block
 
 pub add_block-requires-clause-fresh : goal.add_block-requires-clause-fresh
 add_block-requires-clause-fresh g c =
-    let m = c.args.device.now.device.words in
+    let m = (g.N.Nvm.state c.args.device.now).words in
     let l = c.loop-place in
-    let h = c.header_at-header in
+    let h = c.read_header-header in
     let lt : l.place < length m = subst (λ (n : ℕ). l.place < n) c.len-size.ensures.len c.loop-place-test.true in
     (gathers_next m l.place h.result.used h.result.words l.applications.items lt l.invariant.gathers h.ensures.used h.ensures.words).fresh
 
 pub loop-place-smaller : goal.loop-place-smaller
 loop-place-smaller g c =
-    let m = c.args.device.now.device.words in
+    let m = (g.N.Nvm.state c.args.device.now).words in
     let l = c.loop-place in
-    let h = c.header_at-header in
+    let h = c.read_header-header in
     let before : l.place < c.len-size.result = c.loop-place-test.true in
     let lt : l.place < length m = subst (λ (n : ℕ). l.place < n) c.len-size.ensures.len before in
     let low : 1 ≤ h.result.words = (gathers_next m l.place h.result.used h.result.words l.applications.items lt l.invariant.gathers h.ensures.used h.ensures.words).low in
@@ -41,9 +41,9 @@ loop-place-smaller g c =
 
 pub loop-place-preserved : goal.loop-place-preserved
 loop-place-preserved g c =
-    let m = c.args.device.now.device.words in
+    let m = (g.N.Nvm.state c.args.device.now).words in
     let l = c.loop-place in
-    let h = c.header_at-header in
+    let h = c.read_header-header in
     let lt : l.place < length m = subst (λ (n : ℕ). l.place < n) c.len-size.ensures.len c.loop-place-test.true in
     let next : GathersNext m l.place h.result.used h.result.words l.applications.items =
     gathers_next m l.place h.result.used h.result.words l.applications.items lt l.invariant.gathers h.ensures.used h.ensures.words in
@@ -54,7 +54,7 @@ loop-place-preserved g c =
 
 pub returns : goal.returns
 returns g c =
-    let m = c.args.device.now.device.words in
+    let m = (g.N.Nvm.state c.args.device.now).words in
     let l = c.loop-place in
     let past = c.loop-place-test.false in
     let size : c.len-size.result ≡ length m = c.len-size.ensures.len in

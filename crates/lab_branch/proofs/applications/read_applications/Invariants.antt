@@ -5,7 +5,7 @@ use Rattle.lab_branch.proofs.applications.read_applications.Given as goal
 -- the applications of the blocks before the place were read
 abbrev pub invariant-loop-place : goal.invariant-loop-place
 invariant-loop-place g l =
-    let m = l.device.device.words in
+    let m = (g.N.Nvm.state l.device).words in
     record {
       high : l.place ≤ length m;
       gathers : Gathers m l.place l.applications.items;

@@ -5,7 +5,7 @@ use Rattle.lab_branch.proofs.branch.put_at.Given as goal
 
 -- what is left to set makes the words of the root of those that the list and the words before have
 abbrev pub invariant-loop-place : goal.invariant-loop-place
-invariant-loop-place g l =
+invariant-loop-place l =
     record {
       len : length l.words ≡ length l.device.words;
       end : length l.device.words ≡ length l.fn.device.words;

@@ -6,14 +6,14 @@ use Rattle.lab_branch.proofs.section.read_section.Goals as goal
 
 pub loop-left-preserved : goal.loop-left-preserved
 loop-left-preserved g c =
-    let m = c.args.device.now.device.words in
+    let m = (g.N.Nvm.state c.args.device.now).words in
     let l = c.loop-left in
     let some = c.loop-left-test.true in
     let count : c.min-piece.result ≡ min l.left 8 = c.min-piece.ensures in
     let within = l.invariant.within in
     let more : c.extend_from_slice.new.self.items ≡ l.bytes.items ++ take (min l.left 8) (word m l.place) =
     c.in_ok-extend_from_slice.ensures.items
-    ∙ ap (λ (w : List ℕ). l.bytes.items ++ take c.min-piece.result w) c.word_at.ensures
+    ∙ ap (λ (w : List ℕ). l.bytes.items ++ take c.min-piece.result w) c.read.ensures
     ∙ ap (λ (k : ℕ). l.bytes.items ++ take k (word m l.place)) count in
     record {
       within = omega (arith, within, count, some);

@@ -12,7 +12,7 @@ use Rattle.lab_key.proofs.session.read_part.Goals as goal
 
 pub read_section-requires : goal.read_section-requires
 read_section-requires g c =
-    let m = c.args.device.now.device.words in
+    let m = (g.N.Nvm.state c.args.device.now).words in
     let l = c.args.load.now in
     let r : ReadsPart m l c.args.part = reads_part m l c.args.part (sized c.len-size.ensures.image) c.requires.card c.requires.fits in
     let first : c.part_place-first.result ≡ part_from c.args.part l.site.sizes l.site.place =
@@ -24,7 +24,7 @@ read_section-requires g c =
 
 pub returns : goal.returns
 returns g c =
-    let m = c.args.device.now.device.words in
+    let m = (g.N.Nvm.state c.args.device.now).words in
     let l = c.args.load.now in
     let r : ReadsPart m l c.args.part = reads_part m l c.args.part (sized c.len-size.ensures.image) c.requires.card c.requires.fits in
     let first : c.part_place-first.result ≡ part_from c.args.part l.site.sizes l.site.place =

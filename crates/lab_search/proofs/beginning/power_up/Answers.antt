@@ -1,6 +1,6 @@
 use Rattle.std.proofs.Common.{sym, ◌∙◌}
 use Rattle.lab_search.proofs.BeginLemmas.{fails_not, powered_fault, powered_ready, powered_running}
-use Rattle.mc_script.proofs.OwnLines.{power_steps}
+use Rattle.lab_search.proofs.StepCountLemmas.{power_steps}
 use Rattle.lab_search.proofs.beginning.power_up.Goals as goal
 
 pub returns-then-runs-clause-powered : goal.returns-then-runs-clause-powered

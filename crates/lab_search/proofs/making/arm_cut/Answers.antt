@@ -2,7 +2,7 @@ use Rattle.std.proofs.Common.{ℕ, List, None, subst}
 use Rattle.law_explore_text.specs.model_play.specs.DeckGrammar as line
 use Rattle.lab_search.specs.Playing.{PlaysAs}
 use Rattle.lab_search.proofs.TryLemmas.{cut_silent}
-use Rattle.mc_script.proofs.OwnLines.{cut_steps}
+use Rattle.lab_search.proofs.StepCountLemmas.{cut_steps}
 use Rattle.lab_search.proofs.making.arm_cut.Goals as goal
 
 pub returns-clause-plays : goal.returns-clause-plays

@@ -1,7 +1,7 @@
 use Rattle.std.proofs.Common.{arith, sym, ◌∙◌}
 use Rattle.law_explore_text.specs.law_explore.specs.States.{play_of}
 use Rattle.lab_search.proofs.TryLemmas.{made_yes, made_no, counts_write}
-use Rattle.lab_search.proofs.StepCountLemmas.{move_steps, told_steps}
+use Rattle.lab_search.proofs.StepCountLemmas.{move_steps}
 use Rattle.lab_search.proofs.making.make.Goals as goal
 
 pub returns-then-is_missed-clause-made : goal.returns-then-is_missed-clause-made
@@ -23,14 +23,14 @@ returns-then-is_missed-clause-steps g c k m at steady is can =
     let counts = counts_write k c.args.manner can in
     let moved = move_steps g.N.Nvm.state g.N.Bench.bench k m c.args.manner c.arm.new.player c.play_move-answer.result c.arm.new.steps c.play_move-answer.new.steps (c.arm.ensures.at (play_of k) m.number counts at steady tt)
     (c.play_move-answer.ensures.steps m.line is.deck) in
-    let told = told_steps k m c.play_move-answer.result c.args.steps.now c.arm.new.steps c.play_move-answer.new.steps c.put_result.new.steps c.arm.ensures.steps moved (c.play_move-answer.ensures.text m.line is.deck) c.put_result.ensures.reads in
-    omega (arith, told)
+    let armed = c.arm.ensures.steps in
+    omega (arith, armed, moved)
 
 pub returns-clause-steps : goal.returns-clause-steps
 returns-clause-steps g c k m at steady is can =
     let counts = counts_write k c.args.manner can in
     let moved = move_steps g.N.Nvm.state g.N.Bench.bench k m c.args.manner c.arm.new.player c.play_move-answer.result c.arm.new.steps c.play_move-answer.new.steps (c.arm.ensures.at (play_of k) m.number counts at steady tt)
     (c.play_move-answer.ensures.steps m.line is.deck) in
-    let told = told_steps k m c.play_move-answer.result c.args.steps.now c.arm.new.steps c.play_move-answer.new.steps c.put_result.new.steps c.arm.ensures.steps moved (c.play_move-answer.ensures.text m.line is.deck) c.put_result.ensures.reads in
+    let armed = c.arm.ensures.steps in
     let recovered = c.recover.ensures.steps in
-    omega (arith, told, recovered)
+    omega (arith, armed, moved, recovered)

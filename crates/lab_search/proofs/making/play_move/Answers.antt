@@ -1,9 +1,9 @@
-use Rattle.std.proofs.Common.{◌≤◌, subst}
+use Rattle.std.proofs.Common.{subst}
 use Rattle.law_explore_text.specs.model_play.specs.DeckGrammar.{DeckLine}
 use Rattle.mc_deck.specs.Lines.{line_of}
 use Rattle.lab_search.specs.Playing.{PlaysAs, CountsAs}
 use Rattle.lab_search.proofs.PlayerLemmas.{line_playing, plays_as, reports_as}
-use Rattle.mc_script.specs.StepCounts.{answer_reads, text_reads, CountsLine}
+use Rattle.mc_script.specs.StepCounts.{CountsLine}
 use Rattle.lab_search.proofs.making.play_move.Goals as goal
 
 pub returns-clause-playing : goal.returns-clause-playing
@@ -22,7 +22,4 @@ returns-clause-counts g c l is =
 
 pub returns-clause-steps : goal.returns-clause-steps
 returns-clause-steps g c l is =
-    subst (λ (x : DeckLine). CountsLine g.N.Nvm.state g.N.Bench.bench 0 c.args.player.now x c.play_counted.result c.args.steps.now c.play_counted.new.steps) (c.line-line.ensures.line l is) c.play_counted.ensures.steps
-
-pub returns-clause-text : goal.returns-clause-text
-returns-clause-text g c l is = subst (λ (x : DeckLine). answer_reads c.play_counted.result ≤ text_reads x) (c.line-line.ensures.line l is) c.play_counted.ensures.text
+    subst (λ (x : DeckLine). CountsLine g.N.Nvm.state g.N.Bench.bench c.args.player.now x c.play_counted.result c.args.steps.now c.play_counted.new.steps) (c.line-line.ensures.line l is) c.play_counted.ensures.steps

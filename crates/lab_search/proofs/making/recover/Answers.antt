@@ -1,4 +1,4 @@
-use Rattle.mc_script.proofs.OwnLines.{power_steps}
+use Rattle.lab_search.proofs.StepCountLemmas.{power_steps}
 use Rattle.lab_search.proofs.making.recover.Goals as goal
 
 pub returns-in-Cut-clause-steps : goal.returns-in-Cut-clause-steps

@@ -4,7 +4,7 @@ use Rattle.law_explore_text.specs.model_play.specs.DeckGrammar.{DeckLine}
 use Rattle.mc_script.specs.Players.{device_of}
 use Rattle.lab_search.specs.Playing.{PlaysAs}
 use Rattle.lab_search.proofs.RestoringLemmas.{powered, powered_fits, put_back}
-use Rattle.mc_script.proofs.OwnLines.{budget_steps, power_steps}
+use Rattle.lab_search.proofs.StepCountLemmas.{budget_steps, power_steps}
 use Rattle.lab_search.proofs.making.restore.Goals as goal
 
 pub put_live-requires-clause-fits : goal.put_live-requires-clause-fits

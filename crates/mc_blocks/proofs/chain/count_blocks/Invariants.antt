@@ -3,8 +3,7 @@ use Rattle.mc_base.specs.model_device.specs.Card.{blocks}
 use Rattle.mc_blocks.specs.Blocks.{blocks_at, used_spans, hole_spans}
 use Rattle.mc_blocks.proofs.chain.count_blocks.Given as goal
 
--- the counts so far plus those of the blocks that are left are the counts of all, and the reads so far plus one for each
--- of those blocks are no more than the blocks
+-- the counts so far plus those of the blocks that are left are the counts of all
 abbrev pub invariant-loop-block : goal.invariant-loop-block
 invariant-loop-block g l =
     let m = (g.N.Nvm.state l.device).words in
@@ -12,8 +11,6 @@ invariant-loop-block g l =
       few : l.used + l.holes ≤ l.place;
       used : length (used_spans (blocks m)) ≡ l.used + length (used_spans (blocks_at m l.place));
       holes : length (hole_spans (blocks m)) ≡ l.holes + length (hole_spans (blocks_at m l.place));
-      rises : l.fn.steps ≤ l.steps;
-      reads : l.steps + length (blocks_at m l.place) ≤ l.fn.steps + length (blocks m);
     }
 
 abbrev pub decreases-loop-block : goal.decreases-loop-block

@@ -1,27 +1,17 @@
-use Rattle.std.proofs.Common.{ℕ, ◌≤◌, length, ◌∙◌, sym, ap, arith, not}
+use Rattle.std.proofs.Common.{ℕ, ◌∙◌, sym, ap, arith, not}
 use Rattle.mc_blocks.specs.Blocks.{block_of, bad_from}
-use Rattle.mc_blocks.proofs.Headers.{bad_all, bad_behind, good_end}
-use Rattle.mc_blocks.proofs.ReadCounts.{length_all, length_follows}
+use Rattle.mc_blocks.proofs.Headers.{bad_behind, good_end}
 use Rattle.mc_blocks.proofs.checks.first_bad_header.Goals as goal
-
-pub loop-place-init : goal.loop-place-init
-loop-place-init g c =
-    let m = (g.N.Nvm.state c.args.device.now).words in
-    let low : 256 ≤ length m = c.len-size.ensures.image.low in
-    record { within = omega (arith, low, c.len-size.ensures.len); left = bad_all m (omega (arith, low)); rises = omega arith; reads = omega (arith, length_all m) }
 
 pub loop-place-preserved : goal.loop-place-preserved
 loop-place-preserved g c =
     let m = (g.N.Nvm.state c.args.device.now).words in
     let b = block_of c.in-Some.block in
-    let ends = good_end m c.loop-place.place c.loop-place.after_hole b c.in-Some.ensures.follows in
+    let ends = good_end m c.loop-place.place c.loop-place.after_hole b c.in-Some.ensures in
     let place = sym c.end-place.ensures in
-    let more = length_follows m c.loop-place.place c.end-place.result c.loop-place.after_hole b c.in-Some.ensures.follows c.end-place.ensures in
     record {
       within = omega (arith, ends.0, c.end-place.ensures, c.len-size.ensures.len);
       left = c.loop-place.invariant.left
-          ∙ bad_behind m c.loop-place.place c.loop-place.after_hole b (omega (arith, c.loop-place-test.true, c.len-size.ensures.len)) c.in-Some.ensures.follows
+          ∙ bad_behind m c.loop-place.place c.loop-place.after_hole b (omega (arith, c.loop-place-test.true, c.len-size.ensures.len)) c.in-Some.ensures
           ∙ ap (λ (p : ℕ). bad_from m p (not b.used)) place;
-      rises = omega arith;
-      reads = omega (arith, more);
     }

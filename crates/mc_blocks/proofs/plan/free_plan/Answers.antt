@@ -42,10 +42,10 @@ pub returns-clause-plan : goal.returns-clause-plan
 returns-clause-plan g c =
     let m = (g.N.Nvm.state c.args.device.now).words in
     (free_listed m c.args.place (c.link_before-before.result.place, c.link_before-before.result.words) c.joined-hole.result.place c.joined-hole.result.words c.joined-hole.result.next c.link_at-block.result.words c.free_words.result.items
-    (free_is m c.args.place (sized c.len-size.ensures.image) c.requires.closed c.requires.laid c.requires.block) c.link_before-before.ensures.gap c.joined-hole.ensures.place c.link_at-block.ensures.words c.joined-hole.ensures.words c.joined-hole.ensures.next c.free_words.ensures.list).0
+    (free_is m c.args.place (sized c.len-size.ensures.image) c.requires.closed c.requires.laid c.requires.block) c.link_before-before.ensures.gap c.joined-hole.ensures.place c.link_at-block.ensures.words c.joined-hole.ensures.words c.joined-hole.ensures.next c.free_words.ensures).0
 
 pub returns-clause-atomic : goal.returns-clause-atomic
 returns-clause-atomic g c =
     let m = (g.N.Nvm.state c.args.device.now).words in
     (free_listed m c.args.place (c.link_before-before.result.place, c.link_before-before.result.words) c.joined-hole.result.place c.joined-hole.result.words c.joined-hole.result.next c.link_at-block.result.words c.free_words.result.items
-    (free_is m c.args.place (sized c.len-size.ensures.image) c.requires.closed c.requires.laid c.requires.block) c.link_before-before.ensures.gap c.joined-hole.ensures.place c.link_at-block.ensures.words c.joined-hole.ensures.words c.joined-hole.ensures.next c.free_words.ensures.list).1.atomic
+    (free_is m c.args.place (sized c.len-size.ensures.image) c.requires.closed c.requires.laid c.requires.block) c.link_before-before.ensures.gap c.joined-hole.ensures.place c.link_at-block.ensures.words c.joined-hole.ensures.words c.joined-hole.ensures.next c.free_words.ensures).1.atomic

@@ -18,10 +18,10 @@ pub returns-clause-plan : goal.returns-clause-plan
 returns-clause-plan g c =
     let m = (g.N.Nvm.state c.args.device.now).words in
     (take_listed m c.args.place c.args.need (c.link_before-before.result.place, c.link_before-before.result.words) c.link_at-hole.result.place c.link_at-hole.result.words c.link_at-hole.result.next c.take_words.result.items
-    (take_is m c.args.place c.args.need (sized c.len-size.ensures.image) c.requires.closed c.requires.laid c.requires.some c.requires.hole) c.link_before-before.ensures.gap c.link_at-hole.ensures.place c.link_at-hole.ensures.words c.link_at-hole.ensures.next c.take_words.ensures.list).0
+    (take_is m c.args.place c.args.need (sized c.len-size.ensures.image) c.requires.closed c.requires.laid c.requires.some c.requires.hole) c.link_before-before.ensures.gap c.link_at-hole.ensures.place c.link_at-hole.ensures.words c.link_at-hole.ensures.next c.take_words.ensures).0
 
 pub returns-clause-atomic : goal.returns-clause-atomic
 returns-clause-atomic g c =
     let m = (g.N.Nvm.state c.args.device.now).words in
     (take_listed m c.args.place c.args.need (c.link_before-before.result.place, c.link_before-before.result.words) c.link_at-hole.result.place c.link_at-hole.result.words c.link_at-hole.result.next c.take_words.result.items
-    (take_is m c.args.place c.args.need (sized c.len-size.ensures.image) c.requires.closed c.requires.laid c.requires.some c.requires.hole) c.link_before-before.ensures.gap c.link_at-hole.ensures.place c.link_at-hole.ensures.words c.link_at-hole.ensures.next c.take_words.ensures.list).1.atomic
+    (take_is m c.args.place c.args.need (sized c.len-size.ensures.image) c.requires.closed c.requires.laid c.requires.some c.requires.hole) c.link_before-before.ensures.gap c.link_at-hole.ensures.place c.link_at-hole.ensures.words c.link_at-hole.ensures.next c.take_words.ensures).1.atomic

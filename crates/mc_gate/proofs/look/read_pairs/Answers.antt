@@ -11,13 +11,11 @@ loop-i-preserved g c =
     record {
       room = omega (arith, c.push.ensures.len);
       all = pairs_on j m c.loop-i.i c.args.targets.now (pairs j m 0 c.args.targets.now) c.loop-i.list.items c.push.new.self.items c.read.result c.loop-i-test.true c.loop-i.invariant.all
-          (read_value j m c.loop-i.i c.place_of_value.result c.read.result c.read.ensures.word c.place_of_value.ensures.place) c.push.ensures.items;
-      rises = omega (arith, c.read.ensures.ticks, c.loop-i.invariant.rises);
-      reads = omega (arith, c.read.ensures.ticks, c.loop-i.invariant.reads);
+          (read_value j m c.loop-i.i c.place_of_value.result c.read.result c.read.ensures c.place_of_value.ensures.place) c.push.ensures.items;
     }
 
-pub returns-clause-pairs : goal.returns-clause-pairs
-returns-clause-pairs g c =
+pub returns : goal.returns
+returns g c =
     let j = journal_of c.args.layout in
     let m = (g.N.Nvm.state c.args.device.now).words in
     pairs_end j m c.loop-i.i c.args.targets.now (pairs j m 0 c.args.targets.now) c.loop-i.list.items c.loop-i-test.false c.loop-i.invariant.all

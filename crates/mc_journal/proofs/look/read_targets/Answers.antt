@@ -3,16 +3,16 @@ use Rattle.mc_base.specs.model_device.specs.Image.{One, targets, number, within,
 use Rattle.mc_journal.proofs.LookLemmas.{targets_on, targets_bad, targets_end}
 use Rattle.mc_journal.proofs.look.read_targets.Goals as goal
 
-pub returns-clause-list : goal.returns-clause-list
-returns-clause-list g c =
+pub returns : goal.returns
+returns g c =
     let m = (g.N.Nvm.state c.args.device.now).words in
     targets_end m c.loop-i.i (c.args.count - c.loop-i.i) (targets One m c.args.count) c.loop-i.found.items (omega (arith, c.loop-i-test.false)) c.loop-i.invariant.all
 
-pub returns-in-None-clause-list : goal.returns-in-None-clause-list
-returns-in-None-clause-list g c =
+pub returns-in-None : goal.returns-in-None
+returns-in-None g c =
     let m = (g.N.Nvm.state c.args.device.now).words in
     targets_bad m c.args.count c.loop-i.i (targets One m c.args.count) c.loop-i.found.items c.loop-i-test.true c.loop-i.invariant.all
-    (ap (λ (s : ℕ). number (within s) (word_at m (3 + 2 * c.loop-i.i))) (sym c.len-size.ensures.len) ∙ ap (λ (w : List ℕ). number (within c.len-size.result) w) (sym c.read.ensures.word) ∙ sym c.target_of.ensures ∙ c.in-None.is)
+    (ap (λ (s : ℕ). number (within s) (word_at m (3 + 2 * c.loop-i.i))) (sym c.len-size.ensures.len) ∙ ap (λ (w : List ℕ). number (within c.len-size.result) w) (sym c.read.ensures) ∙ sym c.target_of.ensures ∙ c.in-None.is)
 
 pub loop-i-preserved : goal.loop-i-preserved
 loop-i-preserved g c =
@@ -20,8 +20,6 @@ loop-i-preserved g c =
     record {
       room = omega (arith, c.push.ensures.len);
       all = targets_on m c.args.count c.loop-i.i c.in-Some.target (targets One m c.args.count) c.loop-i.found.items c.push.new.self.items c.loop-i-test.true c.loop-i.invariant.all
-          (ap (λ (s : ℕ). number (within s) (word_at m (3 + 2 * c.loop-i.i))) (sym c.len-size.ensures.len) ∙ ap (λ (w : List ℕ). number (within c.len-size.result) w) (sym c.read.ensures.word) ∙ sym c.target_of.ensures ∙ c.in-Some.is)
+          (ap (λ (s : ℕ). number (within s) (word_at m (3 + 2 * c.loop-i.i))) (sym c.len-size.ensures.len) ∙ ap (λ (w : List ℕ). number (within c.len-size.result) w) (sym c.read.ensures) ∙ sym c.target_of.ensures ∙ c.in-Some.is)
           c.push.ensures.items;
-      rises = omega (arith, c.read.ensures.ticks, c.loop-i.invariant.rises);
-      reads = omega (arith, c.read.ensures.ticks, c.loop-i.invariant.reads);
     }

@@ -21,7 +21,7 @@ invariant-loop-expectation g l =
     record {
       above : LinesAbove l.expected_deck.deck l.count (drop l.expectation-index es);
       staged : Staged state bench whole l.expected_deck.deck l.player l.count l.text.items;
-      counted : PlaySteps 0 (take l.count whole) l.fn.steps l.steps;
+      counted : PlaySteps (take l.count whole) l.fn.steps l.steps;
       left : l.failed + count_failed whole (drop l.expectation-index es) ≡ count_failed whole es;
       few : l.failed ≤ l.expectation-index;
       reported : (r : Result (Unit {0}) WriteFault) (b : Sunk) → Puts (sunk_in taken faults l.out) (text_left whole (drop l.expectation-index es) es) r b → Puts (sunk_in taken faults l.fn.out) (expect_text whole es) r b;

@@ -12,10 +12,10 @@ loop-at-preserved g c =
     record {
       staged = λ whole h.
           staged_on state bench _ whole c.args.deck.now c.loop-at.player c.line-answer.new.self c.loop-at.at line.0 (line_of line.1) c.loop-at.text.items c.gather.new.text.items _ _ c.line-answer.result
-          c.line-number.ensures.line c.line-answer.ensures.done c.gather.ensures.text (c.loop-at.invariant.staged whole h);
+          c.line-number.ensures.line c.line-answer.ensures.done c.gather.ensures (c.loop-at.invariant.staged whole h);
       counted = λ whole old h k.
-          counted_on state bench _ whole c.args.deck.now c.loop-at.player c.line-answer.new.self c.loop-at.at line.0 (line_of line.1) c.loop-at.text.items _ _ c.line-answer.result old c.loop-at.steps c.line-answer.new.steps c.gather.new.steps
-          c.line-number.ensures.line c.line-answer.ensures.done c.line-answer.ensures.steps c.gather.ensures.rises c.gather.ensures.reads c.line-answer.ensures.text (c.loop-at.invariant.staged whole h) (c.loop-at.invariant.counted whole old h k);
+          counted_on state bench _ whole c.args.deck.now c.loop-at.player c.line-answer.new.self c.loop-at.at line.0 (line_of line.1) c.loop-at.text.items _ _ c.line-answer.result old c.loop-at.steps c.line-answer.new.steps
+          c.line-number.ensures.line c.line-answer.ensures.done c.line-answer.ensures.steps (c.loop-at.invariant.staged whole h) (c.loop-at.invariant.counted whole old h k);
       playing = playing_on state bench _ c.loop-at.player c.line-answer.new.self line.0 (line_of line.1) _ _ c.line-answer.result c.line-answer.ensures.done c.loop-at.invariant.playing;
     }
 
@@ -28,4 +28,4 @@ pub returns-clause-counted : goal.returns-clause-counted
 returns-clause-counted g c =
     let all : c.args.to ≤ c.loop-at.at = search rules in
     let end : c.loop-at.at ≡ c.args.to = omega (arith, all, c.loop-at.auto.at-end) in
-    λ whole old h k. subst (λ (n : ℕ). PlaySteps 0 (take n whole) old c.loop-at.steps) end (c.loop-at.invariant.counted whole old h k)
+    λ whole old h k. subst (λ (n : ℕ). PlaySteps (take n whole) old c.loop-at.steps) end (c.loop-at.invariant.counted whole old h k)

@@ -12,6 +12,6 @@ invariant-loop-at g l =
     let bench = g.N.Bench.bench in
     record {
       staged : (whole : List Step) → Staged state bench whole l.deck l.fn.player l.from l.fn.text.items → Staged state bench whole l.deck l.player l.at l.text.items;
-      counted : (whole : List Step) (old : ℕ) → Staged state bench whole l.deck l.fn.player l.from l.fn.text.items → PlaySteps 0 (take l.from whole) old l.fn.steps → PlaySteps 0 (take l.at whole) old l.steps;
+      counted : (whole : List Step) (old : ℕ) → Staged state bench whole l.deck l.fn.player l.from l.fn.text.items → PlaySteps (take l.from whole) old l.fn.steps → PlaySteps (take l.at whole) old l.steps;
       playing : IsPlaying state bench l.player;
     }

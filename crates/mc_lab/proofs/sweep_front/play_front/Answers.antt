@@ -10,8 +10,8 @@ resume-player-requires-clause-kept g c = (_, c.requires.kept)
 
 pub loop-i-init : goal.loop-i-init
 loop-i-init g c =
-    let resumed = c.resume-player.ensures.steps in
-    record { steps = omega (arith, resumed); at = c.resume-player.ensures.at (state_on_blank (take c.args.from c.args.deck.now)) c.requires.kept; keeps_device = c.resume-player.ensures.keeps_device }
+    let none = c.resume-player.ensures.steps in
+    record { steps = omega (arith, none); at = c.resume-player.ensures.at (state_on_blank (take c.args.from c.args.deck.now)) c.requires.kept; keeps_device = c.resume-player.ensures.keeps_device }
 
 pub play_line-answer-requires-clause-playing : goal.play_line-answer-requires-clause-playing
 play_line-answer-requires-clause-playing g c = (_, c.loop-i.invariant.at.at)

@@ -1,4 +1,4 @@
-use Rattle.std.proofs.Common.{ℕ, ap, length, rules, subst, sym, ◌∙◌, MutBor}
+use Rattle.std.proofs.Common.{ℕ, ap, sym, ◌∙◌, arith}
 use Rattle.law_explore.specs.model_device.specs.Bytes.{zeros}
 use Rattle.law_explore.specs.model_play.specs.DeckGrammar.{DeckLine}
 use Rattle.law_explore.specs.model_play.specs.DeckGrammar as line
@@ -7,7 +7,7 @@ use Rattle.mc_lab.specs.Sweeps.{state_on_blank}
 use Rattle.mc_lab.specs.SweepBodies.{front_of, hits}
 use Rattle.mc_lab.specs.declared.sweep_trial.TrialLines.TheVariants as trial
 use Rattle.mc_lab.proofs.SweepPlayers.{got_or}
-use Rattle.mc_lab.proofs.SweepStepLemmas.{reach_most}
+use Rattle.mc_lab.proofs.SweepStepLemmas.{front_next}
 use Rattle.mc_lab.proofs.sweep_play.play_reach.Goals as goal
 
 pub play_cut-hit-requires-clause-playing : goal.play_cut-hit-requires-clause-playing
@@ -25,15 +25,7 @@ returns-clause-steps g c =
     let p = c.args.place.now in
     let line = c.line-number.result in
     let f = c.play_front-player in
-    let hit = c.play_cut-hit in
-    reach_most p.deck.now p.at (length p.names.now) (line.0, line_of line.1) c.args.steps.now f.new.steps hit.new.steps c.line-number.ensures.line f.ensures.steps (hit.ensures.steps (state_on_blank (front_of p)) f.ensures.at)
-
-pub returns-clause-keeps_device : goal.returns-clause-keeps_device
-returns-clause-keeps_device g c =
-    let ghost = λ (d : MutBor g.row.N.Denot). d.ghost_name in
-    let back = sym c.into_dev-device.ensures in
-    let first = c.play_front-player.ensures.keeps_device in
-    let next = c.play_cut-hit.ensures.keeps_device in
-    let name = sym first.1 ∙ sym next.1 ∙ ap ghost back in
-    let now = ap (λ (d : MutBor g.row.N.Denot). d.now) back ∙ search (rules, name) in
-    subst (λ (d : g.row.N.Denot). g.N.Nvm.same c.args.device.now d) now (g.met.N.Nvm.onward _ _ _ first.0 next.0)
+    let front = f.ensures.steps in
+    let cut = c.play_cut-hit.ensures.steps (state_on_blank (front_of p)) f.ensures.at in
+    let all = front_next p.deck.now p.at (line.0, line_of line.1) c.line-number.ensures.line in
+    omega (arith, front, cut, all)

@@ -1,9 +1,8 @@
-use Rattle.std.proofs.Common.{ℕ, ap, length, rules, sym, subst, ◌∙◌, MutBor}
+use Rattle.std.proofs.Common.{ℕ, sym, subst, arith}
 use Rattle.mc_deck.specs.Lines.{line_of}
 use Rattle.mc_lab.specs.SweepBodies.{front_of, IsRecoveryBound}
 use Rattle.mc_lab.proofs.SweepPlayers.{trial_reported, trial_hit, trial_few}
-use Rattle.mc_script.proofs.OwnLines.{power_steps}
-use Rattle.mc_lab.proofs.SweepStepLemmas.{trial_most}
+use Rattle.mc_lab.proofs.SweepStepLemmas.{front_next, power_most}
 use Rattle.mc_lab.specs.Sweeps.{state_on_blank}
 use Rattle.mc_lab.proofs.sweep_play.play_trial.Goals as goal
 
@@ -17,55 +16,36 @@ play_line-answer-requires-clause-playing g c =
 
 pub returns-clause-reported : goal.returns-clause-reported
 returns-clause-reported g c =
-    let state = λ (d : MutBor g.row.N.Denot). g.N.Nvm.state d.now in
-    let bench = λ (d : MutBor g.row.N.Denot). g.N.Bench.bench d.now in
     let line = c.line-number.result in
     let b = c.play_trial_lines-hit in
-    trial_reported state bench c.args.place.now c.args.trial (line.0, line_of line.1) c.line-number.ensures.line b.result b.new.player (b.ensures.on (front_of c.args.place.now) line.0 c.play_front-player.ensures.at)
+    trial_reported g.N.Nvm.state g.N.Bench.bench c.args.place.now c.args.trial (line.0, line_of line.1) c.line-number.ensures.line b.result b.new.player (b.ensures.on (front_of c.args.place.now) line.0 c.play_front-player.ensures.at)
     c.play_line-answer.new.player c.play_line-answer.result c.take_down.new.into.fault _ c.play_line-answer.ensures.on c.take_down.ensures.fault c.take_down.ensures.held
 
 pub returns-clause-hit : goal.returns-clause-hit
 returns-clause-hit g c =
-    let state = λ (d : MutBor g.row.N.Denot). g.N.Nvm.state d.now in
-    let bench = λ (d : MutBor g.row.N.Denot). g.N.Bench.bench d.now in
     let line = c.line-number.result in
     let b = c.play_trial_lines-hit in
-    trial_hit state bench c.args.place.now c.args.trial (line.0, line_of line.1) c.line-number.ensures.line b.result b.new.player (b.ensures.on (front_of c.args.place.now) line.0 c.play_front-player.ensures.at)
+    trial_hit g.N.Nvm.state g.N.Bench.bench c.args.place.now c.args.trial (line.0, line_of line.1) c.line-number.ensures.line b.result b.new.player (b.ensures.on (front_of c.args.place.now) line.0 c.play_front-player.ensures.at)
 
 pub returns-clause-few : goal.returns-clause-few
 returns-clause-few g c =
-    let state = λ (d : MutBor g.row.N.Denot). g.N.Nvm.state d.now in
-    let bench = λ (d : MutBor g.row.N.Denot). g.N.Bench.bench d.now in
     let line = c.line-number.result in
     let b = c.play_trial_lines-hit in
     let a = c.play_line-answer in
     let few =
-    trial_few state bench c.args.place.now c.args.trial (line.0, line_of line.1) c.line-number.ensures.line b.result b.new.player a.new.player a.result a.ensures.on
+    trial_few g.N.Nvm.state g.N.Bench.bench c.args.place.now c.args.trial (line.0, line_of line.1) c.line-number.ensures.line b.result b.new.player a.new.player a.result a.ensures.on
     (b.ensures.on (front_of c.args.place.now) line.0 c.play_front-player.ensures.at) in
     subst (λ (n : ℕ). IsRecoveryBound c.args.place.now c.args.trial n) (sym c.most_of-most.ensures) few
 
 pub returns-clause-steps : goal.returns-clause-steps
 returns-clause-steps g c =
-    let state = λ (d : MutBor g.row.N.Denot). g.N.Nvm.state d.now in
-    let bench = λ (d : MutBor g.row.N.Denot). g.N.Bench.bench d.now in
     let p = c.args.place.now in
     let line = c.line-number.result in
     let f = c.play_front-player in
     let b = c.play_trial_lines-hit in
     let a = c.play_line-answer in
-    let d = c.take_down in
+    let front = f.ensures.steps in
     let trial = b.ensures.steps (state_on_blank (front_of p)) f.ensures.at in
-    let power = power_steps state bench b.new.player a.result b.new.steps a.new.steps a.ensures.steps (_, (b.ensures.on (front_of p) line.0 f.ensures.at).at.at) in
-    trial_most p.deck.now p.at (length p.names.now) (line.0, line_of line.1) c.args.steps.now f.new.steps b.new.steps a.new.steps d.new.steps c.line-number.ensures.line f.ensures.steps trial power d.ensures.reads
-
-pub returns-clause-keeps_device : goal.returns-clause-keeps_device
-returns-clause-keeps_device g c =
-    let ghost = λ (d : MutBor g.row.N.Denot). d.ghost_name in
-    let back = sym c.into_dev-device.ensures in
-    let first = c.play_front-player.ensures.keeps_device in
-    let next = c.play_trial_lines-hit.ensures.keeps_device in
-    let last = c.play_line-answer.ensures.keeps_device in
-    let name = sym first.1 ∙ sym next.1 ∙ sym last.1 ∙ ap ghost back in
-    let now = ap (λ (d : MutBor g.row.N.Denot). d.now) back ∙ search (rules, name) in
-    let same = g.met.N.Nvm.onward _ _ _ (g.met.N.Nvm.onward _ _ _ first.0 next.0) last.0 in
-    subst (λ (d : g.row.N.Denot). g.N.Nvm.same c.args.device.now d) now same
+    let power = power_most g.N.Nvm.state g.N.Bench.bench b.new.player a.result b.new.steps a.new.steps a.ensures.steps (_, (b.ensures.on (front_of p) line.0 f.ensures.at).at.at) in
+    let all = front_next p.deck.now p.at (line.0, line_of line.1) c.line-number.ensures.line in
+    omega (arith, front, trial, power, all)

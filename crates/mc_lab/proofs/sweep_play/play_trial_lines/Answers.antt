@@ -1,4 +1,4 @@
-use Rattle.std.proofs.Common.{arith, true, refl, sym, subst}
+use Rattle.std.proofs.Common.{true, refl, sym, subst}
 use Rattle.mc_deck.specs.Lines.{line_of}
 use Rattle.mc_lab.specs.SweepPlayers.{TrialOn}
 use Rattle.mc_lab.specs.declared.sweep_trial.TrialLines.{TrialLines}
@@ -33,10 +33,4 @@ returns-in-Twice-clause-on g c front n h =
 pub returns-in-Whole-clause-steps : goal.returns-in-Whole-clause-steps
 returns-in-Whole-clause-steps g c s h =
     let p = c.play_line-answer in
-    let whole = whole_most g.N.Nvm.state g.N.Bench.bench c.args.player.now (line_of c.args.line.now) p.result c.args.steps.now p.new.steps p.ensures.steps s h in
-    omega (arith, whole)
-
-pub returns-in-Cut-clause-steps : goal.returns-in-Cut-clause-steps
-returns-in-Cut-clause-steps g c s h =
-    let cut = c.play_cut.ensures.steps s h in
-    omega (arith, cut)
+    whole_most g.N.Nvm.state g.N.Bench.bench c.args.player.now (line_of c.args.line.now) p.result c.args.steps.now p.new.steps p.ensures.steps s h

@@ -1,7 +1,7 @@
 use Rattle.std.proofs.Common.{◌∙◌, arith}
 use Rattle.mc_deck.specs.Lines.{line_of}
 use Rattle.mc_lab.proofs.SweepPlayers.{twice_behind}
-use Rattle.mc_lab.proofs.SweepStepLemmas.{power_few_reads}
+use Rattle.mc_lab.proofs.SweepStepLemmas.{power_free}
 use Rattle.mc_lab.specs.SweepBodies.{next}
 use Rattle.mc_lab.specs.Sweeps.{cut_statement}
 use Rattle.mc_lab.proofs.sweep_play.play_twice.Goals as goal
@@ -24,5 +24,5 @@ returns-clause-steps g c s h =
     let t = next (next s (cut_statement 0 c.args.k c.args.fill)) (0, line_of c.args.line.now) in
     let one = a.ensures.steps s h in
     let two = c.play_cut.ensures.steps t (a.ensures.on s 0 0 h).at in
-    let few = power_few_reads t in
-    omega (arith, one, two, few)
+    let none = power_free t in
+    omega (arith, one, two, none)

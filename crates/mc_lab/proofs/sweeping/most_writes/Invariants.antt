@@ -11,6 +11,6 @@ invariant-loop-at g l =
       most : AtMost l.deck l.at l.most;
       small : l.most < 4294967295;
       room : AccountsHaveRoom l.sweeper.ends l.sweeper.pair (length l.names);
-      measuring : Measuring l.names l.deck l.at l.most l.fn.steps l.steps;
+      measuring : Measuring l.deck l.at l.most l.fn.steps l.steps;
       played : g.D.Trials.has_played l.sweeper.trials (take l.at l.deck);
     }

@@ -19,7 +19,7 @@ returns-in_err-ins-clause-stands g c =
     let at = c.args.frame.now.frame.at in
     let left = c.code_len-end.result - c.at-at.result in
     let bytes = c.read_code.new.into in
-    let window = window_of code bytes c.at-at.result at c.code_len-end.result c.args.frame.now.frame.code_len c.at-at.ensures c.code_len-end.ensures c.requires.fits.code c.if-at-end.false c.read_code.array_long c.read_code.ensures.bytes in
+    let window = window_of code bytes c.at-at.result at c.code_len-end.result c.args.frame.now.frame.code_len c.at-at.ensures c.code_len-end.ensures c.requires.fits.code c.if-at-end.false c.read_code.array_long c.read_code.ensures in
     let p = err_from_is_err_and c.from_residual.result c.from_residual.ensures.1 in
     rw (p.1, p.2) (fault_there code bytes at left c.in_err-ins.field-0.0 window c.in_err-ins.ensures.stands)
 
@@ -29,7 +29,7 @@ returns-in_err-ins-clause-exact g c =
     let at = c.args.frame.now.frame.at in
     let left = c.code_len-end.result - c.at-at.result in
     let bytes = c.read_code.new.into in
-    let window = window_of code bytes c.at-at.result at c.code_len-end.result c.args.frame.now.frame.code_len c.at-at.ensures c.code_len-end.ensures c.requires.fits.code c.if-at-end.false c.read_code.array_long c.read_code.ensures.bytes in
+    let window = window_of code bytes c.at-at.result at c.code_len-end.result c.args.frame.now.frame.code_len c.at-at.ensures c.code_len-end.ensures c.requires.fits.code c.if-at-end.false c.read_code.array_long c.read_code.ensures in
     let p = err_from_is_err_and c.from_residual.result c.from_residual.ensures.1 in
     rw (p.1, p.2) (sym (decoded_only code at (Err c.in_err-ins.field-0.0) (fault_there code bytes at left c.in_err-ins.field-0.0 window c.in_err-ins.ensures.stands)))
 
@@ -39,7 +39,7 @@ returns-then-size-left-clause-stands g c =
     let at = c.args.frame.now.frame.at in
     let left = c.code_len-end.result - c.at-at.result in
     let bytes = c.read_code.new.into in
-    let window = window_of code bytes c.at-at.result at c.code_len-end.result c.args.frame.now.frame.code_len c.at-at.ensures c.code_len-end.ensures c.requires.fits.code c.if-at-end.false c.read_code.array_long c.read_code.ensures.bytes in
+    let window = window_of code bytes c.at-at.result at c.code_len-end.result c.args.frame.now.frame.code_len c.at-at.ensures c.code_len-end.ensures c.requires.fits.code c.if-at-end.false c.read_code.array_long c.read_code.ensures in
     past_there code bytes at left c.in_ok-ins.ins c.in_ok-ins.size window c.in_ok-ins.ensures.stands c.if-size-left.true
 
 pub returns-then-size-left-clause-exact : goal.returns-then-size-left-clause-exact
@@ -48,7 +48,7 @@ returns-then-size-left-clause-exact g c =
     let at = c.args.frame.now.frame.at in
     let left = c.code_len-end.result - c.at-at.result in
     let bytes = c.read_code.new.into in
-    let window = window_of code bytes c.at-at.result at c.code_len-end.result c.args.frame.now.frame.code_len c.at-at.ensures c.code_len-end.ensures c.requires.fits.code c.if-at-end.false c.read_code.array_long c.read_code.ensures.bytes in
+    let window = window_of code bytes c.at-at.result at c.code_len-end.result c.args.frame.now.frame.code_len c.at-at.ensures c.code_len-end.ensures c.requires.fits.code c.if-at-end.false c.read_code.array_long c.read_code.ensures in
     sym (decoded_only code at (Err Past) (past_there code bytes at left c.in_ok-ins.ins c.in_ok-ins.size window c.in_ok-ins.ensures.stands c.if-size-left.true))
 
 pub returns-clause-stands : goal.returns-clause-stands
@@ -57,7 +57,7 @@ returns-clause-stands g c =
     let at = c.args.frame.now.frame.at in
     let left = c.code_len-end.result - c.at-at.result in
     let bytes = c.read_code.new.into in
-    let window = window_of code bytes c.at-at.result at c.code_len-end.result c.args.frame.now.frame.code_len c.at-at.ensures c.code_len-end.ensures c.requires.fits.code c.if-at-end.false c.read_code.array_long c.read_code.ensures.bytes in
+    let window = window_of code bytes c.at-at.result at c.code_len-end.result c.args.frame.now.frame.code_len c.at-at.ensures c.code_len-end.ensures c.requires.fits.code c.if-at-end.false c.read_code.array_long c.read_code.ensures in
     subst (λ (a : ℕ). DecodesTo code at (Ok (c.in_ok-ins.ins, a + c.in_ok-ins.size))) (sym c.at-at.ensures) (stands_there code bytes at left c.in_ok-ins.ins c.in_ok-ins.size window c.in_ok-ins.ensures.stands c.if-size-left.false)
 
 pub returns-clause-exact : goal.returns-clause-exact
@@ -66,5 +66,5 @@ returns-clause-exact g c =
     let at = c.args.frame.now.frame.at in
     let left = c.code_len-end.result - c.at-at.result in
     let bytes = c.read_code.new.into in
-    let window = window_of code bytes c.at-at.result at c.code_len-end.result c.args.frame.now.frame.code_len c.at-at.ensures c.code_len-end.ensures c.requires.fits.code c.if-at-end.false c.read_code.array_long c.read_code.ensures.bytes in
+    let window = window_of code bytes c.at-at.result at c.code_len-end.result c.args.frame.now.frame.code_len c.at-at.ensures c.code_len-end.ensures c.requires.fits.code c.if-at-end.false c.read_code.array_long c.read_code.ensures in
     sym (decoded_only code at (Ok (c.in_ok-ins.ins, c.at-at.result + c.in_ok-ins.size)) (subst (λ (a : ℕ). DecodesTo code at (Ok (c.in_ok-ins.ins, a + c.in_ok-ins.size))) (sym c.at-at.ensures) (stands_there code bytes at left c.in_ok-ins.ins c.in_ok-ins.size window c.in_ok-ins.ensures.stands c.if-size-left.false)))

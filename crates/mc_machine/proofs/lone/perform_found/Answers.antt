@@ -1,5 +1,5 @@
 -- Each end of a turn is that of the definitions.
-use Rattle.std.proofs.Common.{◌≡◌, Some, None, Result, Ok, Err, refl, sym, subst, ◌∙◌, arith}
+use Rattle.std.proofs.Common.{◌≡◌, ℕ, ◌+◌, Some, None, Result, Ok, Err, refl, sym, ap, subst, ◌∙◌, arith}
 use Rattle.law_machine.specs.model_machine.specs.declared.instruction.DecodeFault.{DecodeFault}
 use Rattle.law_machine.specs.model_machine.specs.declared.instruction.DecodeFault.TheVariants.{Undefined, Past}
 use Rattle.law_machine.specs.model_machine.specs.declared.machine.Abend.TheVariants.{A01, A02}
@@ -7,20 +7,19 @@ use Rattle.law_machine.specs.model_card.specs.Items.{Commit}
 use Rattle.law_machine.specs.model_machine.specs.Code.{instruction_at}
 use Rattle.law_machine.specs.model_machine.specs.Primitives.{Around}
 use Rattle.law_machine.specs.model_machine.specs.Row.{row}
-use Rattle.law_machine.specs.model_machine.specs.Chain.{Acted, abends_at, around, frame_at, row_turn}
+use Rattle.law_machine.specs.model_machine.specs.Chain.{Acted, abends_at, around, frame_at, row_turn, turn_of}
 use Rattle.mc_segs.specs.HeldFrames.{Held, frame_on_bank, app_under}
 use Rattle.mc_segs.specs.Ends.{RowActs, scene}
 use Rattle.law_machine.specs.model_device.specs.declared.device.Stop.{Stop}
 use Rattle.mc_machine.specs.Turns.{chain_at_next, step_of_frame}
-use Rattle.mc_machine.specs.Lone.{lone_chain, LoneDone, CountsLone}
+use Rattle.mc_machine.specs.Lone.{lone_chain, LoneDone}
 use Rattle.mc_machine.specs.declared.lone.Lone.{Lone}
 use Rattle.mc_machine.specs.declared.lone.Lone.TheVariants.{Ends}
 use Rattle.mc_machine.specs.declared.outcome.End.TheVariants as end
 use Rattle.mc_machine.proofs.Kept.{row_keeps}
 use Rattle.mc_machine.proofs.RowFacts.{row_exits}
 use Rattle.mc_machine.proofs.TurnLemmas.{BankLaws}
-use Rattle.mc_machine.proofs.ActLemmas.{turned, abends_done, row_related}
-use Rattle.mc_machine.proofs.CostLemmas.{abend_counts_lone, row_counts_lone, lone_fits}
+use Rattle.mc_machine.proofs.ActLemmas.{turned, abends_done, row_count, row_related}
 use Rattle.mc_machine.proofs.LoneLemmas.{lone_abends, lone_does, goes_code}
 use Rattle.mc_machine.proofs.lone.perform_found.Goals as goal
 
@@ -41,7 +40,7 @@ returns-in-Err-Undefined-clause-done g c ch le left some r =
     )
 
 pub returns-in-Err-Undefined-clause-ticks : goal.returns-in-Err-Undefined-clause-ticks
-returns-in-Err-Undefined-clause-ticks g c ch le left before some r low high =
+returns-in-Err-Undefined-clause-ticks g c ch le left some r =
     let state = g.B.Bank.state in
     let named = g.B.Bank.named in
     let b = c.args.bank.now in
@@ -51,8 +50,8 @@ returns-in-Err-Undefined-clause-ticks g c ch le left before some r low high =
     let from = lone_chain old public case le left in
     let exact : Err Undefined ≡ instruction_at (app_under (state b) (named b) old).code old.frame.at =
     subst (λ (f : DecodeFault). Err f ≡ instruction_at (app_under (state b) (named b) old).code old.frame.at) c.in-Err-Undefined.field-0-is (rw c.in-Err-Undefined.is (sym c.in-Err-Undefined.is ∙ c.requires.exact)) in
-    let now = c.args.steps.now in
-    subst (λ (t : Acted). CountsLone t (Ok (Ends (end.Abend A01))) before now) (sym (turned g.B.Bank b from ch (Err Undefined) r some exact)) (abend_counts_lone ch A01 A01 before now low high)
+    let none : (turn_of left ch).count ≡ 0 = ap (λ (t : Acted). t.count) (turned g.B.Bank b from ch (Err Undefined) r some exact) in
+    omega (arith, none)
 
 pub returns-in-Err-Past-clause-done : goal.returns-in-Err-Past-clause-done
 returns-in-Err-Past-clause-done g c ch le left some r =
@@ -71,7 +70,7 @@ returns-in-Err-Past-clause-done g c ch le left some r =
     )
 
 pub returns-in-Err-Past-clause-ticks : goal.returns-in-Err-Past-clause-ticks
-returns-in-Err-Past-clause-ticks g c ch le left before some r low high =
+returns-in-Err-Past-clause-ticks g c ch le left some r =
     let state = g.B.Bank.state in
     let named = g.B.Bank.named in
     let b = c.args.bank.now in
@@ -81,8 +80,8 @@ returns-in-Err-Past-clause-ticks g c ch le left before some r low high =
     let from = lone_chain old public case le left in
     let exact : Err Past ≡ instruction_at (app_under (state b) (named b) old).code old.frame.at =
     subst (λ (f : DecodeFault). Err f ≡ instruction_at (app_under (state b) (named b) old).code old.frame.at) c.in-Err-Past.field-0-is (rw c.in-Err-Past.is (sym c.in-Err-Past.is ∙ c.requires.exact)) in
-    let now = c.args.steps.now in
-    subst (λ (t : Acted). CountsLone t (Ok (Ends (end.Abend A02))) before now) (sym (turned g.B.Bank b from ch (Err Past) r some exact)) (abend_counts_lone ch A02 A02 before now low high)
+    let none : (turn_of left ch).count ≡ 0 = ap (λ (t : Acted). t.count) (turned g.B.Bank b from ch (Err Past) r some exact) in
+    omega (arith, none)
 
 pub returns-clause-done : goal.returns-clause-done
 returns-clause-done g c ch le left some r =
@@ -118,7 +117,7 @@ returns-clause-done g c ch le left some r =
     )
 
 pub returns-clause-ticks : goal.returns-clause-ticks
-returns-clause-ticks g c ch le left before some r low high =
+returns-clause-ticks g c ch le left some r =
     let state = g.B.Bank.state in
     let named = g.B.Bank.named in
     let b = c.args.bank.now in
@@ -129,13 +128,8 @@ returns-clause-ticks g c ch le left before some r low high =
     let found = c.in-Ok.found in
     let i = found.0 in
     let exact : Ok found ≡ instruction_at (app_under (state b) (named b) old).code old.frame.at = sym c.in-Ok.is ∙ c.requires.exact in
-    let result = c.perform_lone.result in
-    let new = c.perform_lone.new.steps in
-    let did = c.perform_lone.ensures in
-    let fits = lone_fits i in
-    subst (λ (t : Acted). CountsLone t result before new) (sym (turned g.B.Bank b from ch (Ok found) r some exact)) (
-    row_counts_lone ch i (row i (frame_at ch.frame found.1) ch.public (around ch)) result before new (omega (arith, low, c.tick.ensures, did.rises)) (omega (arith, high, c.tick.ensures, did.reads, did.calls, fits))
-    )
+    let one : (turn_of left ch).count ≡ 1 = ap (λ (t : Acted). t.count) (turned g.B.Bank b from ch (Ok found) r some exact) ∙ row_count ch i (row i (frame_at ch.frame found.1) ch.public (around ch)) in
+    c.tick.ensures ∙ ap (λ (n : ℕ). c.args.steps.now + n) (sym one)
 
 pub returns-clause-code : goal.returns-clause-code
 returns-clause-code g c is =

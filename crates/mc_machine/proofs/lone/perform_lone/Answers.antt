@@ -21,7 +21,7 @@ returns-in_default-clause-acts g c =
     let o = row_result c.step.result in
     record {
       done = o;
-      acts = subst (λ (r : RowEnd). EndActs g.B.Bank sc r o) (sym (row_alone i (frame_on_bank g.B.Bank b now) c.args.public.now x (no_primitive i c.in_default.not-Prim))) c.step.ensures.acts;
+      acts = subst (λ (r : RowEnd). EndActs g.B.Bank sc r o) (sym (row_alone i (frame_on_bank g.B.Bank b now) c.args.public.now x (no_primitive i c.in_default.not-Prim))) c.step.ensures;
       value = c.after_row.ensures.value;
       called = c.after_row.ensures.called c.args.callee.now;
     }

@@ -9,5 +9,5 @@ abbrev pub invariant-loop-turn : goal.invariant-loop-turn
 invariant-loop-turn g l =
     record {
       session : l.session ≡ l.fn.session;
-      underway : (ch : Chain) → RunsAs (g.B.Bank.state l.fn.bank) (g.B.Bank.named l.fn.bank) l.fn.chain ch → Underway g.B.Bank 0 l.fn.bank (run_of_chain l.fn.left ch) l.fn.steps l.fn.left l._turn l.bank l.chain l.steps;
+      underway : (ch : Chain) → RunsAs (g.B.Bank.state l.fn.bank) (g.B.Bank.named l.fn.bank) l.fn.chain ch → Underway g.B.Bank l.fn.bank (run_of_chain l.fn.left ch) l.fn.steps l.fn.left l._turn l.bank l.chain l.steps;
     }

@@ -1,12 +1,10 @@
 -- The chain in which the name is called runs to its end.
-use Rattle.std.proofs.Common.{List, sym, subst, arith}
+use Rattle.std.proofs.Common.{List, sym, subst}
 use Rattle.law_machine.specs.model_device.specs.Bytes.{lookup}
-use Rattle.law_machine.specs.model_machine.specs.Chain.{chain_after_call, run_of_chain}
+use Rattle.law_machine.specs.model_machine.specs.Chain.{chain_after_call}
 use Rattle.mc_segs.specs.HeldFrames.{Held}
 use Rattle.mc_machine.specs.Chains.{RunsAs}
 use Rattle.mc_machine.specs.Lone.{lone_chain}
-use Rattle.mc_machine.specs.Turns.{reply_or_stop}
-use Rattle.mc_machine.proofs.RunLemmas.{later_ends}
 use Rattle.mc_machine.proofs.running.run_chain.Goals as goal
 
 pub finish-requires-clause-fits : goal.finish-requires-clause-fits
@@ -20,8 +18,4 @@ pub returns : goal.returns
 returns g c ch r =
     let moved = subst (λ (h : Held). RunsAs (g.B.Bank.state c.args.bank.now) (g.B.Bank.named c.args.bank.now) (lone_chain h c.args.public c.args.case c.args.le c.args.left) ch) (sym c.replace-running.ensures.value) r in
     let made = subst (λ (b : List Held). RunsAs (g.B.Bank.state c.args.bank.now) (g.B.Bank.named c.args.bank.now) (record { running = c.replace-running.result; below = b; public = c.args.public; case = c.args.case; le = c.args.le; left = c.args.left }) ch) (sym c.new-waiting.ensures) moved in
-    let called = chain_after_call ch c.args.aid.now (lookup ch.map c.args.aid.now) in
-    let facts = c.facts-facts.ensures in
-    let call = c.call.ensures in
-    later_ends g.B.Bank 349 c.args.bank.now c.finish.new.bank c.args.session.now c.finish.new.session c.args.steps.now c.call.new.steps c.finish.new.steps (run_of_chain c.args.left called) (reply_or_stop c.finish.result c.finish.new.reply) (omega (arith, facts.rises, call.rises)) (omega (arith, facts.reads, call.reads))
-    (c.finish.ensures called (call.runs ch made))
+    c.finish.ensures (chain_after_call ch c.args.aid.now (lookup ch.map c.args.aid.now)) (c.call.ensures.runs ch made)

@@ -14,6 +14,6 @@ invariant-loop-turn g l =
     record {
       session : l.session ≡ l.fn.session;
       underway : (ch : Chain) → RunsAs (g.B.Bank.state l.fn.bank) (g.B.Bank.named l.fn.bank) (lone_chain l.fn.frame l.fn.public l.fn.case l.fn.le l.fn.left) ch
-          → Underway g.B.Bank 0 l.fn.bank (run_of_chain l.fn.left ch) l.fn.steps l.fn.left l.turn l.bank (lone_chain l.frame l.public l.fn.case l.fn.le (l.fn.left - l.turn)) l.steps;
+          → Underway g.B.Bank l.fn.bank (run_of_chain l.fn.left ch) l.fn.steps l.fn.left l.turn l.bank (lone_chain l.frame l.public l.fn.case l.fn.le (l.fn.left - l.turn)) l.steps;
       knows : KnowsCode (app_under (g.B.Bank.state l.bank) (g.B.Bank.named l.bank) l.frame).code l.table;
     }

@@ -5,11 +5,10 @@ use Rattle.law_machine.specs.model_machine.specs.Chain.{start, turn_of}
 use Rattle.mc_apdu.specs.Command.{parts_of}
 use Rattle.mc_bank.specs.Bank.{name_or}
 use Rattle.mc_machine.specs.Chains.{Chained, RunsAs, run_of_command}
-use Rattle.mc_machine.specs.Lone.{lone_chain, LoneDone, CountsLone, RanDone}
+use Rattle.mc_machine.specs.Lone.{lone_chain, LoneDone, RanDone}
 use Rattle.mc_machine.specs.Turns.{reply_or_stop}
 use Rattle.mc_machine.specs.declared.lone.Lone.{Lone}
 use Rattle.mc_machine.specs.declared.lone.Lone.TheVariants.{Delegates}
-use Rattle.mc_machine.proofs.CostLemmas.{counts_turn}
 use Rattle.mc_machine.proofs.LoneLemmas.{name_called}
 use Rattle.mc_machine.proofs.RunLemmas.{Underway, underway, end_goes, end_ends, delegated_ends, underway_stops, underway_most, rest_ends, something_left, lone_left}
 use Rattle.mc_machine.proofs.running.run_turns.Goals as goal
@@ -22,11 +21,11 @@ loop-turn-init g c =
     let first = start (state b).apps (name_or (named b c.args.first)) c.args.session.now (parts_of c.args.apdu.now) in
     let here = lone_chain c.first_frame-frame.result c.open.new.self c.case-case.result c.unwrap_or-le.result (c.args.budget - 0) in
     let runs : RunsAs (state b) (named b) here first =
-    record { map = refl; running = c.first_frame-frame.ensures.reads_as; below = tt; public = c.open.ensures; case = c.case-case.ensures; le = c.unwrap_or-le.ensures; few = omega arith; apart = (tt, tt) } in
+    record { map = refl; running = c.first_frame-frame.ensures; below = tt; public = c.open.ensures; case = c.case-case.ensures; le = c.unwrap_or-le.ensures; few = omega arith; apart = (tt, tt) } in
     record {
       session = refl;
       within = omega arith;
-      underway = underway g.B.Bank 4 b here first c.args.budget c.args.steps.now c.first_frame-frame.new.steps c.first_frame-frame.ensures.rises c.first_frame-frame.ensures.reads c.requires.going runs (omega arith);
+      underway = underway g.B.Bank b here first c.args.budget c.args.steps.now c.requires.going runs (omega arith);
     }
 
 pub lone_turn-requires-clause-going : goal.lone_turn-requires-clause-going
@@ -81,6 +80,7 @@ unwrap-aid-requires g c =
     let e = c.lone_turn.new.bank in
     let now = c.lone_turn.new.steps in
     let after : ℕ → Chained = λ n. lone_chain c.lone_turn.new.frame c.lone_turn.new.public case le n in
+    let count = c.in_ok-lone_turn.ensures.ticks u.chain le left some u.runs in
     let called = subst (λ (o : Lone). LoneDone g.B.Bank l.bank e here after u.chain (turn_of left u.chain) (Ok o) c.lone_turn.new.callee) c.in-Delegates.is (c.in_ok-lone_turn.ensures.done u.chain le left some u.runs) in
     name_called g.B.Bank l.bank e here after u.chain (turn_of left u.chain) c.lone_turn.new.callee called
 
@@ -104,6 +104,7 @@ run_chain-requires-clause-going g c =
     let e = c.lone_turn.new.bank in
     let now = c.lone_turn.new.steps in
     let after : ℕ → Chained = λ n. lone_chain c.lone_turn.new.frame c.lone_turn.new.public case le n in
+    let count = c.in_ok-lone_turn.ensures.ticks u.chain le left some u.runs in
     let called = subst (λ (o : Lone). LoneDone g.B.Bank l.bank e here after u.chain (turn_of left u.chain) (Ok o) c.lone_turn.new.callee) c.in-Delegates.is (c.in_ok-lone_turn.ensures.done u.chain le left some u.runs) in
     let done = subst (λ (n : Option (List ℕ)). LoneDone g.B.Bank l.bank e here after u.chain (turn_of left u.chain) (Ok Delegates) n) c.unwrap-aid.ensures called in
     done.going
@@ -128,6 +129,7 @@ run_chain-requires-clause-fits g c =
     let e = c.lone_turn.new.bank in
     let now = c.lone_turn.new.steps in
     let after : ℕ → Chained = λ n. lone_chain c.lone_turn.new.frame c.lone_turn.new.public case le n in
+    let count = c.in_ok-lone_turn.ensures.ticks u.chain le left some u.runs in
     let called = subst (λ (o : Lone). LoneDone g.B.Bank l.bank e here after u.chain (turn_of left u.chain) (Ok o) c.lone_turn.new.callee) c.in-Delegates.is (c.in_ok-lone_turn.ensures.done u.chain le left some u.runs) in
     let done = subst (λ (n : Option (List ℕ)). LoneDone g.B.Bank l.bank e here after u.chain (turn_of left u.chain) (Ok Delegates) n) c.unwrap-aid.ensures called in
     (done.chain, done.runs)
@@ -152,14 +154,14 @@ loop-turn-preserved g c =
     let e = c.lone_turn.new.bank in
     let now = c.lone_turn.new.steps in
     let after : ℕ → Chained = λ n. lone_chain c.lone_turn.new.frame c.lone_turn.new.public case le n in
-    let count = counts_turn (c.in_ok-lone_turn.ensures.ticks u.chain le left some u.runs) in
+    let count = c.in_ok-lone_turn.ensures.ticks u.chain le left some u.runs in
     let done = subst (λ (o : Lone). LoneDone g.B.Bank l.bank e here after u.chain (turn_of left u.chain) (Ok o) c.lone_turn.new.callee) c.in-Goes.is (c.in_ok-lone_turn.ensures.done u.chain le left some u.runs) in
-    let v = end_goes g.B.Bank 4 start whole ticks budget l.turn l.bank e here (after done.0) l.steps now u done.1 count in
+    let v = end_goes g.B.Bank start whole ticks budget l.turn l.bank e here (after done.0) l.steps now u done.1 count in
     let total = v.left in
     record {
       session = l.invariant.session;
       within = omega (arith, before);
-      underway = subst (λ (m : ℕ). Underway g.B.Bank 4 start whole ticks budget (l.turn + 1) e (after m) now) (lone_left done.0 (l.turn + 1) budget total) v;
+      underway = subst (λ (m : ℕ). Underway g.B.Bank start whole ticks budget (l.turn + 1) e (after m) now) (lone_left done.0 (l.turn + 1) budget total) v;
     }
 
 pub returns-in_err-lone_turn : goal.returns-in_err-lone_turn
@@ -184,8 +186,8 @@ returns-in_err-lone_turn g c =
     let after : ℕ → Chained = λ n. lone_chain c.lone_turn.new.frame c.lone_turn.new.public case le n in
     let p = err_from_is_err_and c.from_residual.result c.from_residual.ensures.1 in
     rw (p.1, p.2) (record {
-      writes = underway_stops g.B.Bank 4 start whole ticks budget l.turn l.bank e here l.steps u c.in_err-lone_turn.field-0.0 (c.in_err-lone_turn.ensures.done u.chain le left some u.runs);
-      most = underway_most g.B.Bank 4 start whole ticks budget l.turn l.bank here l.steps now u (counts_turn (c.in_err-lone_turn.ensures.ticks u.chain le left some u.runs)).most;
+      writes = underway_stops g.B.Bank start whole ticks budget l.turn l.bank e here l.steps u c.in_err-lone_turn.field-0.0 (c.in_err-lone_turn.ensures.done u.chain le left some u.runs);
+      count = underway_most g.B.Bank start whole ticks budget l.turn l.bank here l.steps now u (c.in_err-lone_turn.ensures.ticks u.chain le left some u.runs);
       session = l.invariant.session;
     })
 
@@ -209,10 +211,10 @@ returns-in-Ends g c =
     let e = c.lone_turn.new.bank in
     let now = c.lone_turn.new.steps in
     let after : ℕ → Chained = λ n. lone_chain c.lone_turn.new.frame c.lone_turn.new.public case le n in
-    let count = counts_turn (c.in_ok-lone_turn.ensures.ticks u.chain le left some u.runs) in
+    let count = c.in_ok-lone_turn.ensures.ticks u.chain le left some u.runs in
     let done = subst (λ (o : Lone). LoneDone g.B.Bank l.bank e here after u.chain (turn_of left u.chain) (Ok o) c.lone_turn.new.callee) c.in-Ends.is (c.in_ok-lone_turn.ensures.done u.chain le left some u.runs) in
-    let f = end_ends g.B.Bank 4 start whole ticks budget l.turn l.bank e here (after done.0) l.steps now u c.in-Ends.end done.1 count in
-    record { writes = f.writes; going = f.going; least = f.least; most = f.most; session = c.keep_session.ensures ∙ f.session; outcome = c.put_end.ensures ∙ f.outcome }
+    let f = end_ends g.B.Bank start whole ticks budget l.turn l.bank e here (after done.0) l.steps now u c.in-Ends.end done.1 count in
+    record { writes = f.writes; going = f.going; count = f.count; session = c.keep_session.ensures ∙ f.session; outcome = c.put_end.ensures ∙ f.outcome }
 
 pub returns-in-Delegates : goal.returns-in-Delegates
 returns-in-Delegates g c =
@@ -234,11 +236,11 @@ returns-in-Delegates g c =
     let e = c.lone_turn.new.bank in
     let now = c.lone_turn.new.steps in
     let after : ℕ → Chained = λ n. lone_chain c.lone_turn.new.frame c.lone_turn.new.public case le n in
-    let count = subst (λ (o : Lone). CountsLone (turn_of left u.chain) (Ok o) l.steps now) c.in-Delegates.is (c.in_ok-lone_turn.ensures.ticks u.chain le left some u.runs) in
+    let count = c.in_ok-lone_turn.ensures.ticks u.chain le left some u.runs in
     let called = subst (λ (o : Lone). LoneDone g.B.Bank l.bank e here after u.chain (turn_of left u.chain) (Ok o) c.lone_turn.new.callee) c.in-Delegates.is (c.in_ok-lone_turn.ensures.done u.chain le left some u.runs) in
     let done = subst (λ (n : Option (List ℕ)). LoneDone g.B.Bank l.bank e here after u.chain (turn_of left u.chain) (Ok Delegates) n) c.unwrap-aid.ensures called in
-    subst (λ (x : List ℕ). RanDone g.B.Bank 4 start c.run_chain.new.bank x c.run_chain.new.session ticks c.run_chain.new.steps whole (reply_or_stop c.run_chain.result c.run_chain.new.reply)) l.invariant.session
-    (delegated_ends g.B.Bank 4 start whole ticks budget l.turn l.bank e here (after (left - 1)) l.steps now u c.unwrap-aid.result done count c.run_chain.new.bank l.session c.run_chain.new.session c.run_chain.new.steps (reply_or_stop c.run_chain.result c.run_chain.new.reply) (c.run_chain.ensures done.chain done.runs))
+    subst (λ (x : List ℕ). RanDone g.B.Bank start c.run_chain.new.bank x c.run_chain.new.session ticks c.run_chain.new.steps whole (reply_or_stop c.run_chain.result c.run_chain.new.reply)) l.invariant.session
+    (delegated_ends g.B.Bank start whole ticks budget l.turn l.bank e here (after (left - 1)) l.steps now u c.unwrap-aid.result done count c.run_chain.new.bank l.session c.run_chain.new.session c.run_chain.new.steps (reply_or_stop c.run_chain.result c.run_chain.new.reply) (c.run_chain.ensures done.chain done.runs))
 
 pub run_long-requires-clause-going : goal.run_long-requires-clause-going
 run_long-requires-clause-going g c = c.loop-turn.invariant.underway.going
@@ -261,7 +263,7 @@ run_long-requires-clause-fits g c =
     let within = l.invariant.within in
     let done = c.loop-turn-test.false in
     let last : l.turn ≡ few = omega (arith, within, done) in
-    let v = subst (λ (t : ℕ). Underway g.B.Bank 4 start whole ticks budget t l.bank (lone_chain l.frame l.public case le (budget - t)) l.steps) last u in
+    let v = subst (λ (t : ℕ). Underway g.B.Bank start whole ticks budget t l.bank (lone_chain l.frame l.public case le (budget - t)) l.steps) last u in
     (v.chain, v.runs)
 
 pub returns : goal.returns
@@ -282,6 +284,6 @@ returns g c =
     let within = l.invariant.within in
     let done = c.loop-turn-test.false in
     let last : l.turn ≡ few = omega (arith, within, done) in
-    let v = subst (λ (t : ℕ). Underway g.B.Bank 4 start whole ticks budget t l.bank (lone_chain l.frame l.public case le (budget - t)) l.steps) last u in
-    subst (λ (x : List ℕ). RanDone g.B.Bank 4 start c.run_long.new.bank x c.run_long.new.session ticks c.run_long.new.steps whole (reply_or_stop c.run_long.result c.run_long.new.reply)) l.invariant.session
-    (rest_ends g.B.Bank 4 start whole ticks budget few l.bank (lone_chain l.frame l.public case le (budget - few)) l.steps v c.run_long.new.bank l.session c.run_long.new.session c.run_long.new.steps (reply_or_stop c.run_long.result c.run_long.new.reply) (c.run_long.ensures v.chain v.runs))
+    let v = subst (λ (t : ℕ). Underway g.B.Bank start whole ticks budget t l.bank (lone_chain l.frame l.public case le (budget - t)) l.steps) last u in
+    subst (λ (x : List ℕ). RanDone g.B.Bank start c.run_long.new.bank x c.run_long.new.session ticks c.run_long.new.steps whole (reply_or_stop c.run_long.result c.run_long.new.reply)) l.invariant.session
+    (rest_ends g.B.Bank start whole ticks budget few l.bank (lone_chain l.frame l.public case le (budget - few)) l.steps v c.run_long.new.bank l.session c.run_long.new.session c.run_long.new.steps (reply_or_stop c.run_long.result c.run_long.new.reply) (c.run_long.ensures v.chain v.runs))

@@ -10,5 +10,5 @@ invariant-loop-turn g l =
     record {
       session : l.session ≡ l.fn.session;
       within : l.turn ≤ l.few;
-      underway : Underway g.B.Bank 4 l.fn.bank (run_of_command (g.B.Bank.state l.fn.bank) (g.B.Bank.named l.fn.bank) l.fn.first l.fn.session l.fn.apdu l.fn.budget) l.fn.steps l.fn.budget l.turn l.bank (lone_chain l.frame l.public l.case l.le (l.fn.budget - l.turn)) l.steps;
+      underway : Underway g.B.Bank l.fn.bank (run_of_command (g.B.Bank.state l.fn.bank) (g.B.Bank.named l.fn.bank) l.fn.first l.fn.session l.fn.apdu l.fn.budget) l.fn.steps l.fn.budget l.turn l.bank (lone_chain l.frame l.public l.case l.le (l.fn.budget - l.turn)) l.steps;
     }

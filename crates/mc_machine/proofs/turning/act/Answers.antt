@@ -1,4 +1,4 @@
-use Rattle.std.proofs.Common.{◌≡◌, ◌≢◌, ℕ, Some, None, Result, Ok, Err, refl, sym, ap, subst, ◌∙◌, arith}
+use Rattle.std.proofs.Common.{◌≡◌, ◌≢◌, ℕ, ◌+◌, Some, None, Result, Ok, Err, refl, sym, ap, subst, ◌∙◌, arith}
 use Rattle.law_machine.specs.model_machine.specs.declared.instruction.DecodeFault.{DecodeFault}
 use Rattle.law_machine.specs.model_machine.specs.declared.instruction.DecodeFault.TheVariants.{Undefined, Past}
 use Rattle.law_machine.specs.model_machine.specs.declared.machine.Abend.TheVariants.{A01, A02, A07}
@@ -10,7 +10,6 @@ use Rattle.law_machine.specs.model_machine.specs.Chain.{Acted, around, frame_at,
 use Rattle.mc_segs.specs.HeldFrames.{frame_on_bank, app_under}
 use Rattle.mc_segs.specs.Ends.{RowActs, scene, then_of}
 use Rattle.mc_machine.specs.Chains.{Chained}
-use Rattle.mc_machine.specs.Costs.{CountsTurn}
 use Rattle.mc_machine.specs.Turns.{ActDone, AllFitBank, WritesFew, Followed, chain_at_next, step_of_frame, delegator_of}
 use Rattle.mc_machine.specs.declared.outcome.End.TheVariants as end
 use Rattle.mc_machine.specs.declared.outcome.Step.{Step}
@@ -18,8 +17,7 @@ use Rattle.mc_machine.proofs.Kept.{row_keeps}
 use Rattle.mc_machine.proofs.RowFacts.{row_exits}
 use Rattle.mc_machine.proofs.TurnLemmas.{BankLaws}
 use Rattle.mc_machine.proofs.FewLemmas.{abend_writes, act_writes}
-use Rattle.mc_machine.proofs.ActLemmas.{turned, abends_done, row_related, performed_halts, performed_fits, performed_done}
-use Rattle.mc_machine.proofs.CostLemmas.{act_fits, abend_counts, row_counts}
+use Rattle.mc_machine.proofs.ActLemmas.{turned, abends_done, row_count, row_related, performed_halts, performed_fits, performed_done}
 use Rattle.mc_machine.proofs.ReadsLemmas.{all_fit}
 use Rattle.mc_machine.proofs.turning.act.Goals as goal
 
@@ -40,13 +38,6 @@ returns-then-chain-eq0-clause-done g c ch r =
     subst (λ (n : ℕ). ActDone g.B.Bank b b now now ch (turn_of n ch) (Ok step)) (sym none) (
     abends_done g.B.Bank b b now now ch None 0 A07 step r c.requires.going refl refl (omega arith) (c.abends.ensures ∙ ap (λ (x : Step). record x { end = Some (end.Abend A07) }) reported)
     )
-
-pub returns-then-chain-eq0-clause-ticks : goal.returns-then-chain-eq0-clause-ticks
-returns-then-chain-eq0-clause-ticks g c ch r =
-    let now = c.args.chain.now in
-    let none : now.left ≡ 0 = subst (λ (k : Chained). k.left ≡ 0) c.chain.view_is c.if-chain-eq0.true in
-    let steps = c.args.steps.now in
-    subst (λ (n : ℕ). CountsTurn (turn_of n ch) steps steps) (sym none) (abend_counts ch A07 steps steps (omega arith) (omega arith))
 
 pub returns-in-Err-Undefined-clause-done : goal.returns-in-Err-Undefined-clause-done
 returns-in-Err-Undefined-clause-done g c ch r =
@@ -76,9 +67,8 @@ returns-in-Err-Undefined-clause-ticks g c ch r =
     subst (λ (k : Chained). Err Undefined ≡ instruction_at (app_under (state b) (named b) k.running).code k.running.frame.at) c.chain.view_is (
     subst (λ (f : DecodeFault). Err f ≡ instruction_at (app_under (state b) (named b) c.chain.inside.running).code c.chain.inside.running.frame.at) c.in-Err-Undefined.field-0-is c.in-Err-Undefined.ensures.exact
     ) in
-    let old = c.args.steps.now in
-    let new = c.fetch.new.steps in
-    subst (λ (t : Acted). CountsTurn t old new) (sym (turned g.B.Bank b now ch (Err Undefined) r some exact)) (abend_counts ch A01 old new c.in-Err-Undefined.ensures.rises c.in-Err-Undefined.ensures.reads)
+    let none : (turn_of now.left ch).count ≡ 0 = ap (λ (t : Acted). t.count) (turned g.B.Bank b now ch (Err Undefined) r some exact) in
+    omega arith
 
 pub returns-in-Err-Past-clause-done : goal.returns-in-Err-Past-clause-done
 returns-in-Err-Past-clause-done g c ch r =
@@ -108,9 +98,8 @@ returns-in-Err-Past-clause-ticks g c ch r =
     subst (λ (k : Chained). Err Past ≡ instruction_at (app_under (state b) (named b) k.running).code k.running.frame.at) c.chain.view_is (
     subst (λ (f : DecodeFault). Err f ≡ instruction_at (app_under (state b) (named b) c.chain.inside.running).code c.chain.inside.running.frame.at) c.in-Err-Past.field-0-is c.in-Err-Past.ensures.exact
     ) in
-    let old = c.args.steps.now in
-    let new = c.fetch.new.steps in
-    subst (λ (t : Acted). CountsTurn t old new) (sym (turned g.B.Bank b now ch (Err Past) r some exact)) (abend_counts ch A02 old new c.in-Err-Past.ensures.rises c.in-Err-Past.ensures.reads)
+    let none : (turn_of now.left ch).count ≡ 0 = ap (λ (t : Acted). t.count) (turned g.B.Bank b now ch (Err Past) r some exact) in
+    omega arith
 
 pub follow-requires-clause-fits : goal.follow-requires-clause-fits
 follow-requires-clause-fits g c =
@@ -182,16 +171,8 @@ returns-in-Ok-perform-clause-ticks g c ch r =
     let next = found.1 in
     let exact : Ok found ≡ instruction_at (app_under (state b) (named b) now.running).code now.running.frame.at =
     subst (λ (k : Chained). Ok found ≡ instruction_at (app_under (state b) (named b) k.running).code k.running.frame.at) c.chain.view_is c.in-Ok.ensures.exact in
-    let old = c.args.steps.now in
-    let new = c.follow.new.steps in
-    let y = row i (frame_at ch.frame next) ch.public (around ch) in
-    let fetched = c.in-Ok.ensures in
-    let did = c.in-Ok-perform.ensures in
-    let followed = c.follow.ensures in
-    let fits = act_fits i in
-    subst (λ (t : Acted). CountsTurn t old new) (sym (turned g.B.Bank b now ch (Ok found) r some exact)) (
-    row_counts ch i y old new (omega (arith, fetched.rises, c.tick.ensures, did.rises, followed.rises)) (omega (arith, fetched.reads, c.tick.ensures, did.reads, did.calls, followed.reads, fits))
-    )
+    let one : (turn_of now.left ch).count ≡ 1 = ap (λ (t : Acted). t.count) (turned g.B.Bank b now ch (Ok found) r some exact) ∙ row_count ch i (row i (frame_at ch.frame next) ch.public (around ch)) in
+    c.tick.ensures ∙ ap (λ (n : ℕ). c.args.steps.now + n) (sym one)
 
 pub returns-in-Err-clause-ticks : goal.returns-in-Err-clause-ticks
 returns-in-Err-clause-ticks g c ch r =
@@ -205,15 +186,8 @@ returns-in-Err-clause-ticks g c ch r =
     let next = found.1 in
     let exact : Ok found ≡ instruction_at (app_under (state b) (named b) now.running).code now.running.frame.at =
     subst (λ (k : Chained). Ok found ≡ instruction_at (app_under (state b) (named b) k.running).code k.running.frame.at) c.chain.view_is c.in-Ok.ensures.exact in
-    let old = c.args.steps.now in
-    let new = c.perform.new.steps in
-    let y = row i (frame_at ch.frame next) ch.public (around ch) in
-    let fetched = c.in-Ok.ensures in
-    let did = c.in-Err.ensures in
-    let fits = act_fits i in
-    subst (λ (t : Acted). CountsTurn t old new) (sym (turned g.B.Bank b now ch (Ok found) r some exact)) (
-    row_counts ch i y old new (omega (arith, fetched.rises, c.tick.ensures, did.rises)) (omega (arith, fetched.reads, c.tick.ensures, did.reads, c.in-Err.ensures.calls, fits))
-    )
+    let one : (turn_of now.left ch).count ≡ 1 = ap (λ (t : Acted). t.count) (turned g.B.Bank b now ch (Ok found) r some exact) ∙ row_count ch i (row i (frame_at ch.frame next) ch.public (around ch)) in
+    c.tick.ensures ∙ ap (λ (n : ℕ). c.args.steps.now + n) (sym one)
 
 pub returns-in-Err-clause-done : goal.returns-in-Err-clause-done
 returns-in-Err-clause-done g c ch r =

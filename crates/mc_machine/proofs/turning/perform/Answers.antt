@@ -1,4 +1,4 @@
-use Rattle.std.proofs.Common.{Result, sym, ap, subst, ◌∙◌, arith}
+use Rattle.std.proofs.Common.{Result, sym, ap, subst}
 use Rattle.law_machine.specs.model_machine.specs.Primitives.{Around}
 use Rattle.law_machine.specs.model_machine.specs.Row.{RowEnd, row}
 use Rattle.mc_segs.specs.HeldFrames.{frame_on_bank}
@@ -7,10 +7,8 @@ use Rattle.mc_segs.specs.declared.ends.Halt.{Halt}
 use Rattle.mc_segs.specs.declared.ends.Next.{Next}
 use Rattle.mc_rows.specs.Rows.{alone, row_result}
 use Rattle.mc_machine.specs.Chains.{Chained}
-use Rattle.mc_machine.specs.Costs.{most_next}
 use Rattle.mc_machine.specs.Turns.{delegator_of}
 use Rattle.mc_rows.proofs.AloneLemmas.{row_alone}
-use Rattle.mc_machine.proofs.CostLemmas.{other_kind, row_next}
 use Rattle.mc_machine.proofs.RowFacts.{no_primitive}
 use Rattle.mc_machine.proofs.turning.perform.Goals as goal
 
@@ -28,17 +26,9 @@ returns-in_default g c =
     let sc = scene b e now.running c.step.new.frame now.public c.step.new.public in
     let o = row_result c.step.result in
     let acts : RowActs g.B.Bank sc i alone o =
-    subst (λ (k : Chained). RowActs g.B.Bank (scene b e k.running c.step.new.frame k.public c.step.new.public) i alone o) c.chain.view_is c.step.ensures.acts in
+    subst (λ (k : Chained). RowActs g.B.Bank (scene b e k.running c.step.new.frame k.public c.step.new.public) i alone o) c.chain.view_is c.step.ensures in
     let around = subst (λ (r : RowEnd). EndActs g.B.Bank sc r o) (sym (row_alone i (frame_on_bank g.B.Bank b now.running) now.public x (no_primitive i c.in_default.not-Prim))) acts in
     record {
       acts = subst (λ (a : Result Next Halt). EndActs g.B.Bank sc (row i (frame_on_bank g.B.Bank b now.running) now.public x) a) (sym c.next_of.ensures) around;
       others = ap (λ (k : Chained). record k { running = c.step.new.frame; public = c.step.new.public }) c.chain.view_is;
-      rises = c.step.ensures.rises;
-      reads =
-          let kind = other_kind 148 70 i c.in_default.not-Prim in
-          let most = c.step.ensures.reads in
-          omega (arith, kind, most);
-      calls =
-          let none = ap most_next c.next_of.ensures ∙ row_next c.step.result in
-          omega (arith, none);
     }

@@ -6,4 +6,4 @@ returns-in-Some-clause-plays g c =
     rw (← c.in-Some.ensures.line) (λ s n at.
     let done = c.line-in-Some.ensures.done s n at in
     let end = done.1.stepped in
-    (done.0, end, step_counts g.N.Nvm.state 0 c.line-in-Some.new.self s (n, _) done.0 _ _ _ end.answers (c.line-in-Some.ensures.steps s at)))
+    (done.0, end, step_counts g.N.Nvm.state c.line-in-Some.new.self s (n, _) done.0 _ _ _ end.answers (c.line-in-Some.ensures.steps s at)))

@@ -6,7 +6,7 @@ use Rattle.mc_card.specs.Ends.{outcome_or_stop}
 use Rattle.mc_script.specs.declared.commands.CardLine.{CardLine}
 use Rattle.mc_script.specs.Commands.{deck_line_of}
 use Rattle.mc_script.specs.Runs.{RanAndReported, line_bytes, sent_to}
-use Rattle.mc_script.specs.StepCounts.{instructions, commands_reads, line_reads, StepsOf}
+use Rattle.mc_script.specs.StepCounts.{instructions, first_search, line_search, StepsOf}
 use Rattle.mc_script.proofs.commands.run_line.Goals as goal
 
 pub returns-in-Load-clause-done : goal.returns-in-Load-clause-done
@@ -22,8 +22,8 @@ returns-in-Load-clause-steps g c =
     let state = g.N.Nvm.state in
     let card = card_in state c.args.card.now in
     let session_state = session_state_in state c.args.card.now in
-    subst (λ (x : CardLine). StepsOf (instructions (line_command card session_state c.args.budget (deck_line_of x)).turns) (line_reads (g.R.Runner.looks c.args.runner.now) card session_state c.args.budget (deck_line_of x)) (is_err c.send.result) c.args.steps.now c.send.new.steps) (sym c.in-Load.is)
-    (subst (λ (x : List (List ℕ)). StepsOf (instructions (send card session_state c.args.budget x).turns) (commands_reads card x) (is_err c.send.result) c.args.steps.now c.send.new.steps) c.new-commands.ensures.commands c.send.ensures.steps)
+    subst (λ (x : CardLine). StepsOf (instructions (line_command card session_state c.args.budget (deck_line_of x)).turns) (line_search card (deck_line_of x)) (is_err c.send.result) c.args.steps.now c.send.new.steps) (sym c.in-Load.is)
+    (subst (λ (x : List (List ℕ)). StepsOf (instructions (send card session_state c.args.budget x).turns) (first_search card x) (is_err c.send.result) c.args.steps.now c.send.new.steps) c.new-commands.ensures.commands c.send.ensures.steps)
 
 pub returns-in-Select-clause-done : goal.returns-in-Select-clause-done
 returns-in-Select-clause-done g c =

@@ -11,7 +11,7 @@ returns g c =
     let same = e.same.same in
     let last = c.play_lines-dev.new.reporter in
     let ended : c.ended.result ≡ write_result last.fault = c.ended.ensures in
-    let from : CountsFrom 0 (text_by (turns_text c.new-writer.result.reporting)) _ _ _ (sunk g.T.Sink c.new-writer.result.out.now) (write_result last.fault) _ (sunk g.T.Sink last.out.now) _ _ = e.plays in
+    let from : CountsFrom (text_by (turns_text c.new-writer.result.reporting)) _ _ _ (sunk g.T.Sink c.new-writer.result.out.now) (write_result last.fault) _ (sunk g.T.Sink last.out.now) _ _ = e.plays in
     let plays = rw (c.new-writer.ensures.reporting, c.new-writer.ensures.out) at from in
     record {
       plays = deck_of _ _ _ _ _ _ _ _ _ (play_deck _ _ _ _ _ _ _ _ _ _ _ _ plays e.image e.lines (search (rules, same, ended)) (search (rules, same, ended)) (search (rules, same, ended)) (search (rules, same, ended)) (search (rules, same, ended)));

@@ -8,8 +8,8 @@ use Rattle.mc_script.specs.Sums.{result_line, dump_text}
 use Rattle.mc_script.proofs.QuietLemmas.{dump_answer}
 use Rattle.mc_script.proofs.summing.put_dump.Goals as goal
 
-pub returns-clause-value : goal.returns-clause-value
-returns-clause-value g c s at =
+pub returns : goal.returns
+returns g c s at =
     let state = g.N.Nvm.state in
     let p = c.args.player.now in
     let aid = c.in-Dump.aid in

@@ -3,10 +3,10 @@ use Rattle.model_play.specs.Generator.{count_line}
 use Rattle.mc_script.specs.Sums.{dumps_text}
 use Rattle.mc_script.proofs.summing.put_summary.Goals as goal
 
-pub returns-in_err-put_counts-clause-value : goal.returns-in_err-put_counts-clause-value
-returns-in_err-put_counts-clause-value g c s rs at counted =
+pub returns-in_err-put_counts : goal.returns-in_err-put_counts
+returns-in_err-put_counts g c s rs at counted =
     let r = c.from_residual in
     puts_failed r.result r.ensures.0 (fails_before {x = count_line rs} (dumps_text s c.args.deck.now) (c.in_err-put_counts.ensures rs counted))
 
-pub returns-clause-value : goal.returns-clause-value
-returns-clause-value g c s rs at counted = puts_then {x = count_line rs} _ (dumps_text s c.args.deck.now) c.put_dumps.result (c.in_ok-put_counts.ensures rs counted) (c.put_dumps.ensures.value s at)
+pub returns : goal.returns
+returns g c s rs at counted = puts_then {x = count_line rs} _ (dumps_text s c.args.deck.now) c.put_dumps.result (c.in_ok-put_counts.ensures rs counted) (c.put_dumps.ensures s at)

@@ -8,7 +8,6 @@ use Rattle.mc_script.specs.Players.{device_of}
 use Rattle.mc_script.specs.Writers.{write_result}
 use Rattle.mc_script.specs.Plays.{Bench, Played}
 use Rattle.mc_script.proofs.LoggedLemmas.{ended_err}
-use Rattle.mc_script.proofs.StepPlayLemmas.{with_texts}
 use Rattle.mc_script.proofs.SumLemmas.{summary_is}
 use Rattle.mc_script.proofs.summing.sum_lines.Goals as goal
 
@@ -24,13 +23,13 @@ returns-clause-sums g c =
     let before = sunk_in g.T.Sink.taken g.T.Sink.faults c.args.writer.now.out.now in
     let after = sunk_in g.T.Sink.taken g.T.Sink.faults c.put_summary.new.out in
     let is : c.put_summary.result ≡ write_result c.err-writer.result = sym (ap write_result c.err-writer.ensures.value ∙ ended_err c.put_summary.result) in
-    let text = puts_as before after c.put_summary.result (summary_is first deck t.worn c.requires.dumps) (c.put_summary.ensures.value (last_state first steps) (results steps) t.at t.counted) in
+    let text = puts_as before after c.put_summary.result (summary_is first deck t.worn c.requires.dumps) (c.put_summary.ensures (last_state first steps) (results steps) t.at t.counted) in
     record {
       worn = t.worn;
       played =
           subst (λ d. Played first deck t.worn a (record { device = state d; bench = bench d })) (sym c.into_dev.ensures)
           (subst (λ d. Played first deck t.worn (record { device = state d; bench = bench d }) (record { device = state (device_of c.tally-counts.new.player); bench = bench (device_of c.tally-counts.new.player) })) c.new-player.ensures.device t.played);
-      steps = with_texts 0 first deck t.worn c.args.steps.now c.tally-counts.new.steps c.put_summary.new.steps t.steps c.put_summary.ensures.rises c.put_summary.ensures.reads;
+      steps = t.steps;
       text = subst (λ (r : Result (Unit {0}) WriteFault). Puts before (summary steps) r after) is text;
     }
 

@@ -14,7 +14,5 @@ loop-at-preserved g c =
     record {
       reported = ap (λ (t : List ℕ). t ++ hex_text (drop (at + count) fixed)) c.add_piece.ensures.text ∙ hex_piece_on c.loop-at.text.items _ fixed (take count (drop at fixed)) at count refl behind c.loop-at.invariant.reported;
       place = search rules;
-      rises = search rules;
-      reads = search rules;
       room = search rules;
     }

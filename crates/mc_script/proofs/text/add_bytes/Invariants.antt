@@ -1,4 +1,4 @@
-use Rattle.std.proofs.Common.{◌≡◌, ◌+◌, ◌-◌, ◌*◌, ◌/◌, ◌≤◌, ◌++◌, Some, length, drop}
+use Rattle.std.proofs.Common.{◌≡◌, ◌+◌, ◌-◌, ◌*◌, ◌≤◌, ◌++◌, Some, length, drop}
 use Rattle.model_play.specs.model_text.specs.Listing.{hex_text}
 use Rattle.mc_bank.specs.Bank.{app_of}
 use Rattle.mc_card.specs.Parts.{card_in}
@@ -11,8 +11,6 @@ invariant-loop-at g l =
     record {
       reported : l.text.items ++ hex_text (drop l.at fixed) ≡ l.fn.text.items ++ hex_text fixed;
       place : l.at ≤ l.len;
-      rises : l.fn.steps ≤ l.steps;
-      reads : l.steps + 358 * ((l.len - l.at + 255) / 256) ≤ l.fn.steps + 358 * ((l.len + 255) / 256);
       room : length l.text.items ≡ length l.fn.text.items + 2 * l.at;
     }
 

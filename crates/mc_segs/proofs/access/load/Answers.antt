@@ -11,7 +11,7 @@ returns-then-is_empty-clause-bytes g c =
 
 pub returns-in-Some-Static-clause-bytes : goal.returns-in-Some-Static-clause-bytes
 returns-in-Some-Static-clause-bytes g c =
-    c.read_static.ensures.bytes
+    c.read_static.ensures
     ∙ bytes_read (g.B.Bank.state c.args.bank.now) (g.B.Bank.named c.args.bank.now) c.args.frame.now c.args.public.now c.args.at (length c.args.into.now) (Some (model.Static c.in-Some-Static.i)) c.requires.runs.fits
     (some_bytes c.args.into.now (sym c.is_empty.ensures ∙ c.if-is_empty.false)) (rw c.in-Some-Static.field-0-is at c.in-Some-Static.ensures)
 

@@ -6,8 +6,8 @@ use Rattle.mc_segs.specs.HeldFrames.{app_under}
 use Rattle.mc_segs.proofs.AccessLemmas.{has_words, static_read}
 use Rattle.mc_segs.proofs.access.read_static.Goals as goal
 
-pub returns-clause-bytes : goal.returns-clause-bytes
-returns-clause-bytes g c =
+pub returns : goal.returns
+returns g c =
     let h = c.args.frame.now in
     let l = (app_under (g.B.Bank.state c.args.bank.now) (g.B.Bank.named c.args.bank.now) h).fixed in
     let has = has_words l c.frame.inside h c.frame.view_is c.frame.invariant c.requires.runs.fits.fixed in

@@ -13,9 +13,9 @@ put_bytes-requires-clause-room g c =
 pub returns-clause-items : goal.returns-clause-items
 returns-clause-items g c =
     items_at_once g.B.Bank c.args.bank.now c.commit.new.self c.args.frame.now c.frame.inside.slot c.args.at c.args.from.now c.new-words.result c.put_bytes.new.words c.list.result.now c.commit.result
-    (ap (λ (h : Held). h.slot) c.frame.view_is) c.new-words.ensures c.list.ensures.words c.put_bytes.ensures.puts c.commit.ensures.items
+    (ap (λ (h : Held). h.slot) c.frame.view_is) c.new-words.ensures c.list.ensures.words c.put_bytes.ensures c.commit.ensures.items
 
 pub returns-clause-done : goal.returns-clause-done
 returns-clause-done g c =
     done_at_once g.B.Bank c.args.bank.now c.commit.new.self c.args.frame.now c.frame.inside.slot c.args.at c.args.from.now c.new-words.result c.put_bytes.new.words c.list.result.now c.commit.result
-    (ap (λ (h : Held). h.slot) c.frame.view_is) c.new-words.ensures c.list.ensures.words c.requires.runs.fits c.requires.low c.requires.range c.put_bytes.ensures.puts c.commit.ensures.items c.commit.ensures.apps c.commit.ensures.slots
+    (ap (λ (h : Held). h.slot) c.frame.view_is) c.new-words.ensures c.list.ensures.words c.requires.runs.fits c.requires.low c.requires.range c.put_bytes.ensures c.commit.ensures.items c.commit.ensures.apps c.commit.ensures.slots

@@ -38,4 +38,4 @@ returns-clause-kept g c =
     let from = c.args.from.now in
     let has = has_words (fixed_under g.B.Bank b h) f h c.frame.view_is c.frame.invariant c.requires.runs.fits.fixed in
     kept_later g.B.Bank b f h at from c.put_bytes.new.words c.frame.view_is c.requires.runs.fits has c.requires.runs.going c.requires.low c.requires.range
-    (subst (λ (i : ℕ). PutsBytes (app_of (state b).apps (named b i)).fixed f.pending at from c.put_bytes.new.words) (ap (λ (t : Held). t.slot) c.frame.view_is) c.put_bytes.ensures.puts)
+    (subst (λ (i : ℕ). PutsBytes (app_of (state b).apps (named b i)).fixed f.pending at from c.put_bytes.new.words) (ap (λ (t : Held). t.slot) c.frame.view_is) c.put_bytes.ensures)

@@ -28,13 +28,11 @@ loop-number-preserved g c =
     let done = c.loop-number.invariant.puts in
     let piece_len : length piece ≡ high - low = omega (arith, length-take (high - at - (low - at)) (drop (low - at) from), length-drop (low - at) from) in
     let a_len : length a ≡ 8 * n - at = omega (arith, length-take (8 * n - at) from) in
-    let count = count_next l c.loop-number.words c.put_piece.new.words n (low - 8 * n) last (length c.args.words.now + not_pending (at / 8) (words_under at (length from)) c.args.words.now) piece done.pending.pending c.put_piece.ensures.puts (omega arith) c.loop-number.invariant.count in
+    let count = count_next l c.loop-number.words c.put_piece.new.words n (low - 8 * n) last (length c.args.words.now + not_pending (at / 8) (words_under at (length from)) c.args.words.now) piece done.pending.pending c.put_piece.ensures (omega arith) c.loop-number.invariant.count in
     let room = c.requires.room in
     record {
-      puts = puts_next l c.args.words.now c.loop-number.words c.put_piece.new.words at n (low - 8 * n) a piece (take (8 * (n + 1) - at) from) done c.put_piece.ensures.puts
+      puts = puts_next l c.args.words.now c.loop-number.words c.put_piece.new.words at n (low - 8 * n) a piece (take (8 * (n + 1) - at) from) done c.put_piece.ensures
           (omega arith) (omega arith) (omega arith) (omega arith) (omega (arith, count))
           (next_bytes from at n low high (omega arith) (omega arith) (omega arith) (elim (cases_lt (8 * n + 8) (at + length from)) [ inl lt ↦ inl (omega arith) | inr le ↦ inr (omega arith, omega arith) ]) (omega arith));
       count = count;
-      rises = omega (arith, c.put_piece.ensures.rises, c.loop-number.invariant.rises);
-      reads = omega (arith, c.put_piece.ensures.reads, c.loop-number.invariant.reads);
     }

@@ -16,8 +16,6 @@ loop-place-init g c =
       high = omega arith;
       walk = walk_begins m (sized c.len-size.ensures.image) c.requires.laid;
       left = ap (λ (bs : List Block). first_named m bs c.args.aid.now) (blocks_all m);
-      rises = omega arith;
-      reads = let all = ap length (blocks_all m) in omega (arith, all);
     }
 
 pub sizes_of_name-requires-clause-fits : goal.sizes_of_name-requires-clause-fits
@@ -40,16 +38,6 @@ returns-in-Some-clause-place g c =
     c.loop-place.invariant.left ∙ s.first c.args.aid.now
     ∙ ap (λ (t : Bool). cond t (Some p) (first_named m (blocks_at m (p + c.read_header-header.result.words)) c.args.aid.now)) (sym c.in-Some.ensures.name)
     )
-
-pub returns-in-Some-clause-reads : goal.returns-in-Some-clause-reads
-returns-in-Some-clause-reads g c =
-    let m = (g.N.Nvm.state c.args.device.now).words in
-    let p = c.loop-place.place in
-    let lt : p < length m = subst (λ (n : ℕ). p < n) c.len-size.ensures.len c.loop-place-test.true in
-    let s : BlockStands m p c.read_header-header.result.used c.read_header-header.result.words =
-    header_stands m p c.read_header-header.result.used c.read_header-header.result.words lt c.loop-place.invariant.walk c.read_header-header.ensures.used c.read_header-header.ensures.words in
-    let before = c.loop-place.invariant.reads in
-    omega (arith, before, s.count, c.read_header-header.ensures.ticks, c.in-Some.ensures.reads)
 
 pub loop-place-smaller : goal.loop-place-smaller
 loop-place-smaller g c =
@@ -75,8 +63,6 @@ loop-place-preserved g c =
       walk = s.next;
       left = c.loop-place.invariant.left ∙ s.first c.args.aid.now
           ∙ ap (λ (t : Bool). cond t (Some p) (first_named m (blocks_at m (p + c.read_header-header.result.words)) c.args.aid.now)) (sym c.in_default.ensures.name);
-      rises = let first = c.loop-place.invariant.rises in omega (arith, first, c.read_header-header.ensures.ticks, c.in_default.ensures.rises);
-      reads = let before = c.loop-place.invariant.reads in omega (arith, before, s.count, c.read_header-header.ensures.ticks, c.in_default.ensures.reads);
     }
 
 pub returns-clause-place : goal.returns-clause-place

@@ -1,11 +1,11 @@
-use Rattle.std.proofs.Common.{◌-◌, ◌≡◌, ◌+◌, ◌*◌, ◌≤◌, length}
+use Rattle.std.proofs.Common.{◌-◌, ◌≡◌, ◌≤◌, length}
 use Rattle.mc_base.specs.model_device.specs.Card.{blocks}
 use Rattle.mc_blocks.specs.Blocks.{blocks_at}
 use Rattle.mc_store.specs.Slots.{first_named}
 use Rattle.mc_store.proofs.WalkLemmas.{Walk}
 use Rattle.mc_store.proofs.block.find_block.Given as goal
 
--- the rest of the blocks decides, and at most five words of each block before them were read
+-- the rest of the blocks decides
 abbrev pub invariant-loop-place : goal.invariant-loop-place
 invariant-loop-place g l =
     let m = (g.N.Nvm.state l.device).words in
@@ -13,8 +13,6 @@ invariant-loop-place g l =
       high : l.place ≤ length m;
       walk : Walk m l.place (blocks_at m l.place);
       left : first_named m (blocks m) l.aid ≡ first_named m (blocks_at m l.place) l.aid;
-      rises : l.fn.steps ≤ l.steps;
-      reads : l.steps + 5 * length (blocks_at m l.place) ≤ l.fn.steps + 5 * length (blocks m);
     }
 
 abbrev pub decreases-loop-place : goal.decreases-loop-place

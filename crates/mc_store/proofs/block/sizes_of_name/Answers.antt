@@ -8,6 +8,6 @@ pub returns-then-not-begins-clause-name : goal.returns-then-not-begins-clause-na
 returns-then-not-begins-clause-name g c =
     let m = (g.N.Nvm.state c.args.device.now).words in
     let fits : c.args.place + 5 ≤ length m = c.requires.fits c.if-not-header.false in
-    let eight : length c.read-first.result ≡ 8 = ap length c.read-first.ensures.word ∙ c.len-size.ensures.image.words (c.args.place + 1) (omega (arith, fits)) in
+    let eight : length c.read-first.result ≡ 8 = ap length c.read-first.ensures ∙ c.len-size.ensures.image.words (c.args.place + 1) (omega (arith, fits)) in
     neither c.args.header.now.used (bytes_eq (name_at m c.args.place) c.args.aid.now)
-    (other_name m c.args.place c.read-first.result c.args.aid.now fits eight c.read-first.ensures.word c.requires.name (sym (c.begins.ensures ∙ ap (bytes_eq (take 5 c.read-first.result)) c.requires.head) ∙ c.if-not-begins.true))
+    (other_name m c.args.place c.read-first.result c.args.aid.now fits eight c.read-first.ensures c.requires.name (sym (c.begins.ensures ∙ ap (bytes_eq (take 5 c.read-first.result)) c.requires.head) ∙ c.if-not-begins.true))

@@ -1,6 +1,5 @@
-use Rattle.std.proofs.Common.{Ok, ◌∙◌, arith}
+use Rattle.std.proofs.Common.{Ok, ◌∙◌}
 use Rattle.std.proofs.lemmas.Result.{err_from_is_err_and}
-use Rattle.mc_blocks.proofs.BlockLimits.{most_gaps}
 use Rattle.mc_store.proofs.ChangeLemmas.{delete_at, delete_done}
 use Rattle.mc_base.specs.model_device.specs.Device.{sized}
 use Rattle.mc_store.proofs.changes.delete.Goals as goal
@@ -23,23 +22,17 @@ write_words-requires-clause-gate g c = (delete_at (g.N.Nvm.state c.args.store.no
 pub overflow_sub-store : goal.overflow_sub-store
 overflow_sub-store g c = (delete_at (g.N.Nvm.state c.args.store.now.device) c.args.store.now.count c.args.slot c.index.result c.index.ensures (sized c.len-size.ensures.image) c.requires.going c.requires.there).some
 
-pub returns-in_err-write_words-clause-did : goal.returns-in_err-write_words-clause-did
-returns-in_err-write_words-clause-did g c =
+pub returns-in_err-write_words : goal.returns-in_err-write_words
+returns-in_err-write_words g c =
     let p = err_from_is_err_and c.from_residual.result c.from_residual.ensures.1 in
-    rw (p.1, p.2) (delete_done g.N.Nvm.state g.N.Nvm.wrote c.args.store.now.device c.write_words.new.device c.args.store.now.count c.args.slot c.index.result c.as_slice.result.now _ c.index.ensures (sized c.len-size.ensures.image) c.requires.going c.requires.there
-    (c.as_slice.ensures.value ∙ c.free_plan-plan.ensures.plan) c.in_err-write_words.ensures.makes)
+    record {
+      did = rw (p.1, p.2) (delete_done g.N.Nvm.state g.N.Nvm.wrote c.args.store.now.device c.write_words.new.device c.args.store.now.count c.args.slot c.index.result c.as_slice.result.now _ c.index.ensures (sized c.len-size.ensures.image) c.requires.going c.requires.there
+          (c.as_slice.ensures.value ∙ c.free_plan-plan.ensures.plan) c.in_err-write_words.ensures.makes);
+    }
 
-pub returns-clause-did : goal.returns-clause-did
-returns-clause-did g c =
-    delete_done g.N.Nvm.state g.N.Nvm.wrote c.args.store.now.device c.write_words.new.device c.args.store.now.count c.args.slot c.index.result c.as_slice.result.now (Ok tt) c.index.ensures (sized c.len-size.ensures.image) c.requires.going c.requires.there
-    (c.as_slice.ensures.value ∙ c.free_plan-plan.ensures.plan) c.in_ok-write_words.ensures.makes
-
-pub returns-in_err-write_words-clause-reads : goal.returns-in_err-write_words-clause-reads
-returns-in_err-write_words-clause-reads g c =
-    let is = delete_at (g.N.Nvm.state c.args.store.now.device) c.args.store.now.count c.args.slot c.index.result c.index.ensures (sized c.len-size.ensures.image) c.requires.going c.requires.there in
-    omega (arith, c.free_plan-plan.ensures.reads, most_gaps (g.N.Nvm.state c.args.store.now.device).words (sized c.len-size.ensures.image) is.closed is.well)
-
-pub returns-clause-reads : goal.returns-clause-reads
-returns-clause-reads g c =
-    let is = delete_at (g.N.Nvm.state c.args.store.now.device) c.args.store.now.count c.args.slot c.index.result c.index.ensures (sized c.len-size.ensures.image) c.requires.going c.requires.there in
-    omega (arith, c.free_plan-plan.ensures.reads, most_gaps (g.N.Nvm.state c.args.store.now.device).words (sized c.len-size.ensures.image) is.closed is.well)
+pub returns : goal.returns
+returns g c =
+    record {
+      did = delete_done g.N.Nvm.state g.N.Nvm.wrote c.args.store.now.device c.write_words.new.device c.args.store.now.count c.args.slot c.index.result c.as_slice.result.now (Ok tt) c.index.ensures (sized c.len-size.ensures.image) c.requires.going c.requires.there
+          (c.as_slice.ensures.value ∙ c.free_plan-plan.ensures.plan) c.in_ok-write_words.ensures.makes;
+    }

@@ -4,7 +4,7 @@ use Rattle.mc_bank.specs.model_card.specs.declared.card.Sizes.{Sizes}
 use Rattle.mc_base.specs.model_device.specs.Orders.{InOrder}
 use Rattle.mc_base.specs.model_device.specs.Bytes.{zeros}
 use Rattle.mc_store.specs.StoreItems.{store_did, blank_items}
-use Rattle.mc_store.proofs.FillLemmas.{ends_on, leads_on, leads_stop}
+use Rattle.mc_store.proofs.FillLemmas.{leads_on, leads_stop}
 use Rattle.mc_store.proofs.CreateLemmas.{blank_next}
 use Rattle.mc_store.proofs.creation.clear.Goals as goal
 
@@ -19,13 +19,10 @@ returns-in_err-put_zeros-clause-items g c =
 pub loop-at-preserved : goal.loop-at-preserved
 loop-at-preserved g c =
     let z = c.sizes-sizes.result in
-    let room = c.room_in_word-count.ensures in
     record {
       few = omega (arith, c.loop-at-test.true, c.room_in_word-count.ensures.high);
       going = c.in_ok-put_zeros.ensures.going;
       good = c.in_ok-put_zeros.ensures.good;
       leads = leads_on (store_did g.N.Nvm.state g.N.Nvm.wrote) c.args.store.now c.loop-at.store c.put_zeros.new.store (blank_items c.args.site.now z.init (zeros (z.fixed - z.init))) (blank_items c.args.site.now c.loop-at.at (zeros (z.fixed - c.loop-at.at))) _ _
           c.loop-at.invariant.leads (blank_next c.args.site.now c.loop-at.at c.room_in_word-count.result z.fixed c.loop-at-test.true c.room_in_word-count.ensures.low c.room_in_word-count.ensures.high c.room_in_word-count.ensures.word c.room_in_word-count.ensures.least) c.in_ok-put_zeros.ensures.did;
-      reads = ends_on c.args.steps.now c.loop-at.steps c.put_zeros.new.steps z.init c.loop-at.at c.room_in_word-count.result (z.fixed - c.loop-at.at) _ z.fixed
-          c.loop-at.invariant.reads (omega arith) (omega arith) room.low room.high room.word room.least c.put_zeros.ensures.rises c.put_zeros.ensures.reads c.put_zeros.ensures.whole;
     }

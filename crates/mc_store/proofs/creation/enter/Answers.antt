@@ -4,7 +4,6 @@ use Rattle.mc_bank.specs.model_card.specs.declared.card.Sizes.{Sizes}
 use Rattle.mc_base.specs.model_device.specs.Card.{means}
 use Rattle.mc_base.specs.model_device.specs.Layout.{gaps}
 use Rattle.mc_blocks.specs.Plans.{has_room}
-use Rattle.mc_blocks.proofs.BlockLimits.{most_gaps}
 use Rattle.mc_store.specs.Store.{words_of_sizes}
 use Rattle.mc_store.proofs.CreateLemmas.{enter_is, enter_did}
 use Rattle.mc_base.specs.model_device.specs.Device.{sized}
@@ -31,23 +30,17 @@ write_words-requires-clause-gate g c = (enter_is (g.N.Nvm.state c.args.store.now
 pub overflow_add-store : goal.overflow_add-store
 overflow_add-store g c = let few = (enter_is (g.N.Nvm.state c.args.store.now.device) c.args.store.now.count c.args.site.now c.args.aid.now (sized c.len-size.ensures.image) c.requires.going c.requires.ready).few in omega (arith, few)
 
-pub returns-in_err-write_words-clause-did : goal.returns-in_err-write_words-clause-did
-returns-in_err-write_words-clause-did g c =
+pub returns-in_err-write_words : goal.returns-in_err-write_words
+returns-in_err-write_words g c =
     let p = err_from_is_err_and c.from_residual.result c.from_residual.ensures.1 in
-    rw (p.1, p.2) (enter_did g.N.Nvm.state g.N.Nvm.wrote c.args.store.now.device c.write_words.new.device c.args.store.now.count c.place.result c.needed_words.result c.args.site.now c.args.aid.now c.as_slice.result.now _ (sized c.len-size.ensures.image) c.requires.going c.requires.ready
-    c.place.ensures (c.needed_words.ensures ∙ ap (λ (z : Sizes). words_of_sizes z) c.sizes.ensures) (c.as_slice.ensures.value ∙ c.take_plan-plan.ensures.plan) c.in_err-write_words.ensures.makes)
+    record {
+      did = rw (p.1, p.2) (enter_did g.N.Nvm.state g.N.Nvm.wrote c.args.store.now.device c.write_words.new.device c.args.store.now.count c.place.result c.needed_words.result c.args.site.now c.args.aid.now c.as_slice.result.now _ (sized c.len-size.ensures.image) c.requires.going c.requires.ready
+          c.place.ensures (c.needed_words.ensures ∙ ap (λ (z : Sizes). words_of_sizes z) c.sizes.ensures) (c.as_slice.ensures.value ∙ c.take_plan-plan.ensures.plan) c.in_err-write_words.ensures.makes);
+    }
 
-pub returns-clause-did : goal.returns-clause-did
-returns-clause-did g c =
-    enter_did g.N.Nvm.state g.N.Nvm.wrote c.args.store.now.device c.write_words.new.device c.args.store.now.count c.place.result c.needed_words.result c.args.site.now c.args.aid.now c.as_slice.result.now (Ok tt) (sized c.len-size.ensures.image) c.requires.going c.requires.ready
-    c.place.ensures (c.needed_words.ensures ∙ ap (λ (z : Sizes). words_of_sizes z) c.sizes.ensures) (c.as_slice.ensures.value ∙ c.take_plan-plan.ensures.plan) c.in_ok-write_words.ensures.makes
-
-pub returns-in_err-write_words-clause-reads : goal.returns-in_err-write_words-clause-reads
-returns-in_err-write_words-clause-reads g c =
-    let is = enter_is (g.N.Nvm.state c.args.store.now.device) c.args.store.now.count c.args.site.now c.args.aid.now (sized c.len-size.ensures.image) c.requires.going c.requires.ready in
-    omega (arith, c.take_plan-plan.ensures.reads, most_gaps (g.N.Nvm.state c.args.store.now.device).words (sized c.len-size.ensures.image) is.closed is.well)
-
-pub returns-clause-reads : goal.returns-clause-reads
-returns-clause-reads g c =
-    let is = enter_is (g.N.Nvm.state c.args.store.now.device) c.args.store.now.count c.args.site.now c.args.aid.now (sized c.len-size.ensures.image) c.requires.going c.requires.ready in
-    omega (arith, c.take_plan-plan.ensures.reads, most_gaps (g.N.Nvm.state c.args.store.now.device).words (sized c.len-size.ensures.image) is.closed is.well)
+pub returns : goal.returns
+returns g c =
+    record {
+      did = enter_did g.N.Nvm.state g.N.Nvm.wrote c.args.store.now.device c.write_words.new.device c.args.store.now.count c.place.result c.needed_words.result c.args.site.now c.args.aid.now c.as_slice.result.now (Ok tt) (sized c.len-size.ensures.image) c.requires.going c.requires.ready
+          c.place.ensures (c.needed_words.ensures ∙ ap (λ (z : Sizes). words_of_sizes z) c.sizes.ensures) (c.as_slice.ensures.value ∙ c.take_plan-plan.ensures.plan) c.in_ok-write_words.ensures.makes;
+    }

@@ -1,5 +1,3 @@
-use Rattle.std.proofs.Common.{ℕ, List, length, ap, arith}
-use Rattle.mc_base.specs.model_device.specs.Card.{blocks}
 use Rattle.mc_store.specs.Power.{preparation_end}
 use Rattle.mc_store.proofs.RecoverLemmas.{whole_makes, failed_makes, finish_follows}
 use Rattle.mc_store.proofs.power.recover_and_finish.Goals as goal
@@ -12,11 +10,6 @@ pub returns-in-Ok-clause-follows : goal.returns-in-Ok-clause-follows
 returns-in-Ok-clause-follows g c =
     let state = g.N.Nvm.state in
     finish_follows (state c.args.device.now).words (state c.recover.new.device).words c.in-Ok.owed (preparation_end c.finish.result) c.in-Ok.ensures.low c.in-Ok.ensures.words c.in-Ok.ensures.closed c.in-Ok.ensures.follows.0 c.finish.ensures.follows
-
-pub returns-in-Ok-clause-reads : goal.returns-in-Ok-clause-reads
-returns-in-Ok-clause-reads g c =
-    let same = ap (λ (m : List (List ℕ)). length (blocks m)) c.in-Ok.ensures.words in
-    omega (arith, same, c.in-Ok.ensures.reads, c.finish.ensures.reads)
 
 pub returns-in-Err-clause-makes : goal.returns-in-Err-clause-makes
 returns-in-Err-clause-makes g c =

@@ -14,9 +14,9 @@ read_window-requires g c =
     c.part_place-from.ensures ∙ ap (λ (s : Sizes). part_from Code s c.index.result) c.sizes.ensures ∙ ap (λ (k : ℕ). part_from Code (slot_sizes c.args.slot) k) c.index.ensures in
     (reads d c.args.store.now.count c.args.slot Code c.args.at (length c.args.into.now) c.part_place-from.result (sized c.len-size.ensures.image) c.requires.going c.requires.there c.requires.range place).inside
 
-pub returns-clause-bytes : goal.returns-clause-bytes
-returns-clause-bytes g c =
+pub returns : goal.returns
+returns g c =
     let d = g.N.Nvm.state c.args.store.now.device in
     let place : c.part_place-from.result ≡ part_from Code (slot_sizes c.args.slot) (slot_place c.args.slot) =
     c.part_place-from.ensures ∙ ap (λ (s : Sizes). part_from Code s c.index.result) c.sizes.ensures ∙ ap (λ (k : ℕ). part_from Code (slot_sizes c.args.slot) k) c.index.ensures in
-    c.read_window.ensures.bytes ∙ (reads d c.args.store.now.count c.args.slot Code c.args.at (length c.args.into.now) c.part_place-from.result (sized c.len-size.ensures.image) c.requires.going c.requires.there c.requires.range place).bytes
+    c.read_window.ensures ∙ (reads d c.args.store.now.count c.args.slot Code c.args.at (length c.args.into.now) c.part_place-from.result (sized c.len-size.ensures.image) c.requires.going c.requires.there c.requires.range place).bytes

@@ -12,9 +12,7 @@ loop-done-preserved g c =
     let skip = c.loop-done.invariant.skip in
     let within = c.requires in
     let count = c.min-count.ensures in
-    let whole = c.loop-done.invariant.whole less in
-    let ticks = c.read-word.ensures.ticks in
-    let after = c.copy_from_slice.ensures.after ∙ ap (λ (w : List ℕ). take ((c.loop-done.skip + c.min-count.result) - c.loop-done.skip) (drop c.loop-done.skip w)) c.read-word.ensures.word in
+    let after = c.copy_from_slice.ensures.after ∙ ap (λ (w : List ℕ). take ((c.loop-done.skip + c.min-count.result) - c.loop-done.skip) (drop c.loop-done.skip w)) c.read-word.ensures in
     let put =
     word_step m (sized c.len-size.ensures.image) (8 * c.args.from + c.args.at) c.loop-done.done c.loop-done.place c.loop-done.skip c.min-count.result c.loop-done.into c.copy_from_slice.new.self
     (omega (arith, count, less)) at (omega (arith, count, skip)) (omega (arith, at, less, room, within)) after c.loop-done.invariant.bytes in
@@ -25,7 +23,4 @@ loop-done-preserved g c =
       bytes = put.bytes;
       here = λ more. omega (arith, at, same, count, more, skip);
       skip = omega arith;
-      rises = omega (arith, ticks);
-      reads = omega (arith, whole, ticks, less, room);
-      whole = λ more. omega (arith, whole, ticks, same, count, more, skip);
     }

@@ -18,7 +18,7 @@ returns-clause-done g c =
     let after = bench_at members c.summarise.new.dev in
     let from = sunk g.T.Sink c.args.out.now in
     let to = sunk g.T.Sink c.summarise.new.out in
-    let counts = subst (λ (ls : List (ℕ × DeckLine)). CountsSum 0 summary ls before from c.summarise.result after to c.args.steps.now c.summarise.new.steps) c.in_ok-deck.ensures c.summarise.ensures.steps in
+    let counts = subst (λ (ls : List (ℕ × DeckLine)). CountsSum summary ls before from c.summarise.result after to c.args.steps.now c.summarise.new.steps) c.in_ok-deck.ensures c.summarise.ensures.steps in
     record {
       result = c.summarise.result;
       status = c.ended.ensures;

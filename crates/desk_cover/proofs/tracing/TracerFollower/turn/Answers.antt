@@ -1,4 +1,4 @@
-use Rattle.std.proofs.Common.{ℕ, ◌≤◌, Option, length, arith, ap, sym, subst, ◌∙◌}
+use Rattle.std.proofs.Common.{ℕ, ◌≤◌, Option, length, ap, sym, subst, ◌∙◌}
 use Rattle.std.specs.Prelude.{option_map, IfSome}
 use Rattle.mc_base.specs.model_device.specs.Limits.{most_code}
 use Rattle.mc_arith.specs.model_machine.specs.Chain.{turn_of}
@@ -7,7 +7,6 @@ use Rattle.mc_machine.specs.Turns.{full_turn}
 use Rattle.desk_cover.specs.Looking.{section_at}
 use Rattle.desk_cover.specs.Tracing.{line_value}
 use Rattle.desk_cover.specs.Watching.{full_turn_of}
-use Rattle.desk_cover.proofs.StepLemmas.{turn_looked}
 use Rattle.desk_cover.proofs.TraceLemmas.{code_few, is_turn, lies_after, operand_full, scene_of_turn, stack_full, traced_plain, traced_turn, turn_shown}
 use Rattle.desk_cover.proofs.WatchLemmas.{turned_watched}
 use Rattle.desk_cover.proofs.tracing.TracerFollower.turn.Goals as goal
@@ -60,16 +59,3 @@ returns-in-None-clause-watches g c ch left runs wide =
     let line = c.as_slice.ensures.value ∙ c.line_of_brief.ensures c.brief_turn.new.into is.wrote in
     let h = c.write.ensures.adds in
     traced_plain sink q c.write.new.self turn o t c.as_slice.result.now is none line (record { adds = h.adds; sections = h.sections; same = h.same })
-
-pub returns-in-Some-clause-steps : goal.returns-in-Some-clause-steps
-returns-in-Some-clause-steps g c ch left runs =
-    let look = c.take-in-Some.ensures in
-    turn_looked 37 0 37 left ch c.args.steps.now c.args.steps.now c.brief_turn.new.steps c.take-in-Some.new.steps (omega arith) (omega arith) (omega arith) (c.brief_turn.ensures.steps ch left runs) look.rises look.reads
-
-pub returns-in-None-clause-steps : goal.returns-in-None-clause-steps
-returns-in-None-clause-steps g c ch left runs =
-    turn_looked 37 0 37 left ch c.args.steps.now c.args.steps.now c.brief_turn.new.steps c.brief_turn.new.steps (omega arith) (omega arith) (omega arith) (c.brief_turn.ensures.steps ch left runs) (omega arith) (omega arith)
-
-pub returns-in_err-turn-clause-steps : goal.returns-in_err-turn-clause-steps
-returns-in_err-turn-clause-steps g c ch left runs =
-    turn_looked 37 0 37 left ch c.args.steps.now c.args.steps.now c.brief_turn.new.steps c.brief_turn.new.steps (omega arith) (omega arith) (omega arith) (c.brief_turn.ensures.steps ch left runs) (omega arith) (omega arith)

@@ -9,11 +9,11 @@ use Rattle.desk_steps.proofs.recording.Recorder.begin_called.Goals as goal
 pub returns-in-Some-clause-adds : goal.returns-in-Some-clause-adds
 returns-in-Some-clause-adds g c ch left runs wide deep =
     let d : ℕ = c.args.depth in
-    let named : c.in-Some.aid ≡ ch.frame.name = cc (sym c.in-Some.is ∙ c.running_aid.ensures.value ch left runs) in
+    let named : c.in-Some.aid ≡ ch.frame.name = cc (sym c.in-Some.is ∙ c.running_aid.ensures ch left runs) in
     let s : Shot = c.begin_frame.new.self.before in
     let runs_of = ap (λ (x : Shot). frame_changes false x) c.begin_frame.ensures.before ∙ called_shown c.look_before.new.self.before ch d (c.look_before.ensures.before ch left runs) wide deep in
     let text = ap (λ (n : List ℕ). frame_text d n None (frame_changes false s)) named ∙ ap (λ (rs : List (ℕ × List ℕ)). frame_text d ch.frame.name None rs) runs_of in
     puts_as g.T.Sink c.args.self.now _ _ _ text (record { puts = c.write_called-self.ensures; same = refl })
 
 pub returns-in_default-clause-adds : goal.returns-in_default-clause-adds
-returns-in_default-clause-adds g c ch left runs wide deep = absurd (c.in_default.not-Some _ (c.running_aid.ensures.value ch left runs))
+returns-in_default-clause-adds g c ch left runs wide deep = absurd (c.in_default.not-Some _ (c.running_aid.ensures ch left runs))

@@ -1,15 +1,12 @@
-use Rattle.std.proofs.Common.{◌≡◌, inr, ℕ, ◌+◌, List, arith, Option, Some, refl, ap, sym, subst, ◌∙◌}
+use Rattle.std.proofs.Common.{◌≡◌, inr, ℕ, List, Option, Some, refl, ap, sym, subst, ◌∙◌}
 use Rattle.std.specs.Prelude.{option_map}
 use Rattle.std.proofs.lemmas.Result.{err_from_is_err_and}
 use Rattle.mc_machine.specs.Turns.{brief_result, full_turn}
 use Rattle.desk_draft.specs.Listings.{CodeLine, Source}
 use Rattle.desk_draft.specs.Verdicts.{source_line}
 use Rattle.desk_cover.specs.Looking.{section_at}
-use Rattle.desk_cover.specs.Looks.{section_reads}
-use Rattle.desk_cover.proofs.StepLemmas.{turn_looked}
 use Rattle.desk_cover.proofs.TraceLemmas.{is_turn}
 use Rattle.desk_cover.proofs.WatchLemmas.{running_watched, turned_watched}
-use Rattle.desk_steps.specs.Looks.{recorder_looks}
 use Rattle.desk_steps.specs.Moments.{Moment, full_of, moment}
 use Rattle.desk_steps.specs.Recorded.{recorded_turn, source_number, RecordsTurn}
 use Rattle.desk_steps.proofs.TurnLemmas.{source_found, turned_up, was_turn, watches_stopped}
@@ -38,59 +35,21 @@ returns-clause-watches g c ch left runs wide =
     let o = c.running_section-section.result in
     let is = is_turn left ch turn q.sections.now o done.turn index in
     let p = c.look_before.new.self in
-    let named : c.in-Some.aid ≡ ch.frame.name = cc (sym c.in-Some.is ∙ c.running_aid.ensures.value ch left runs) in
+    let named : c.in-Some.aid ≡ ch.frame.name = cc (sym c.in-Some.is ∙ c.running_aid.ensures ch left runs) in
     let was = was_turn g.N.Nvm.state g.N.Nvm.wrote c.args.card.now c.brief_turn-2.new.self ch left c.in_ok-turn.turn c.brief_turn-2.new.into runs wide c.in_ok-turn.ensures.agrees done in
     let quiet = c.look_before.ensures.quiet in
     let source : c.source_of-source.result ≡ source_number q.sections.now t =
     source_found turn q.sections.now o (full_of t) c.source_of-source.result is (c.source_of-source.ensures ∙ ap (λ (ss : List Source). option_map (λ (l : CodeLine). l.number) (source_line (section_at ss o) turn.at)) quiet.keeps.sections)
     in
-    let did = c.after_turn.ensures.value left ch was (c.look_before.ensures.before ch left runs) named wide.frames.0 in
+    let did = c.after_turn.ensures left ch was (c.look_before.ensures.before ch left runs) named wide.frames.0 in
     recorded_turn sink q.sections.now q p c.after_turn.new.self t refl quiet (subst (λ (n : Option ℕ). RecordsTurn sink p n t c.after_turn.new.self) source did)
 
 pub returns-in_default-clause-watches : goal.returns-in_default-clause-watches
-returns-in_default-clause-watches g c ch left runs wide = absurd (c.in_default.not-Some _ (c.running_aid.ensures.value ch left runs))
+returns-in_default-clause-watches g c ch left runs wide = absurd (c.in_default.not-Some _ (c.running_aid.ensures ch left runs))
 
 pub returns-in_err-turn-clause-watches : goal.returns-in_err-turn-clause-watches
 returns-in_err-turn-clause-watches g c ch left runs wide =
-    let named : c.in-Some.aid ≡ ch.frame.name = cc (sym c.in-Some.is ∙ c.running_aid.ensures.value ch left runs) in
+    let named : c.in-Some.aid ≡ ch.frame.name = cc (sym c.in-Some.is ∙ c.running_aid.ensures ch left runs) in
     let stopped = err_from_is_err_and c.from_residual.result c.from_residual.ensures.1 in
     let look = c.look_before.ensures in
     watches_stopped g.T.Sink left ch (brief_result c.from_residual.result c.brief_turn-2.new.into) stopped.0 c.args.self.now c.look_before.new.self (ap (λ r. brief_result r c.brief_turn-2.new.into) stopped.1) look.quiet (inr (ch, look.first ∙ ap Some named, wide.frames.0, look.before ch left runs))
-
-pub returns-clause-steps : goal.returns-clause-steps
-returns-clause-steps g c ch left runs =
-    let ss = c.args.self.now.sections.now in
-    let aid = c.running_aid.ensures in
-    let section = c.running_section-section.ensures in
-    let look = c.look_before.ensures in
-    let after = c.after_turn.ensures in
-    let first = aid.rises in
-    let next = section.rises in
-    let last = look.rises in
-    let few = aid.reads in
-    let some = section.reads in
-    let more = look.reads in
-    turn_looked (recorder_looks ss) (586 + section_reads ss) 1753 left ch c.args.steps.now c.look_before.new.steps c.brief_turn-2.new.steps c.after_turn.new.steps (omega arith) (omega (arith, first, next, last)) (omega (arith, few, some, more)) (c.brief_turn-2.ensures.steps ch left runs) after.rises after.reads
-
-pub returns-in_default-clause-steps : goal.returns-in_default-clause-steps
-returns-in_default-clause-steps g c ch left runs = absurd (c.in_default.not-Some _ (c.running_aid.ensures.value ch left runs))
-
-pub returns-in_err-turn-clause-steps : goal.returns-in_err-turn-clause-steps
-returns-in_err-turn-clause-steps g c ch left runs =
-    let ss = c.args.self.now.sections.now in
-    let aid = c.running_aid.ensures in
-    let section = c.running_section-section.ensures in
-    let look = c.look_before.ensures in
-    let first = aid.rises in
-    let next = section.rises in
-    let last = look.rises in
-    let few = aid.reads in
-    let some = section.reads in
-    let more = look.reads in
-    turn_looked (recorder_looks ss) (586 + section_reads ss) 1753 left ch c.args.steps.now c.look_before.new.steps c.brief_turn-2.new.steps c.brief_turn-2.new.steps (omega arith) (omega (arith, first, next, last)) (omega (arith, few, some, more)) (c.brief_turn-2.ensures.steps ch left runs) (omega arith) (omega arith)
-
-pub returns-clause-looks : goal.returns-clause-looks
-returns-clause-looks g c = ap recorder_looks (c.after_turn.ensures.sections ∙ c.look_before.ensures.quiet.keeps.sections)
-
-pub returns-in_err-turn-clause-looks : goal.returns-in_err-turn-clause-looks
-returns-in_err-turn-clause-looks g c = ap recorder_looks c.look_before.ensures.quiet.keeps.sections

@@ -2,8 +2,8 @@ use Rattle.lab_application.proofs.SearchLemmas.{same_laboratory}
 use Rattle.lab_application.proofs.attempts.Attempt.look.Goals as goal
 
 pub returns-clause-same : goal.returns-clause-same
-returns-clause-same g c = same_laboratory c.args.search.now c.statics_in.new.laboratory c.in_ok-fixed.ensures.root c.in_ok-fixed.ensures.budget c.in_ok-fixed.ensures.counts
+returns-clause-same c = same_laboratory c.args.search.now c.statics_in.new.laboratory c.in_ok-fixed.ensures.root c.in_ok-fixed.ensures.budget c.in_ok-fixed.ensures.counts
 
 pub returns-clause-reached : goal.returns-clause-reached
-returns-clause-reached g c =
+returns-clause-reached c =
     λ names e k. (same_laboratory c.args.search.now c.statics_in.new.laboratory c.in_ok-fixed.ensures.root c.in_ok-fixed.ensures.budget c.in_ok-fixed.ensures.counts).keeps.kept names c.args.state e k

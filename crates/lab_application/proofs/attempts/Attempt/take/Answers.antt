@@ -4,17 +4,17 @@ use Rattle.lab_application.proofs.SearchLemmas.{breaks_by, if_ok_then, kept_from
 use Rattle.lab_application.proofs.attempts.Attempt.take.Goals as goal
 
 pub returns-in-Err-clause-keeps : goal.returns-in-Err-clause-keeps
-returns-in-Err-clause-keeps g c = c.in_ok-broken.ensures.keeps
+returns-in-Err-clause-keeps c = c.in_ok-broken.ensures.keeps
 
 pub returns-in-Err-clause-comes : goal.returns-in-Err-clause-comes
-returns-in-Err-clause-comes g c =
+returns-in-Err-clause-comes c =
     λ d ns n m h k. breaks_by d ns n m c.args.self.now.candidate.now c.args.self.now.before c.args.self.now.chosen c.args.manner c.args.search.now c.count.new.search c.step-step.result c.in_ok-broken.ensures h c.step-step.ensures
 
 pub returns-in-Ok-clause-keeps : goal.returns-in-Ok-clause-keeps
-returns-in-Ok-clause-keeps g c = on_ok_then c.keep.result _ _ (λ h. keeps_then _ _ _ _ _ _ c.in_ok-broken.ensures.keeps h) c.keep.ensures.keeps
+returns-in-Ok-clause-keeps c = on_ok_then c.keep.result _ _ (λ h. keeps_then _ _ _ _ _ _ c.in_ok-broken.ensures.keeps h) c.keep.ensures.keeps
 
 pub returns-in-Ok-clause-comes : goal.returns-in-Ok-clause-comes
-returns-in-Ok-clause-comes g c =
+returns-in-Ok-clause-comes c =
     if_ok_then c.keep.result _ _
     (λ o f. λ d ns n m h k.
     let there = same_tries d ns n m c.args.self.now.candidate.now c.args.self.now.before c.args.self.now.chosen c.args.search.now c.count.new.search c.in_ok-broken.ensures h in

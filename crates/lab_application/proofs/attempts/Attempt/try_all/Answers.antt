@@ -1,6 +1,6 @@
 use Rattle.std.proofs.Common.{sym, ◌∙◌}
 use Rattle.lab_search.specs.declared.journey.Manner.TheVariants as manner
-use Rattle.lab_search.proofs.StepCountLemmas.{tries_steps, whole_steps}
+use Rattle.lab_application.proofs.StepLemmas.{tries_steps, whole_steps}
 use Rattle.lab_application.proofs.SearchLemmas.{comes_goes, comes_then, if_ok_then, none_missed, reached_kept, same_tries, then_tries}
 use Rattle.lab_application.proofs.attempts.Attempt.try_all.Goals as goal
 

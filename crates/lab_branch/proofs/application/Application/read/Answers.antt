@@ -4,18 +4,18 @@ use Rattle.lab_branch.proofs.Parts.{block_ends}
 use Rattle.mc_store.proofs.RecordLemmas.{block_fits}
 use Rattle.lab_branch.proofs.application.Application.read.Goals as goal
 
-pub record_at-entry-requires : goal.record_at-entry-requires
-record_at-entry-requires g c = block_fits c.args.device.now.device.words c.args.place c.requires
+pub read_record-entry-requires : goal.read_record-entry-requires
+read_record-entry-requires g c = block_fits (g.N.Nvm.state c.args.device.now).words c.args.place c.requires
 
 pub read_section-requires : goal.read_section-requires
 read_section-requires g c =
-    let end = block_ends c.args.device.now.device.words c.args.place c.record_at-entry.result c.requires c.record_at-entry.ensures in
+    let end = block_ends (g.N.Nvm.state c.args.device.now).words c.args.place c.read_record-entry.result c.requires c.read_record-entry.ensures in
     let code = ap (λ (s : Lengths). s.code) c.sizes_of-sizes.ensures in
     omega (arith, end, code)
 
 pub read_section-requires-2 : goal.read_section-requires-2
 read_section-requires-2 g c =
-    let end = block_ends c.args.device.now.device.words c.args.place c.record_at-entry.result c.requires c.record_at-entry.ensures in
+    let end = block_ends (g.N.Nvm.state c.args.device.now).words c.args.place c.read_record-entry.result c.requires c.read_record-entry.ensures in
     let code = ap (λ (s : Lengths). s.code) c.sizes_of-sizes.ensures in
     let fixed = ap (λ (s : Lengths). s.fixed) c.sizes_of-sizes.ensures in
     let one = c.words_of.ensures in
@@ -23,7 +23,7 @@ read_section-requires-2 g c =
 
 pub read_section-requires-3 : goal.read_section-requires-3
 read_section-requires-3 g c =
-    let end = block_ends c.args.device.now.device.words c.args.place c.record_at-entry.result c.requires c.record_at-entry.ensures in
+    let end = block_ends (g.N.Nvm.state c.args.device.now).words c.args.place c.read_record-entry.result c.requires c.read_record-entry.ensures in
     let code = ap (λ (s : Lengths). s.code) c.sizes_of-sizes.ensures in
     let fixed = ap (λ (s : Lengths). s.fixed) c.sizes_of-sizes.ensures in
     let dir = ap (λ (s : Lengths). s.dir) c.sizes_of-sizes.ensures in
@@ -33,7 +33,7 @@ read_section-requires-3 g c =
 
 pub read_section-requires-4 : goal.read_section-requires-4
 read_section-requires-4 g c =
-    let end = block_ends c.args.device.now.device.words c.args.place c.record_at-entry.result c.requires c.record_at-entry.ensures in
+    let end = block_ends (g.N.Nvm.state c.args.device.now).words c.args.place c.read_record-entry.result c.requires c.read_record-entry.ensures in
     let code = ap (λ (s : Lengths). s.code) c.sizes_of-sizes.ensures in
     let fixed = ap (λ (s : Lengths). s.fixed) c.sizes_of-sizes.ensures in
     let dir = ap (λ (s : Lengths). s.dir) c.sizes_of-sizes.ensures in

@@ -4,6 +4,6 @@ use Rattle.lab_branch.proofs.BranchLemmas.{differs_now}
 use Rattle.lab_branch.proofs.branch.BranchNvmBench.poke.Goals as goal
 
 pub invariant_of-self : goal.invariant_of-self
-invariant_of-self g c =
+invariant_of-self c =
     differs_now c.self.inside.changed c.add.new.self c.self.inside.device.words c.poke.new.self.words c.self.inside.root.items c.args.at c.args.word c.self.invariant c.add.ensures.stays c.add.ensures.added
     (ap (λ (d : DeviceState). d.words) c.poke.ensures.state)

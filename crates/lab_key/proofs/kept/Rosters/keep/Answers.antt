@@ -3,16 +3,16 @@ use Rattle.lab_key.proofs.Entries.{keeps_beside, keeps_staged, kept_new, kept_ol
 use Rattle.lab_key.proofs.kept.Rosters.keep.Goals as goal
 
 pub returns-in_err-key-clause-keeps : goal.returns-in_err-key-clause-keeps
-returns-in_err-key-clause-keeps g c b l shown device n d m h = keeps_beside _ _ _ n d m c.in_err-key.ensures.keeps refl refl h
+returns-in_err-key-clause-keeps c b l shown device n d m h = keeps_beside _ _ _ n d m c.in_err-key.ensures.keeps refl refl h
 
 pub returns-in_err-words-clause-keeps : goal.returns-in_err-words-clause-keeps
-returns-in_err-words-clause-keeps g c b l shown device n d m h = keeps_beside _ _ _ n d m c.in_ok-key.ensures.keeps refl refl h
+returns-in_err-words-clause-keeps c b l shown device n d m h = keeps_beside _ _ _ n d m c.in_ok-key.ensures.keeps refl refl h
 
 pub returns-in_default-clause-keeps : goal.returns-in_default-clause-keeps
-returns-in_default-clause-keeps g c b l shown device n d m h = keeps_beside _ _ _ n d m c.in_ok-key.ensures.keeps refl c.in_default.ensures.err h
+returns-in_default-clause-keeps c b l shown device n d m h = keeps_beside _ _ _ n d m c.in_ok-key.ensures.keeps refl c.in_default.ensures.err h
 
 pub returns-in_default-insert_full-clause-keeps : goal.returns-in_default-insert_full-clause-keeps
-returns-in_default-insert_full-clause-keeps g c b l shown device n d m h =
+returns-in_default-insert_full-clause-keeps c b l shown device n d m h =
     keeps_staged _ c.args.self.now _ (record { roster = c.in_ok-key.key.roster; live = c.in_ok-key.key.live })
     (record { stage = c.in-Ok.staged.0; statics = c.in_ok-key.key.statics }) c.args.live _ b l
     (record {
@@ -24,7 +24,7 @@ returns-in_default-insert_full-clause-keeps g c b l shown device n d m h =
     n d m c.in_ok-key.ensures.keeps c.in_default-insert_full.ensures.err h
 
 pub returns-clause-of : goal.returns-clause-of
-returns-clause-of g c b l shown device =
+returns-clause-of c b l shown device =
     kept_new _ c.args.self.now _ (record { roster = c.in_ok-key.key.roster; live = c.in_ok-key.key.live })
     (record { stage = c.in-Ok.staged.0; statics = c.in_ok-key.key.statics }) c.args.live _ c.in_ok-words.words b l
     (record {
@@ -41,7 +41,7 @@ returns-clause-of g c b l shown device =
     _ c.in-Ok-insert_full.ensures.index
 
 pub returns-clause-keeps : goal.returns-clause-keeps
-returns-clause-keeps g c b l shown device n d m h =
+returns-clause-keeps c b l shown device n d m h =
     kept_old _ c.args.self.now _ (record { roster = c.in_ok-key.key.roster; live = c.in_ok-key.key.live })
     (record { stage = c.in-Ok.staged.0; statics = c.in_ok-key.key.statics }) c.args.live _ c.in_ok-words.words b l
     (record {

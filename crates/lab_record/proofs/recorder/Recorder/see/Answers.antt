@@ -1,4 +1,4 @@
-use Rattle.std.proofs.Common.{ap}
+use Rattle.std.proofs.Common.{◌∙◌, ap}
 use Rattle.lab_record.specs.Recorders.{log_of, log_rules}
 use Rattle.lab_record.proofs.LogLemmas.{done_on_ok, not_abend}
 use Rattle.lab_record.proofs.recorder.Recorder.see.Goals as goal

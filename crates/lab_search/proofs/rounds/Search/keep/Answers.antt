@@ -11,14 +11,14 @@ new_last : {X : Type 0} (b : Bool) (ks : List X) (x : X) → b ≡ false → (if
 new_last b ks x h = rw h refl
 
 pub returns-then-contains-clause-comes : goal.returns-then-contains-clause-comes
-returns-then-contains-clause-comes g c = λ d ns n t e. keeps_known d c.args.self.now ns n t c.args.step c.args.state e (sym c.contains.ensures ∙ c.if-contains.true)
+returns-then-contains-clause-comes c = λ d ns n t e. keeps_known d c.args.self.now ns n t c.args.step c.args.state e (sym c.contains.ensures ∙ c.if-contains.true)
 
 pub returns-then-len-self-clause-comes : goal.returns-then-len-self-clause-comes
-returns-then-len-self-clause-comes g c =
+returns-then-len-self-clause-comes c =
     λ d ns n t e. keeps_full d c.args.self.now ns n t c.args.step c.args.state e (sym c.contains.ensures ∙ c.if-contains.false) (omega (arith, c.len.ensures.len, c.if-len-self.true))
 
 pub returns-clause-comes : goal.returns-clause-comes
-returns-clause-comes g c =
+returns-clause-comes c =
     λ d ns n t e.
     let new = sym c.contains.ensures ∙ c.if-contains.false in
     let keys = ok_then c.insert_full.result _ c.insert_full.ensures.keys (sym c.is_err.ensures.value ∙ c.if-is_err.false) in

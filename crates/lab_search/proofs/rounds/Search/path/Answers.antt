@@ -7,7 +7,7 @@ use Rattle.lab_search.proofs.PathLemmas.{Walked, turned, walked_all, walked_firs
 use Rattle.lab_search.proofs.rounds.Search.path.Goals as goal
 
 pub loop-at-init : goal.loop-at-init
-loop-at-init g c =
+loop-at-init c =
     record {
       within = search rules;
       walked = λ d ns n t h k.
@@ -19,7 +19,7 @@ loop-at-init g c =
     }
 
 pub loop-at-preserved : goal.loop-at-preserved
-loop-at-preserved g c =
+loop-at-preserved c =
     record {
       within = search rules;
       walked = λ d ns n t h k.
@@ -32,7 +32,7 @@ loop-at-preserved g c =
     }
 
 pub returns : goal.returns
-returns g c =
+returns c =
     λ d ns n t h k.
     let all = walked_all d.rules.moves ns c.args.self.now.last_steps.items c.loop-at.path.items c.loop-at.at _ h.holds.reached c.loop-at-test.false (c.loop-at.invariant.walked d ns n t h k) in
     subst (λ (xs : List Step). AlikeLists (IsTry d.rules.moves) xs (reverse (t ∷ n.path))) (sym (turned c.loop-at.path.len c.reverse.new.self c.as_mut_slice.result.now c.loop-at.path.items c.loop-at.path.ok.0 c.reverse.ensures.after c.as_mut_slice.ensures.value)) all

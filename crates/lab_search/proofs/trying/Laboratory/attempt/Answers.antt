@@ -83,7 +83,7 @@ returns-clause-tried g c held ons k m kept candidate can =
     let none = none_is c.spend-broken.result c.in_default-broken.not-Some in
     let left = subst (λ (ns : List ℕ). AreSpent held c.spend-broken.result ns (allowances_after ons m (tried_step k m c.args.manner) k.allowances)) (sym (take_at c.spend-broken.new.amounts _ c.in_ok-allowances.allowances.len many)) spent in
     let root = c.keep_card.ensures.root ∙ ap (λ (p : Player BranchState). (device_of p).root) c.deref_mut-2.ensures.value in
-    let after : Laboratory _ = record c.play.new.self { player = record c.play.new.self.player { value = c.keep_card.new.player } } in
+    let after : Laboratory = record c.play.new.self { player = record c.play.new.self.player { value = c.keep_card.new.player } } in
     reached_is c.args.self.now after c.args.rosters.now c.keep_card.new.rosters held ons c.args.state.now _ k m c.args.manner c.spend-broken.result (words_of c.play.new.self) c.in-Some-2.live c.in_ok-live.ensures.budget kept none left made
     c.runs-runs.ensures
     (λ a there. subst (λ (r : List (List ℕ)). IsKeptCard r c.keep_card.new.rosters c.in_ok-card.card (reached k m c.args.manner a).base (reached k m c.args.manner a).live) (sym root)

@@ -5,9 +5,9 @@ use Rattle.mc_bank.specs.EntryLaws.{length_apps, are_apps}
 use Rattle.mc_bank.proofs.memory.MemBankBank.count.Goals as goal
 
 pub returns-clause-count : goal.returns-clause-count
-returns-clause-count g c =
+returns-clause-count c =
     let memory = subst IsMemory c.self.view_is c.self.invariant in
     c.count_used.ensures ∙ ap (λ (m : List Entry). count_of_used (facts_in m)) (c.deref.ensures.value ∙ c.self.view_is) ∙ sym (length_apps 0 c.args.self.now memory.apart)
 
 pub returns-clause-apps : goal.returns-clause-apps
-returns-clause-apps g c = are_apps c.args.self.now (subst IsMemory c.self.view_is c.self.invariant)
+returns-clause-apps c = are_apps c.args.self.now (subst IsMemory c.self.view_is c.self.invariant)

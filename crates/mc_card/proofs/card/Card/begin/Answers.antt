@@ -7,9 +7,9 @@ use Rattle.mc_apdu.specs.Command.{parts_of}
 use Rattle.mc_machine.specs.declared.outcome.Outcome.{Outcome}
 use Rattle.mc_machine.specs.declared.outcome.Outcome.TheVariants as outcome
 use Rattle.mc_card.specs.Managing.{Directs}
-use Rattle.mc_card.specs.Parts.{card_in, device_in}
+use Rattle.mc_card.specs.Parts.{device_in}
 use Rattle.mc_card.specs.Ends.{Begun}
-use Rattle.mc_card.proofs.CommandLemmas.{wrong_begun, answered_begun, passed_session, passed_running, begun_steps, passed_begins}
+use Rattle.mc_card.proofs.CommandLemmas.{wrong_begun, answered_begun, passed_session, passed_running}
 use Rattle.mc_card.proofs.DeviceLemmas.{commanded_ended, none_ended}
 use Rattle.mc_card.proofs.card.Card.begin.Goals as goal
 
@@ -45,7 +45,7 @@ returns-in-Some-clause-done g c =
     let a = parts_of c.in-Ok.apdu in
     passed_running g.N.Nvm.state g.N.Nvm.wrote g.met.N.Nvm.obeys old c.direct.new.self a c.in-Some.slot c.args.budget c.args.bytes.now c.begin.new.self c.requires.ready
     (subst (λ (x : Option ℕ). Directs g.N.Nvm.state g.N.Nvm.wrote old a (Ok x) c.direct.new.reply c.direct.new.self) c.in-Some.is c.in_ok-direct.ensures.done)
-    c.in-Ok.ensures.read c.begin.ensures.begun
+    c.in-Ok.ensures.read c.begin.ensures
 
 pub returns-in_default-clause-ended : goal.returns-in_default-clause-ended
 returns-in_default-clause-ended g c =
@@ -65,19 +65,3 @@ returns-in-None-clause-ended g c =
 pub returns-in-Some-clause-ended : goal.returns-in-Some-clause-ended
 returns-in-Some-clause-ended g c =
     none_ended g.N.Nvm.state g.N.Nvm.wrote g.met.N.Nvm.obeys c.args.self.now (record c.direct.new.self { chain = c.begin.new.self }) c.requires.ready.up (returns-in-Some-clause-done g c).device
-
-pub returns-in_err-direct-clause-steps : goal.returns-in_err-direct-clause-steps
-returns-in_err-direct-clause-steps g c =
-    begun_steps (card_in g.N.Nvm.state c.args.self.now) (parts_of c.in-Ok.apdu) c.args.bytes.now c.args.steps.now c.direct.new.steps c.in-Ok.ensures.read c.in_err-direct.ensures.rises c.in_err-direct.ensures.reads
-
-pub returns-in-None-clause-steps : goal.returns-in-None-clause-steps
-returns-in-None-clause-steps g c =
-    begun_steps (card_in g.N.Nvm.state c.args.self.now) (parts_of c.in-Ok.apdu) c.args.bytes.now c.args.steps.now c.direct.new.steps c.in-Ok.ensures.read c.in_ok-direct.ensures.rises c.in_ok-direct.ensures.reads
-
-pub returns-in-Some-clause-steps : goal.returns-in-Some-clause-steps
-returns-in-Some-clause-steps g c =
-    let old = c.args.self.now in
-    let a = parts_of c.in-Ok.apdu in
-    passed_begins g.N.Nvm.state g.N.Nvm.wrote g.met.N.Nvm.obeys old c.direct.new.self a c.in-Some.slot c.args.bytes.now c.args.steps.now c.direct.new.steps c.begin.new.steps
-    (subst (λ (x : Option ℕ). Directs g.N.Nvm.state g.N.Nvm.wrote old a (Ok x) c.direct.new.reply c.direct.new.self) c.in-Some.is c.in_ok-direct.ensures.done)
-    c.in-Ok.ensures.read c.in_ok-direct.ensures.rises c.in_ok-direct.ensures.reads c.begin.ensures.rises c.begin.ensures.reads

@@ -1,14 +1,12 @@
-use Rattle.std.proofs.Common.{ℕ, Result, Option, refl, sym, ◌∙◌, ap, subst, Some, Ok, Err}
+use Rattle.std.proofs.Common.{ℕ, Result, Option, refl, sym, ◌∙◌, ap, subst, Ok, Err}
 use Rattle.std.proofs.lemmas.Result.{err_from_is_err_and}
 use Rattle.mc_base.specs.model_device.specs.declared.device.Stop.{Stop}
 use Rattle.mc_apdu.specs.Command.{parts_of}
-use Rattle.mc_bank.specs.model_card.specs.Manager.{route_of_parts}
 use Rattle.mc_manager.specs.declared.routed.Ruling.{Ruling}
 use Rattle.mc_manager.specs.Ruled.{ruling_with_reply}
 use Rattle.mc_card.specs.declared.card.Card.{Card}
 use Rattle.mc_card.specs.Managing.{Directs}
-use Rattle.mc_card.specs.Parts.{card_in}
-use Rattle.mc_card.proofs.DirectLemmas.{DirectEnds, answered_done, stopped_done, selected_done, fresh_slot, passed_done, direct_steps, fresh_steps}
+use Rattle.mc_card.proofs.DirectLemmas.{DirectEnds, answered_done, stopped_done, selected_done, fresh_slot, passed_done}
 use Rattle.mc_card.proofs.DeviceLemmas.{answered_same}
 use Rattle.mc_card.proofs.card.Card.direct.Goals as goal
 
@@ -25,7 +23,7 @@ returns-in-Fresh-clause-done g c =
     let old = c.args.self.now in
     let new = record old { store = c.rule.new.bank; manager = c.rule.new.self; session = c.session_of-self.result } in
     let a = parts_of c.args.apdu.now in
-    selected_done g.N.Nvm.state g.N.Nvm.wrote g.met.N.Nvm.obeys a old new c.in-Fresh.slot c.rule.new.reply c.requires.ready c.session_of-self.ensures.bytes refl
+    selected_done g.N.Nvm.state g.N.Nvm.wrote g.met.N.Nvm.obeys a old new c.in-Fresh.slot c.rule.new.reply c.requires.ready c.session_of-self.ensures refl
     (subst (λ (x : Ruling). DirectEnds g.N.Nvm.state g.N.Nvm.wrote old a (Ok (ruling_with_reply x c.rule.new.reply)) new) c.in-Fresh.is (record { items = c.in_ok-rule.ensures.items; apps = c.in_ok-rule.ensures.apps; leaves = c.in_ok-rule.ensures.leaves; fits = c.in_ok-rule.ensures.fits; going = c.in_ok-rule.ensures.going }))
 
 pub session_of-self-requires-clause-there : goal.session_of-self-requires-clause-there
@@ -77,21 +75,3 @@ pub returns-in-Pass-clause-keeps_device : goal.returns-in-Pass-clause-keeps_devi
 returns-in-Pass-clause-keeps_device g c =
     let old = c.args.self.now in
     subst (λ (x : Card g.row.N.Denot). g.N.Nvm.same old.store.device x.store.device) (sym (returns-in-Pass-clause-done g c).unchanged) (g.met.N.Nvm.itself old.store.device)
-
-pub returns-in-Answer-clause-reads : goal.returns-in-Answer-clause-reads
-returns-in-Answer-clause-reads g c = direct_steps (card_in g.N.Nvm.state c.args.self.now) (route_of_parts (Some (parts_of c.args.apdu.now))) c.args.steps.now c.rule.new.steps c.rule.ensures.reads
-
-pub returns-in-Fresh-clause-reads : goal.returns-in-Fresh-clause-reads
-returns-in-Fresh-clause-reads g c =
-    let old = c.args.self.now in
-    let new = record old { store = c.rule.new.bank; manager = c.rule.new.self } in
-    let a = parts_of c.args.apdu.now in
-    fresh_steps g.N.Nvm.state g.N.Nvm.wrote g.met.N.Nvm.obeys a old new c.in-Fresh.slot c.rule.new.reply c.args.steps.now c.rule.new.steps c.session_of-self.new.steps
-    (subst (λ (x : Ruling). DirectEnds g.N.Nvm.state g.N.Nvm.wrote old a (Ok (ruling_with_reply x c.rule.new.reply)) new) c.in-Fresh.is (record { items = c.in_ok-rule.ensures.items; apps = c.in_ok-rule.ensures.apps; leaves = c.in_ok-rule.ensures.leaves; fits = c.in_ok-rule.ensures.fits; going = c.in_ok-rule.ensures.going }))
-    c.rule.ensures.reads c.session_of-self.ensures.reads
-
-pub returns-in-Pass-clause-reads : goal.returns-in-Pass-clause-reads
-returns-in-Pass-clause-reads g c = direct_steps (card_in g.N.Nvm.state c.args.self.now) (route_of_parts (Some (parts_of c.args.apdu.now))) c.args.steps.now c.rule.new.steps c.rule.ensures.reads
-
-pub returns-in_err-rule-clause-reads : goal.returns-in_err-rule-clause-reads
-returns-in_err-rule-clause-reads g c = direct_steps (card_in g.N.Nvm.state c.args.self.now) (route_of_parts (Some (parts_of c.args.apdu.now))) c.args.steps.now c.rule.new.steps c.rule.ensures.reads

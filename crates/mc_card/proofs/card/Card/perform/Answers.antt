@@ -11,7 +11,7 @@ use Rattle.mc_card.specs.Managing.{Directs}
 use Rattle.mc_card.specs.Parts.{due}
 use Rattle.mc_card.specs.Ends.{Commanded, most_weight}
 use Rattle.mc_card.specs.ItemWrites.{MadeWithin}
-use Rattle.mc_card.proofs.CommandLemmas.{wrong_done, wrong_begun, answered_begun, answered_within, passed_commanded, passed_within, passed_session, passed_steps, answered_steps, run_of, run_did, run_counted}
+use Rattle.mc_card.proofs.CommandLemmas.{wrong_done, wrong_begun, answered_begun, answered_within, passed_commanded, passed_within, passed_session, passed_steps, run_of, run_did, run_counted}
 use Rattle.mc_card.proofs.card.Card.perform.Goals as goal
 
 pub returns-in_default-clause-done : goal.returns-in_default-clause-done
@@ -49,27 +49,14 @@ returns-in-Some-clause-done g c =
     c.in-Ok.ensures.read
     (run_did g.N.Nvm.state g.N.Nvm.wrote g.met.N.Nvm.obeys c.direct.new.self (run_of g.N.Nvm.state g.N.Nvm.wrote g.met.N.Nvm.obeys c.direct.new.self c.in-Some.slot a c.args.budget) c.run_into.result c.run_into.new.reply c.run_into.new.bank c.run_into.new.session c.run_into.ensures.writes c.run_into.ensures.outcome c.run_into.ensures.session c.run_into.ensures.going)
 
-pub returns-in_err-direct-clause-steps : goal.returns-in_err-direct-clause-steps
-returns-in_err-direct-clause-steps g c =
-    answered_steps g.N.Nvm.state g.N.Nvm.wrote g.met.N.Nvm.obeys (parts_of c.in-Ok.apdu) c.args.self.now c.direct.new.self c.args.bytes.now c.args.budget (Err c.in_err-direct.field-0.0) _ c.args.steps.now c.direct.new.steps
-    c.in-Ok.ensures.read c.in_err-direct.ensures.done c.in_err-direct.ensures.rises c.in_err-direct.ensures.reads
-
-pub returns-in-None-clause-steps : goal.returns-in-None-clause-steps
-returns-in-None-clause-steps g c =
-    let old = c.args.self.now in
-    let a = parts_of c.in-Ok.apdu in
-    answered_steps g.N.Nvm.state g.N.Nvm.wrote g.met.N.Nvm.obeys a old c.direct.new.self c.args.bytes.now c.args.budget (Ok (outcome.Reply c.direct.new.reply)) _ c.args.steps.now c.direct.new.steps c.in-Ok.ensures.read
-    (subst (λ (x : Option ℕ). Directs g.N.Nvm.state g.N.Nvm.wrote old a (Ok x) c.direct.new.reply c.direct.new.self) c.in-None.is c.in_ok-direct.ensures.done) c.in_ok-direct.ensures.rises c.in_ok-direct.ensures.reads
-
 pub returns-in-Some-clause-steps : goal.returns-in-Some-clause-steps
 returns-in-Some-clause-steps g c =
     let old = c.args.self.now in
     let a = parts_of c.in-Ok.apdu in
-    let r = run_of g.N.Nvm.state g.N.Nvm.wrote g.met.N.Nvm.obeys c.direct.new.self c.in-Some.slot a c.args.budget in
-    passed_steps g.N.Nvm.state g.N.Nvm.wrote g.met.N.Nvm.obeys old c.direct.new.self a c.in-Some.slot c.args.budget c.args.bytes.now (answer_of (reply_or_stop c.run_into.result c.run_into.new.reply)) c.args.steps.now c.direct.new.steps c.run_into.new.steps c.requires.ready
+    let counted = run_counted g.N.Nvm.state g.N.Nvm.wrote g.met.N.Nvm.obeys (run_of g.N.Nvm.state g.N.Nvm.wrote g.met.N.Nvm.obeys c.direct.new.self c.in-Some.slot a c.args.budget) c.run_into.result c.run_into.new.reply c.direct.new.steps c.run_into.new.steps c.run_into.ensures.ticks c.run_into.ensures.most in
+    passed_steps g.N.Nvm.state g.N.Nvm.wrote g.met.N.Nvm.obeys old c.direct.new.self a c.in-Some.slot c.args.budget c.args.bytes.now (reply_or_stop c.run_into.result c.run_into.new.reply) c.args.steps.now c.direct.new.steps c.run_into.new.steps _ c.requires.ready
     (subst (λ (x : Option ℕ). Directs g.N.Nvm.state g.N.Nvm.wrote old a (Ok x) c.direct.new.reply c.direct.new.self) c.in-Some.is c.in_ok-direct.ensures.done)
-    c.in-Ok.ensures.read c.in_ok-direct.ensures.rises c.in_ok-direct.ensures.reads
-    (run_counted g.N.Nvm.state g.N.Nvm.wrote g.met.N.Nvm.obeys r c.run_into.result c.run_into.new.reply c.direct.new.steps c.run_into.new.steps c.run_into.ensures.ticks c.run_into.ensures.most)
+    c.in-Ok.ensures.read c.in_ok-direct.ensures.rises c.in_ok-direct.ensures.ticks counted.0 counted.1
 
 pub returns-in_default-clause-few : goal.returns-in_default-clause-few
 returns-in_default-clause-few g c image =

@@ -8,12 +8,12 @@ fixed-requires-clause-range g c =
     let d = g.N.Nvm.state c.args.self.now.store.device in
     subst (λ (a : App). c.args.at + length c.args.into.now ≤ length a.fixed) (sym (slot_app d c.args.self.now.store.count c.in-Some.slot c.args.aid.now c.requires.up.going c.in-Some.ensures.slot)) c.requires.range
 
-pub returns-in-Some-clause-bytes : goal.returns-in-Some-clause-bytes
-returns-in-Some-clause-bytes g c =
+pub returns-in-Some : goal.returns-in-Some
+returns-in-Some g c =
     let d = g.N.Nvm.state c.args.self.now.store.device in
-    c.fixed.ensures.bytes ∙ ap (λ (a : App). take (length c.args.into.now) (drop c.args.at a.fixed)) (slot_app d c.args.self.now.store.count c.in-Some.slot c.args.aid.now c.requires.up.going c.in-Some.ensures.slot)
+    c.fixed.ensures ∙ ap (λ (a : App). take (length c.args.into.now) (drop c.args.at a.fixed)) (slot_app d c.args.self.now.store.count c.in-Some.slot c.args.aid.now c.requires.up.going c.in-Some.ensures.slot)
 
-pub returns-in_default-clause-bytes : goal.returns-in_default-clause-bytes
-returns-in_default-clause-bytes g c =
+pub returns-in_default : goal.returns-in_default
+returns-in_default g c =
     let d = g.N.Nvm.state c.args.self.now.store.device in
     absurd (none_there _ (not_there d c.args.self.now.store.count c.args.aid.now c.requires.up.going (sym c.in_default.ensures.there)) c.requires.there)

@@ -21,7 +21,7 @@ returns-then-refuses-clause-runs g c ch r =
     let n = c.args.aid.now in
     subst (λ (k : Chained). RunsAs s named k (chain_after_call ch n (lookup ch.map n)))
     (ap (λ (k : Chained). record k { public = with_sw k.public 0x6985 }) (sym c.self.view_is) ∙ ap (λ (p : List ℕ). record (the_view c.self.inside) { public = p }) (sym c.set_sw-then-refuses.ensures))
-    (refused_call s named c.args.self.now ch n (sym c.in-Some.ensures.there) (sym c.if-refuses.true ∙ c.refuses.ensures.value) r)
+    (refused_call s named c.args.self.now ch n (sym c.in-Some.ensures.there) (sym c.if-refuses.true ∙ c.refuses.ensures) r)
 
 pub returns-clause-runs : goal.returns-clause-runs
 returns-clause-runs g c ch r =
@@ -32,4 +32,4 @@ returns-clause-runs g c ch r =
     let callee : c.new-2.result ≡ new_held c.in-Some.slot c.facts-facts.result.sizes _ = c.new-2.ensures ∙ ap (λ (b : List ℕ). new_held c.in-Some.slot c.facts-facts.result.sizes b) c.new.ensures in
     subst (λ (k : Chained). RunsAs s named k (chain_after_call ch n (lookup ch.map n)))
     (sym (c.enter.ensures ∙ ap (λ (h : Held). record now { running = h; below = now.running ∷ now.below }) callee))
-    (entered_call s named now ch c.in-Some.slot n c.facts-facts.result.sizes c.in-Some.ensures.slot (sym c.in-Some.ensures.there) c.facts-facts.ensures.sizes (sym c.if-refuses.false ∙ c.refuses.ensures.value) r)
+    (entered_call s named now ch c.in-Some.slot n c.facts-facts.result.sizes c.in-Some.ensures.slot (sym c.in-Some.ensures.there) c.facts-facts.ensures.sizes (sym c.if-refuses.false ∙ c.refuses.ensures) r)

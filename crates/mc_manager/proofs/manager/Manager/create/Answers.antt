@@ -10,8 +10,8 @@ creation-requires-clause-fits g c =
     let load = ap (λ (m : ManagerState). m.load) c.self.view_is in
     λ l is. c.requires.fits.load l (sym load ∙ is)
 
-pub returns-in_err-create-clause-ends : goal.returns-in_err-create-clause-ends
-returns-in_err-create-clause-ends g c =
+pub returns-in_err-create : goal.returns-in_err-create
+returns-in_err-create g c =
     let v = view_of g.B.Bank c.args.bank.now in
     let w = view_of g.B.Bank c.create.new.self in
     let can = can_enter v c.args.self.now c.self.inside.load c.in-Some.load c.in-Ok.aid (parts_of c.args.apdu.now) (ap (λ (m : ManagerState). m.load) c.self.view_is) c.in-Some.is c.requires.fits c.in-Ok.ensures.created in
@@ -19,8 +19,8 @@ returns-in_err-create-clause-ends g c =
     rw (p.1, p.2) (ends_create_stopped g.B.Bank.did v c.args.self.now c.in-Some.load c.in-Ok.aid (parts_of c.args.apdu.now) c.args.bank.now c.in_err-create.field-0.0 w c.args.self.now c.create.new.self c.site.result.now c.site.ensures can
     c.in_err-create.ensures.items c.in_err-create.ensures.apps)
 
-pub returns-clause-ends : goal.returns-clause-ends
-returns-clause-ends g c =
+pub returns : goal.returns
+returns g c =
     let v = view_of g.B.Bank c.args.bank.now in
     let w = view_of g.B.Bank c.create.new.self in
     let can = can_enter v c.args.self.now c.self.inside.load c.in-Some.load c.in-Ok.aid (parts_of c.args.apdu.now) (ap (λ (m : ManagerState). m.load) c.self.view_is) c.in-Some.is c.requires.fits c.in-Ok.ensures.created in

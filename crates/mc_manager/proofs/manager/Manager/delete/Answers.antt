@@ -4,8 +4,8 @@ use Rattle.mc_manager.specs.ManagerState.{ManagerState, view_of}
 use Rattle.mc_manager.proofs.EndsLemmas.{ends_deleted}
 use Rattle.mc_manager.proofs.manager.Manager.delete.Goals as goal
 
-pub returns-clause-ends : goal.returns-clause-ends
-returns-clause-ends g c =
+pub returns : goal.returns
+returns g c =
     let v = view_of g.B.Bank c.args.bank.now in
     let w = view_of g.B.Bank c.delete.new.self in
     let selected = ap (λ (m : ManagerState). m.selected) c.self.view_is in

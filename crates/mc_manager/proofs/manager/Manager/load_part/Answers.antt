@@ -8,8 +8,8 @@ use Rattle.mc_manager.specs.ManagerState.{ManagerState, Loaded, view_of, open_of
 use Rattle.mc_manager.proofs.EndsLemmas.{load_refused, ends_refused, can_load, load_is_open, has_room, ends_loaded, ends_load_stopped}
 use Rattle.mc_manager.proofs.manager.Manager.load_part.Goals as goal
 
-pub returns-in-Some-clause-ends : goal.returns-in-Some-clause-ends
-returns-in-Some-clause-ends g c =
+pub returns-in-Some : goal.returns-in-Some
+returns-in-Some g c =
     let v = view_of g.B.Bank c.args.bank.now in
     let load = ap (λ (m : ManagerState). m.load) c.self.view_is in
     ends_refused g.B.Bank.did _ v c.args.self.now c.args.bank.now c.say.new.reply (word_of c.in-Some.refusal)
@@ -17,8 +17,8 @@ returns-in-Some-clause-ends g c =
     (c.load_refusal.ensures v (λ l is. c.requires.fits.load l (sym load ∙ is)) ∙ ap (option_map word_of) c.in-Some.is))
     c.say.ensures c.requires.going c.requires.fits
 
-pub returns-in_default-load-clause-ends : goal.returns-in_default-load-clause-ends
-returns-in_default-load-clause-ends g c =
+pub returns-in_default-load : goal.returns-in_default-load
+returns-in_default-load g c =
     let v = view_of g.B.Bank c.args.bank.now in
     let load = ap (λ (m : ManagerState). m.load) c.self.view_is in
     absurd (load_is_open c.args.part (parts_of c.args.apdu.now)
@@ -38,8 +38,8 @@ fill-requires-clause-room g c =
     (λ fits. c.load_refusal.ensures v fits ∙ ap (option_map word_of) c.in_default.is) in
     has_room v c.in-Some-load.load c.args.part (parts_of c.args.apdu.now) can.fits can.clear
 
-pub returns-in_err-fill-clause-ends : goal.returns-in_err-fill-clause-ends
-returns-in_err-fill-clause-ends g c =
+pub returns-in_err-fill : goal.returns-in_err-fill
+returns-in_err-fill g c =
     let v = view_of g.B.Bank c.args.bank.now in
     let w = view_of g.B.Bank c.fill.new.bank in
     let can = can_load v c.args.self.now c.self.inside.load c.in-Some-load.load c.args.part (parts_of c.args.apdu.now) (ap (λ (m : ManagerState). m.load) c.self.view_is) c.in-Some-load.is c.requires.fits
@@ -48,8 +48,8 @@ returns-in_err-fill-clause-ends g c =
     rw (p.1, p.2) (ends_load_stopped g.B.Bank.did v c.args.self.now c.in-Some-load.load c.args.part (parts_of c.args.apdu.now) c.args.bank.now c.in_err-fill.field-0.0 w _ c.fill.new.bank can
     c.in_err-fill.ensures.items c.in_err-fill.ensures.apps)
 
-pub returns-clause-ends : goal.returns-clause-ends
-returns-clause-ends g c =
+pub returns : goal.returns
+returns g c =
     let v = view_of g.B.Bank c.args.bank.now in
     let w = view_of g.B.Bank c.fill.new.bank in
     let can = can_load v c.args.self.now c.self.inside.load c.in-Some-load.load c.args.part (parts_of c.args.apdu.now) (ap (λ (m : ManagerState). m.load) c.self.view_is) c.in-Some-load.is c.requires.fits

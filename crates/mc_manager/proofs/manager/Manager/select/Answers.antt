@@ -4,8 +4,8 @@ use Rattle.mc_manager.specs.ManagerState.{ManagerState, view_of}
 use Rattle.mc_manager.proofs.EndsLemmas.{ends_selected}
 use Rattle.mc_manager.proofs.manager.Manager.select.Goals as goal
 
-pub returns-clause-ends : goal.returns-clause-ends
-returns-clause-ends g c =
+pub returns : goal.returns
+returns g c =
     let v = view_of g.B.Bank c.args.bank.now in
-    ends_selected g.B.Bank.did v c.args.self.now c.in-Ok.selection (parts_of c.args.apdu.now) c.args.bank.now c.say_selected.new.reply _ c.in-Ok.ensures.selected c.requires.fits c.requires.going c.say_selected.ensures.reply
+    ends_selected g.B.Bank.did v c.args.self.now c.in-Ok.selection (parts_of c.args.apdu.now) c.args.bank.now c.say_selected.new.reply _ c.in-Ok.ensures.selected c.requires.fits c.requires.going c.say_selected.ensures
     refl (ap (λ (m : ManagerState). m.load) c.self.view_is)

@@ -5,7 +5,6 @@ use Rattle.mc_script.specs.Commands.{deck_line_of}
 use Rattle.mc_script.specs.Runs.{sent_by}
 use Rattle.mc_script.proofs.QuietLemmas.{none_before_power, none_off, none_mute}
 use Rattle.mc_script.proofs.LineLemmas.{player_ready}
-use Rattle.mc_script.proofs.CommandStepLemmas.{are_sent}
 use Rattle.mc_script.proofs.StepRunLemmas.{before_power_steps, off_steps, mute_steps}
 use Rattle.mc_script.proofs.LinedLemmas.{silent_line, same_line}
 use Rattle.mc_script.proofs.player.Player.card_line.Goals as goal
@@ -51,12 +50,12 @@ run_on-requires-clause-ready g c = player_ready g.N.Nvm.state g.N.Bench.bench c.
 
 pub returns-in-BeforePower-clause-steps : goal.returns-in-BeforePower-clause-steps
 returns-in-BeforePower-clause-steps g c s at =
-    before_power_steps g.N.Nvm.state g.N.Bench.bench (g.R.Runner.looks c.args.runner.now) c.args.self.now s (deck_line_of c.args.command.now) (Some c.refuse.result) c.args.steps.now c.args.steps.now (are_sent c.args.command.now) c.in-BeforePower.is at refl
+    before_power_steps g.N.Nvm.state g.N.Bench.bench c.args.self.now s (deck_line_of c.args.command.now) (Some c.refuse.result) c.args.steps.now c.args.steps.now c.in-BeforePower.is at refl
 
 pub returns-in-Off-clause-steps : goal.returns-in-Off-clause-steps
 returns-in-Off-clause-steps g c s at =
-    off_steps g.N.Nvm.state g.N.Bench.bench (g.R.Runner.looks c.args.runner.now) c.args.self.now s (deck_line_of c.args.command.now) (Some c.refuse-in-Off.result) c.args.steps.now c.args.steps.now (are_sent c.args.command.now) c.in-Off.is at refl
+    off_steps g.N.Nvm.state g.N.Bench.bench c.args.self.now s (deck_line_of c.args.command.now) (Some c.refuse-in-Off.result) c.args.steps.now c.args.steps.now c.in-Off.is at refl
 
 pub returns-in-Mute-clause-steps : goal.returns-in-Mute-clause-steps
 returns-in-Mute-clause-steps g c s at =
-    mute_steps g.N.Nvm.state g.N.Bench.bench (g.R.Runner.looks c.args.runner.now) c.args.self.now s (deck_line_of c.args.command.now) (Some c.refuse-in-Mute.result) c.args.steps.now c.args.steps.now (are_sent c.args.command.now) c.in-Mute.is at refl
+    mute_steps g.N.Nvm.state g.N.Bench.bench c.args.self.now s (deck_line_of c.args.command.now) (Some c.refuse-in-Mute.result) c.args.steps.now c.args.steps.now c.in-Mute.is at refl

@@ -1,4 +1,3 @@
-use Rattle.std.proofs.Common.{refl}
 use Rattle.mc_script.proofs.FormatLemmas.{format_before_power, format_after_power}
 use Rattle.mc_script.proofs.player.Player.format.Goals as goal
 
@@ -7,4 +6,4 @@ returns-in-BeforePower-clause-done g c =
     format_before_power g.N.Nvm.state g.N.Bench.bench c.args.self.now c.format.new.card c.in-BeforePower.is (record { device = c.format.ensures.state; calls = c.format.ensures.bench })
 
 pub returns-in_default : goal.returns-in_default
-returns-in_default g c = record { text = refl; done = format_after_power g.N.Nvm.state g.N.Bench.bench c.args.self.now c.in_default.not-BeforePower; keeps_device = g.met.N.Nvm.itself _ }
+returns-in_default g c = record { done = format_after_power g.N.Nvm.state g.N.Bench.bench c.args.self.now c.in_default.not-BeforePower; keeps_device = g.met.N.Nvm.itself _ }

@@ -113,52 +113,51 @@ returns-in-Poke-clause-done g c =
 
 pub returns-in-Format-clause-steps : goal.returns-in-Format-clause-steps
 returns-in-Format-clause-steps g c s at =
-    given_steps (g.R.Runner.looks c.args.runner.now) s (line_of c.args.line.now) line.Format c.format.result c.args.steps.now c.args.steps.now (ap line_of c.in-Format.is) (quiet_steps (g.R.Runner.looks c.args.runner.now) s line.Format c.format.result c.args.steps.now c.args.steps.now refl refl)
+    given_steps s (line_of c.args.line.now) line.Format c.format.result c.args.steps.now c.args.steps.now (ap line_of c.in-Format.is) (quiet_steps s line.Format c.format.result c.args.steps.now c.args.steps.now refl refl)
 
 pub returns-in-Power-clause-steps : goal.returns-in-Power-clause-steps
 returns-in-Power-clause-steps g c s at =
-    let looks = g.R.Runner.looks c.args.runner.now in
-    given_steps looks s (line_of c.args.line.now) line.Power (Some c.power_line.result) c.args.steps.now c.power_line.new.steps (ap line_of c.in-Power.is) (c.power_line.ensures.steps looks s at)
+    given_steps s (line_of c.args.line.now) line.Power (Some c.power_line.result) c.args.steps.now c.args.steps.now (ap line_of c.in-Power.is) (quiet_steps s line.Power (Some c.power_line.result) c.args.steps.now c.args.steps.now refl refl)
 
 pub returns-in-Named-clause-steps : goal.returns-in-Named-clause-steps
 returns-in-Named-clause-steps g c s at =
-    given_steps (g.R.Runner.looks c.args.runner.now) s (line_of c.args.line.now) line.Named None c.args.steps.now c.args.steps.now (ap line_of c.in-Named.is) (quiet_steps (g.R.Runner.looks c.args.runner.now) s line.Named None c.args.steps.now c.args.steps.now refl refl)
+    given_steps s (line_of c.args.line.now) line.Named None c.args.steps.now c.args.steps.now (ap line_of c.in-Named.is) (quiet_steps s line.Named None c.args.steps.now c.args.steps.now refl refl)
 
 pub returns-in-Dump-clause-steps : goal.returns-in-Dump-clause-steps
 returns-in-Dump-clause-steps g c s at =
-    given_steps (g.R.Runner.looks c.args.runner.now) s (line_of c.args.line.now) (line.Dump c.in-Dump.aid) (Some (answer.Dump c.in-Dump.aid)) c.args.steps.now c.args.steps.now (ap line_of c.in-Dump.is) (quiet_steps (g.R.Runner.looks c.args.runner.now) s (line.Dump c.in-Dump.aid) (Some (answer.Dump c.in-Dump.aid)) c.args.steps.now c.args.steps.now refl refl)
+    given_steps s (line_of c.args.line.now) (line.Dump c.in-Dump.aid) (Some (answer.Dump c.in-Dump.aid)) c.args.steps.now c.args.steps.now (ap line_of c.in-Dump.is) (quiet_steps s (line.Dump c.in-Dump.aid) (Some (answer.Dump c.in-Dump.aid)) c.args.steps.now c.args.steps.now refl refl)
 
 pub returns-in-Budget-clause-steps : goal.returns-in-Budget-clause-steps
 returns-in-Budget-clause-steps g c s at =
-    given_steps (g.R.Runner.looks c.args.runner.now) s (line_of c.args.line.now) (line.Budget c.in-Budget.budget) None c.args.steps.now c.args.steps.now (ap line_of c.in-Budget.is) (quiet_steps (g.R.Runner.looks c.args.runner.now) s (line.Budget c.in-Budget.budget) None c.args.steps.now c.args.steps.now refl refl)
+    given_steps s (line_of c.args.line.now) (line.Budget c.in-Budget.budget) None c.args.steps.now c.args.steps.now (ap line_of c.in-Budget.is) (quiet_steps s (line.Budget c.in-Budget.budget) None c.args.steps.now c.args.steps.now refl refl)
 
 pub returns-in-Cut-clause-steps : goal.returns-in-Cut-clause-steps
 returns-in-Cut-clause-steps g c s at =
-    given_steps (g.R.Runner.looks c.args.runner.now) s (line_of c.args.line.now) (line.Cut c.in-Cut.k c.in-Cut.fill) None c.args.steps.now c.args.steps.now (ap line_of c.in-Cut.is) (quiet_steps (g.R.Runner.looks c.args.runner.now) s (line.Cut c.in-Cut.k c.in-Cut.fill) None c.args.steps.now c.args.steps.now refl refl)
+    given_steps s (line_of c.args.line.now) (line.Cut c.in-Cut.k c.in-Cut.fill) None c.args.steps.now c.args.steps.now (ap line_of c.in-Cut.is) (quiet_steps s (line.Cut c.in-Cut.k c.in-Cut.fill) None c.args.steps.now c.args.steps.now refl refl)
 
 pub returns-in-Fail-clause-steps : goal.returns-in-Fail-clause-steps
 returns-in-Fail-clause-steps g c s at =
-    given_steps (g.R.Runner.looks c.args.runner.now) s (line_of c.args.line.now) (line.Fail c.in-Fail.k) None c.args.steps.now c.args.steps.now (ap line_of c.in-Fail.is) (quiet_steps (g.R.Runner.looks c.args.runner.now) s (line.Fail c.in-Fail.k) None c.args.steps.now c.args.steps.now refl refl)
+    given_steps s (line_of c.args.line.now) (line.Fail c.in-Fail.k) None c.args.steps.now c.args.steps.now (ap line_of c.in-Fail.is) (quiet_steps s (line.Fail c.in-Fail.k) None c.args.steps.now c.args.steps.now refl refl)
 
 pub returns-in-Poke-clause-steps : goal.returns-in-Poke-clause-steps
 returns-in-Poke-clause-steps g c s at =
-    given_steps (g.R.Runner.looks c.args.runner.now) s (line_of c.args.line.now) (line.Poke c.in-Poke.at c.in-Poke.fill) None c.args.steps.now c.args.steps.now (ap line_of c.in-Poke.is) (quiet_steps (g.R.Runner.looks c.args.runner.now) s (line.Poke c.in-Poke.at c.in-Poke.fill) None c.args.steps.now c.args.steps.now refl refl)
+    given_steps s (line_of c.args.line.now) (line.Poke c.in-Poke.at c.in-Poke.fill) None c.args.steps.now c.args.steps.now (ap line_of c.in-Poke.is) (quiet_steps s (line.Poke c.in-Poke.at c.in-Poke.fill) None c.args.steps.now c.args.steps.now refl refl)
 
 pub returns-in-Load-clause-steps : goal.returns-in-Load-clause-steps
 returns-in-Load-clause-steps g c s at =
-    given_steps (g.R.Runner.looks c.args.runner.now) s (line_of c.args.line.now) (line.Sent (line.Load (parts_of c.in-Load.unit) c.in-Load.fixed c.in-Load.session)) (Some c.card_line.result) c.args.steps.now c.card_line.new.steps (ap line_of c.in-Load.is) (c.card_line.ensures.steps s at)
+    given_steps s (line_of c.args.line.now) (line.Sent (line.Load (parts_of c.in-Load.unit) c.in-Load.fixed c.in-Load.session)) (Some c.card_line.result) c.args.steps.now c.card_line.new.steps (ap line_of c.in-Load.is) (c.card_line.ensures.steps s at)
 
 pub returns-in-Select-clause-steps : goal.returns-in-Select-clause-steps
 returns-in-Select-clause-steps g c s at =
-    given_steps (g.R.Runner.looks c.args.runner.now) s (line_of c.args.line.now) (line.Sent (line.Select c.in-Select.aid)) (Some c.card_line-in-Select.result) c.args.steps.now c.card_line-in-Select.new.steps (ap line_of c.in-Select.is) (c.card_line-in-Select.ensures.steps s at)
+    given_steps s (line_of c.args.line.now) (line.Sent (line.Select c.in-Select.aid)) (Some c.card_line-in-Select.result) c.args.steps.now c.card_line-in-Select.new.steps (ap line_of c.in-Select.is) (c.card_line-in-Select.ensures.steps s at)
 
 pub returns-in-Delete-clause-steps : goal.returns-in-Delete-clause-steps
 returns-in-Delete-clause-steps g c s at =
-    given_steps (g.R.Runner.looks c.args.runner.now) s (line_of c.args.line.now) (line.Sent (line.Delete c.in-Delete.aid)) (Some c.card_line-in-Delete.result) c.args.steps.now c.card_line-in-Delete.new.steps (ap line_of c.in-Delete.is) (c.card_line-in-Delete.ensures.steps s at)
+    given_steps s (line_of c.args.line.now) (line.Sent (line.Delete c.in-Delete.aid)) (Some c.card_line-in-Delete.result) c.args.steps.now c.card_line-in-Delete.new.steps (ap line_of c.in-Delete.is) (c.card_line-in-Delete.ensures.steps s at)
 
 pub returns-in-Apdu-clause-steps : goal.returns-in-Apdu-clause-steps
 returns-in-Apdu-clause-steps g c s at =
-    given_steps (g.R.Runner.looks c.args.runner.now) s (line_of c.args.line.now) (line.Sent (line.Apdu c.in-Apdu.bytes.now)) (Some c.card_line-in-Apdu.result) c.args.steps.now c.card_line-in-Apdu.new.steps (ap line_of c.in-Apdu.is) (c.card_line-in-Apdu.ensures.steps s at)
+    given_steps s (line_of c.args.line.now) (line.Sent (line.Apdu c.in-Apdu.bytes.now)) (Some c.card_line-in-Apdu.result) c.args.steps.now c.card_line-in-Apdu.new.steps (ap line_of c.in-Apdu.is) (c.card_line-in-Apdu.ensures.steps s at)
 
 pub returns-in-Format-clause-powers : goal.returns-in-Format-clause-powers
 returns-in-Format-clause-powers g c =

@@ -1,15 +1,13 @@
-use Rattle.std.proofs.Common.{Some, ap, subst, ◌∙◌}
+use Rattle.std.proofs.Common.{subst}
 use Rattle.std.specs.Prelude.{is_err}
 use Rattle.model_play.specs.Play.{line_command}
 use Rattle.mc_card.specs.Parts.{card_in, session_state_in}
 use Rattle.mc_card.specs.Ends.{outcome_or_stop}
 use Rattle.mc_script.specs.Commands.{deck_line_of}
 use Rattle.mc_script.specs.Runs.{RanAndReported, SentCommand, line_bytes, sent_by}
-use Rattle.mc_script.specs.declared.answer.Answer.{Answer}
-use Rattle.mc_script.specs.StepCounts.{answer_reads}
+use Rattle.mc_script.specs.StepCounts.{instructions, line_search, StepsOf}
 use Rattle.mc_script.proofs.CommandLineLemmas.{sent_over, command_done, command_stopped_as}
-use Rattle.mc_script.proofs.CommandStepLemmas.{are_sent}
-use Rattle.mc_script.proofs.StepRunLemmas.{CardSteps, done_steps, stop_steps, stop_text}
+use Rattle.mc_script.proofs.StepRunLemmas.{done_steps, stop_steps}
 use Rattle.mc_script.proofs.player.Player.run_on.Goals as goal
 
 pub returns-in-Ok-clause-done : goal.returns-in-Ok-clause-done
@@ -46,9 +44,8 @@ returns-in-Ok-clause-steps g c s at =
     let p = c.args.self.now in
     let u = c.arm.new.card in
     let l = deck_line_of c.args.command.now in
-    let looks = g.R.Runner.looks c.args.runner.now in
-    done_steps state g.N.Bench.bench looks p u s l c.args.steps.now c.run_line-ended.new.steps (are_sent c.args.command.now) at c.requires.on c.arm.ensures.state c.arm.ensures.rest
-    (subst (λ r. CardSteps state g.N.Bench.bench looks u p.budget l (is_err r) c.args.steps.now c.run_line-ended.new.steps) c.in-Ok.is c.run_line-ended.ensures.steps)
+    done_steps state g.N.Bench.bench p u s l c.args.steps.now c.run_line-ended.new.steps at c.requires.on c.arm.ensures.state c.arm.ensures.rest
+    (subst (λ r. StepsOf (instructions (line_command (card_in state u) (session_state_in state u) p.budget l).turns) (line_search (card_in state u) l) (is_err r) c.args.steps.now c.run_line-ended.new.steps) c.in-Ok.is c.run_line-ended.ensures.steps)
 
 pub returns-in-Err-clause-steps : goal.returns-in-Err-clause-steps
 returns-in-Err-clause-steps g c s at =
@@ -56,9 +53,5 @@ returns-in-Err-clause-steps g c s at =
     let p = c.args.self.now in
     let u = c.arm.new.card in
     let l = deck_line_of c.args.command.now in
-    let looks = g.R.Runner.looks c.args.runner.now in
-    stop_steps state g.N.Bench.bench looks p u s l c.in-Err.stop c.answer_after_stop.result c.args.steps.now c.run_line-ended.new.steps (are_sent c.args.command.now) at c.requires.on c.arm.ensures.state c.arm.ensures.rest c.answer_after_stop.ensures
-    (subst (λ r. CardSteps state g.N.Bench.bench looks u p.budget l (is_err r) c.args.steps.now c.run_line-ended.new.steps) c.in-Err.is c.run_line-ended.ensures.steps)
-
-pub returns-in-Err-clause-text : goal.returns-in-Err-clause-text
-returns-in-Err-clause-text g c = ap (λ (a : Answer). answer_reads (Some a)) c.answer_after_stop.ensures ∙ stop_text c.in-Err.stop c.args.self.now.armed
+    stop_steps state g.N.Bench.bench p u s l c.in-Err.stop c.answer_after_stop.result c.args.steps.now c.run_line-ended.new.steps at c.requires.on c.arm.ensures.state c.arm.ensures.rest c.answer_after_stop.ensures
+    (subst (λ r. StepsOf (instructions (line_command (card_in state u) (session_state_in state u) p.budget l).turns) (line_search (card_in state u) l) (is_err r) c.args.steps.now c.run_line-ended.new.steps) c.in-Err.is c.run_line-ended.ensures.steps)

@@ -16,4 +16,4 @@ returns-then-is_none-clause-reports g c before ts none reported =
     let free : c.args.self.now.fault ≡ None = search rules in
     let is = sym (ap write_result c.err-self.ensures.value ∙ ended_err c.put_answer.result) in
     subst (λ (r : Result (Unit {0}) WriteFault). Puts at (turns_text before.reporting ts ++ line) r now) is
-    (line_behind before.fault c.args.self.now.fault at (sunk_in g.T.Sink.taken g.T.Sink.faults c.args.self.now.out.now) now (reported_turns before.reporting ts) line c.put_answer.result none free reported.lines c.put_answer.ensures.value)
+    (line_behind before.fault c.args.self.now.fault at (sunk_in g.T.Sink.taken g.T.Sink.faults c.args.self.now.out.now) now (reported_turns before.reporting ts) line c.put_answer.result none free reported.lines c.put_answer.ensures)

@@ -1,4 +1,4 @@
-use Rattle.std.proofs.Common.{ℕ, ap, subst, sym, ◌∙◌, arith}
+use Rattle.std.proofs.Common.{ℕ, ap, subst, sym, ◌∙◌}
 use Rattle.mc_base.specs.model_device.specs.Card.{name_at}
 use Rattle.mc_store.specs.Slots.{IsUsedBlock}
 use Rattle.mc_store.proofs.ReadLemmas.{of_slot, reported}
@@ -14,6 +14,5 @@ pub returns : goal.returns
 returns g c =
     let d = g.N.Nvm.state c.args.self.now.device in
     let t = reported d c.args.self.now.count c.args.slot c.name_of_block.result c.sizes.result (sized c.len-size.ensures.image) c.requires.going c.requires.there
-    (c.name_of_block.ensures.name ∙ ap (λ (k : ℕ). name_at d.words k) c.index.ensures) c.sizes.ensures in
-    let ticks = c.name_of_block.ensures.ticks in
-    record { name = t.name; app = t.app; sizes = t.sizes; limits = t.limits; rises = omega (arith, ticks); reads = omega (arith, ticks) }
+    (c.name_of_block.ensures ∙ ap (λ (k : ℕ). name_at d.words k) c.index.ensures) c.sizes.ensures in
+    record { name = t.name; app = t.app; sizes = t.sizes; limits = t.limits }

@@ -1,4 +1,0 @@
-use Rattle.mc_card_tests.proofs.stores.migrations.migrations.Given as goal
-
-abbrev pub ghosts-first_other : goal.ghosts-first_other
-ghosts-first_other g a = record { name = a.blank.name; parts = a.blank.parts }
