@@ -2,7 +2,7 @@
 use Rattle.std.proofs.Common.{◌≡◌, ℕ, List, [], ◌∷◌, ◌++◌, Option, refl, sym, ap, subst, ◌∙◌, append_assoc}
 use Rattle.std.specs.Prelude.{flat_map}
 use Rattle.std.proofs.lemmas.List.{append-nil}
-use Rattle.mc_base.specs.model_device.specs.Device.{DeviceState, BenchState}
+use Rattle.mc_words.specs.model_device.specs.Device.{DeviceState, BenchState}
 use Rattle.mc_deck.specs.model_play.specs.DeckGrammar.{DeckLine}
 use Rattle.mc_deck.specs.model_play.specs.Play.{FailedWrite, State, Step, plays, step}
 use Rattle.desk_draft.specs.FullTurns.{FullTurn, turns_of_step}

@@ -1,7 +1,7 @@
 // How often each line of a draft's code ran, and each of its branches went each way.
 ghost use Rattle.std.specs.Prelude.{◌≡◌, ◌++◌, [], map, IfErr, IfOk};
 ghost use Rattle.std.specs.List.{AllByRecursion};
-ghost use Rattle.mc_base.specs.model_device.specs.Device.{IsImage};
+ghost use Rattle.mc_words.specs.model_device.specs.Device.{IsImage};
 ghost use Rattle.mc_arith.specs.model_machine.specs.Code.{front};
 ghost use Rattle.mc_deck.specs.model_play.specs.Play.{start};
 ghost use Rattle.mc_deck.specs.model_play.specs.ReadyAgain.{IsLine};
@@ -23,7 +23,7 @@ use crate::lcov::{LineCount, put_record};
 use crate::sections::{Section, Sections, bytes_of};
 use desk_draft::CodeLine;
 use mc_arith::Flags;
-use mc_base::{Steps, Stop};
+use mc_words::{Steps, Stop};
 use mc_card::{BriefTurn, Card};
 use mc_deck::Deck;
 use mc_isa::{Ins, decode};

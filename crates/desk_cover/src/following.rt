@@ -12,7 +12,7 @@ ghost use Rattle.desk_cover.specs.Known.{Knows};
 
 use crate::known::Known;
 use crate::sections::Sections;
-use mc_base::{Steps, Stop};
+use mc_words::{Steps, Stop};
 use mc_card::{BriefTurn, Card};
 use mc_machine::Outcome;
 use mc_nvm::Nvm;

@@ -26,7 +26,7 @@ use crate::looking::{After, Scene};
 use crate::sections::Sections;
 use arrayvec::ArrayVec;
 use desk_draft::CodeLine;
-use mc_base::{Steps, Stop};
+use mc_words::{Steps, Stop};
 use mc_card::{BriefTurn, Card};
 use mc_deck::Deck;
 use mc_machine::Outcome;

@@ -9,7 +9,7 @@ ghost use Rattle.desk_steps.specs.Turning.{bare_value, end_of};
 
 use desk_json::Sheet;
 use law_steps::model_machine::Abend;
-use mc_base::Aid;
+use mc_words::Aid;
 use mc_isa::{Ins, text_of};
 use mc_machine::{BriefTurn, End};
 use mc_streams::Sink;

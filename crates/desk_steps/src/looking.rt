@@ -8,7 +8,7 @@ ghost use Rattle.desk_cover.specs.Watching.{IsWatched};
 
 use desk_cover::Sections;
 use mc_bank::Bank;
-use mc_base::Aid;
+use mc_words::Aid;
 use mc_card::Card;
 use mc_nvm::Nvm;
 

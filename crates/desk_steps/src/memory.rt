@@ -22,7 +22,7 @@ use crate::shot::Shot;
 use crate::writes::{device_writes, turn_words};
 use arrayvec::ArrayVec;
 use mc_bank::Bank;
-use mc_base::Aid;
+use mc_words::Aid;
 use mc_card::{BriefTurn, Card, Chain};
 use mc_deck::Line;
 use mc_isa::Ins;

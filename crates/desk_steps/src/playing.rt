@@ -19,7 +19,7 @@ use crate::statements::Statements;
 use arrayvec::ArrayVec;
 use desk_cover::Sections;
 use desk_json::{Sheet, written};
-use mc_base::Steps;
+use mc_words::Steps;
 use mc_deck::Deck;
 use mc_nvm::Bench;
 use mc_script::{Answer, Player, Text, add_result};

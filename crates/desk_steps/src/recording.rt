@@ -25,7 +25,7 @@ use crate::memory::Memory;
 use crate::shot::Shot;
 use desk_cover::Sections;
 use desk_json::Sheet;
-use mc_base::Aid;
+use mc_words::Aid;
 use mc_card::{BriefTurn, Card};
 use mc_deck::Line;
 use mc_nvm::Nvm;

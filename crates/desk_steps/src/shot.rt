@@ -10,7 +10,7 @@ ghost use Rattle.law_steps.specs.Spans.{look_register, look_resolve};
 ghost use Rattle.desk_steps.specs.Shots.{dynamics, look_of, shot_byte, shot_number, shot_reading, statics};
 
 use mc_bank::Bank;
-use mc_base::{Aid, bytes_of};
+use mc_words::{Aid, bytes_of};
 use mc_card::Card;
 use mc_nvm::Nvm;
 use mc_segs::{Frame, Place, Public, look};

@@ -15,7 +15,7 @@ use lab_history::{Break, Course, Extent, Standing, apply, broken_always, first_a
 use lab_key::CardState;
 use lab_record::Subject;
 use lab_search::{Candidate, Laboratory, Manner, Search, Step, Tried};
-use mc_base::{NoMemory, Steps};
+use mc_words::{NoMemory, Steps};
 use std::alloc::Global;
 use std::sync::ledger::Ledger;
 

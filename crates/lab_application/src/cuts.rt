@@ -15,7 +15,7 @@ use crate::attempts::{Attempt, Halt, Reached};
 use lab_branch::push;
 use lab_history::{Extent, is_durable};
 use lab_search::{Fill, Manner, Search, next_write};
-use mc_base::{NoMemory, Steps};
+use mc_words::{NoMemory, Steps};
 use std::alloc::Global;
 use std::sync::ledger::Ledger;
 

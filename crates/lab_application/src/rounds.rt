@@ -12,7 +12,7 @@ use crate::courses::course_of;
 use lab_record::Subject;
 use lab_rules::Exploration;
 use lab_search::{Candidate, Search};
-use mc_base::{NoMemory, Steps};
+use mc_words::{NoMemory, Steps};
 use std::alloc::Global;
 use std::sync::ledger::Ledger;
 

@@ -9,7 +9,7 @@ ghost use Rattle.lab_application.specs.Finding.{IsKept};
 use lab_branch::{BranchNvm, read_applications, static_bytes};
 use lab_key::{CardState, Rosters};
 use lab_search::{Laboratory, put_card};
-use mc_base::{Aid, NoMemory};
+use mc_words::{Aid, NoMemory};
 use mc_script::{Live, Player};
 use std::alloc::Global;
 

@@ -16,7 +16,7 @@ use crate::counting::counting;
 use crate::refusal::{ApplicationRefusal, first_refusal, move_refusal};
 use lab_moves::read_moves;
 use lab_rules::Exploration;
-use mc_base::Aid;
+use mc_words::Aid;
 use mc_deck::{Deck, DeckRefusal};
 use prove_events::Rules;
 use prove_rules::{RuleRefusal, read_named_rules};

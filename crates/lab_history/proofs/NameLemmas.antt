@@ -2,7 +2,7 @@
 use Rattle.std.proofs.Common.{◌≡◌, ℕ, zero, suc, ◌-◌, List, [], ◌∷◌, Bool, true, false, cond, Option, Some, None, refl, sym, ap, subst, ◌∙◌}
 use Rattle.std.specs.Prelude.{bytes_eq, nat_le, option_map, slice_get, slice_set, unwrap_or}
 use Rattle.std.proofs.lemmas.Slice.Eq.{bytes_eq-Decides}
-use Rattle.mc_base.specs.model_device.specs.Bytes.{lookup}
+use Rattle.model_device.specs.Bytes.{lookup}
 use Rattle.prove_events.specs.law_explore.specs.Tries.{amount_of, with_amount}
 use Rattle.prove_events.specs.model_rules.specs.Rules.{Action, Allows, Spends, Needs, OnLine}
 use Rattle.prove_events.specs.model_rules.specs.Keeping.{Amounts, after_action, if_enough}

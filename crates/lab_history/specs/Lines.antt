@@ -1,6 +1,6 @@
 -- The lines of rules as the code has them, and those of the definition.
 use Rattle.std.specs.Prelude.{◌≡◌, ℕ, suc, cond, List, [], ◌∷◌, map, bytes_eq, option_map, Option, Some, None, Result, Ok, Err, ⊤}
-use Rattle.mc_base.specs.model_device.specs.Bytes.{lookup}
+use Rattle.model_device.specs.Bytes.{lookup}
 use Rattle.prove_events.specs.model_rules.specs.Rules.{Action, Allows, Spends, Needs, OnLine, Range}
 use Rattle.prove_events.specs.model_rules.specs.Keeping.{Amounts, Break, ByLine, after_action, is_in_range}
 use Rattle.prove_events.specs.declared.rules.Always.{Always}

@@ -1,6 +1,6 @@
 -- What a sum that is moved does to blocks of bytes, one after the other.
 use Rattle.std.specs.Prelude.{◌≡◌, ℕ, ◌+◌, ◌*◌, ◌%◌, ◌^◌, Bool, true, false, List, [], ◌∷◌, ◌++◌, drop, length, slice_get, take, Option, Some, None}
-use Rattle.mc_base.specs.model_device.specs.Bytes.{num}
+use Rattle.model_device.specs.Bytes.{num}
 use Rattle.prove_events.specs.declared.rules.Balance.{Balance}
 use Rattle.prove_events.specs.declared.rules.Effect.{Effect}
 use Rattle.prove_events.specs.declared.rules.Effect.TheVariants as effect

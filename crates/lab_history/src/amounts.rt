@@ -2,7 +2,7 @@
 ghost use Rattle.std.specs.Prelude.{◌≡◌, is_some, map, unwrap_or, IfOk};
 ghost use Rattle.lab_history.specs.Amounts.{amount_after, amounts_after};
 
-use mc_base::NoMemory;
+use model_device::NoMemory;
 use prove_events::{Effect, On, Rules};
 use std::alloc::Global;
 

@@ -1,6 +1,6 @@
 // What happens to an application, counted.
 ghost use Rattle.std.specs.Prelude.{◌≡◌, slice_get, slice_set, vec_len, IfNone};
-ghost use Rattle.mc_base.specs.model_device.specs.Bytes.{num};
+ghost use Rattle.model_device.specs.Bytes.{num};
 ghost use Rattle.lab_history.specs.Applying.{course_effect, deed_effect, deeds_effect, end_effect, is_session, line_effect, lines_effect, session_effect, session_if, ComesTo};
 ghost use Rattle.lab_history.specs.Moves.{takes_from_sum, AreDone, IsDone, IsLineMoved};
 

@@ -8,7 +8,7 @@ ghost use Rattle.lab_key.specs.Kept.{IsKeptCard, IsOfDevice, IsSavedOf};
 use crate::key::{CardKey, PlaceKey, Stage};
 use indexmap::{IndexMap, IndexSet};
 use lab_branch::{BranchNvm, Roster};
-use mc_base::{NoMemory, Word};
+use mc_words::{NoMemory, Word};
 use mc_script::Live;
 use std::alloc::Global;
 

@@ -11,7 +11,7 @@ ghost use Rattle.lab_key.specs.KeyOf.{KeyOf};
 use crate::session::SessionKey;
 use indexmap::IndexSet;
 use lab_branch::{Application, Roster, read_applications, static_bytes};
-use mc_base::NoMemory;
+use mc_words::NoMemory;
 use mc_nvm::Nvm;
 use mc_script::Live;
 use std::alloc::Global;

@@ -7,7 +7,7 @@ ghost use Rattle.lab_key.specs.Sessions.{session_value, selected_value, load_val
 
 use lab_branch::read_section;
 use mc_bank::Part;
-use mc_base::NoMemory;
+use mc_words::NoMemory;
 use mc_card::SavedSession;
 use mc_manager::Load;
 use mc_nvm::Nvm;

@@ -1,6 +1,6 @@
 -- A player that plays a line goes on playing.
 use Rattle.std.specs.Prelude.{List, Option}
-use Rattle.mc_base.specs.model_device.specs.Device.{DeviceState, BenchState}
+use Rattle.mc_words.specs.model_device.specs.Device.{DeviceState, BenchState}
 use Rattle.mc_apdu.specs.model_machine.specs.Chain.{Turn}
 use Rattle.lab_match.specs.model_play.specs.DeckGrammar.{DeckLine}
 use Rattle.lab_match.specs.model_play.specs.Play.{step}

@@ -2,7 +2,7 @@
 use Rattle.std.proofs.Common.{◌≡◌, ℕ, Bool, false, true, List, Option, Some, None, option_map, sym, ap, subst, ◌∙◌}
 use Rattle.std.specs.Prelude.{is_some}
 use Rattle.std.specs.Borrow.{Bor}
-use Rattle.mc_base.specs.model_device.specs.Device.{DeviceState, BenchState}
+use Rattle.mc_words.specs.model_device.specs.Device.{DeviceState, BenchState}
 use Rattle.mc_apdu.specs.model_machine.specs.Chain.{Outcome}
 use Rattle.lab_match.specs.model_play.specs.DeckGrammar.{DeckLine}
 use Rattle.lab_match.specs.model_play.specs.Play.{FailedWrite, LineResult, State, armed_stop_in, moves_of, steady_at, step}

@@ -1,7 +1,7 @@
 -- What is seen of the instructions of a step is what is seen first of the command that its player sends.
 use Rattle.std.proofs.Common.{◌≡◌, ◌⊎◌, inl, inr, ℕ, false, List, [], length, take, Option, Some, None, refl, sym, ap, subst, ◌∙◌}
-use Rattle.mc_base.specs.model_device.specs.Device.{DeviceState, BenchState}
-use Rattle.mc_base.specs.model_device.specs.PowerUp.{Base, OnCard}
+use Rattle.mc_words.specs.model_device.specs.Device.{DeviceState, BenchState}
+use Rattle.mc_words.specs.model_device.specs.PowerUp.{Base, OnCard}
 use Rattle.mc_apdu.specs.model_machine.specs.Chain.{Turn}
 use Rattle.mc_bank.specs.model_card.specs.Items.{StopAt}
 use Rattle.lab_match.specs.model_play.specs.DeckGrammar.{DeckLine}

@@ -2,8 +2,8 @@
 use Rattle.std.specs.Prelude.{◌≡◌, ◌≢◌, ℕ, zero, suc, ◌+◌, ◌*◌, ◌<◌, ◌≤◌, ◌&&◌, Bool, true, false, List, [], ◌∷◌, ◌++◌, drop, is_some, length, slice_get, take, Option, Some, None, Result, Ok, Err, OnOk, refl}
 use Rattle.std.proofs.Common.{arith, ap, sym, subst, ◌∙◌}
 use Rattle.std.proofs.Math.Nat.{add-mul, mul-le-mul_right, one-mul}
-use Rattle.mc_base.specs.model_device.specs.Device.{BenchState, DeviceState, blank_words, device_words}
-use Rattle.mc_base.specs.model_device.specs.PowerUp.{Base, OnCard, AtFault}
+use Rattle.mc_words.specs.model_device.specs.Device.{BenchState, DeviceState, blank_words, device_words}
+use Rattle.mc_words.specs.model_device.specs.PowerUp.{Base, OnCard, AtFault}
 use Rattle.mc_bank.specs.model_card.specs.Commands.{command}
 use Rattle.mc_apdu.specs.model_machine.specs.Apdu.{apdu_read}
 use Rattle.mc_apdu.specs.model_machine.specs.Chain.{Turn}

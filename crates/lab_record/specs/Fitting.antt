@@ -1,6 +1,6 @@
 -- The `on` lines that fit an event, and what they move.
 use Rattle.std.specs.Prelude.{ℕ, ◌+◌, ◌-◌, Bool, true, false, cond, ◌&&◌, ◌||◌, List, [], ◌∷◌, take, drop, slice_get, Option, Some, None}
-use Rattle.mc_base.specs.model_device.specs.Bytes.{num}
+use Rattle.mc_words.specs.model_device.specs.Bytes.{num}
 use Rattle.lab_match.specs.law_explore.specs.Matching.{fits}
 use Rattle.prove_events.specs.declared.rules.Amount.{Amount}
 use Rattle.prove_events.specs.declared.rules.Amount.TheVariants as amount

@@ -1,6 +1,6 @@
 -- What is recorded of the instructions of a command: what each of them does to what is counted of one application.
 use Rattle.std.specs.Prelude.{ℕ, ◌+◌, Bool, true, false, cond, not, ◌&&◌, ◌||◌, ◌==◌, nat_le, nat_lt, min, List, [], ◌∷◌, ◌++◌, bytes_eq, is_none, slice_get, Option, Some, None}
-use Rattle.mc_base.specs.model_device.specs.Bytes.{num}
+use Rattle.mc_words.specs.model_device.specs.Bytes.{num}
 use Rattle.mc_apdu.specs.model_machine.specs.declared.instruction.Ins.{Ins}
 use Rattle.mc_apdu.specs.model_machine.specs.declared.machine.Abend.{Abend}
 use Rattle.mc_apdu.specs.model_machine.specs.declared.machine.Abend.TheVariants as abend

@@ -1,6 +1,6 @@
 -- A line that was played, and what it did to what is counted of an application.
 use Rattle.std.specs.Prelude.{◌≡◌, ℕ, Bool, List, [], length, take, is_some, Option}
-use Rattle.mc_base.specs.model_device.specs.PowerUp.{Base, OnCard, AtFault}
+use Rattle.mc_words.specs.model_device.specs.PowerUp.{Base, OnCard, AtFault}
 use Rattle.mc_apdu.specs.model_machine.specs.Chain.{Outcome}
 use Rattle.lab_match.specs.model_play.specs.DeckGrammar.{DeckLine}
 use Rattle.lab_match.specs.model_play.specs.Play.{State, BeforePower, AfterPower, Live, Running, Unpowered, Muted, Step}

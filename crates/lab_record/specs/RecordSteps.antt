@@ -1,7 +1,7 @@
 -- The most steps of a deck that is recorded: each line once, and the lines up to one that a stop hit again, whole and for
 -- each device write up to the stop.
 use Rattle.std.specs.Prelude.{◌≡◌, ℕ, ◌+◌, ◌*◌, Bool, true, false, ◌&&◌, List, [], ◌∷◌, is_some, Option, Some, None}
-use Rattle.mc_base.specs.model_device.specs.Device.{BenchState, DeviceState, blank_words, device_words}
+use Rattle.mc_words.specs.model_device.specs.Device.{BenchState, DeviceState, blank_words, device_words}
 use Rattle.lab_match.specs.model_play.specs.DeckGrammar.{DeckLine}
 use Rattle.lab_match.specs.model_play.specs.DeckGrammar as line
 use Rattle.lab_match.specs.model_play.specs.Play.{State, Step, armed_stop_in, moves_of, start, steady_at, step}

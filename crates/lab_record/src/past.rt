@@ -1,6 +1,6 @@
 // What happened to an application while the lines of its deck were played.
 ghost use Rattle.std.specs.Prelude.{◌≡◌, ◌+◌, ◌*◌, ◌<◌, ◌≤◌, ℕ, length, option_map, slice_get, take, None, OnOk, Some};
-ghost use Rattle.mc_base.specs.model_device.specs.Device.{blank_words, device_words};
+ghost use Rattle.mc_words.specs.model_device.specs.Device.{blank_words, device_words};
 ghost use Rattle.lab_match.specs.model_play.specs.DeckGrammar.{DeckLine};
 ghost use Rattle.lab_match.specs.model_play.specs.Play.{State, start};
 ghost use Rattle.mc_script.specs.Benches.{IsPlaying};
@@ -12,7 +12,7 @@ use crate::recording::{Played, play_recorded};
 use crate::subject::Subject;
 use lab_branch::push;
 use lab_history::{Break, Course, Extent, Standing, apply, broken_always, is_durable};
-use mc_base::{NoMemory, Steps};
+use mc_words::{NoMemory, Steps};
 use mc_deck::{Deck, Line};
 use mc_nvm::{Bench, DEVICE_WORDS, SimNvm};
 use mc_script::Player;

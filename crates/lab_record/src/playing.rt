@@ -7,7 +7,7 @@ ghost use Rattle.mc_script.specs.Benches.{IsPlayerAt, IsPlaying};
 ghost use Rattle.lab_record.specs.Benches.{IsSteadyAt};
 ghost use Rattle.lab_record.specs.RecordSteps.{most_of_line, most_of_lines, state_after, steady_step};
 
-use mc_base::Steps;
+use mc_words::Steps;
 use mc_deck::{Deck, Line};
 use mc_nvm::Bench;
 use mc_script::{Player, Silent};

@@ -14,7 +14,7 @@ use crate::subject::Subject;
 use crate::turning::{fitting_turn, is_named, mode_of};
 use lab_branch::push;
 use lab_history::{Deed, Happening};
-use mc_base::{Aid, NoMemory, Steps, Stop};
+use mc_words::{Aid, NoMemory, Steps, Stop};
 use mc_card::{BriefTurn, Card};
 use mc_machine::{End, Outcome};
 use mc_nvm::Nvm;

@@ -23,7 +23,7 @@ use crate::subject::Subject;
 use lab_branch::push;
 use lab_history::{Course, Happening};
 use lab_match::fits;
-use mc_base::{Aid, NoMemory, Steps};
+use mc_words::{Aid, NoMemory, Steps};
 use mc_deck::Line;
 use mc_nvm::Bench;
 use mc_script::{Answer, Live, Player, Text, add_result};

@@ -1,5 +1,5 @@
 // The application that is recorded.
-use mc_base::Aid;
+use mc_words::Aid;
 use prove_events::Rules;
 
 /// An application: its rules, and its AID.

@@ -15,7 +15,7 @@ ghost use Rattle.prove_events.specs.declared.rules.Event.TheVariants as event;
 
 use crate::fitting::fitting;
 use mc_bank::Bank;
-use mc_base::{Aid, NoMemory};
+use mc_words::{Aid, NoMemory};
 use mc_card::BriefTurn;
 use mc_isa::Ins;
 use mc_prims::Primitive;

@@ -3,7 +3,7 @@ use Rattle.std.proofs.Common.{◌≡◌, ℕ, suc, ◌+◌, min, List, [], ◌�
 use Rattle.std.specs.Prelude.{filter, slice_index_or}
 use Rattle.std.specs.declared.alloc.Global.{Global}
 use Rattle.std.specs.declared.vec.Vec.{Vec}
-use Rattle.mc_base.specs.model_device.specs.Counts.{last_count}
+use Rattle.model_device.specs.Counts.{last_count}
 use Rattle.mc_text.specs.model_machine.specs.Chain.{Turn}
 use Rattle.lab_match.specs.model_play.specs.Play.{Step}
 use Rattle.lab_match.specs.model_play.specs.TraceText.{shown_turns}

@@ -2,7 +2,7 @@
 use Rattle.std.proofs.Common.{◌≡◌, ◌+◌, ◌≤◌, ◌<◌, ℕ, suc, List, [], ◌∷◌, ◌++◌, Bool, true, false, cond, length, Some, None, Result, Ok, Err, arith, add-one, refl, sym, ap, subst, ◌∙◌}
 use Rattle.std.specs.Prelude.{◌==◌, ◌&&◌, not, bytes_eq, codes, ok_or}
 use Rattle.std.proofs.lemmas.Slice.Eq.{bytes_eq-Decides}
-use Rattle.mc_base.specs.model_device.specs.Bytes.{lookup}
+use Rattle.model_device.specs.Bytes.{lookup}
 use Rattle.mc_text.specs.model_text.specs.Text.{◌>>=◌, err_as, fields, lines, ok_as, only_if, trim, with_numbers}
 use Rattle.lab_match.specs.model_play.specs.declared.deck.DeckCause.{DeckCause}
 use Rattle.lab_match.specs.model_play.specs.declared.deck.DeckCause.TheVariants.{BadLine}

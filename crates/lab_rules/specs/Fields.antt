@@ -1,7 +1,7 @@
 -- Lines of rules, and their first words.
 use Rattle.std.specs.Prelude.{◌≡◌, ◌==◌, ℕ, Bool, false, List, [], ◌∷◌, is_some}
 use Rattle.std.specs.List.{AllByRecursion}
-use Rattle.mc_base.specs.model_device.specs.Bytes.{lookup}
+use Rattle.model_device.specs.Bytes.{lookup}
 use Rattle.lab_match.specs.law_explore.specs.Rules.{move_words}
 
 -- a text without a line feed

@@ -1,6 +1,6 @@
 -- The rules of a deck as the code has them, and the rules that they are.
 use Rattle.std.specs.Prelude.{◌≡◌, ℕ, suc, Bool, true, not, ◌&&◌, cond, List, [], ◌∷◌, map, bytes_eq, codes, is_some, option_map, ok_or, Option, Some, None, Result, Ok, Err, ⊤}
-use Rattle.mc_base.specs.model_device.specs.Bytes.{lookup}
+use Rattle.model_device.specs.Bytes.{lookup}
 use Rattle.mc_text.specs.model_text.specs.Text.{◌>>=◌, only_if, fields}
 use Rattle.lab_match.specs.model_play.specs.declared.deck.DeckCause.{DeckCause}
 use Rattle.lab_match.specs.model_play.specs.declared.deck.DeckCause.TheVariants.{BadLine, UnknownName}

@@ -3,7 +3,7 @@
 use Rattle.std.specs.Prelude.{◌≡◌, ℕ, zero, suc, ◌-◌, min, Bool, true, false, cond, ◌&&◌, ◌||◌, nat_le, List, [], ◌∷◌, drop, length, map, replicate, slice_get, slice_index_or, slice_set, option_and_then, Option, Some, None, Result, Ok, Err}
 use Rattle.std.specs.declared.alloc.Global.{Global}
 use Rattle.std.specs.declared.vec.Vec.{Vec}
-use Rattle.mc_base.specs.model_device.specs.Counts.{last_count}
+use Rattle.model_device.specs.Counts.{last_count}
 use Rattle.mc_text.specs.model_text.specs.Text.{◌>>=◌}
 use Rattle.mc_text.specs.model_machine.specs.Chain.{Turn}
 use Rattle.lab_match.specs.model_play.specs.Play.{Step}

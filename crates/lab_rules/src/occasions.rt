@@ -14,7 +14,7 @@ use crate::pattern::{plain, plain_into};
 use crate::rules::{Effect, Move, Occasion, OnRule, Rules};
 use arrayvec::ArrayVec;
 use lab_match::fits;
-use mc_base::NoMemory;
+use model_device::NoMemory;
 use mc_text::cut;
 use std::alloc::{AllocError, Global};
 

@@ -1,6 +1,6 @@
 // The parts of an `on` line: a pattern, and the word after it.
 ghost use Rattle.std.specs.Prelude.{◌≡◌, option_map, MatchResult};
-ghost use Rattle.mc_base.specs.model_device.specs.Bytes.{lookup};
+ghost use Rattle.model_device.specs.Bytes.{lookup};
 ghost use Rattle.mc_text.specs.model_text.specs.Text.{fields};
 ghost use Rattle.lab_match.specs.law_explore.specs.Rules.{effect_words, full_parts, occasion_words, parts_of};
 ghost use Rattle.mc_deck.specs.Refused.{Faulty};

@@ -13,7 +13,7 @@ ghost use Rattle.mc_script.specs.Watching.{turn_alone};
 ghost use Rattle.lab_search.specs.Counters.{counts_no_turn, counts_on, AreCounted, CountsTurns};
 
 use lab_rules::{OnRule, count_turn, has_turns};
-use mc_base::{Steps, Stop};
+use mc_words::{Steps, Stop};
 use mc_card::{BriefTurn, Card};
 use mc_deck::Line;
 use mc_machine::Outcome;

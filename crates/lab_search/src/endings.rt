@@ -23,7 +23,7 @@ use crate::rounds::{Halt, Search};
 use crate::tally::sum_of;
 use lab_branch::push;
 use lab_rules::{Exploration, Move};
-use mc_base::NoMemory;
+use mc_words::NoMemory;
 use mc_script::JobFault;
 use mc_streams::{Sink, WriteFault};
 use std::alloc::Global;

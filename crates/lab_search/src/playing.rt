@@ -9,7 +9,7 @@ ghost use Rattle.lab_search.specs.Playing.{state_after};
 ghost use Rattle.lab_search.specs.Benches.{PlaysAs};
 ghost use Rattle.lab_search.specs.ExplorationSteps.{most_of_lines};
 
-use mc_base::Steps;
+use mc_words::Steps;
 use mc_deck::{Deck, Line};
 use mc_nvm::Bench;
 use mc_script::{Answer, Player, Silent};

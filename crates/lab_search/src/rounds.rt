@@ -21,7 +21,7 @@ use indexmap::IndexSet;
 use lab_branch::push;
 use lab_key::{CardState, Rosters};
 use lab_rules::Exploration;
-use mc_base::{NoMemory, Steps};
+use mc_words::{NoMemory, Steps};
 use std::alloc::Global;
 use std::sync::ledger::Ledger;
 

@@ -15,7 +15,7 @@ use crate::endings::{Explored, Start};
 use crate::report::put_depth;
 use crate::rounds::Search;
 use lab_rules::{Exploration, applications};
-use mc_base::{NoMemory, Steps};
+use mc_words::{NoMemory, Steps};
 use mc_script::JobFault;
 use mc_streams::Sink;
 use std::alloc::Global;

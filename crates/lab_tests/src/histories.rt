@@ -1,5 +1,5 @@
 use lab_history::{Course, Deed, Extent, Happening, Standing, apply, is_durable};
-use mc_base::NoMemory;
+use model_device::NoMemory;
 use prove_events::{Amount, Balance, Effect, Event, Load, Named, On, Rules, SignedSum};
 use std::alloc::{AllocError, Global};
 use std::test::Fail;

@@ -1,5 +1,5 @@
 // A table of sums beside tables without keys: what is left is what the totals are as the application is created.
-use mc_base::NoMemory;
+use model_device::NoMemory;
 use prove_events::{Balance, Load, Named, Rules, SignedSum};
 use prove_facts::push;
 use prove_keys::Tables;

@@ -1,6 +1,6 @@
 // No clause says that a comparison returns `true`.
 use mc_arith::model_machine::Ins;
-use mc_base::NoMemory;
+use model_device::NoMemory;
 use prove_events::Balance;
 use prove_forms::{Form, Origin};
 use prove_scenes::{Act, Next, Shape, Work};

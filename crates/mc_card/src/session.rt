@@ -3,7 +3,7 @@ ghost use Rattle.std.specs.Prelude.{◌≡◌, option_map};
 ghost use Rattle.mc_card.specs.Parts.{session_state_in};
 
 use crate::card::Card;
-use mc_base::Aid;
+use mc_words::Aid;
 use mc_manager::Load;
 use mc_nvm::Nvm;
 

@@ -15,7 +15,7 @@ use crate::refusal::{DeckRefusal, Fault};
 use crate::text::fields;
 use crate::unit::{OwnedUnit, made};
 use mc_asm::{AsmRefusal, NumberedLine, assemble_lines};
-use mc_base::Aid;
+use mc_words::Aid;
 use model_play::DeckCause;
 use model_play::model_card::UnitRefusal;
 use std::alloc::Global;

@@ -6,7 +6,7 @@ ghost use Rattle.mc_unit.specs.Parts.{parts_of};
 ghost use Rattle.mc_deck.specs.Lines.{owned_parts, NumberWithin};
 
 use crate::bytes::Bytes;
-use mc_base::Aid;
+use mc_words::Aid;
 use mc_unit::Unit;
 use std::alloc::{AllocError, Global};
 

@@ -1,9 +1,9 @@
 ghost use Rattle.std.specs.Prelude.{◌≡◌, ◌+◌, ◌*◌, ◌<◌, ◌≤◌, true, [], ◌∷◌, length, OnOk};
-ghost use Rattle.mc_base.specs.model_device.specs.Device.{Makes};
-ghost use Rattle.mc_base.specs.model_device.specs.Image.{One};
-ghost use Rattle.mc_base.specs.model_device.specs.Stopped.{entries, word_of_number};
+ghost use Rattle.mc_words.specs.model_device.specs.Device.{Makes};
+ghost use Rattle.mc_words.specs.model_device.specs.Image.{One};
+ghost use Rattle.mc_words.specs.model_device.specs.Stopped.{entries, word_of_number};
 
-use mc_base::{Stop, Word};
+use mc_words::{Stop, Word};
 use mc_gate::{Layout, number_word};
 use mc_nvm::Nvm;
 

@@ -10,7 +10,7 @@ ghost use Rattle.mc_lab.specs.Stages.{CountsFront};
 use crate::expected_deck::{ExpectedDeck, count_above};
 use crate::judging::{judge, put_counts};
 use crate::stage::play_lines;
-use mc_base::Steps;
+use mc_words::Steps;
 use mc_nvm::Bench;
 use mc_script::{Player, Text};
 use mc_streams::{Sink, WriteFault};

@@ -7,7 +7,7 @@ ghost use Rattle.mc_script.specs.StepCounts.{PlaySteps};
 ghost use Rattle.mc_lab.specs.Expectations.{result_text};
 ghost use Rattle.mc_lab.specs.Benches.{Staged};
 
-use mc_base::Steps;
+use mc_words::Steps;
 use mc_deck::Deck;
 use mc_nvm::Bench;
 use mc_script::{Answer, Player, Silent, Text, add_result};

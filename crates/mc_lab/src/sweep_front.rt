@@ -13,7 +13,7 @@ ghost use Rattle.mc_lab.specs.SweepFronts.{is_card, IsKeptAt, ShowsPlay};
 ghost use Rattle.mc_lab.specs.SweepSteps.{most_of_front};
 
 use crate::sweep_play::play_line;
-use mc_base::Steps;
+use mc_words::Steps;
 use mc_deck::{Deck, Line};
 use mc_nvm::Bench;
 use mc_script::{Live, Player, Silent};

@@ -12,7 +12,7 @@ use crate::sweep_account::Account;
 use crate::sweep_trial::{Place, TrialLines, Trials};
 use crate::sweep_word::SweepWord;
 use crate::truth::both;
-use mc_base::{NoMemory, Steps};
+use mc_words::{NoMemory, Steps};
 use std::alloc::Global;
 use std::sync::ledger::Ledger;
 

@@ -8,7 +8,7 @@ ghost use Rattle.mc_lab.specs.SweepBodies.{IsRecoveryBound, IsPlace};
 ghost use Rattle.mc_lab.specs.SweepSteps.{most_through};
 
 use crate::sweep_account::Account;
-use mc_base::{Aid, Steps, Word};
+use mc_words::{Aid, Steps, Word};
 use mc_deck::Deck;
 use std::sync::ledger::Ledger;
 

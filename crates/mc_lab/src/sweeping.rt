@@ -23,7 +23,7 @@ use crate::sweep_text::{Sums, put_sums, put_swept};
 use crate::sweep_trial::{Place, Trials};
 use crate::sweep_word::SweepWord;
 use crate::truth::both;
-use mc_base::{Aid, NoMemory, Steps};
+use mc_words::{Aid, NoMemory, Steps};
 use mc_deck::{Deck, Line};
 use mc_script::JobFault;
 use mc_streams::{Sink, WriteFault};

@@ -15,7 +15,7 @@ use crate::fetch::fetch;
 use crate::known::{Table, fetch_known};
 use crate::outcome::{End, last_exit};
 use mc_bank::Bank;
-use mc_base::{Aid, Steps, Stop};
+use mc_words::{Aid, Steps, Stop};
 use mc_isa::{DecodeFault, Ins};
 use mc_prims::{Around, prim};
 use mc_rows::{Flow, step};

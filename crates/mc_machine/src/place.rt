@@ -13,7 +13,7 @@ use crate::outcome::{BriefTurn, Outcome};
 use crate::turning::brief_turn;
 use mc_apdu::Apdu;
 use mc_bank::{Bank, Slot};
-use mc_base::{Steps, Stop};
+use mc_words::{Steps, Stop};
 use mc_segs::Session;
 use std::marker::Model;
 use std::sync::ledger::Ledger;

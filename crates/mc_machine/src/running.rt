@@ -18,7 +18,7 @@ use crate::waiting::Waiting;
 use arrayvec::ArrayVec;
 use mc_apdu::{Apdu, Reply};
 use mc_bank::{Bank, Slot};
-use mc_base::{Aid, Steps, Stop};
+use mc_words::{Aid, Steps, Stop};
 use mc_segs::{Abend, Frame, Public, Session};
 use std::mem;
 use std::sync::ledger::Ledger;

@@ -13,7 +13,7 @@ use crate::load::Load;
 use crate::status::Status;
 use mc_apdu::Apdu;
 use mc_bank::{Bank, Part};
-use mc_base::Aid;
+use mc_words::Aid;
 use mc_unit::aid_of;
 
 /// Returns the name in the DIR record of the open load, which CREATE registers.

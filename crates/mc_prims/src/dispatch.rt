@@ -15,7 +15,7 @@ use crate::names::{delegate, report_delegator};
 use crate::registers::{check_case, load_flags, set_protection, store_flags};
 use crate::table::Primitive;
 use mc_bank::Bank;
-use mc_base::Aid;
+use mc_words::Aid;
 use mc_segs::{Frame, Halt, Next, Public};
 use model_machine::Abend;
 

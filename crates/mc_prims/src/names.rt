@@ -9,7 +9,7 @@ ghost use Rattle.mc_prims.specs.Acting.{alone, PrimActs};
 use crate::access::{Block, read_count};
 use crate::stack::pop_word;
 use mc_bank::Bank;
-use mc_base::Aid;
+use mc_words::Aid;
 use mc_segs::{Frame, Halt, Next, Public, store};
 use model_machine::Abend;
 

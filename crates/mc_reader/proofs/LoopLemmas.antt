@@ -1,8 +1,8 @@
 -- The loop over the frames of an input.
 use Rattle.std.proofs.Common.{◌≡◌, ℕ, ◌+◌, ◌≤◌, Bool, false, List, [], ◌∷◌, ◌++◌, length, Option, None, Result, Ok, Err, refl, arith, sym, ap, subst, ◌∙◌, inl, inr, append_assoc, append-nil, length-append}
 use Rattle.std.specs.List.{AllByRecursion}
-use Rattle.mc_base.specs.model_device.specs.Counts.{Rose, last_count}
-use Rattle.mc_base.specs.model_device.specs.Device.{DeviceState, BenchState}
+use Rattle.mc_words.specs.model_device.specs.Counts.{Rose, last_count}
+use Rattle.mc_words.specs.model_device.specs.Device.{DeviceState, BenchState}
 use Rattle.mc_deck.specs.model_play.specs.Play.{State, FailedWrite, LineResult, Step, plays}
 use Rattle.mc_streams.specs.Streams.{Took}
 use Rattle.mc_streams.specs.declared.refusals.WriteFault.{WriteFault}

@@ -1,7 +1,7 @@
 -- One frame that was served, and the frames after it.
 use Rattle.std.proofs.Common.{◌≡◌, ℕ, ◌+◌, Bool, List, [], ◌∷◌, ◌++◌, drop, Option, Some, None, Result, refl, sym, ◌∙◌, ap, subst}
 use Rattle.std.specs.Prelude.{option_map}
-use Rattle.mc_base.specs.model_device.specs.Device.{DeviceState, BenchState}
+use Rattle.mc_words.specs.model_device.specs.Device.{DeviceState, BenchState}
 use Rattle.mc_deck.specs.model_play.specs.DeckGrammar.{DeckLine}
 use Rattle.mc_deck.specs.model_play.specs.DeckGrammar as line
 use Rattle.mc_deck.specs.model_play.specs.Play.{State, FailedWrite, Step, LineResult, StandsForState, step, plays}

@@ -3,14 +3,14 @@ use Rattle.std.proofs.Common.{◌≡◌, ◌≢◌, ℕ, Bool, false, List, [], 
 use Rattle.std.specs.Prelude.{IfSome}
 use Rattle.std.specs.List.{AllByRecursion}
 use Rattle.std.proofs.lemmas.List.{drop_at}
-use Rattle.mc_base.specs.model_device.specs.Bytes.{AreBytes}
-use Rattle.mc_base.specs.model_device.specs.Device.{DeviceState, BenchState, IsImage}
+use Rattle.mc_words.specs.model_device.specs.Bytes.{AreBytes}
+use Rattle.mc_words.specs.model_device.specs.Device.{DeviceState, BenchState, IsImage}
 use Rattle.mc_deck.specs.model_play.specs.DeckGrammar.{DeckLine}
 use Rattle.mc_deck.specs.model_play.specs.DeckGrammar as line
 use Rattle.mc_deck.specs.model_play.specs.Laws.{HoldsOf}
 use Rattle.mc_deck.specs.model_play.specs.Play.{State, FailedWrite, Step, plays, start, last_state}
 use Rattle.mc_deck.specs.model_play.specs.ReadyAgain.{IsLine, AreLines}
-use Rattle.mc_base.specs.model_device.proofs.ImageLemmas.{all_append}
+use Rattle.mc_words.specs.model_device.proofs.ImageLemmas.{all_append}
 use Rattle.mc_deck.specs.law_family.proofs.DeckBytes.{played_bytes}
 use Rattle.mc_deck.specs.law_family.proofs.PlayLaw.{play_law}
 use Rattle.mc_script.specs.Plays.{Bench, LeadsTo}

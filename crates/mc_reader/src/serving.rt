@@ -1,6 +1,6 @@
 // A session: a deck is played, and then the frames of a host are served.
 ghost use Rattle.std.specs.Prelude.{◌≡◌, ◌≢◌, ℕ, length, Err};
-ghost use Rattle.mc_base.specs.model_device.specs.Bytes.{AreBytes};
+ghost use Rattle.mc_words.specs.model_device.specs.Bytes.{AreBytes};
 ghost use Rattle.mc_deck.specs.model_play.specs.Play.{State};
 ghost use Rattle.mc_text.specs.Texts.{sunk};
 ghost use Rattle.mc_script.specs.Players.{device_of, IsUnfused};
@@ -17,7 +17,7 @@ use crate::host::Host;
 use crate::reading::FrameFault;
 use crate::request::Request;
 use crate::serve_error::ServeError;
-use mc_base::Steps;
+use mc_words::Steps;
 use mc_deck::Deck;
 use mc_nvm::Bench;
 use mc_script::{Answer, Player, Silent};

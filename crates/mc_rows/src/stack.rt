@@ -4,7 +4,7 @@ ghost use Rattle.mc_rows.specs.FrameRows.{FrameActs};
 
 use crate::bytes::zeros;
 use crate::operations::check_block;
-use mc_base::bytes_of;
+use mc_words::bytes_of;
 use mc_segs::{Abend, Frame, discard, push};
 
 /// Executes PUSHZ: pushes n zero bytes.

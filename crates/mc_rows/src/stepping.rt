@@ -18,7 +18,7 @@ use crate::transfers::{
     index, load_address, load_block, load_indirect, store_block, store_indirect,
 };
 use mc_bank::Bank;
-use mc_base::bytes_of;
+use mc_words::bytes_of;
 use mc_segs::{Abend, Frame, Halt, Public};
 use model_machine::Ins;
 

@@ -11,7 +11,7 @@ ghost use Rattle.mc_card.specs.Ends.{outcome_or_stop};
 use crate::loading::{LoadCommands, send};
 use crate::runner::Runner;
 use arrayvec::ArrayVec;
-use mc_base::{Aid, Steps, Stop};
+use mc_words::{Aid, Steps, Stop};
 use mc_card::Card;
 use mc_machine::Outcome;
 use mc_nvm::Nvm;

@@ -5,7 +5,7 @@ ghost use Rattle.mc_script.specs.Benches.{CountsPlayed, DeckPlayed, IsPlayerAt, 
 
 use crate::player::Player;
 use crate::runner::Silent;
-use mc_base::Steps;
+use mc_words::Steps;
 use mc_deck::Deck;
 use mc_nvm::Bench;
 use std::sync::ledger::Ledger;

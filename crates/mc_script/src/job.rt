@@ -1,7 +1,7 @@
 // Why a job over a play ends early.
 ghost use Rattle.std.specs.Prelude.{◌≡◌};
 
-use mc_base::NoMemory;
+use mc_words::NoMemory;
 use mc_streams::WriteFault;
 
 /// Why a job that plays a deck and writes a text ended early: it was out of memory, or its text was not wholly written.

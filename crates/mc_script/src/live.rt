@@ -9,7 +9,7 @@ ghost use Rattle.mc_script.specs.Lives.{LiveShows, FitsLive, IsStopped, live_at}
 ghost use Rattle.mc_card.specs.Saved.{FitsWords, session_state_on};
 
 use crate::player::{Player, Power};
-use mc_base::NoMemory;
+use mc_words::NoMemory;
 use mc_card::SavedSession;
 use mc_nvm::Bench;
 use std::alloc::Global;

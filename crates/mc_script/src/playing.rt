@@ -16,7 +16,7 @@ use crate::player::Player;
 use crate::reporter::Reporter;
 use crate::summing::sum_lines;
 use crate::writer::{Reporting, Writer};
-use mc_base::Steps;
+use mc_words::Steps;
 use mc_deck::Deck;
 use mc_nvm::Bench;
 use mc_streams::{Sink, WriteFault};

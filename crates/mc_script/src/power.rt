@@ -16,7 +16,7 @@ use crate::armed::Armed;
 use crate::commands::{CardLine, run_line};
 use crate::player::{Player, Power};
 use crate::runner::Runner;
-use mc_base::{Steps, Stop};
+use mc_words::{Steps, Stop};
 use mc_card::{Card, Up};
 use mc_nvm::Bench;
 use std::sync::ledger::Ledger;

@@ -12,7 +12,7 @@ ghost use Rattle.mc_script.specs.Benches.{SilentDone};
 use crate::answer::Answer;
 use crate::armed::Armed;
 use crate::player::{Player, Power};
-use mc_base::Word;
+use mc_words::Word;
 use mc_blocks::format_words;
 use mc_card::Card;
 use mc_nvm::Bench;

@@ -4,7 +4,7 @@ ghost use Rattle.mc_script.specs.Players.{statics_in};
 ghost use Rattle.mc_script.specs.Benches.{IsPlaying};
 
 use crate::player::{Player, Power};
-use mc_base::Aid;
+use mc_words::Aid;
 use mc_nvm::Bench;
 
 impl<N: Bench> Player<N> {

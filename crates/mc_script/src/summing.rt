@@ -18,7 +18,7 @@ use crate::runner::Silent;
 use crate::summary::{Counts, counted, put_counts};
 use crate::text::{Text, add_result};
 use crate::writer::Writer;
-use mc_base::Steps;
+use mc_words::Steps;
 use mc_deck::{Deck, Line};
 use mc_nvm::Bench;
 use mc_streams::{Sink, WriteFault};

@@ -18,7 +18,7 @@ use crate::answer::Answer;
 use crate::player::{Player, Power};
 use arrayvec::ArrayVec;
 use mc_apdu::Reply;
-use mc_base::Aid;
+use mc_words::Aid;
 use mc_blocks::Unusable;
 use mc_card::Card;
 use mc_machine::Outcome;

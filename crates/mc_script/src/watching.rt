@@ -8,7 +8,7 @@ ghost use Rattle.mc_script.specs.Runs.{RanAndReported, sent_to};
 ghost use Rattle.mc_script.specs.StepCounts.{command_search, instructions, StepsOf};
 ghost use Rattle.mc_script.specs.Watching.{IsWide, Watches, WatchesTurn};
 
-use mc_base::{Steps, Stop};
+use mc_words::{Steps, Stop};
 use mc_card::{BriefTurn, Card};
 use mc_machine::Outcome;
 use mc_nvm::Nvm;

@@ -19,7 +19,7 @@ use crate::runner::Runner;
 use crate::text::{Text, put_answer};
 use crate::watching::{Watcher, run_watched};
 use arrayvec::ArrayVec;
-use mc_base::{Steps, Stop};
+use mc_words::{Steps, Stop};
 use mc_card::{BriefTurn, Card};
 use mc_machine::Outcome;
 use mc_nvm::{Bench, Nvm};

@@ -14,7 +14,7 @@ use crate::running::{desk_of, end};
 use desk_cover::{Sections, cover, trace};
 use desk_draft::Desk;
 use desk_steps::put_steps;
-use mc_base::Steps;
+use mc_words::Steps;
 use mc_deck::Deck;
 use mc_filter::{Rejection, Status, ended, read_input};
 use mc_nvm::Bench;

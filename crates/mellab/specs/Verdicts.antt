@@ -1,7 +1,7 @@
 -- The verdict on the input of a job: the text due, and whether all that is asked of it holds, or the one line that
 -- refuses the input.
 use Rattle.std.specs.Prelude.{◌≡◌, ℕ, Bool, true, false, ◌==◌, List, [], codes, Result, Ok, Err, ⊤}
-use Rattle.mc_base.specs.model_device.specs.Device.{blank_words, device_words}
+use Rattle.mc_words.specs.model_device.specs.Device.{blank_words, device_words}
 use Rattle.mc_deck.specs.model_play.specs.DeckGrammar.{DeckLine, deck_read}
 use Rattle.mc_deck.specs.model_play.specs.declared.deck.DeckCause.{DeckCause}
 use Rattle.mc_lab.specs.Expectations.{ExpectedDeck, ExpectationFault, DeckFault, NoAnswer, NoExpectation, expected_deck_read, steady_steps, expect_text, count_failed}

@@ -13,7 +13,7 @@ use crate::applying::explore_application;
 use lab_moves::names_application;
 use lab_rules::{Exploration, ExplorationRefusal, read_exploration};
 use lab_search::{Explored, explore_within};
-use mc_base::Steps;
+use mc_words::Steps;
 use mc_filter::{Rejection, Status, read_input, refused};
 use mc_script::JobFault;
 use mc_streams::{Sink, Source};

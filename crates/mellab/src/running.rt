@@ -18,7 +18,7 @@ use crate::about::describe;
 use crate::exploring::explore_input;
 use crate::job::{Job, Request, request_of};
 use crate::proving::prove_input;
-use mc_base::Steps;
+use mc_words::Steps;
 use mc_filter::{
     Rejection, Status, blank_device, deck_of, ended, number, read_input, refused, reject,
 };

@@ -3,7 +3,7 @@ ghost use Rattle.std.specs.Prelude.{◌≡◌, ◌<◌};
 use crate::examples::EXAMPLES;
 use crate::reports::{REPORTS, Report};
 use crate::running::mellab;
-use mc_base::{NoMemory, Steps};
+use mc_words::{NoMemory, Steps};
 use mc_streams::{MemSink, MemSource, read_all};
 use std::alloc::{AllocError, Global};
 use std::marker::Brand;

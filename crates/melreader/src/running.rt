@@ -9,7 +9,7 @@ ghost use Rattle.melreader.specs.Sessions.{outside, AreKept, ReaderEnds, Melread
 
 use crate::deck::{blank_deck, deck_from};
 use crate::lines::put_short;
-use mc_base::Steps;
+use mc_words::Steps;
 use mc_deck::Deck;
 use mc_filter::{Rejection, Status, ended, number, reject};
 use mc_nvm::Bench;

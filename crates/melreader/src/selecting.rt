@@ -9,7 +9,7 @@ ghost use Rattle.melreader.specs.Sessions.{unopened, usage};
 use crate::about::{about_of, describe};
 use crate::lines::put_unopened;
 use crate::running::melreader;
-use mc_base::{NoMemory, Steps};
+use mc_words::{NoMemory, Steps};
 use mc_filter::{Status, blank_device, number};
 use mc_nvm::SimNvm;
 use mc_streams::{Sink, Source, StdSource};

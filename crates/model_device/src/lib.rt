@@ -4,6 +4,8 @@
 
 mod cause;
 mod device;
+mod memory;
 
 pub use cause::Cause;
 pub use device::Stop;
+pub use memory::NoMemory;

@@ -17,7 +17,7 @@ use crate::exits::exits;
 use crate::subject::Subject;
 use crate::turns::{Row, turned};
 use mc_arith::model_machine::{Abend, Ins};
-use mc_base::NoMemory;
+use model_device::NoMemory;
 use mc_isa::text_of;
 use prove_keys::{Begun, Call};
 use prove_scenes::{Act, Next, Shape};

@@ -2,7 +2,7 @@
 use Rattle.std.proofs.Common.{◌≡◌, ℕ, true, false, ◌&&◌, List, [], ◌∷◌, ◌++◌, ◌-◌, length, map, Option, Some, None, Result, Ok, Err, IfOk, IfSome, refl, sym, subst, ap, ◌∙◌}
 use Rattle.std.proofs.lemmas.Bool.{and_from}
 use Rattle.std.proofs.lemmas.List.{length-map}
-use Rattle.mc_base.specs.model_device.specs.Bytes.{zeros}
+use Rattle.model_device.specs.Bytes.{zeros}
 use Rattle.prove_facts.specs.model_rules.specs.Rules.{AppRules, Target}
 use Rattle.prove_facts.specs.model_rules.specs.Keeping.{Amounts}
 use Rattle.prove_facts.specs.model_prove.specs.Facts.{Facts, know_bytes}

@@ -18,7 +18,7 @@ use crate::creation::creation_holds;
 use crate::moments::moment_holds;
 use crate::places::places_hold;
 use crate::ranges::keeps_ranges;
-use mc_base::NoMemory;
+use model_device::NoMemory;
 use prove_arrivals::Subject;
 use prove_events::{Always, Rules};
 use prove_facts::Facts;

@@ -1,6 +1,6 @@
 // The moment at which an application is created.
 ghost use Rattle.std.specs.Prelude.{◌≡◌, ◌-◌, ◌++◌, true, [], length, map, IfOk, IfSome};
-ghost use Rattle.mc_base.specs.model_device.specs.Bytes.{zeros};
+ghost use Rattle.model_device.specs.Bytes.{zeros};
 ghost use Rattle.prove_facts.specs.model_rules.specs.Rules.{AppRules, Target};
 ghost use Rattle.prove_facts.specs.model_prove.specs.Between as between;
 ghost use Rattle.prove_facts.specs.model_prove.specs.Facts as known;
@@ -10,7 +10,7 @@ ghost use Rattle.prove_arrivals.specs.Subjects.{IsSubject, tables_in};
 
 use crate::knowing::{know_bytes, zero_bytes};
 use crate::moments::at_moment;
-use mc_base::NoMemory;
+use model_device::NoMemory;
 use prove_arrivals::Subject;
 use prove_events::{Load, Named, Rules};
 use prove_facts::Facts;

@@ -1,7 +1,7 @@
 -- The rules of an application, as the definition has them.
 use Rattle.std.specs.Prelude.{◌≡◌, ℕ, ◌-◌, Bool, false, ◌||◌, List, [], ◌∷◌, ◌++◌, length, map, slice_get, vec_len, bytes_eq, Option, Some, None, ⊤}
-use Rattle.mc_base.specs.model_device.specs.Bytes.{zeros}
-use Rattle.mc_base.specs.model_device.specs.Card.{App}
+use Rattle.mc_words.specs.model_device.specs.Bytes.{zeros}
+use Rattle.mc_words.specs.model_device.specs.Card.{App}
 use Rattle.lab_match.specs.law_explore.specs.Matching.{plain}
 use Rattle.prove_facts.specs.model_rules.specs.Rules as rules
 use Rattle.prove_facts.specs.model_rules.specs.Rules.{Trigger, AtTurn, AtCommand, AtAnswer, AtSession, Action, Allows, Spends, Needs, OnLine, Range, Target, AppRules}

@@ -2,7 +2,7 @@
 use crate::patterns::{Patterns, Reached, any_bytes, number_in};
 use crate::rules::{Event, On};
 use indexmap::IndexSet;
-use mc_base::NoMemory;
+use mc_words::NoMemory;
 use prove_facts::{Values, push};
 use std::alloc::Global;
 

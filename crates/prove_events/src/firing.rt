@@ -2,7 +2,7 @@
 use crate::command_classes::Class;
 use crate::rules::{Effect, Event, On};
 use lab_match::fits;
-use mc_base::NoMemory;
+use mc_words::NoMemory;
 use prove_facts::push;
 use std::alloc::Global;
 

@@ -7,7 +7,7 @@ ghost use Rattle.prove_occasions.specs.Amounts.{after_marked, after_tested, amou
 
 use crate::lines::{is_of_allowance, is_session, is_turn};
 use lab_match::fits;
-use mc_base::NoMemory;
+use mc_words::NoMemory;
 use prove_events::{Effect, On};
 use std::alloc::Global;
 

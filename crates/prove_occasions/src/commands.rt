@@ -13,7 +13,7 @@ ghost use Rattle.prove_occasions.specs.Picks.{answer_marks, command_marks, has_r
 use crate::amounts::{first_mark, keep_marked, marks_after};
 use crate::lines::{has_mark, has_result, is_answer, is_command, is_of_allowance};
 use lab_match::fits;
-use mc_base::NoMemory;
+use mc_words::NoMemory;
 use model_text::model_machine::Abend;
 use prove_events::On;
 use prove_facts::push;

@@ -12,7 +12,7 @@ ghost use Rattle.prove_occasions.specs.Turns.{line_of_turn, whole_line};
 
 use crate::amounts::{Occasion, keep_on};
 use arrayvec::ArrayVec;
-use mc_base::{NoMemory, bytes_of};
+use mc_words::{NoMemory, bytes_of};
 use mc_text::{add, add_hex, cut};
 use prove_events::{On, TurnEvent};
 use std::alloc::Global;

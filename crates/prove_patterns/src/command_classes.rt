@@ -16,7 +16,7 @@ use crate::command_headers::{Header, headers};
 use crate::lines::opened_commands;
 use crate::opens::{Opens, matches_of};
 use crate::reaching::after_any;
-use mc_base::NoMemory;
+use model_device::NoMemory;
 use prove_events::On;
 use prove_facts::{Values, push};
 use std::alloc::Global;

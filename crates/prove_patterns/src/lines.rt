@@ -5,7 +5,7 @@ ghost use Rattle.prove_patterns.specs.Opens.{opens_of};
 ghost use Rattle.prove_patterns.specs.Lines.{is_some, has_command, has_result, opened_plain, command_patterns, result_patterns};
 
 use crate::opens::{Opens, opened};
-use mc_base::NoMemory;
+use model_device::NoMemory;
 use prove_events::{Effect, Event, On};
 use prove_facts::push;
 use std::alloc::Global;

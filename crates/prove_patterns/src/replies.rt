@@ -16,7 +16,7 @@ use crate::lengths::lengths_of;
 use crate::lines::opened_results;
 use crate::opens::Opens;
 use crate::reaching::{Many, after_any, each_after_bytes};
-use mc_base::NoMemory;
+use model_device::NoMemory;
 use prove_events::On;
 use prove_facts::{Values, push};
 use std::alloc::Global;

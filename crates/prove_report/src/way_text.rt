@@ -1,7 +1,7 @@
 // The text of a way: what a terminal does, and the lines or places of the code.
 use crate::text::{add, add_number, add_values, add_word};
 use crate::ways::Key;
-use mc_base::NoMemory;
+use mc_words::NoMemory;
 use mc_isa::decode;
 use mc_isa::model_machine::Ins;
 use prove_events::{Class, CodeLine};

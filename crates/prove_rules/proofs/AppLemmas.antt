@@ -1,7 +1,7 @@
 -- The lines of the application, of allowances and sums, and of abends.
 use Rattle.std.proofs.Common.{◌≡◌, ◌-◌, ◌≤◌, ℕ, zero, suc, List, [], ◌∷◌, ◌++◌, Bool, true, false, length, map, Option, Some, None, Result, Ok, Err, length-append, arith, refl, sym, ap, subst, ◌∙◌}
 use Rattle.std.specs.Prelude.{◌&&◌, nat_le, bytes_eq, codes, is_none, is_some, ok_or}
-use Rattle.mc_base.specs.model_device.specs.Bytes.{lookup, zeros, AreBytes}
+use Rattle.mc_words.specs.model_device.specs.Bytes.{lookup, zeros, AreBytes}
 use Rattle.mc_text.specs.model_text.specs.Text.{◌>>=◌, only_if}
 use Rattle.mc_unit.specs.model_card.specs.Manager.{fits_limits}
 use Rattle.lab_match.specs.model_play.specs.DeckGrammar.{name_field}

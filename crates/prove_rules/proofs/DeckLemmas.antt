@@ -2,8 +2,8 @@
 use Rattle.std.proofs.Common.{◌≡◌, ◌<◌, ℕ, suc, Bool, true, false, not, cond, List, [], ◌∷◌, ◌++◌, Option, Some, None, Result, Ok, Err, arith, refl, sym, ap, ◌∙◌}
 use Rattle.std.specs.Prelude.{◌==◌, ◌&&◌, ◌||◌, ⊤, bytes_eq, codes, is_some, nat_lt, ok_or, IfOk}
 use Rattle.std.proofs.lemmas.Bool.{eqb-true}
-use Rattle.mc_base.specs.model_device.specs.Bytes.{lookup}
-use Rattle.mc_base.specs.model_device.proofs.MapLemmas.{each_found}
+use Rattle.mc_words.specs.model_device.specs.Bytes.{lookup}
+use Rattle.mc_words.specs.model_device.proofs.MapLemmas.{each_found}
 use Rattle.mc_text.specs.model_text.specs.Text.{ok_as, err_as, only_if, ◌>>=◌, begins, fields, lines, with_numbers}
 use Rattle.mc_unit.specs.model_card.specs.Units.{unit_read}
 use Rattle.lab_match.specs.model_play.specs.declared.deck.DeckCause.{DeckCause}

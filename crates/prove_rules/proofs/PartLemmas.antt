@@ -1,6 +1,6 @@
 -- The fields of a line up to a word, one after the other.
 use Rattle.std.proofs.Common.{◌≡◌, ℕ, List, [], ◌∷◌, ◌++◌, Option, Some, None, Bool, true, false, append-nil, append_assoc, refl, sym, ap, subst, ◌∙◌}
-use Rattle.mc_base.specs.model_device.specs.Bytes.{lookup}
+use Rattle.mc_words.specs.model_device.specs.Bytes.{lookup}
 use Rattle.mc_text.specs.model_text.specs.Text.{fields, is_blank, is_empty}
 use Rattle.lab_match.specs.law_explore.specs.Matching.{plain, small}
 use Rattle.lab_match.specs.law_explore.specs.Rules.{parts_at, parts_of, with_front, Parts}

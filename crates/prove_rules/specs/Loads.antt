@@ -1,6 +1,6 @@
 -- The `load` lines of a deck as the code finds them.
 use Rattle.std.specs.Prelude.{◌≡◌, ℕ, Bool, false, cond, nat_le, nat_lt, ◌==◌, ◌&&◌, List, [], ◌∷◌, bytes_eq, length, Option, Some, None}
-use Rattle.mc_base.specs.model_device.specs.Bytes.{AreBytes}
+use Rattle.mc_words.specs.model_device.specs.Bytes.{AreBytes}
 use Rattle.mc_text.specs.model_text.specs.Text.{lines, with_numbers}
 use Rattle.lab_match.specs.model_play.specs.DeckGrammar.{DeckLine}
 use Rattle.lab_match.specs.model_play.specs.DeckGrammar as line

@@ -1,6 +1,6 @@
 -- The rules of the lines so far, as the code has them, and those of the definition that they are.
 use Rattle.std.specs.Prelude.{◌≡◌, ℕ, suc, cond, List, [], ◌∷◌, ◌++◌, map, bytes_eq, is_none, option_map, Option, Some, None, Result, Ok, Err, ⊤}
-use Rattle.mc_base.specs.model_device.specs.Bytes.{lookup}
+use Rattle.mc_words.specs.model_device.specs.Bytes.{lookup}
 use Rattle.lab_match.specs.law_explore.specs.Rules.{name_and_amount}
 use Rattle.mc_text.specs.model_text.specs.Text.{◌>>=◌}
 use Rattle.lab_match.specs.model_play.specs.declared.deck.DeckCause.TheVariants.{NameTwice}

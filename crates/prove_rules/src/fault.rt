@@ -6,7 +6,7 @@ ghost use Rattle.prove_rules.specs.declared.fault.RuleCause.TheVariants.{Deck};
 ghost use Rattle.prove_rules.specs.Refused.{cause_value, cause_word};
 
 use lab_match::model_play::DeckCause;
-use mc_base::NoMemory;
+use mc_words::NoMemory;
 use std::alloc::AllocError;
 
 /// Why a line is no rule: a cause that lines of decks have too, or that no line above names the application.

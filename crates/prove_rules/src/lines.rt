@@ -1,7 +1,7 @@
 // The lines of an application's code.
 use lab_match::{first_field, stays_inside};
 use mc_asm::size_of_line;
-use mc_base::NoMemory;
+use mc_words::NoMemory;
 use mc_deck::{ends_section, has_data};
 use mc_text::next_line;
 use prove_events::CodeLine;

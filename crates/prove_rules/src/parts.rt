@@ -1,6 +1,6 @@
 // The parts of an `on` line: a pattern, and the word after it.
 ghost use Rattle.std.specs.Prelude.{◌≡◌, ◌++◌, None, Some, cond, true, option_map, IfErr, IfOk, OnOk};
-ghost use Rattle.mc_base.specs.model_device.specs.Bytes.{lookup};
+ghost use Rattle.mc_words.specs.model_device.specs.Bytes.{lookup};
 ghost use Rattle.mc_text.specs.model_text.specs.Text.{fields};
 ghost use Rattle.lab_match.specs.law_explore.specs.Matching.{plain};
 ghost use Rattle.lab_match.specs.law_explore.specs.Rules.{parts_of};
@@ -9,7 +9,7 @@ ghost use Rattle.prove_rules.specs.Parts.{action_deeds, deeds_value, effect_word
 
 use crate::fault::{Fault, bad_line};
 use lab_match::{first_field, small};
-use mc_base::NoMemory;
+use mc_words::NoMemory;
 use mc_text::is_blank;
 use prove_events::Event;
 use prove_facts::push;

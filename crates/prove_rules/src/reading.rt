@@ -1,6 +1,6 @@
 // The rules of a deck for one application, line by line.
 ghost use Rattle.std.specs.Prelude.{◌≡◌, ◌≤◌, ◌∷◌, codes, false, length, option_map, true, IfErr, IfOk, MatchOption, None, Ok, OnOk};
-ghost use Rattle.mc_base.specs.model_device.specs.Bytes.{lookup};
+ghost use Rattle.mc_words.specs.model_device.specs.Bytes.{lookup};
 ghost use Rattle.mc_text.specs.model_text.specs.Text.{fields, lines};
 ghost use Rattle.lab_match.specs.model_play.specs.DeckGrammar.{deck_read};
 ghost use Rattle.lab_match.specs.law_explore.specs.Rules.{is_marked};
@@ -21,7 +21,7 @@ use crate::fault::{Fault, RuleCause, RuleRefusal, bad_line};
 use crate::on::add_on;
 use crate::partial::Partial;
 use lab_match::{first_field, stays_inside};
-use mc_base::Aid;
+use mc_words::Aid;
 use mc_deck::Deck;
 use mc_text::next_line;
 use prove_events::Rules;

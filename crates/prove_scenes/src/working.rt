@@ -12,7 +12,7 @@ ghost use Rattle.prove_scenes.specs.Works.{operation_value, work_value};
 
 use crate::scene::Scene;
 use arrayvec::ArrayVec;
-use mc_base::bytes_of;
+use mc_words::bytes_of;
 use mc_prims::Primitive;
 use model_machine::Ins;
 

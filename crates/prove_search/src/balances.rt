@@ -1,6 +1,6 @@
 // The lines of sums at an event.
 use crate::keys::{Break, Outcome, Rule};
-use mc_base::NoMemory;
+use model_device::NoMemory;
 use prove_events::{Amount, Balance, Effect, On, Rules};
 use prove_facts::{Form, Origin, Sums, form_of, push};
 use std::alloc::Global;

@@ -1,7 +1,7 @@
 // The allowances after events that are no turns.
 use crate::keys::{Break, Outcome, Rule};
 use crate::subject::Subject;
-use mc_base::NoMemory;
+use model_device::NoMemory;
 use prove_events::{Event, Firing, fire, lines_of};
 use prove_facts::push;
 use std::alloc::Global;

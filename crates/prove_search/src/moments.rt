@@ -2,7 +2,7 @@
 use crate::events::{amounts_after, session};
 use crate::keys::Outcome;
 use crate::subject::Subject;
-use mc_base::NoMemory;
+use model_device::NoMemory;
 use prove_events::{Class, Event, lines_in};
 use prove_facts::{Facts, Sums, Values, push};
 use prove_keys::{Begun, DYNAMIC, Known, Last, MomentKey, PlaceKey, Registers};

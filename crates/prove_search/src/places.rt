@@ -6,7 +6,7 @@ use crate::ends::{abend, exit, reply_lengths, stop};
 use crate::events::amounts_after;
 use crate::keys::{Break, Outcome, Rule};
 use crate::subject::{Subject, code_of};
-use mc_base::NoMemory;
+use model_device::NoMemory;
 use mc_isa::model_machine::{DecodeFault, Ins};
 use mc_isa::{decode, text_of};
 use prove_events::{TurnEvent, turn_lines};

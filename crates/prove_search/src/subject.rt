@@ -2,7 +2,7 @@
 ghost use Rattle.std.specs.Prelude.{◌≡◌, ◌≤◌, length, IfOk};
 ghost use Rattle.mc_isa.specs.model_device.specs.Limits.{most_code};
 
-use mc_base::NoMemory;
+use model_device::NoMemory;
 use prove_events::{Class, Load, Rules, classes};
 use prove_facts::{Block, push};
 use prove_outcomes::Sizes;

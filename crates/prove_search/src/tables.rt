@@ -1,7 +1,7 @@
 // What a search found, and facts as they are kept between commands.
 use crate::keys::Break;
 use crate::successors::Successors;
-use mc_base::NoMemory;
+use model_device::NoMemory;
 use prove_events::{Always, Rules};
 use prove_facts::{Fact, Facts, Values};
 use prove_keys::Tables;

@@ -14,7 +14,7 @@ ghost use Rattle.prove_scenes.specs.ShapeValues.{act_value, shape_value};
 ghost use Rattle.prove_steps.specs.Steps.{AcceptsAll, after_fetch, before};
 
 use crate::stepping::Fetched;
-use mc_base::NoMemory;
+use mc_words::NoMemory;
 use mc_isa::model_machine::Abend;
 use prove_arrivals::{Subject, coarse, fails};
 use prove_keys::Begun;

@@ -16,7 +16,7 @@ ghost use Rattle.prove_spots.specs.Grounds.{spot_of};
 ghost use Rattle.prove_steps.specs.Steps.{AcceptsAll, IsSceneWith, after_fetch, before, by_choice, in_scene, named_value};
 
 use crate::scenes::scene_with;
-use mc_base::NoMemory;
+use mc_words::NoMemory;
 use mc_isa::model_machine::Ins;
 use mc_prims::Primitive;
 use prove_arrivals::{Subject, fails, row};

@@ -11,7 +11,7 @@ ghost use Rattle.prove_sum_steps.specs.Walks.{IsSceneOf, IsSceneWith, Passes, in
 
 use crate::steps::{choice_holds, crude_holds, scene_holds};
 use crate::turns::Turn;
-use mc_base::NoMemory;
+use model_device::NoMemory;
 use prove_scenes::{Scene, deciders, inside, later_deciders, takes_target};
 use prove_steps::{
     Choice, Choices, both, choices_among, combined, greatest_target, may_lead, scene_with,

@@ -17,7 +17,7 @@ use crate::near::moments_alone;
 use crate::places::{Stand, places_hold};
 use crate::starts::starts_hold;
 use crate::totals::totals_hold;
-use mc_base::NoMemory;
+use model_device::NoMemory;
 use prove_arrivals::Subject;
 use prove_closed::{classes_of, replies_of, subject_of};
 use prove_events::Rules;

@@ -15,7 +15,7 @@ use crate::branching::instruction_holds;
 use crate::goals::{Goal, goals_of, sums_at};
 use crate::near::set_places;
 use crate::turns::Turn;
-use mc_base::NoMemory;
+use model_device::NoMemory;
 use mc_isa::decode;
 use model_text::model_machine::Ins;
 use prove_arrivals::Subject;

@@ -9,7 +9,7 @@ ghost use Rattle.prove_sum_steps.specs.Walks.{PassesAfter, PassesAt, PassesRow, 
 use crate::goals::Goal;
 use crate::settling::{depth_holds, exit_holds};
 use crate::turns::Turn;
-use mc_base::NoMemory;
+use model_device::NoMemory;
 use prove_keys::Begun;
 use prove_scenes::Next;
 use prove_sums::Sums;

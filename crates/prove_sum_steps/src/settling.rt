@@ -19,7 +19,7 @@ ghost use Rattle.prove_sums.specs.Values.{SumsAre};
 
 use crate::goals::Goal;
 use crate::turns::Turn;
-use mc_base::NoMemory;
+use model_device::NoMemory;
 use mc_isa::text_of;
 use prove_events::TurnEvent;
 use prove_occasions::{after_turn, whole_line, without_mark};

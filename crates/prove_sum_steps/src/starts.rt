@@ -18,7 +18,7 @@ ghost use Rattle.prove_sums.specs.Values.{SumsAre};
 use crate::goals::{Goal, goals_of};
 use crate::near::set_places;
 use crate::places::{Stand, with_tables};
-use mc_base::NoMemory;
+use model_device::NoMemory;
 use prove_closed::moments_closed;
 use prove_events::Balance;
 use prove_keys::Tables;

@@ -15,7 +15,7 @@ ghost use Rattle.prove_sums.specs.Values.{IsBefore, sums_value};
 
 use crate::rows::row_holds;
 use crate::turns::Turn;
-use mc_base::NoMemory;
+use model_device::NoMemory;
 use prove_scenes::{Around, Coarse, Scene, Shape, coarse_of, coarse_shape, shape_of, work_of};
 use prove_steps::{arounds, crude_around, crude_for, scene_with};
 use prove_sums::{Before, coarse_outlines_move_alike, moved, moved_coarsely, outlines_move_alike};

@@ -8,7 +8,7 @@ ghost use Rattle.prove_events.specs.Rules.{AreDistinct, AreRules, allowance_of, 
 ghost use Rattle.prove_rules.specs.Sums.{AreSums, AreTotals, IsTotal};
 
 use lab_history::{first_block, is_block};
-use mc_base::NoMemory;
+use model_device::NoMemory;
 use prove_events::{Balance, Load, Named, Rules};
 use std::alloc::Global;
 

@@ -16,7 +16,7 @@ use crate::modes::is_commit;
 use crate::values::{Before, Sums};
 use crate::writes::unknowns;
 use mc_arith::model_machine::Ins;
-use mc_base::NoMemory;
+use model_device::NoMemory;
 use prove_events::Balance;
 use prove_facts::push;
 use prove_forms::{Origin, Origins};

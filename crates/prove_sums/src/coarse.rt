@@ -19,7 +19,7 @@ ghost use Rattle.prove_works.specs.Reaches.{reach_value};
 use crate::kept::{Kept, kept_mores};
 use crate::optional::copied_if;
 use crate::values::{Sums, add_off, first_off};
-use mc_base::NoMemory;
+use model_device::NoMemory;
 use prove_events::Balance;
 use prove_facts::{Facts, push};
 use prove_forms::{Form, Listed, Origin, Origins};

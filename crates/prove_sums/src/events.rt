@@ -17,7 +17,7 @@ use crate::acts::origins_from;
 use crate::optional::{copied_if, negative_if, plus_if};
 use crate::values::{Sums, add_off, copied_mores, copied_offs, first_off};
 use lab_match::fits;
-use mc_base::NoMemory;
+use model_device::NoMemory;
 use prove_events::{Amount, Balance, Effect, Named, On, Rules, SignedSum};
 use prove_forms::{Form, Origins, form_of};
 use prove_keys::{PUBLIC, PUBLIC_END};

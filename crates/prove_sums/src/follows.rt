@@ -8,7 +8,7 @@ ghost use Rattle.prove_rules.specs.Sums.{AreTotals, IsTotal};
 ghost use Rattle.prove_sums.specs.Values.{MoreIs, MoresAre, SumsAre};
 
 use crate::values::{More, Sums, first_off};
-use mc_base::NoMemory;
+use model_device::NoMemory;
 use prove_events::Balance;
 use prove_forms::Form;
 use std::alloc::Global;

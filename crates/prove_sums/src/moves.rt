@@ -15,7 +15,7 @@ use crate::acts::{acted_popped, acted_unknown, own_origins};
 use crate::values::{Before, Sums};
 use crate::works::{copied, worked};
 use mc_arith::model_machine::Ins;
-use mc_base::NoMemory;
+use model_device::NoMemory;
 use prove_events::Balance;
 use prove_scenes::{Shape, Work};
 use std::alloc::Global;

@@ -11,7 +11,7 @@ ghost use Rattle.prove_sums.specs.Values.{MoresAre, SumsAre};
 use crate::kept::{Kept, kept_mores};
 use crate::values::{More, Sums, copied_offs, evens};
 use crate::writes::is_block;
-use mc_base::NoMemory;
+use model_device::NoMemory;
 use prove_events::Balance;
 use prove_facts::prepend;
 use prove_forms::Form;

@@ -8,7 +8,7 @@ ghost use Rattle.prove_rules.specs.Sums.{AreTotals};
 ghost use Rattle.prove_sums.specs.Values.{MoreIs, MoresAre, SumsAre, if_any, sums_value};
 
 use crate::optional::copied_if;
-use mc_base::NoMemory;
+use model_device::NoMemory;
 use prove_events::Balance;
 use prove_facts::push;
 use prove_forms::{Form, Origins};

@@ -22,7 +22,7 @@ use crate::optional::negative_if;
 use crate::stack::{is_total_block, more_of};
 use crate::values::{Before, Sums};
 use crate::writes::unknowns;
-use mc_base::NoMemory;
+use model_device::NoMemory;
 use prove_events::Balance;
 use prove_forms::{Form, Origins, form_of};
 use prove_scenes::{Act, Digitwise, Operand, Operation, Shape};

@@ -10,7 +10,7 @@ ghost use Rattle.prove_rules.specs.Sums.{AreSums};
 ghost use Rattle.prove_tables.specs.Closed.{AreProved, HasSums, tables_with};
 
 use crate::sums_table::table_of_sums;
-use mc_base::NoMemory;
+use model_device::NoMemory;
 use prove_closed::is_closed;
 use prove_events::{Class, Event, On};
 use prove_facts::push;

@@ -12,7 +12,7 @@ ghost use Rattle.prove_report.specs.Reports.{IsReport};
 use crate::closing::are_proved;
 use law_sum_plays::closed_sums_keep_rules;
 use law_sum_plays::law_prove_closed::closed_tables_keep_rules;
-use mc_base::NoMemory;
+use model_device::NoMemory;
 use prove_events::{Balance, Load, Rules};
 use prove_facts::{Facts, Values, mask, push};
 use prove_keys::MomentKey;

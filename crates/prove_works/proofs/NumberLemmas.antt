@@ -2,7 +2,7 @@
 use Rattle.std.proofs.Common.{◌≡◌, ◌∙◌, ℕ, ◌+◌, ◌-◌, ◌*◌, ◌^◌, ◌<◌, ◌≤◌, List, length, get_or, drop, refl, sym, ap, arith}
 use Rattle.std.proofs.Math.Nat.{pow-le-pow_right}
 use Rattle.std.proofs.lemmas.List.{drop_all}
-use Rattle.mc_base.specs.model_device.specs.Bytes.{num, AreBytes}
+use Rattle.model_device.specs.Bytes.{num, AreBytes}
 use Rattle.mc_arith.proofs.BlockLemmas.{num_below, pow_positive}
 use Rattle.mc_arith.proofs.StepLemmas.{num_drop, pow_at}
 

@@ -1,6 +1,6 @@
 use crate::journals::bench::{Answer, prepare, recover, stop_at, write, wrong_place};
 use crate::journals::rule::{Journal, ZERO, is_tried, recovery_write};
-use mc_base::{Stop, Word};
+use mc_words::{Stop, Word};
 use mc_nvm::SimNvm;
 use std::test::Fail;
 

@@ -5,7 +5,7 @@ ghost use Rattle.mc_manager.specs.ManagerState.{view_of, ManagerFits};
 use crate::managers::rig::{Want, comes_to};
 use arrayvec::ArrayVec;
 use mc_bank::Bank;
-use mc_base::Steps;
+use mc_words::Steps;
 use mc_manager::Manager;
 use std::sync::ledger::Ledger;
 

@@ -4,7 +4,7 @@ use crate::managers::loads::{is_full, loads};
 use crate::managers::rig::{deny_of, first_wrong, fixed_of, has_code};
 use crate::managers::rows::ROWS;
 use mc_bank::{Bank, MemBank};
-use mc_base::{NoMemory, Steps};
+use mc_words::{NoMemory, Steps};
 use mc_manager::Manager;
 use std::alloc::Global;
 use std::marker::Brand;

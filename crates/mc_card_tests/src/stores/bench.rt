@@ -1,7 +1,7 @@
 // Devices with words set by hand, and their power-ups.
 ghost use Rattle.std.specs.Prelude.{◌≡◌};
 
-use mc_base::{Stop, Word};
+use mc_words::{Stop, Word};
 use mc_blocks::{Cause, Unusable};
 use mc_nvm::Bench;
 use mc_store::{Store, Up};

@@ -1,5 +1,5 @@
 // A device in memory that counts its reads.
-use mc_base::{Stop, Word};
+use mc_words::{Stop, Word};
 use mc_nvm::{Nvm, SimNvm};
 use std::cell::Cell;
 

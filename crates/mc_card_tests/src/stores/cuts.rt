@@ -6,7 +6,7 @@ use crate::stores::card::{COUNTER, Came, Unit};
 use crate::stores::changes::{App, Change, Shown, Went, play, show};
 use crate::stores::image::{Image, due_word, image_of, restore, writes_of};
 use crate::stores::rule::{Atomic, OPEN_1, OPEN_2, ZERO};
-use mc_base::{NoMemory, Steps, Stop, Word};
+use mc_words::{NoMemory, Steps, Stop, Word};
 use mc_nvm::{SimNvm, TapeNvm};
 use std::alloc::Global;
 use std::marker::Brand;

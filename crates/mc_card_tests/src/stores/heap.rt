@@ -5,7 +5,7 @@ use crate::stores::bench::{Power, format, number_at, power_up, stop_at};
 use crate::stores::card::{COUNTER, Came, Unit};
 use crate::stores::changes::{App, Change, Shown, Went, chain_of, play, show};
 use crate::stores::rule::{OPEN_2, ZERO};
-use mc_base::{NoMemory, Steps, Stop, Word};
+use mc_words::{NoMemory, Steps, Stop, Word};
 use mc_nvm::{DEVICE_WORDS, SimNvm};
 use std::alloc::Global;
 use std::marker::Brand;

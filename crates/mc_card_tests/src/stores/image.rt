@@ -1,6 +1,6 @@
 // The words of a device of 256 words, saved and restored, and the writes on a tape.
 use crate::stores::bench::set;
-use mc_base::Word;
+use mc_words::Word;
 use mc_nvm::{Bench, Nvm, TapeNvm};
 
 /// The words of a device of 256 words.

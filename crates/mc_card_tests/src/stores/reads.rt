@@ -13,7 +13,7 @@ use crate::stores::card::{Came, Unit, chained, fill, sizes_of, slot_of};
 use crate::stores::changes::{Change, Went, chain_of, make_all};
 use crate::stores::counting::Counting;
 use mc_bank::{Bank, Slot};
-use mc_base::{Aid, NoMemory, Steps};
+use mc_words::{Aid, NoMemory, Steps};
 use mc_blocks::{first_fit, fits_room, free_plan, take_plan};
 use mc_nvm::{Bench, DEVICE_WORDS, Nvm, Probe, SimNvm};
 use mc_store::Store;

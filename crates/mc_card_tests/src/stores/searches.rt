@@ -8,7 +8,7 @@ use crate::stores::changes::{Change, Went, make_all};
 use crate::stores::counting::Counting;
 use mc_apdu::parse;
 use mc_bank::Bank;
-use mc_base::{Aid, NoMemory, Steps};
+use mc_words::{Aid, NoMemory, Steps};
 use mc_machine::run;
 use mc_nvm::{Bench, DEVICE_WORDS, SimNvm};
 use mc_segs::Session;

@@ -1,5 +1,5 @@
 use Rattle.std.proofs.Common.{◌≡◌, ◌+◌, ◌%◌, ◌^◌, ◌<◌, ◌≤◌, ◌++◌, ◌∙◌, List, ap, arith, get_or, length, subst}
-use Rattle.mc_base.specs.model_device.specs.Bytes.{num}
+use Rattle.model_device.specs.Bytes.{num}
 use Rattle.prove_events.specs.declared.rules.Balance.{Balance}
 use Rattle.prove_events.specs.declared.rules.Named.{Named}
 use Rattle.lab_history.specs.Blocks.{added_by, taken_by}

@@ -1,6 +1,6 @@
 use Rattle.std.specs.Prelude.{◌≡◌, ◌+◌, ◌≤◌, ℕ, slice_get, take, Some}
 use Rattle.std.proofs.Common.{arith, rules, sym, subst}
-use Rattle.mc_base.specs.model_device.specs.Device.{blank_words, device_words}
+use Rattle.mc_words.specs.model_device.specs.Device.{blank_words, device_words}
 use Rattle.lab_match.specs.model_play.specs.DeckGrammar.{DeckLine}
 use Rattle.lab_match.specs.model_play.specs.Play.{State, start}
 use Rattle.lab_record.specs.RecordSteps.{state_after, IsSteadyAt}

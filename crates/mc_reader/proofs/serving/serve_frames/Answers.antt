@@ -1,6 +1,6 @@
 use Rattle.std.proofs.Common.{refl, ◌<◌, ◌≤◌, length, length-take, take, arith, rules}
 use Rattle.std.proofs.lemmas.Result.{err_from_is_err_and}
-use Rattle.mc_base.specs.model_device.specs.Counts.{last_count}
+use Rattle.mc_words.specs.model_device.specs.Counts.{last_count}
 use Rattle.mc_text.specs.Texts.{sunk_in}
 use Rattle.mc_reader.proofs.LoopLemmas.{Heard, reached_start, reached_on, served_whole, served_all, served_short, served_unread, served_cut}
 use Rattle.mc_reader.proofs.serving.serve_frames.Goals as goal

@@ -1,6 +1,6 @@
 use Rattle.std.specs.Prelude.{◌+◌, ◌*◌, ◌≤◌, ℕ, take, None}
 use Rattle.std.proofs.Common.{sym, subst, ◌∙◌}
-use Rattle.mc_base.specs.model_device.specs.Device.{blank_words, device_words}
+use Rattle.mc_words.specs.model_device.specs.Device.{blank_words, device_words}
 use Rattle.lab_match.specs.model_play.specs.DeckGrammar.{DeckLine}
 use Rattle.lab_match.specs.model_play.specs.Play.{start}
 use Rattle.mc_deck.specs.Lines.{line_of}

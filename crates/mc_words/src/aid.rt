@@ -14,7 +14,7 @@ impl Model for Aid {
 
     ghost Value = { List ℕ };
 
-    ghost use Rattle.mc_base.specs.Name.{name_bytes, KeepsName};
+    ghost use Rattle.mc_words.specs.Name.{name_bytes, KeepsName};
 
     ghost view = { name_bytes };
 

@@ -1,7 +1,7 @@
 -- The bytes of a name, the application identifier (AID).
 -- ISO/IEC 7816-4 (application identifiers).
 use Rattle.std.specs.Prelude.{◌≡◌, ℕ, ◌-◌, ◌≤◌, List, ◌++◌, length, take, replicate}
-use Rattle.mc_base.specs.declared.aid.Aid.TheInside.{Inside}
+use Rattle.mc_words.specs.declared.aid.Aid.TheInside.{Inside}
 
 -- a list has the length of a name: 5 to 16 bytes
 abbrev pub IsName : List ℕ → Type 0
