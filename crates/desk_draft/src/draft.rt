@@ -3,7 +3,8 @@ ghost use Rattle.std.specs.Prelude.{◌≡◌, ◌<◌, ◌≤◌, ◌^◌, leng
 ghost use Rattle.mc_text.specs.model_device.specs.Bytes.{zeros};
 ghost use Rattle.mc_text.specs.model_text.specs.Text.{fields};
 ghost use Rattle.mc_text.specs.model_text.specs.Listing.{hex_text};
-ghost use Rattle.mc_deck.specs.model_play.specs.DeckGrammar.{is_data, is_end};
+ghost use Rattle.mc_deck.specs.model_play.specs.DeckGrammar.{is_data};
+ghost use Rattle.mc_text.specs.model_text.specs.Text.{is_end};
 ghost use Rattle.mc_asm.specs.Items.{texts};
 ghost use Rattle.mc_deck.specs.Refused.{DeckRefuses, Faulty};
 ghost use Rattle.mc_deck.specs.declared.refusal.DeckRefusal.TheVariants.{NoMemory};

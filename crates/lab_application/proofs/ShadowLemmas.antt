@@ -7,8 +7,9 @@ use Rattle.law_histories.specs.model_device.specs.Bytes.{lookup}
 use Rattle.law_histories.specs.model_play.specs.Play.{Step, is_card_line}
 use Rattle.law_histories.specs.law_explore.specs.Rules as rule
 use Rattle.law_histories.specs.law_explore.specs.States.{CardState, play_of, state_in}
-use Rattle.law_histories.specs.law_explore.specs.Tries.{allowances_after, effect_times, outcome, recovery, step_of, times, with_amount}
-use Rattle.law_histories.specs.law_explore.specs.Matching.{fits, matches, plain, some_rest}
+use Rattle.law_histories.specs.law_explore.specs.Tries.{allowances_after, effect_times, outcome, recovery, step_of, times}
+use Rattle.lab_app_rules.specs.model_events.specs.Amounts.{with_amount}
+use Rattle.lab_app_rules.specs.model_events.specs.Matching.{fits, matches, plain, some_rest}
 use Rattle.law_histories.specs.model_play.specs.DeckGrammar.{DeckLine}
 use Rattle.lab_rules.specs.declared.reading.Exploration.{Exploration}
 use Rattle.lab_rules.specs.declared.rules.Move.{Move}

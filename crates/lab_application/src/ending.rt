@@ -24,7 +24,7 @@ use lab_search::{
 };
 use mc_script::JobFault;
 use mc_streams::{Sink, WriteFault};
-use prove_events::{On, Rules};
+use lab_app_rules::{On, Rules};
 use std::alloc::Global;
 
 /// Writes that the deck itself breaks a rule.

@@ -10,7 +10,7 @@ use lab_history::Break;
 use lab_search::put_broken;
 use mc_streams::{Sink, WriteFault};
 use mc_text::{add, add_decimal};
-use prove_events::{Always, Balance, Named, Rules};
+use lab_app_rules::{Always, Balance, Named, Rules};
 
 /// The name of some static bytes: at most 26 characters.
 type Name = ArrayVec<u8, 32>;

@@ -7,7 +7,7 @@ ghost use Rattle.lab_history.specs.Moves.{takes_from_sum, AreDone, IsDone, IsLin
 use crate::amounts::is_kept;
 use crate::course::{Course, Deed, Extent};
 use crate::standing::{Break, Standing};
-use prove_events::{Effect, Event, On, Rules};
+use lab_app_rules::{Effect, Event, On, Rules};
 
 // Notes that the `on` line with a number applied, if there is such a line.
 fn hear(times: &mut [u64], i: usize)

@@ -6,7 +6,7 @@ ghost use Rattle.lab_history.specs.Moves.{AreMoved};
 
 use crate::arithmetic::{number_bytes, shift};
 use model_device::NoMemory;
-use prove_events::{Balance, Named, SignedSum};
+use lab_app_rules::{Balance, Named, SignedSum};
 use std::alloc::Global;
 
 /// Returns the static bytes of a block.

@@ -7,9 +7,9 @@ use Rattle.mc_words.specs.model_device.specs.PowerUp.{Base, OnCard, AtFault}
 use Rattle.mc_bank.specs.model_card.specs.Commands.{command}
 use Rattle.mc_apdu.specs.model_machine.specs.Apdu.{apdu_read}
 use Rattle.mc_apdu.specs.model_machine.specs.Chain.{Turn}
-use Rattle.lab_match.specs.model_play.specs.DeckGrammar.{DeckLine}
-use Rattle.lab_match.specs.model_play.specs.DeckGrammar as line
-use Rattle.lab_match.specs.model_play.specs.Play.{FailedWrite, Live, Running, Unpowered, Muted, State, BeforePower, AfterPower, armed_stop_in, moves_of, start, steady_at, step}
+use Rattle.law_promise.specs.model_play.specs.DeckGrammar.{DeckLine}
+use Rattle.law_promise.specs.model_play.specs.DeckGrammar as line
+use Rattle.law_promise.specs.model_play.specs.Play.{FailedWrite, Live, Running, Unpowered, Muted, State, BeforePower, AfterPower, armed_stop_in, moves_of, start, steady_at, step}
 use Rattle.mc_deck.specs.Lines.{line_of}
 use Rattle.mc_deck.specs.declared.line.Line.{Line}
 use Rattle.mc_deck.specs.declared.line.Line.TheVariants as Line

@@ -1,6 +1,6 @@
 -- The relation of players to states by the bench below as a whole, as contracts cite it. It is that of the same name in
 -- `RecordSteps`, which lemmas cite by the functions of the bench.
-use Rattle.lab_match.specs.model_play.specs.Play.{State}
+use Rattle.law_promise.specs.model_play.specs.Play.{State}
 use Rattle.mc_script.specs.Benches.{BenchMembers}
 use Rattle.mc_script.specs.declared.player.Player.{Player}
 use Rattle.lab_record.specs.RecordSteps as steps

@@ -2,9 +2,9 @@
 -- each device write up to the stop.
 use Rattle.std.specs.Prelude.{◌≡◌, ℕ, ◌+◌, ◌*◌, Bool, true, false, ◌&&◌, List, [], ◌∷◌, is_some, Option, Some, None}
 use Rattle.mc_words.specs.model_device.specs.Device.{BenchState, DeviceState, blank_words, device_words}
-use Rattle.lab_match.specs.model_play.specs.DeckGrammar.{DeckLine}
-use Rattle.lab_match.specs.model_play.specs.DeckGrammar as line
-use Rattle.lab_match.specs.model_play.specs.Play.{State, Step, armed_stop_in, moves_of, start, steady_at, step}
+use Rattle.law_promise.specs.model_play.specs.DeckGrammar.{DeckLine}
+use Rattle.law_promise.specs.model_play.specs.DeckGrammar as line
+use Rattle.law_promise.specs.model_play.specs.Play.{State, Step, armed_stop_in, moves_of, start, steady_at, step}
 use Rattle.mc_script.specs.declared.player.Player.{Player}
 use Rattle.mc_script.specs.Players.{device_of, IsPlayerAt}
 use Rattle.mc_script.specs.StepCounts.{instructions_in, search_in}

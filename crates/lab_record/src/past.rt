@@ -1,8 +1,8 @@
 // What happened to an application while the lines of its deck were played.
 ghost use Rattle.std.specs.Prelude.{◌≡◌, ◌+◌, ◌*◌, ◌<◌, ◌≤◌, ℕ, length, option_map, slice_get, take, None, OnOk, Some};
 ghost use Rattle.mc_words.specs.model_device.specs.Device.{blank_words, device_words};
-ghost use Rattle.lab_match.specs.model_play.specs.DeckGrammar.{DeckLine};
-ghost use Rattle.lab_match.specs.model_play.specs.Play.{State, start};
+ghost use Rattle.law_promise.specs.model_play.specs.DeckGrammar.{DeckLine};
+ghost use Rattle.law_promise.specs.model_play.specs.Play.{State, start};
 ghost use Rattle.mc_script.specs.Benches.{IsPlaying};
 ghost use Rattle.lab_record.specs.Benches.{IsSteadyAt};
 ghost use Rattle.lab_record.specs.RecordSteps.{armed_in, is_replayed, most_of_chronicle, most_of_line, most_of_lines, plays_again, plays_of_stop, steady_step};

@@ -20,7 +20,7 @@ use mc_machine::{End, Outcome};
 use mc_nvm::Nvm;
 use mc_script::{Runner, Watcher, run_watched};
 use mc_segs::Abend;
-use prove_events::{Amount, Effect, Rules};
+use lab_app_rules::{Amount, Effect, Rules};
 use std::alloc::Global;
 use std::sync::ledger::Ledger;
 

@@ -1,14 +1,14 @@
 // A line that is played and recorded.
 ghost use Rattle.std.specs.Prelude.{◌≡◌, ◌+◌, ◌≤◌, ℕ, false, List, IfOk, Option, option_map, Some};
-ghost use Rattle.lab_match.specs.model_play.specs.Play as play;
-ghost use Rattle.lab_match.specs.model_play.specs.Play.{FailedWrite, State, step};
-ghost use Rattle.prove_events.specs.law_promise.specs.History.{is_selected_in, is_selected_on};
+ghost use Rattle.law_promise.specs.model_play.specs.Play as play;
+ghost use Rattle.law_promise.specs.model_play.specs.Play.{FailedWrite, State, step};
+ghost use Rattle.law_promise.specs.History.{is_selected_in, is_selected_on};
 ghost use Rattle.mc_isa.specs.model_text.specs.Listing.{hex_text};
 ghost use Rattle.mc_deck.specs.Lines.{line_of, GoodLine};
 ghost use Rattle.mc_script.specs.Benches.{IsPlayerAt, IsPlaying};
 ghost use Rattle.mc_script.specs.Lives.{LiveShows};
 ghost use Rattle.mc_script.specs.Players.{device_of};
-ghost use Rattle.lab_match.specs.model_play.specs.Transcript.{outcome_text};
+ghost use Rattle.mc_text.specs.model_text.specs.TurnText.{outcome_text};
 ghost use Rattle.mc_machine.specs.Turns.{outcome_value};
 ghost use Rattle.lab_record.specs.Courses.{answer_lines, answered_from, command_lines, ended_by, has_session, is_answered, own_command};
 ghost use Rattle.lab_record.specs.Benches.{IsSteadyAt};
@@ -27,7 +27,7 @@ use mc_words::{Aid, NoMemory, Steps};
 use mc_deck::Line;
 use mc_nvm::Bench;
 use mc_script::{Answer, Live, Player, Text, add_result};
-use prove_events::{Event, On};
+use lab_app_rules::{Event, On};
 use std::alloc::Global;
 use std::sync::ledger::Ledger;
 

@@ -1,6 +1,6 @@
 // The application that is recorded.
 use mc_words::Aid;
-use prove_events::Rules;
+use lab_app_rules::Rules;
 
 /// An application: its rules, and its AID.
 #[derive(Clone, Copy)]

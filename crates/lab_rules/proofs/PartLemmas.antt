@@ -3,9 +3,9 @@ use Rattle.std.proofs.Common.{◌≡◌, ℕ, List, [], ◌∷◌, ◌++◌, Boo
 use Rattle.std.specs.Prelude.{nat_eq}
 use Rattle.model_device.specs.Bytes.{lookup}
 use Rattle.mc_text.specs.model_text.specs.Text.{fields, is_blank, is_empty, only_if}
-use Rattle.lab_match.specs.model_play.specs.declared.deck.DeckCause.TheVariants.{BadLine}
-use Rattle.lab_match.specs.law_explore.specs.Matching.{plain, small}
-use Rattle.lab_match.specs.law_explore.specs.Rules.{full_parts, parts_at, parts_of, with_front, Parts}
+use Rattle.law_explore.specs.model_play.specs.declared.deck.DeckCause.TheVariants.{BadLine}
+use Rattle.law_explore.specs.model_events.specs.Matching.{plain, small}
+use Rattle.law_explore.specs.model_play.specs.RuleLines.{full_parts, parts_at, parts_of, with_front, Parts}
 use Rattle.lab_rules.specs.Parts.{AreFullParts}
 
 -- ---- plain texts

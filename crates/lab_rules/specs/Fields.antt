@@ -2,7 +2,7 @@
 use Rattle.std.specs.Prelude.{◌≡◌, ◌==◌, ℕ, Bool, false, List, [], ◌∷◌, is_some}
 use Rattle.std.specs.List.{AllByRecursion}
 use Rattle.model_device.specs.Bytes.{lookup}
-use Rattle.lab_match.specs.law_explore.specs.Rules.{move_words}
+use Rattle.law_explore.specs.Rules.{move_words}
 
 -- a text without a line feed
 abbrev pub IsOneLine : List ℕ → Type 0

@@ -4,4 +4,3 @@ pub mod Moves
 pub mod Occasions
 pub mod Parts
 -- the libraries below that those above cite through this one
-pub use Rattle.lab_match.specs.law_explore as law_explore

@@ -1,6 +1,6 @@
 // The rules of a deck.
 ghost use Rattle.std.specs.Prelude.{◌≡◌, map, IfOk};
-ghost use Rattle.lab_match.specs.model_play.specs.DeckGrammar.{DeckLine};
+ghost use Rattle.law_explore.specs.model_play.specs.DeckGrammar.{DeckLine};
 ghost use Rattle.mc_deck.specs.Lines.{line_of, GoodLine};
 ghost use Rattle.lab_rules.specs.Meanings.{allowance_values, place_of};
 ghost use Rattle.lab_rules.specs.Moves.{move_deck};

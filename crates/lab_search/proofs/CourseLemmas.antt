@@ -6,7 +6,7 @@ use Rattle.std.proofs.lemmas.Option.{slice_get-get_or, slice_get_read}
 use Rattle.law_explore_text.specs.model_text.specs.Text.{◌>>=◌}
 use Rattle.law_explore_text.specs.model_play.specs.Play.{Live, Running, Unpowered, Muted, is_card_line}
 use Rattle.law_explore_text.specs.model_play.specs.Family.{is_running}
-use Rattle.law_explore_text.specs.law_explore.specs.Matching.{fits}
+use Rattle.law_explore_text.specs.law_explore.specs.model_events.specs.Matching.{fits}
 use Rattle.law_explore_text.specs.law_explore.specs.Rules as rule
 use Rattle.law_explore_text.specs.law_explore.specs.States.{play_of}
 use Rattle.law_explore_text.specs.law_explore.specs.Tries.{Manner as TryManner, Try, Whole, cuts_from, manners, tries_of, tries_with, writes_of}

@@ -12,7 +12,7 @@ ghost use Rattle.lab_key.specs.Kept.{IsKeptCard, IsOfDevice};
 ghost use Rattle.lab_key.specs.Shown.{IsShown, ShowsSome};
 ghost use Rattle.law_explore_text.specs.model_play.specs.Play.{Step};
 ghost use Rattle.law_explore_text.specs.law_explore.specs.Rules.{AtResult};
-ghost use Rattle.law_explore_text.specs.law_explore.specs.Matching.{plain};
+ghost use Rattle.law_explore_text.specs.law_explore.specs.model_events.specs.Matching.{plain};
 ghost use Rattle.law_explore_text.specs.law_explore.specs.Tries.{allowances_after, times};
 ghost use Rattle.lab_rules.specs.Occasions.{capped, counts_after, AreSpent};
 ghost use Rattle.lab_branch.specs.Branches.{branch_bench, branch_state};

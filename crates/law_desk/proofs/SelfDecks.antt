@@ -10,7 +10,8 @@ use Rattle.desk_draft.specs.model_play.specs.declared.deck.DeckCause.{DeckCause}
 use Rattle.desk_draft.specs.model_play.specs.declared.deck.DeckCause.TheVariants.{BadLine}
 use Rattle.desk_draft.specs.model_play.specs.declared.deck.DeckCause.TheVariants as causes
 use Rattle.desk_draft.specs.model_card.specs.Units.{UnitParts}
-use Rattle.desk_draft.specs.model_play.specs.DeckGrammar.{between, lines_at_end, AppWord, Context, DeckLine, LineTurn, Opens, Says, Section, Stated, Word, deck_lines, deck_read, deck_words, is_data, is_end, section_data, section_program, section_unit, statement_of, turn_at, turn_in, turn_of, with_unit, within, Named}
+use Rattle.desk_draft.specs.model_play.specs.DeckGrammar.{between, lines_at_end, AppWord, Context, DeckLine, LineTurn, Opens, Says, Section, Stated, Word, deck_lines, deck_read, deck_words, is_data, section_data, section_program, section_unit, statement_of, turn_at, turn_in, turn_of, with_unit, within, Named}
+use Rattle.mc_text.specs.model_text.specs.Text.{is_end}
 use Rattle.desk_draft.specs.model_play.specs.DeckGrammar
 use Rattle.desk_draft.specs.Parts.{EndedLine, after_word, ended_lines}
 use Rattle.desk_draft.specs.Declarations.{Scope, data_count, data_scope, empty_scope, gives_later, header_names}

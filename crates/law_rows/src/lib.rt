@@ -4,7 +4,7 @@
 //! do is proved over these.
 
 ghost use Rattle.law_rows.specs.Keeping.{KeepingLaw, LeavingLaw};
-ghost use Rattle.law_rows.specs.Shapes.{ShapeLaw};
+ghost use Rattle.law_rows.specs.ShapeLaw.{ShapeLaw};
 
 /// What each instruction does is the meaning of its shape.
 pub fn rows_have_shapes()

@@ -1,6 +1,6 @@
 // The exploration of a deck.
 ghost use Rattle.std.specs.Prelude.{◌≡◌, IfErr, IfOk};
-ghost use Rattle.lab_rules.specs.law_explore.specs.Rules.{exploration_read};
+ghost use Rattle.lab_moves.specs.law_explore_text.specs.law_explore.specs.Rules.{exploration_read};
 ghost use Rattle.lab_rules.specs.Meanings.{IsExplorationRead};
 ghost use Rattle.mc_text.specs.Texts.{sunk};
 ghost use Rattle.mc_filter.specs.Inputs.{Rejects};

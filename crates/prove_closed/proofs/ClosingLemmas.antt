@@ -10,10 +10,10 @@ use Rattle.prove_facts.specs.model_prove.specs.Keys as known
 use Rattle.prove_facts.specs.model_prove.specs.Arrivals.{AtMoment, Setting}
 use Rattle.prove_facts.specs.model_prove.specs.Between.{classes, created}
 use Rattle.prove_facts.specs.model_prove.specs.Tables.{includes, is_closed, moments_closed, places_closed}
-use Rattle.prove_events.specs.declared.rules.Named.{Named}
-use Rattle.prove_events.specs.declared.rules.On.{On}
-use Rattle.prove_events.specs.declared.rules.Rules.{Rules}
-use Rattle.prove_events.specs.Rules.{AreLines, AreRules, allowance_of, name_of}
+use Rattle.lab_app_rules.specs.declared.rules.Named.{Named}
+use Rattle.lab_app_rules.specs.declared.rules.On.{On}
+use Rattle.lab_app_rules.specs.declared.rules.Rules.{Rules}
+use Rattle.lab_app_rules.specs.Rules.{AreLines, AreRules, allowance_of, name_of}
 use Rattle.prove_keys.specs.Keys.{amounts_of}
 use Rattle.prove_arrivals.specs.declared.subject.Subject.{Subject}
 use Rattle.prove_arrivals.specs.Subjects.{IsOver, IsSubject, tables_in}

@@ -1,7 +1,7 @@
 // The lines that an instruction matches that was done.
-use crate::rules::{Event, On};
+use lab_app_rules::{Event, On};
 use lab_match::fits;
-use mc_words::{NoMemory, bytes_of};
+use model_device::{NoMemory, bytes_of};
 use mc_text::digit;
 use prove_facts::push;
 use std::alloc::Global;

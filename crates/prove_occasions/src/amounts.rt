@@ -7,8 +7,8 @@ ghost use Rattle.prove_occasions.specs.Amounts.{after_marked, after_tested, amou
 
 use crate::lines::{is_of_allowance, is_session, is_turn};
 use lab_match::fits;
-use mc_words::NoMemory;
-use prove_events::{Effect, On};
+use model_device::NoMemory;
+use lab_app_rules::{Effect, On};
 use std::alloc::Global;
 
 /// What `turn` and `session` lines are matched with: the line of an instruction, or that a session begins or ends.

@@ -5,7 +5,7 @@ ghost use Rattle.prove_facts.specs.model_prove.specs.Digits.{same};
 ghost use Rattle.prove_facts.specs.model_prove.specs.Texts.{after_any};
 ghost use Rattle.prove_facts.specs.model_prove.specs.Between.{union_all, with_class, with_classes, classes};
 ghost use Rattle.prove_facts.specs.model_rules.specs.Rules.{AppRules};
-ghost use Rattle.prove_events.specs.Rules.{AreLines};
+ghost use Rattle.lab_app_rules.specs.Rules.{AreLines};
 ghost use Rattle.prove_facts.specs.Sets.{set_of};
 ghost use Rattle.prove_patterns.specs.Opens.{many_of};
 ghost use Rattle.prove_patterns.specs.Headers.{header_of, headers_of};
@@ -17,7 +17,7 @@ use crate::lines::opened_commands;
 use crate::opens::{Opens, matches_of};
 use crate::reaching::after_any;
 use model_device::NoMemory;
-use prove_events::On;
+use lab_app_rules::On;
 use prove_facts::{Values, push};
 use std::alloc::Global;
 

@@ -6,7 +6,7 @@ ghost use Rattle.prove_facts.specs.model_prove.specs.Texts as known;
 ghost use Rattle.prove_facts.specs.model_prove.specs.Arrivals.{Setting, distinct, replies};
 ghost use Rattle.prove_facts.specs.model_prove.specs.Keys.{Known};
 ghost use Rattle.prove_facts.specs.model_rules.specs.Rules.{AppRules};
-ghost use Rattle.prove_events.specs.Rules.{AreLines};
+ghost use Rattle.lab_app_rules.specs.Rules.{AreLines};
 ghost use Rattle.prove_facts.specs.Sets.{set_of};
 ghost use Rattle.prove_patterns.specs.Opens.{opens_of, many_of};
 ghost use Rattle.prove_patterns.specs.Replies.{ArePrepared, IsPrepared, HaveValues, combinations_of, bodies_in};
@@ -17,7 +17,7 @@ use crate::lines::opened_results;
 use crate::opens::Opens;
 use crate::reaching::{Many, after_any, each_after_bytes};
 use model_device::NoMemory;
-use prove_events::On;
+use lab_app_rules::On;
 use prove_facts::{Values, push};
 use std::alloc::Global;
 

@@ -5,7 +5,7 @@ ghost use Rattle.prove_report.specs.Reports.{is_of_lines, verdict_words, IsRepor
 use crate::way_text::add_way;
 use crate::ways::{Key, Walk, walk_to_faults};
 use itoa::Buffer;
-use mc_words::{NoMemory, bytes_of};
+use model_device::{NoMemory, bytes_of};
 use mc_isa::{decode, text_of};
 use mc_text::digit;
 use prove_facts::{Fact, Facts, Values};

@@ -1,11 +1,11 @@
 // Why a line is no rule.
 ghost use Rattle.std.specs.Prelude.{◌≡◌};
-ghost use Rattle.lab_match.specs.model_play.specs.declared.deck.DeckCause.TheVariants.{BadLine};
+ghost use Rattle.model_rule_text.specs.model_play.specs.declared.deck.DeckCause.TheVariants.{BadLine};
 ghost use Rattle.prove_rules.specs.declared.fault.Fault.TheVariants.{Cause};
 ghost use Rattle.prove_rules.specs.declared.fault.RuleCause.TheVariants.{Deck};
 ghost use Rattle.prove_rules.specs.Refused.{cause_value, cause_word};
 
-use lab_match::model_play::DeckCause;
+use mc_deck::DeckCause;
 use mc_words::NoMemory;
 use std::alloc::AllocError;
 

@@ -4,7 +4,7 @@ use mc_asm::size_of_line;
 use mc_words::NoMemory;
 use mc_deck::{ends_section, has_data};
 use mc_text::next_line;
-use prove_events::CodeLine;
+use lab_app_rules::CodeLine;
 use prove_facts::push;
 use std::alloc::Global;
 

@@ -1,7 +1,7 @@
 // Rows whose deciding bytes have too many combinations.
 ghost use Rattle.std.specs.Prelude.{◌≡◌, ℕ, List, IfSome, option_map};
-ghost use Rattle.law_rows.specs.Shapes as shapes;
-ghost use Rattle.mc_prims.specs.Table as table;
+ghost use Rattle.model_machine.specs.Shapes as shapes;
+ghost use Rattle.mc_isa.specs.Primitives as table;
 ghost use Rattle.model_machine.specs.Primitives as model;
 ghost use Rattle.model_prove.specs.Facts.{Facts};
 ghost use Rattle.model_prove.specs.Reach as reach;
@@ -15,7 +15,7 @@ use crate::prim_shaping::delegates;
 use crate::scene::Scene;
 use crate::shapes::{Act, Next, Shape};
 use crate::shaping::goes;
-use mc_prims::Primitive;
+use mc_isa::Primitive;
 use model_machine::Ins;
 
 /// Lengths of a write: one, those of a name after its length, or those from 1 to 255 that two bytes may be.

@@ -1,11 +1,11 @@
 // The shape of a primitive in a scene.
 ghost use Rattle.std.specs.Prelude.{◌≡◌, ◌≤◌, ◌<◌, ◌*◌, ◌-◌, ◌+◌, [], ◌∷◌, true, false, List, ℕ, None, length, IfSome};
 ghost use Rattle.model_machine.specs.model_device.specs.Bytes.{zeros};
-ghost use Rattle.law_rows.specs.Shapes as shapes;
+ghost use Rattle.model_machine.specs.Shapes as shapes;
 ghost use Rattle.model_machine.specs.Frame.{bytes_at, top};
 ghost use Rattle.model_machine.specs.Primitives as model;
 ghost use Rattle.model_prove.specs.Work as work;
-ghost use Rattle.mc_prims.specs.Table.{cipher_of, primitive_of};
+ghost use Rattle.mc_isa.specs.Primitives.{cipher_of, primitive_of};
 ghost use Rattle.prove_scenes.specs.Heads.{around_value};
 ghost use Rattle.prove_scenes.specs.Outlines.{outlined};
 ghost use Rattle.prove_scenes.specs.Scenes.{frame_to};
@@ -19,7 +19,7 @@ use crate::shaping::{goes, pushes, writes, zeros_of};
 use crate::working::{Bytes, byte_alone, no_bytes, same_bytes};
 use arrayvec::ArrayVec;
 use mc_arith::{Flags, shift_left, shift_right};
-use mc_prims::{Cipher, Primitive};
+use mc_isa::{Cipher, Primitive};
 
 /// The direction of a shift.
 #[derive(Clone, Copy, Debug, PartialEq, Eq)]

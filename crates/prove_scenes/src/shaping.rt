@@ -1,7 +1,7 @@
 // The shape of an instruction's row in a scene.
 ghost use Rattle.std.specs.Prelude.{◌≡◌, ◌≤◌, ◌*◌, [], None, length, IfSome};
 ghost use Rattle.model_machine.specs.model_device.specs.Bytes.{zeros};
-ghost use Rattle.law_rows.specs.Shapes as shapes;
+ghost use Rattle.model_machine.specs.Shapes as shapes;
 ghost use Rattle.model_machine.specs.Primitives as model;
 ghost use Rattle.model_machine.specs.Row as row;
 ghost use Rattle.model_prove.specs.Work.{work};

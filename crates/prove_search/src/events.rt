@@ -2,7 +2,8 @@
 use crate::keys::{Break, Outcome, Rule};
 use crate::subject::Subject;
 use model_device::NoMemory;
-use prove_events::{Event, Firing, fire, lines_of};
+use lab_app_rules::Event;
+use prove_events::{Firing, fire, lines_of};
 use prove_facts::push;
 use std::alloc::Global;
 

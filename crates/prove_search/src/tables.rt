@@ -2,7 +2,7 @@
 use crate::keys::Break;
 use crate::successors::Successors;
 use model_device::NoMemory;
-use prove_events::{Always, Rules};
+use lab_app_rules::{Always, Rules};
 use prove_facts::{Fact, Facts, Values};
 use prove_keys::Tables;
 use std::alloc::Global;

@@ -7,7 +7,7 @@ ghost use Rattle.prove_steps.specs.Steps.{AcceptsAll};
 
 use crate::branching::instruction_included;
 use crate::stepping::Fetched;
-use mc_words::NoMemory;
+use model_device::NoMemory;
 use mc_isa::decode;
 use mc_isa::model_machine::{Abend, DecodeFault, Ins};
 use prove_arrivals::{Subject, abended, fails};

@@ -14,7 +14,7 @@ use Rattle.prove_keys.specs.declared.tables.Tables.{Tables}
 use Rattle.prove_keys.specs.Keys.{place_of}
 use Rattle.prove_keys.specs.Known.{known_of}
 use Rattle.prove_keys.specs.Tables.{tables_of}
-use Rattle.prove_rules.specs.Sums.{AreSums}
+use Rattle.lab_app_rules.specs.Sums.{AreSums}
 use Rattle.prove_scenes.specs.declared.scene.Sizes.{Sizes}
 use Rattle.prove_spots.specs.Grounds.{Ground}
 use Rattle.prove_sums.specs.Values.{sums_value}

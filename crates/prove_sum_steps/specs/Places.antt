@@ -16,7 +16,7 @@ use Rattle.prove_keys.specs.declared.tables.Tables.{Tables}
 use Rattle.prove_keys.specs.Keys.{place_of}
 use Rattle.prove_keys.specs.Known.{known_of}
 use Rattle.prove_keys.specs.Tables.{tables_of}
-use Rattle.prove_rules.specs.Sums.{AreSums}
+use Rattle.lab_app_rules.specs.Sums.{AreSums}
 use Rattle.prove_sum_steps.specs.declared.goals.Goal.{Goal}
 use Rattle.prove_sum_steps.specs.declared.places.Stand.{Stand}
 use Rattle.prove_sum_steps.specs.Tables.{IsGoal, goal_key, sums_in}

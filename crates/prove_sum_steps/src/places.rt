@@ -20,7 +20,7 @@ use mc_isa::decode;
 use model_text::model_machine::Ins;
 use prove_arrivals::Subject;
 use prove_closed::{place_closed, spot_at};
-use prove_events::Rules;
+use lab_app_rules::Rules;
 use prove_keys::{PackedKnown, PlaceKey, Tables};
 use prove_sums::Sums;
 use std::alloc::Global;

@@ -3,7 +3,7 @@
 use crate::goals::Goal;
 use model_text::model_machine::Ins;
 use prove_arrivals::Subject;
-use prove_events::Rules;
+use lab_app_rules::Rules;
 use prove_keys::PlaceKey;
 use prove_spots::Spot;
 use prove_sums::Sums;

@@ -7,7 +7,7 @@ use Rattle.model_device.specs.Bytes.{num, AreBytes}
 use Rattle.prove_forms.specs.model_sums.specs.Forms as forms
 use Rattle.prove_forms.specs.declared.forms.Term.{Term}
 use Rattle.prove_forms.specs.Forms.{reduced_terms, term_value}
-use Rattle.mc_arith.proofs.BlockLemmas.{num_below}
+use Rattle.mc_arith.specs.law_rows.proofs.BlockLemmas.{num_below}
 use Rattle.prove_works.proofs.NumberLemmas.{number_next}
 
 -- the number of values of 16 bytes

@@ -6,7 +6,7 @@ ghost use Rattle.prove_facts.specs.model_prove.specs.Work as work;
 ghost use Rattle.prove_forms.specs.model_sums.specs.Moves as moves;
 ghost use Rattle.prove_forms.specs.model_sums.specs.Sums as sums;
 ghost use Rattle.prove_forms.specs.model_sums.specs.Writes as writes;
-ghost use Rattle.prove_rules.specs.Sums.{AreTotals};
+ghost use Rattle.lab_app_rules.specs.Sums.{AreTotals};
 ghost use Rattle.prove_scenes.specs.ShapeValues.{shape_value};
 ghost use Rattle.prove_scenes.specs.Works.{work_value};
 ghost use Rattle.prove_sums.specs.Values.{IsBefore, SumsAre};
@@ -16,7 +16,7 @@ use crate::values::{Before, Sums};
 use crate::works::{copied, worked};
 use mc_arith::model_machine::Ins;
 use model_device::NoMemory;
-use prove_events::Balance;
+use lab_app_rules::Balance;
 use prove_scenes::{Shape, Work};
 use std::alloc::Global;
 

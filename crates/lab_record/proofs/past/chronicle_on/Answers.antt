@@ -1,8 +1,8 @@
 use Rattle.std.specs.Prelude.{◌≡◌, ◌+◌, ◌≤◌, ℕ, slice_get, take, Some}
 use Rattle.std.proofs.Common.{arith, rules, sym, subst}
 use Rattle.mc_words.specs.model_device.specs.Device.{blank_words, device_words}
-use Rattle.lab_match.specs.model_play.specs.DeckGrammar.{DeckLine}
-use Rattle.lab_match.specs.model_play.specs.Play.{State, start}
+use Rattle.law_promise.specs.model_play.specs.DeckGrammar.{DeckLine}
+use Rattle.law_promise.specs.model_play.specs.Play.{State, start}
 use Rattle.lab_record.specs.RecordSteps.{state_after, IsSteadyAt}
 use Rattle.lab_record.proofs.StepLemmas.{after_first, after_next, left_all, left_next, line_within}
 use Rattle.lab_record.proofs.past.chronicle_on.Goals as goal

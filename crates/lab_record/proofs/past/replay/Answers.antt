@@ -1,7 +1,7 @@
 use Rattle.std.specs.Prelude.{◌+◌, take}
 use Rattle.std.proofs.Common.{sym, subst}
 use Rattle.mc_words.specs.model_device.specs.Device.{blank_words, device_words}
-use Rattle.lab_match.specs.model_play.specs.Play.{start}
+use Rattle.law_promise.specs.model_play.specs.Play.{start}
 use Rattle.mc_nvm.specs.Sim.{sim_bench, sim_state}
 use Rattle.lab_record.specs.RecordSteps.{IsSteadyAt}
 use Rattle.lab_record.proofs.StepLemmas.{new_steady}

@@ -1,7 +1,7 @@
 use Rattle.std.specs.Prelude.{◌+◌, ◌*◌, ◌≤◌, ℕ, option_map, take, None}
 use Rattle.std.proofs.Common.{ap, sym, subst, ◌∙◌}
 use Rattle.mc_words.specs.model_device.specs.Device.{blank_words, device_words}
-use Rattle.lab_match.specs.model_play.specs.Play.{start}
+use Rattle.law_promise.specs.model_play.specs.Play.{start}
 use Rattle.lab_record.specs.declared.past.ArmedStop.{ArmedStop}
 use Rattle.lab_record.specs.RecordSteps.{armed_in, most_of_lines, plays_of_stop}
 use Rattle.lab_record.proofs.StepLemmas.{stop_cuts, stop_whole}

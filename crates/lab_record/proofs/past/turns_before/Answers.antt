@@ -1,7 +1,7 @@
 use Rattle.std.specs.Prelude.{◌+◌, take}
 use Rattle.std.proofs.Common.{arith}
 use Rattle.mc_words.specs.model_device.specs.Device.{blank_words, device_words}
-use Rattle.lab_match.specs.model_play.specs.Play.{start}
+use Rattle.law_promise.specs.model_play.specs.Play.{start}
 use Rattle.lab_record.specs.RecordSteps.{most_of_lines}
 use Rattle.lab_record.proofs.StepLemmas.{few_plays, no_play, one_more}
 use Rattle.lab_record.proofs.past.turns_before.Goals as goal

@@ -1,6 +1,6 @@
 use Rattle.std.specs.Prelude.{◌+◌, ◌*◌, ◌≤◌, take}
 use Rattle.mc_words.specs.model_device.specs.Device.{blank_words, device_words}
-use Rattle.lab_match.specs.model_play.specs.Play.{start}
+use Rattle.law_promise.specs.model_play.specs.Play.{start}
 use Rattle.lab_record.specs.RecordSteps.{most_of_lines}
 use Rattle.lab_record.proofs.past.turns_before.Given as goal
 

@@ -1,6 +1,6 @@
 use Rattle.std.specs.Prelude.{◌≡◌, ◌+◌, ◌≤◌, ℕ, take}
 use Rattle.std.proofs.Common.{arith, sym, subst}
-use Rattle.lab_match.specs.model_play.specs.Play.{State}
+use Rattle.law_promise.specs.model_play.specs.Play.{State}
 use Rattle.mc_deck.specs.Lines.{line_of}
 use Rattle.lab_record.specs.RecordSteps.{most_of_lines, state_after, IsSteadyAt}
 use Rattle.lab_record.proofs.StepLemmas.{after_first, after_next, most_first, most_next}

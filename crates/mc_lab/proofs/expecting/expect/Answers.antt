@@ -2,7 +2,7 @@ use Rattle.std.proofs.Common.{◌≡◌, ◌+◌, ◌≤◌, ◌∷◌, [], ◌�
 use Rattle.law_explore.specs.model_play.specs.Play.{start}
 use Rattle.mc_text.specs.Texts.{sunk_in}
 use Rattle.mc_text.proofs.TextLemmas.{puts_as}
-use Rattle.law_explore.specs.Matching.{fits}
+use Rattle.law_explore.specs.model_events.specs.Matching.{fits}
 use Rattle.mc_lab.specs.declared.remark.Remark.{Remark as Found}
 use Rattle.mc_lab.specs.Remarked.{remark_value, remark_values}
 use Rattle.mc_lab.specs.Rising.{last_of}

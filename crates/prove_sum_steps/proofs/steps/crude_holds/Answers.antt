@@ -1,5 +1,5 @@
 use Rattle.std.proofs.Common.{◌≡◌, ◌∙◌, true, ap, subst}
-use Rattle.prove_facts.specs.law_rows.specs.Shapes.{shape}
+use Rattle.model_text.specs.model_machine.specs.Shapes.{shape}
 use Rattle.model_text.specs.model_machine.specs.Primitives.{Around}
 use Rattle.prove_facts.specs.model_prove.specs.Reach.{coarse}
 use Rattle.prove_facts.specs.model_prove.specs.Steps.{coarse_for}

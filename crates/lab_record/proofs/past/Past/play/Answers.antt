@@ -1,8 +1,8 @@
 use Rattle.std.specs.Prelude.{◌+◌, ◌*◌, ◌≤◌, ℕ, take, None}
 use Rattle.std.proofs.Common.{sym, subst, ◌∙◌}
 use Rattle.mc_words.specs.model_device.specs.Device.{blank_words, device_words}
-use Rattle.lab_match.specs.model_play.specs.DeckGrammar.{DeckLine}
-use Rattle.lab_match.specs.model_play.specs.Play.{start}
+use Rattle.law_promise.specs.model_play.specs.DeckGrammar.{DeckLine}
+use Rattle.law_promise.specs.model_play.specs.Play.{start}
 use Rattle.mc_deck.specs.Lines.{line_of}
 use Rattle.lab_record.specs.RecordSteps.{armed_in, is_replayed, most_of_line, most_of_lines, plays_again, steady_step, IsSteadyAt}
 use Rattle.lab_record.proofs.StepLemmas.{and_true, on_ok, plays_none, plays_some, same_line}

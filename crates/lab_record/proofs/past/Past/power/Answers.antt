@@ -1,5 +1,5 @@
 use Rattle.std.proofs.Common.{arith}
-use Rattle.lab_match.specs.model_play.specs.DeckGrammar as line
+use Rattle.law_promise.specs.model_play.specs.DeckGrammar as line
 use Rattle.lab_record.proofs.StepLemmas.{free_line, power_free}
 use Rattle.lab_record.proofs.past.Past.power.Goals as goal
 
