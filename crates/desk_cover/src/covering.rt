@@ -263,7 +263,7 @@ fn count_lines<N: Bench, L: Ledger>(
     requires { IsUnfused (N.bench device) }
     ensures counts { CountsPlay (start (N.state device).words) deck.now
         (bench_at N.Bench device)
-        (bench_at N.Bench result) counter.old counter.new steps.old steps.new }
+        (bench_at N.Bench result) counter.old counter.new }
     ensures image { IsImage (N.state device).words }
     ensures lines { AllByRecursion (λ l. IsLine l.1) deck.now }
     ensures keeps_device { N.same device result }
@@ -300,7 +300,7 @@ pub fn cover<N: Bench, T: Sink, L: Ledger>(
     // the draft. Out of memory, nothing is played.
     ensures covers { CoversBy name.now sections.now deck.now
         (bench_at N.Bench dev.old) (sunk T.Sink out.old) result
-        (bench_at N.Bench dev.new) (sunk T.Sink out.new) steps.old steps.new }
+        (bench_at N.Bench dev.new) (sunk T.Sink out.new) }
     ensures unplayed { IfErr result (λ e. e ≡ fault.NoMemory → dev.new ≡ dev.old) }
 {
     let Ok(lines) = new_lines(alloc, sections.all()) else {

@@ -153,7 +153,7 @@ fn play_lines<N: Bench, T: Sink, L: Ledger>(
     requires { IsUnfused (N.bench device) }
     ensures records { RecordsPlay T.Sink text.now (start (N.state device).words) deck.now
         (bench_at N.Bench device)
-        (bench_at N.Bench result) recorder.old recorder.new steps.old steps.new }
+        (bench_at N.Bench result) recorder.old recorder.new }
     ensures image { IsImage (N.state device).words }
     ensures lines { AllByRecursion (λ l. IsLine l.1) deck.now }
     ensures keeps_device { N.same device result }
@@ -194,7 +194,7 @@ pub fn put_steps<N: Bench, T: Sink, L: Ledger>(
     // first turn is the line of the first frame, and after a turn that called a frame is its line.
     ensures { StepsDeck sections.now text.now deck.now
         (bench_at N.Bench dev.old) (sunk T.Sink out.old) result
-        (bench_at N.Bench dev.new) (sunk T.Sink out.new) steps.old steps.new }
+        (bench_at N.Bench dev.new) (sunk T.Sink out.new) }
 {
     let mut recorder = Recorder::new(&mut *out, sections);
     let _dev = play_lines(deck, text, &mut *dev, &mut recorder, steps);

@@ -19,7 +19,7 @@ use Rattle.lab_history.specs.declared.course.Course.{Course}
 use Rattle.lab_record.specs.declared.recorder.Recorder.{Recorder}
 use Rattle.lab_record.specs.Courses.{ended_by, is_outcome, is_stop, outcome_in, passed_command, stop_in}
 use Rattle.lab_record.specs.Logs.{DeedValue, Log, Sight, log_turns, no_log, sight, values_of}
-use Rattle.lab_record.specs.RecordSteps.{steady_step, IsSteadyAt}
+use Rattle.lab_record.specs.Steady.{steady_step, IsSteadyAt}
 use Rattle.lab_record.specs.declared.recording.Played.{Played}
 use Rattle.lab_record.specs.Playing.{IsCourse, IsPlayed, log_of_step, sights_of_step}
 use Rattle.lab_record.specs.Recorders.{log_of, log_rules, Recorded}

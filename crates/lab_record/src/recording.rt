@@ -1,5 +1,5 @@
 // A line that is played and recorded.
-ghost use Rattle.std.specs.Prelude.{◌≡◌, ◌+◌, ◌≤◌, ℕ, false, List, IfOk, Option, option_map, Some};
+ghost use Rattle.std.specs.Prelude.{◌≡◌, ℕ, false, List, IfOk, Option, option_map, Some};
 ghost use Rattle.law_promise.specs.model_play.specs.Play as play;
 ghost use Rattle.law_promise.specs.model_play.specs.Play.{FailedWrite, State, step};
 ghost use Rattle.law_promise.specs.History.{is_selected_in, is_selected_on};
@@ -14,7 +14,7 @@ ghost use Rattle.lab_record.specs.Courses.{answer_lines, answered_from, command_
 ghost use Rattle.lab_record.specs.Benches.{IsSteadyAt};
 ghost use Rattle.lab_record.specs.Logs.{values_of};
 ghost use Rattle.lab_record.specs.Playing.{IsCourse, IsPlayed};
-ghost use Rattle.lab_record.specs.RecordSteps.{most_of_line, steady_step};
+ghost use Rattle.lab_record.specs.Steady.{steady_step};
 
 use crate::fitting::{fitting, hex_of, is_fitting};
 use crate::recorder::Recorder;
@@ -210,9 +210,6 @@ pub fn play_recorded<N: Bench, L: Ledger>(
     ensures recorded { IfOk result (λ p. (s : State) (n : ℕ) → IsSteadyAt N.Bench player.old s
         → IsSteadyAt N.Bench player.new (steady_step s (n, line_of line.now)).after
         × IsPlayed subject.entry.rules.now subject.entry.aid.now (steady_step s (n, line_of line.now)) p) }
-    // At most the steps of the line, played once.
-    ensures steps { (s : State) → IsPlayerAt N.Bench player.old s
-        → steps.new ≤ steps.old + most_of_line s (line_of line.now) }
 {
     let was_selected = is_selected(alloc, player, subject.aid)?;
     let mut recorder = Recorder::new(alloc, subject);

@@ -21,5 +21,4 @@ pub mod SweepPlayers
 pub mod SweepFronts
 pub mod Benches
 pub mod SweepEnds
-pub mod SweepSteps
 pub mod SweptRows

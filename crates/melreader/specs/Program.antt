@@ -111,9 +111,7 @@ module _ {S T E : Type 0} (s : source.Ghosts S) (t : sink.Ghosts T) (e : sink.Gh
     pub dev_old : Sim
     pub dev : Sim
     pub blank : dev_old ≡ blank_sim device_words
-    pub steps_old : ℕ
-    pub steps : ℕ
-    pub says : MelreaderSays (AreKept x.in_old x.in_new x.out_old x.out_new dev_old dev) status (outside s t e sim_members deck_old deck x.in_old x.in_new x.out_old x.out_new x.err_old x.err_new dev_old dev steps_old steps)
+    pub says : MelreaderSays (AreKept x.in_old x.in_new x.out_old x.out_new dev_old dev) status (outside s t e sim_members deck_old deck x.in_old x.in_new x.out_old x.out_new x.err_old x.err_new dev_old dev)
 
   -- such a session, or out of memory for its device
   abbrev pub SessionSays : Option Stream → Option Stream → Streams → Status → Type 0
