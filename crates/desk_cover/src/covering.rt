@@ -23,7 +23,6 @@ use crate::lcov::{LineCount, put_record};
 use crate::sections::{Section, Sections, bytes_of};
 use desk_draft::CodeLine;
 use mc_arith::Flags;
-use mc_words::{Steps, Stop};
 use mc_card::{BriefTurn, Card};
 use mc_deck::Deck;
 use mc_isa::{Ins, decode};
@@ -31,6 +30,7 @@ use mc_machine::Outcome;
 use mc_nvm::{Bench, Nvm};
 use mc_script::{JobFault, Player, Runner};
 use mc_streams::{Sink, WriteFault};
+use mc_words::{Steps, Stop};
 use std::alloc::{AllocError, Global};
 use std::sync::ledger::Ledger;
 

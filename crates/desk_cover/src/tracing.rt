@@ -25,7 +25,6 @@ use crate::looking::{After, Scene};
 use crate::sections::Sections;
 use arrayvec::ArrayVec;
 use desk_draft::CodeLine;
-use mc_words::{Steps, Stop};
 use mc_card::{BriefTurn, Card};
 use mc_deck::Deck;
 use mc_machine::Outcome;
@@ -34,6 +33,7 @@ use mc_script::{Answer, Player, Reporter, Runner, Text, gather_result, play_line
 use mc_streams::{Sink, WriteFault};
 use mc_text::{add, add_decimal, add_hex, put};
 use mc_trace::line_of_brief;
+use mc_words::{Steps, Stop};
 use std::sync::ledger::Ledger;
 
 /// The number of bytes of the stack that are shown.

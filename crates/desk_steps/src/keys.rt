@@ -9,10 +9,10 @@ ghost use Rattle.desk_steps.specs.Turning.{bare_value, end_of};
 
 use desk_json::Sheet;
 use law_steps::model_machine::Abend;
-use mc_words::Aid;
 use mc_isa::{Ins, text_of};
 use mc_machine::{BriefTurn, End};
 use mc_streams::Sink;
+use mc_words::Aid;
 
 // Adds a flag.
 fn add_bit<T: Sink>(sheet: &mut Sheet<'_, T>, flag: bool)

@@ -8,9 +8,9 @@ ghost use Rattle.desk_cover.specs.Watching.{IsWatched};
 
 use desk_cover::Sections;
 use mc_bank::Bank;
-use mc_words::Aid;
 use mc_card::Card;
 use mc_nvm::Nvm;
+use mc_words::Aid;
 
 /// Returns the name of the application that runs on a card, or `None` if no command runs.
 #[tactic(auto, using(desk_cover::proofs::WatchLemmas::watched_chain))]

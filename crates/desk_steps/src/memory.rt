@@ -22,11 +22,11 @@ use crate::shot::Shot;
 use crate::writes::{device_writes, turn_words};
 use arrayvec::ArrayVec;
 use mc_bank::Bank;
-use mc_words::Aid;
 use mc_card::{BriefTurn, Card, Chain};
 use mc_deck::Line;
 use mc_isa::Ins;
 use mc_nvm::Nvm;
+use mc_words::Aid;
 
 /// The most bytes of a command that an application gets.
 const COMMAND: usize = 1040;

@@ -7,9 +7,8 @@ ghost use Rattle.law_steps.specs.Shown.{is_exit_of};
 ghost use Rattle.desk_steps.specs.Turning.{abend_of, end_of, exit_in};
 
 use mc_card::BriefTurn;
-use mc_isa::Ins;
+use mc_isa::{Ins, Primitive};
 use mc_machine::End;
-use mc_isa::Primitive;
 use mc_segs::Abend;
 
 /// Returns the abend in the end of a turn, or `None` if the chain goes on or ends with a reply.

@@ -19,11 +19,11 @@ use crate::statements::Statements;
 use arrayvec::ArrayVec;
 use desk_cover::Sections;
 use desk_json::{Sheet, written};
-use mc_words::Steps;
 use mc_deck::Deck;
 use mc_nvm::Bench;
 use mc_script::{Answer, Player, Text, add_result};
 use mc_streams::{Sink, WriteFault};
+use mc_words::Steps;
 use std::sync::ledger::Ledger;
 
 // The text of a result of a player.

@@ -25,11 +25,11 @@ use crate::memory::Memory;
 use crate::shot::Shot;
 use desk_cover::Sections;
 use desk_json::Sheet;
-use mc_words::Aid;
 use mc_card::{BriefTurn, Card};
 use mc_deck::Line;
 use mc_nvm::Nvm;
 use mc_streams::{Sink, WriteFault};
+use mc_words::Aid;
 
 /// Records the turns of a play as JSON. Once its sink failed it writes no more, and commands are run to their end.
 ///

@@ -10,10 +10,10 @@ ghost use Rattle.law_steps.specs.Spans.{look_register, look_resolve};
 ghost use Rattle.desk_steps.specs.Shots.{dynamics, look_of, shot_byte, shot_number, shot_reading, statics};
 
 use mc_bank::Bank;
-use mc_words::{Aid, bytes_of};
 use mc_card::Card;
 use mc_nvm::Nvm;
 use mc_segs::{Frame, Place, Public, look};
+use mc_words::{Aid, bytes_of};
 
 /// DB, the address of the first dynamic byte.
 pub const DYNAMIC: u16 = 0x8000;

@@ -11,8 +11,7 @@ use crate::guard::Guard;
 use crate::modes::{abend_of, mode_of};
 use crate::shot::Shot;
 use mc_card::BriefTurn;
-use mc_isa::Ins;
-use mc_isa::Primitive;
+use mc_isa::{Ins, Primitive};
 
 // Bytes are a pair: the address of the first one, and their number.
 

@@ -4,4 +4,6 @@
 
 mod rules;
 
-pub use rules::{Always, Amount, Balance, CodeLine, Effect, Event, Load, Named, On, Rules, SignedSum};
+pub use rules::{
+    Always, Amount, Balance, CodeLine, Effect, Event, Load, Named, On, Rules, SignedSum,
+};

@@ -16,10 +16,10 @@ use lab_key::{CardState, Rosters};
 use lab_record::{Subject, play_recorded};
 use lab_rules::Move;
 use lab_search::{Budget, Laboratory, Search, put_card, restore};
-use mc_words::{NoMemory, Steps};
 use mc_deck::Line;
 use mc_nvm::Bench;
 use mc_script::{Live, Player};
+use mc_words::{NoMemory, Steps};
 use std::alloc::Global;
 use std::sync::ledger::Ledger;
 

@@ -15,9 +15,9 @@ use lab_key::CardState;
 use lab_record::{Subject, chronicle};
 use lab_rules::Exploration;
 use lab_search::{Beginning, Explored, Search, Start, begin, put_depth};
-use mc_words::{NoMemory, Steps};
 use mc_script::JobFault;
 use mc_streams::Sink;
+use mc_words::{NoMemory, Steps};
 use std::alloc::Global;
 use std::sync::ledger::Ledger;
 

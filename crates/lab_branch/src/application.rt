@@ -5,9 +5,9 @@ ghost use Rattle.mc_words.specs.model_device.specs.Card.{name_at, app_at};
 ghost use Rattle.mc_store.specs.Slots.{IsUsedBlock};
 
 use crate::section::read_section;
-use mc_words::{NoMemory, number_of};
 use mc_blocks::{Record, name_of, read_record, words_of};
 use mc_nvm::Nvm;
+use mc_words::{NoMemory, number_of};
 use std::alloc::Global;
 use std::marker::Model;
 

@@ -7,9 +7,9 @@ ghost use Rattle.mc_store.specs.Slots.{IsUsedBlock};
 ghost use Rattle.lab_branch.specs.Applications.{place_of_name, with_block};
 
 use crate::application::Application;
-use mc_words::NoMemory;
 use mc_blocks::{HEAP, read_header};
 use mc_nvm::Nvm;
+use mc_words::NoMemory;
 use std::alloc::Global;
 
 /// Reads the applications of the card in the words of a device, which have no fault and no open journal. They come in

@@ -10,8 +10,8 @@ ghost use Rattle.lab_branch.specs.Branches.{differences_at, has_root_word, unles
 
 use crate::growth::push;
 use crate::places::Places;
-use mc_words::{NoMemory, Stop, Word};
 use mc_nvm::{Bench, DEVICE_WORDS, Nvm, SimNvm};
+use mc_words::{NoMemory, Stop, Word};
 use std::alloc::Global;
 use std::marker::Model;
 

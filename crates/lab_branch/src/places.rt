@@ -5,8 +5,8 @@ ghost use Rattle.std.specs.List.{IsDistinct};
 ghost use Rattle.mc_words.specs.model_device.specs.Device.{device_words};
 ghost use Rattle.lab_branch.specs.Branches.{IsListed, MarksAreListed};
 
-use mc_words::NoMemory;
 use mc_nvm::DEVICE_WORDS;
+use mc_words::NoMemory;
 use std::alloc::Global;
 use std::marker::Model;
 

@@ -3,8 +3,8 @@ ghost use Rattle.std.specs.Prelude.{◌≡◌, ◌+◌, ◌≤◌, length, IfOk}
 ghost use Rattle.mc_words.specs.model_device.specs.Bytes.{up};
 ghost use Rattle.mc_words.specs.model_device.specs.Card.{section};
 
-use mc_words::NoMemory;
 use mc_nvm::Nvm;
+use mc_words::NoMemory;
 use std::alloc::Global;
 
 /// Returns the first `count` bytes of the words of a device from word `first` on.

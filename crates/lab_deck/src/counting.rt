@@ -6,8 +6,8 @@ ghost use Rattle.lab_rules.specs.Meanings.{AlikeLists, AreRules, IsMove, IsOn};
 ghost use Rattle.lab_deck.specs.Applications.{counter, counting};
 
 use lab_rules::{Allowance, Effect, Exploration, Move, Occasion, OnRule, Rules};
-use mc_words::NoMemory;
 use mc_deck::read_deck;
+use mc_words::NoMemory;
 use prove_facts::push;
 use std::alloc::Global;
 

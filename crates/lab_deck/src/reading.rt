@@ -14,11 +14,11 @@ ghost use Rattle.lab_deck.specs.Applications.{AreMovesRefused, IsApplicationRead
 
 use crate::counting::counting;
 use crate::refusal::{ApplicationRefusal, first_refusal, move_refusal};
+use lab_app_rules::Rules;
 use lab_moves::read_moves;
 use lab_rules::Exploration;
-use mc_words::Aid;
 use mc_deck::{Deck, DeckRefusal};
-use lab_app_rules::Rules;
+use mc_words::Aid;
 use prove_rules::{RuleRefusal, read_named_rules};
 use std::alloc::Global;
 

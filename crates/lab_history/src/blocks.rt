@@ -5,8 +5,8 @@ ghost use Rattle.lab_history.specs.Blocks.{added_by, count_of_added, count_of_ta
 ghost use Rattle.lab_history.specs.Moves.{AreMoved};
 
 use crate::arithmetic::{number_bytes, shift};
-use model_device::NoMemory;
 use lab_app_rules::{Balance, Named, SignedSum};
+use model_device::NoMemory;
 use std::alloc::Global;
 
 /// Returns the static bytes of a block.

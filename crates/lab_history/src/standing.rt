@@ -6,8 +6,8 @@ ghost use Rattle.lab_history.specs.Standings.{blocks_of, first_of, is_within, Ar
 
 use crate::amounts::first_amounts;
 use crate::blocks::{block_in, first_block, is_block, move_blocks};
-use model_device::NoMemory;
 use lab_app_rules::{Always, Balance, Rules};
+use model_device::NoMemory;
 use std::alloc::Global;
 
 /// What is counted of an application: the amounts of its allowances, and of each block of static bytes that sums bind the

@@ -1,10 +1,10 @@
 -- Lines that are played on a device that refuses just the writes of `fail` lines, one more after some.
 use Rattle.std.specs.Prelude.{◌≡◌, ◌≢◌, ℕ, zero, suc, ◌+◌, List, [], ◌∷◌, ◌++◌, slice_get, take, Option, Some, None, Result, Ok, Err, OnOk, refl}
 use Rattle.std.proofs.Common.{arith, ap, sym, subst, ◌∙◌}
-use Rattle.mc_base.specs.model_device.specs.Device.{BenchState, DeviceState}
+use Rattle.mc_words.specs.model_device.specs.Device.{BenchState, DeviceState}
 use Rattle.mc_apdu.specs.model_machine.specs.Chain.{Turn}
-use Rattle.lab_match.specs.model_play.specs.DeckGrammar.{DeckLine}
-use Rattle.lab_match.specs.model_play.specs.Play.{FailedWrite, State, armed_stop_in, moves_of, steady_at, step}
+use Rattle.law_promise.specs.model_play.specs.DeckGrammar.{DeckLine}
+use Rattle.law_promise.specs.model_play.specs.Play.{FailedWrite, State, armed_stop_in, moves_of, steady_at, step}
 use Rattle.mc_deck.specs.Lines.{line_of}
 use Rattle.mc_deck.specs.declared.line.Line.{Line}
 use Rattle.mc_deck.specs.declared.line.Line.TheVariants as Line

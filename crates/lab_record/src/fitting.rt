@@ -5,12 +5,12 @@ ghost use Rattle.mc_isa.specs.model_text.specs.Listing.{hex_text};
 ghost use Rattle.lab_app_rules.specs.declared.rules.Amount.TheVariants as amount;
 ghost use Rattle.lab_record.specs.Fitting.{amount_of, are_sums, fitting_from, is_fitting, moves_sum};
 
+use lab_app_rules::{Amount, Effect, Event, On};
 use lab_branch::push;
 use lab_history::number_bytes;
 use lab_match::fits;
-use mc_words::NoMemory;
 use mc_text::digit;
-use lab_app_rules::{Amount, Effect, Event, On};
+use mc_words::NoMemory;
 use std::alloc::Global;
 
 /// The first address of the public segment.

@@ -11,10 +11,10 @@ use crate::recording::{Played, play_recorded};
 use crate::subject::Subject;
 use lab_branch::push;
 use lab_history::{Break, Course, Extent, Standing, apply, broken_always, is_durable};
-use mc_words::{NoMemory, Steps};
 use mc_deck::{Deck, Line};
 use mc_nvm::{Bench, DEVICE_WORDS, SimNvm};
 use mc_script::Player;
+use mc_words::{NoMemory, Steps};
 use std::alloc::Global;
 use std::sync::ledger::Ledger;
 

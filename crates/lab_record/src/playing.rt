@@ -7,10 +7,10 @@ ghost use Rattle.mc_script.specs.Benches.{IsPlaying};
 ghost use Rattle.lab_record.specs.Benches.{IsSteadyAt};
 ghost use Rattle.lab_record.specs.Steady.{state_after, steady_step};
 
-use mc_words::Steps;
 use mc_deck::{Deck, Line};
 use mc_nvm::Bench;
 use mc_script::{Player, Silent};
+use mc_words::Steps;
 use std::sync::ledger::Ledger;
 
 /// Plays a line, and records nothing.

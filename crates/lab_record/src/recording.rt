@@ -20,14 +20,14 @@ use crate::fitting::{fitting, hex_of, is_fitting};
 use crate::recorder::Recorder;
 use crate::sending::{is_done, is_outcome, is_power, is_selection, is_stopped, passed_command};
 use crate::subject::Subject;
+use lab_app_rules::{Event, On};
 use lab_branch::push;
 use lab_history::{Course, Happening};
 use lab_match::fits;
-use mc_words::{Aid, NoMemory, Steps};
 use mc_deck::Line;
 use mc_nvm::Bench;
 use mc_script::{Answer, Live, Player, Text, add_result};
-use lab_app_rules::{Event, On};
+use mc_words::{Aid, NoMemory, Steps};
 use std::alloc::Global;
 use std::sync::ledger::Ledger;
 

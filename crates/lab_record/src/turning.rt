@@ -14,15 +14,14 @@ ghost use Rattle.lab_record.specs.Logs.{mode_in};
 ghost use Rattle.lab_app_rules.specs.declared.rules.Event.TheVariants as event;
 
 use crate::fitting::fitting;
+use lab_app_rules::{Event, On};
 use mc_bank::Bank;
-use mc_words::{Aid, NoMemory};
 use mc_card::BriefTurn;
-use mc_isa::Ins;
-use mc_isa::Primitive;
+use mc_isa::{Ins, Primitive};
 use mc_segs::Frame;
 use mc_text::cut;
 use mc_trace::line_of_brief;
-use lab_app_rules::{Event, On};
+use mc_words::{Aid, NoMemory};
 use std::alloc::Global;
 
 /// Returns whether a frame is one of the application with a name.

@@ -5,8 +5,7 @@ ghost use Rattle.law_explore.specs.model_play.specs.RuleLines.{name_and_amount};
 ghost use Rattle.law_explore.specs.model_play.specs.DeckGrammar.{name_field};
 
 use lab_match::first_field;
-use mc_deck::DeckCause;
-use mc_deck::number_field;
+use mc_deck::{DeckCause, number_field};
 use mc_text::has_name_characters;
 
 // Returns a name: 1 to 32 letters, digits and underscores.

@@ -15,8 +15,8 @@ use crate::pattern::{plain, plain_into};
 use crate::rules::{Effect, Move, Occasion, OnRule, Rules};
 use arrayvec::ArrayVec;
 use lab_match::fits;
-use model_device::NoMemory;
 use mc_text::cut;
+use model_device::NoMemory;
 use std::alloc::{AllocError, Global};
 
 // Returns for each `on` line whether it applies to a move whose plain text is `plain`.

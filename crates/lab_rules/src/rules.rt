@@ -5,8 +5,8 @@ ghost use Rattle.mc_deck.specs.Lines.{line_of, GoodLine};
 ghost use Rattle.lab_rules.specs.Meanings.{allowance_values, place_of};
 ghost use Rattle.lab_rules.specs.Moves.{move_deck};
 
-use model_device::NoMemory;
 use mc_deck::{Deck, Line};
+use model_device::NoMemory;
 
 /// A move of a terminal: its statement as its line has it, and a deck of one `power` line and this statement.
 #[derive(Drop)]

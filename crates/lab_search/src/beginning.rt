@@ -17,10 +17,10 @@ use crate::trying::{Laboratory, runs};
 use lab_branch::BranchNvm;
 use lab_key::{CardState, Rosters};
 use lab_rules::Exploration;
-use mc_words::{NoMemory, Steps};
 use mc_deck::{Deck, Line};
 use mc_nvm::Bench;
 use mc_script::{Answer, Live, Player, Silent, Text};
+use mc_words::{NoMemory, Steps};
 use std::alloc::Global;
 use std::sync::ledger::Ledger;
 

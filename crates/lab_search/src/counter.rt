@@ -13,13 +13,13 @@ ghost use Rattle.mc_script.specs.Watching.{turn_alone};
 ghost use Rattle.lab_search.specs.Counters.{counts_no_turn, counts_on, AreCounted, CountsTurns};
 
 use lab_rules::{OnRule, count_turn, has_turns};
-use mc_words::{Steps, Stop};
 use mc_card::{BriefTurn, Card};
 use mc_deck::Line;
 use mc_machine::Outcome;
 use mc_nvm::{Bench, Nvm};
 use mc_script::{Answer, Player, Runner, Silent, Watcher, run_watched};
 use mc_trace::line_of_brief;
+use mc_words::{Steps, Stop};
 use std::sync::ledger::Ledger;
 
 /// Counts for each `on` line that applies to a move how many executed instructions its pattern fits.

@@ -25,10 +25,10 @@ use crate::counter::play_counted;
 use crate::journey::{Fill, Manner};
 use crate::playing::{Budget, play};
 use lab_rules::{Move, OnRule};
-use mc_words::{NoMemory, Steps};
 use mc_deck::Line;
 use mc_nvm::Bench;
 use mc_script::{Answer, Live, Player, Text, add_result, was_cut};
+use mc_words::{NoMemory, Steps};
 use std::alloc::Global;
 use std::sync::ledger::Ledger;
 

@@ -8,10 +8,10 @@ ghost use Rattle.mc_script.specs.Benches.{IsPlayerAt, IsPlaying};
 ghost use Rattle.lab_search.specs.Playing.{state_after};
 ghost use Rattle.lab_search.specs.Benches.{PlaysAs};
 
-use mc_words::Steps;
 use mc_deck::{Deck, Line};
 use mc_nvm::Bench;
 use mc_script::{Answer, Player, Silent};
+use mc_words::Steps;
 use std::marker::Model;
 use std::sync::ledger::Ledger;
 

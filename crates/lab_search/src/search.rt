@@ -14,9 +14,9 @@ use crate::endings::{Explored, Start};
 use crate::report::put_depth;
 use crate::rounds::Search;
 use lab_rules::{Exploration, applications};
-use mc_words::{NoMemory, Steps};
 use mc_script::JobFault;
 use mc_streams::Sink;
+use mc_words::{NoMemory, Steps};
 use std::alloc::Global;
 use std::sync::ledger::Ledger;
 

@@ -28,8 +28,8 @@ use crate::playing::Budget;
 use lab_branch::BranchNvm;
 use lab_key::{CardState, Rosters, Saved};
 use lab_rules::{Occasion, apply_all, count, plain_into};
-use mc_words::{NoMemory, Steps, Word};
 use mc_script::{Live, Player, Text};
+use mc_words::{NoMemory, Steps, Word};
 use std::alloc::Global;
 use std::sync::ledger::Ledger;
 

@@ -1,6 +1,6 @@
+use lab_app_rules::{Amount, Balance, Effect, Event, Load, Named, On, Rules, SignedSum};
 use lab_history::{Course, Deed, Extent, Happening, Standing, apply, is_durable};
 use model_device::NoMemory;
-use lab_app_rules::{Amount, Balance, Effect, Event, Load, Named, On, Rules, SignedSum};
 use std::alloc::{AllocError, Global};
 use std::test::Fail;
 

@@ -1,7 +1,7 @@
 // No clause says that a comparison returns `true`.
+use lab_app_rules::Balance;
 use mc_arith::model_machine::Ins;
 use model_device::NoMemory;
-use lab_app_rules::Balance;
 use prove_forms::{Form, Origin};
 use prove_scenes::{Act, Next, Shape, Work};
 use prove_sums::{Before, Sums, moved};

@@ -21,3 +21,5 @@ pub fn rows_keep_their_frame()
 pub fn leaving_changes_nothing()
     ensures leaves { LeavingLaw }
 {}
+
+pub use model_machine;

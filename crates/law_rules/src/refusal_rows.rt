@@ -2,7 +2,7 @@
 
 // Worked rows: what is refused of rules, and in which order. The rules begin at line 9.
 ghost use Rattle.std.specs.Prelude.{◌≡◌, ◌++◌, [], ◌∷◌, codes};
-ghost use Rattle.law_promise.specs.model_play.specs.declared.deck.DeckCause.TheVariants.{BadLine, BadName, BadNumber, NameTwice, OutOfRange, UnknownName, };
+ghost use Rattle.law_promise.specs.model_play.specs.declared.deck.DeckCause.TheVariants.{BadLine, BadName, BadNumber, NameTwice, OutOfRange, UnknownName};
 ghost use Rattle.model_rule_text.specs.Reading.{Deck, NoApplication};
 ghost use Rattle.law_rules.specs.Computed.{shown, Refused, Kept};
 ghost use Rattle.model_rule_text.specs.Decks.{with_rules};

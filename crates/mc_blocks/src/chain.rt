@@ -7,8 +7,8 @@ ghost use Rattle.mc_blocks.specs.Blocks.{blocks_at, used_spans, hole_spans};
 
 use crate::block::{Block, block_at};
 use crate::header::HEAP;
-use mc_words::number_of;
 use mc_nvm::Nvm;
+use mc_words::number_of;
 
 /// Returns the first place whose link is wrong, that of the root first, or `None`.
 pub fn first_bad_place<N: Nvm>(device: &N) -> Option<u16>

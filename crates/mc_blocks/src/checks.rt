@@ -9,8 +9,8 @@ use crate::block::{Block, block_at};
 use crate::header::{HEAP, root_word};
 use crate::record::{Record, is_good, name_of, read_record};
 use arrayvec::ArrayVec;
-use mc_words::Word;
 use mc_nvm::Nvm;
+use mc_words::Word;
 
 /// Returns the place of the root if word 0 is no root of layout 1 or 2 for this size, else `None`.
 pub fn missing_root<N: Nvm>(device: &N) -> Option<u16>

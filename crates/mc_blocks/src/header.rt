@@ -3,8 +3,8 @@ ghost use Rattle.mc_words.specs.model_device.specs.Bytes.{be2};
 ghost use Rattle.mc_words.specs.model_device.specs.Card.{word, used_tag};
 ghost use Rattle.mc_words.specs.model_device.specs.Layout.{hole_header, used_header, root};
 
-use mc_words::{Word, bytes_of};
 use mc_nvm::Nvm;
+use mc_words::{Word, bytes_of};
 
 /// The first byte of the header of a used block.
 pub const USED: u8 = 0x55;

@@ -7,8 +7,8 @@ ghost use Rattle.mc_blocks.specs.Faults.{fault_found, fault_named};
 
 use crate::chain::{count_blocks, first_bad_place};
 use crate::checks::{first_bad_header, first_bad_record, missing_root};
-use mc_words::model_device::Cause;
 use mc_nvm::Nvm;
+use mc_words::model_device::Cause;
 
 /// The numbers of used blocks and of holes of a card, and the version of its layout, 1 or 2.
 #[derive(Clone, Copy, Debug, PartialEq, Eq)]

@@ -8,8 +8,8 @@ ghost use Rattle.mc_blocks.specs.Plans.{plan, without, has_room, has_span, take_
 use crate::header::{hole_word, used_word};
 use crate::link::{Link, joined, link_at, link_before, relinked};
 use arrayvec::ArrayVec;
-use mc_words::Word;
 use mc_nvm::Nvm;
+use mc_words::Word;
 
 /// Returns the header words that change when `need` words, 1 or more, are taken from the front of the hole at
 /// a place that has them: the link before it, the used header, and the header of the rest of the hole. They

@@ -4,8 +4,8 @@ ghost use Rattle.mc_words.specs.model_device.specs.Card.{record_at, name_in, wor
 ghost use Rattle.mc_words.specs.model_device.specs.Layout.{is_record};
 ghost use Rattle.mc_blocks.specs.Records.{has_valid_name, has_valid_lengths, has_valid_access};
 
-use mc_words::{Word, number_of};
 use mc_nvm::Nvm;
+use mc_words::{Word, number_of};
 
 /// The 32 bytes of a record.
 pub type Record = [u8; 32];

@@ -6,8 +6,8 @@ ghost use Rattle.mc_nvm.specs.Probe.{device_of_probe};
 ghost use Rattle.mc_blocks.specs.Chains.{count_of_searched_gaps};
 
 use crate::link::{Link, link_of};
-use mc_words::{Steps, number_of};
 use mc_nvm::{Nvm, Probe};
+use mc_words::{Steps, number_of};
 use std::sync::ledger::Ledger;
 
 /// Returns the place of the first hole of at least `need` words, 1 or more, or `None` if there is none. The

@@ -6,8 +6,8 @@ ghost use Rattle.mc_card.specs.Parts.{device_in, with_device};
 ghost use Rattle.mc_card.specs.contracts.card.Card.{the_row};
 
 use crate::card::Card;
-use mc_words::Word;
 use mc_nvm::Bench;
+use mc_words::Word;
 
 impl<N: Bench> Card<N> {
     /// Returns the number of words of the device.

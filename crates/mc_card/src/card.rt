@@ -19,12 +19,12 @@ ghost use Rattle.mc_card.specs.ItemWrites.{ItemsMade, MadeWithin};
 use arrayvec::ArrayVec;
 use mc_apdu::{Reply, parse};
 use mc_bank::Bank;
-use mc_words::{Aid, Steps, Stop};
 use mc_machine::{BriefTurn, ChainPlace, End, Outcome, Turn, run_into};
 use mc_manager::Manager;
 use mc_nvm::Nvm;
 use mc_segs::Session;
 use mc_store::{Store, Up};
+use mc_words::{Aid, Steps, Stop};
 use std::sync::ledger::Ledger;
 
 /// A card that runs: its applications in the words of a device, the manager with the selection and the open load, the

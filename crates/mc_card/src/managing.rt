@@ -13,11 +13,11 @@ ghost use Rattle.mc_card.specs.Managing.{Directs};
 use crate::card::Card;
 use mc_apdu::{Apdu, Reply};
 use mc_bank::{Bank, Slot};
-use mc_words::{Steps, Stop};
 use mc_manager::Ruling;
 use mc_nvm::Nvm;
 use mc_segs::Session;
 use mc_store::Store;
+use mc_words::{Steps, Stop};
 use std::sync::ledger::Ledger;
 
 impl<N: Nvm> Card<N> {

@@ -3,8 +3,8 @@ ghost use Rattle.std.specs.Prelude.{◌≡◌, IfOk};
 ghost use Rattle.mc_nvm.specs.Sim.{blank_sim};
 ghost use Rattle.model_device.specs.Device.{device_words};
 
-use model_device::NoMemory;
 use mc_nvm::{DEVICE_WORDS, SimNvm};
+use model_device::NoMemory;
 use std::alloc::Global;
 
 /// Returns a blank device in memory, of [`DEVICE_WORDS`] words, on which a program plays.

@@ -7,8 +7,8 @@ ghost use Rattle.mc_gate.specs.Look.{target_list};
 
 use crate::layouts::Layout;
 use crate::look::Targets;
-use mc_words::{Stop, Word};
 use mc_nvm::Nvm;
+use mc_words::{Stop, Word};
 
 /// The journal of one layout: how the targets and the values of its pairs are written, and how its targets are read.
 /// All else is the same in both layouts, and `write_words` and `recover` are generic over it.

@@ -6,8 +6,8 @@ ghost use Rattle.mc_gate.specs.Look.{look_of, target_list, HasCount};
 use crate::journals::Journal;
 use crate::layouts::{HEAD, Layout};
 use arrayvec::ArrayVec;
-use mc_words::{Word, number_of};
 use mc_nvm::Nvm;
+use mc_words::{Word, number_of};
 
 /// The pairs of a journal, each a target and its word.
 pub type Pairs = ArrayVec<(u16, Word), 64>;

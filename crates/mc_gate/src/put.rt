@@ -7,8 +7,8 @@ ghost use Rattle.mc_gate.specs.Layouts.{journal_of};
 
 use crate::layouts::{HEAD, Layout, SHUT};
 use crate::numbers::number_word;
-use mc_words::{Stop, Word};
 use mc_nvm::Nvm;
+use mc_words::{Stop, Word};
 
 /// Writes the head, which holds the number of pairs, and opens the gate.
 ///

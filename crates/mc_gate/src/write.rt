@@ -6,8 +6,8 @@ ghost use Rattle.mc_gate.specs.Layouts.{journal_of};
 
 use crate::journals::Journal;
 use crate::put::{open_gate, replay_all};
-use mc_words::{Stop, Word};
 use mc_nvm::Nvm;
+use mc_words::{Stop, Word};
 
 /// Writes 1 to 64 words atomically: wherever it is stopped, all of them are durable or none is. The targets ascend,
 /// each word 0 or a word of the heap, and the gate is not open.

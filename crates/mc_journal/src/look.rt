@@ -3,9 +3,9 @@ ghost use Rattle.mc_words.specs.model_device.specs.Image.{One, within, targets, 
 ghost use Rattle.mc_gate.specs.Look.{target_list};
 
 use arrayvec::ArrayVec;
-use mc_words::{Word, number_of};
 use mc_gate::{Targets, is_within};
 use mc_nvm::Nvm;
+use mc_words::{Word, number_of};
 
 /// Returns the targets of the first `count` pairs, at most 64, as the journal holds them.
 ///

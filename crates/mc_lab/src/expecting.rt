@@ -9,10 +9,10 @@ ghost use Rattle.mc_lab.specs.ExpectedDecks.{expected_deck_value, IsRising};
 use crate::expected_deck::{ExpectedDeck, count_above};
 use crate::judging::{judge, put_counts};
 use crate::stage::play_lines;
-use mc_words::Steps;
 use mc_nvm::Bench;
 use mc_script::{Player, Text};
 use mc_streams::{Sink, WriteFault};
+use mc_words::Steps;
 use std::sync::ledger::Ledger;
 
 // The number of failed expectations after one more that held or failed.

@@ -6,10 +6,10 @@ ghost use Rattle.mc_script.specs.Benches.{IsPlaying};
 ghost use Rattle.mc_lab.specs.Expectations.{result_text};
 ghost use Rattle.mc_lab.specs.Benches.{Staged};
 
-use mc_words::Steps;
 use mc_deck::Deck;
 use mc_nvm::Bench;
 use mc_script::{Answer, Player, Silent, Text, add_result};
+use mc_words::Steps;
 use std::sync::ledger::Ledger;
 
 // Copies the text of a result of a player to `text`, empty if there is no result.

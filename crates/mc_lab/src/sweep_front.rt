@@ -12,10 +12,10 @@ ghost use Rattle.mc_lab.specs.Benches.{IsPoweredUp, IsSteadyAt};
 ghost use Rattle.mc_lab.specs.SweepFronts.{is_card, IsKeptAt, ShowsPlay};
 
 use crate::sweep_play::play_line;
-use mc_words::Steps;
 use mc_deck::{Deck, Line};
 use mc_nvm::Bench;
 use mc_script::{Live, Player, Silent};
+use mc_words::Steps;
 use std::alloc::Global;
 use std::sync::ledger::Ledger;
 

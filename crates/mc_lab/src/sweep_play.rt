@@ -19,11 +19,11 @@ use crate::sweep_front::{Kept, play_front, play_on};
 use crate::sweep_trial::{Place, Played, TrialLines, Trials};
 use arrayvec::ArrayVec;
 use lab_branch::BranchNvm;
-use mc_words::{Aid, NoMemory, Steps, Word};
 use mc_blocks::Unusable;
 use mc_deck::Line;
 use mc_nvm::Bench;
 use mc_script::{Answer, Player, Silent, was_cut};
+use mc_words::{Aid, NoMemory, Steps, Word};
 use std::alloc::Global;
 use std::sync::ledger::Ledger;
 

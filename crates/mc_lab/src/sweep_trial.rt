@@ -7,8 +7,8 @@ ghost use Rattle.mc_lab.specs.declared.sweep_trial.TrialLines.TheVariants as tri
 ghost use Rattle.mc_lab.specs.SweepBodies.{IsRecoveryBound, IsPlace};
 
 use crate::sweep_account::Account;
-use mc_words::{Aid, Steps, Word};
 use mc_deck::Deck;
+use mc_words::{Aid, Steps, Word};
 use std::sync::ledger::Ledger;
 
 /// A line of a deck, and the names whose static bytes are observed.

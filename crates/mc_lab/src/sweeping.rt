@@ -21,10 +21,10 @@ use crate::sweep_text::{Sums, put_sums, put_swept};
 use crate::sweep_trial::{Place, Trials};
 use crate::sweep_word::SweepWord;
 use crate::truth::both;
-use mc_words::{Aid, NoMemory, Steps};
 use mc_deck::{Deck, Line};
 use mc_script::JobFault;
 use mc_streams::{Sink, WriteFault};
+use mc_words::{Aid, NoMemory, Steps};
 use std::alloc::Global;
 use std::sync::ledger::Ledger;
 

@@ -6,9 +6,9 @@ ghost use Rattle.mc_gate.specs.Recovery.{outcome_of};
 
 use crate::look::read_targets;
 use crate::put::put_entries;
-use mc_words::{Stop, Word};
 use mc_gate::{Journal, Layout, Recover, Targets};
 use mc_nvm::Nvm;
+use mc_words::{Stop, Word};
 
 // The journal of layout 2: target words of four targets each, and then the values.
 struct JournalV2;

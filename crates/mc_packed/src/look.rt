@@ -5,9 +5,9 @@ ghost use Rattle.arrayvec.specs.ArrayVec.{array_vec_len};
 
 use crate::put::TARGETS;
 use arrayvec::ArrayVec;
-use mc_words::{Word, number_of};
 use mc_gate::{Targets, is_within};
 use mc_nvm::Nvm;
+use mc_words::{Word, number_of};
 
 /// Returns the targets of the first `count` pairs, at most 64, as the journal holds them.
 ///

@@ -4,9 +4,9 @@ ghost use Rattle.mc_words.specs.model_device.specs.Device.{Makes};
 ghost use Rattle.mc_words.specs.model_device.specs.Image.{Two};
 ghost use Rattle.mc_words.specs.model_device.specs.Stopped.{four_targets, target_words, values_2, entries};
 
-use mc_words::{Stop, Word, bytes_of};
 use mc_gate::Layout;
 use mc_nvm::Nvm;
+use mc_words::{Stop, Word, bytes_of};
 
 /// The place of the first target word.
 pub const TARGETS: u32 = 3;

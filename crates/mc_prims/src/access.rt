@@ -9,10 +9,10 @@ ghost use Rattle.mc_prims.specs.Acting.{IsLength, ReadsBytes, ReadsCount};
 ghost use Rattle.mc_isa.specs.Primitives.{cipher_of};
 ghost use Rattle.mc_prims.specs.Table.{block_under_key};
 
-use crate::ciphers::Way;
 use crate::ciphers;
-use mc_isa::Cipher;
+use crate::ciphers::Way;
 use mc_bank::Bank;
+use mc_isa::Cipher;
 use mc_segs::{Frame, Public, load};
 use model_machine::Abend;
 use std::marker::Model;

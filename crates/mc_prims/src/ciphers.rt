@@ -5,11 +5,11 @@ ghost use Rattle.model_machine.specs.Primitives as model;
 ghost use Rattle.mc_isa.specs.Primitives.{cipher_of};
 ghost use Rattle.mc_prims.specs.Table.{block_under_key};
 
-use mc_isa::Cipher;
 use mc_aes::{aes_decipher, aes_encipher, aes_signature};
 use mc_des::{
     des_decipher, des_encipher, des_signature, tdes_decipher, tdes_encipher, tdes_signature,
 };
+use mc_isa::Cipher;
 
 /// The direction of a cipher.
 #[derive(Clone, Copy, Debug, PartialEq, Eq)]

@@ -14,10 +14,10 @@ use crate::memory::{compare_fixed, compare_memory, copy_fixed, copy_memory, dige
 use crate::messages::{sign_message, turn_message};
 use crate::names::{delegate, report_delegator};
 use crate::registers::{check_case, load_flags, set_protection, store_flags};
-use mc_isa::Primitive;
 use mc_bank::Bank;
-use mc_words::Aid;
+use mc_isa::Primitive;
 use mc_segs::{Frame, Halt, Next, Public};
+use mc_words::Aid;
 use model_machine::Abend;
 
 /// The surroundings of a frame: the case of the chain's command, 1 to 4, and the name of the application

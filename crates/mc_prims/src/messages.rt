@@ -10,8 +10,8 @@ ghost use Rattle.mc_prims.specs.Table.{block_under_key};
 use crate::access::Block;
 use crate::ciphers::Way;
 use crate::stack::{pop_four, pop_three};
-use mc_isa::Cipher;
 use mc_bank::Bank;
+use mc_isa::Cipher;
 use mc_segs::{Frame, Halt, Next, Public, store};
 
 /// Enciphers or deciphers a message of a given number of bytes: its address, that of the result and that of the key

@@ -6,8 +6,8 @@ ghost use Rattle.mc_deck.specs.Lines.{line_of, GoodLine};
 ghost use Rattle.mc_reader.specs.Meanings.{plain_order, cut_order, fail_order, budget_order, order};
 ghost use Rattle.mc_reader.specs.Requests.{order_line, status_of, Orders};
 
-use mc_words::Word;
 use mc_deck::Line;
+use mc_words::Word;
 
 /// The maximum budget of a command.
 const MOST_STEPS: u32 = 65_536;

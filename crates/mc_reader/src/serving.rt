@@ -17,11 +17,11 @@ use crate::host::Host;
 use crate::reading::FrameFault;
 use crate::request::Request;
 use crate::serve_error::ServeError;
-use mc_words::Steps;
 use mc_deck::Deck;
 use mc_nvm::Bench;
 use mc_script::{Answer, Player, Silent};
 use mc_streams::{Sink, WriteFault};
+use mc_words::Steps;
 use std::alloc::Global;
 use std::sync::ledger::Ledger;
 

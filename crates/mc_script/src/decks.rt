@@ -5,9 +5,9 @@ ghost use Rattle.mc_script.specs.Benches.{DeckPlayed, IsPlayerAt, IsPlaying};
 
 use crate::player::Player;
 use crate::runner::Silent;
-use mc_words::Steps;
 use mc_deck::Deck;
 use mc_nvm::Bench;
+use mc_words::Steps;
 use std::sync::ledger::Ledger;
 
 impl<N: Bench> Player<N> {

@@ -19,13 +19,13 @@ use crate::answer::Answer;
 use crate::player::{Player, Power};
 use arrayvec::ArrayVec;
 use mc_apdu::Reply;
-use mc_words::Aid;
 use mc_blocks::Unusable;
 use mc_card::Card;
 use mc_machine::Outcome;
 use mc_nvm::{Bench, Nvm};
 use mc_streams::{Sink, WriteFault};
 use mc_text::{add, add_decimal, add_hex, put};
+use mc_words::Aid;
 use model_play::model_machine::Abend;
 
 /// The number of static bytes that are read at a time.

@@ -12,8 +12,8 @@ use crate::bytes::write;
 use crate::frame::Frame;
 use mc_apdu::model_machine::Abend;
 use mc_bank::{Bank, Slot};
-use mc_words::{Stop, Word};
 use mc_trans::Pending;
+use mc_words::{Stop, Word};
 
 /// Sets the protection of static writes: mode 0 drops the pending words and ends it, 1 commits them and ends
 /// it, 2 drops them and begins it, 3 commits them and begins it. A commit is one commit of the bank; without

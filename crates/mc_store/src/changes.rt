@@ -14,10 +14,10 @@ use crate::place::part_place;
 use crate::store::Store;
 use arrayvec::ArrayVec;
 use mc_bank::{Part, Slot};
-use mc_words::{Stop, Word};
 use mc_blocks::free_plan;
 use mc_nvm::Nvm;
 use mc_packed::write_words;
+use mc_words::{Stop, Word};
 
 /// Sets 1 to 64 words of the static bytes of the application of a slot by one atomic write.
 ///

@@ -16,10 +16,10 @@ use crate::filling::{room_in_word, write_part};
 use crate::place::{needed_words, part_place};
 use crate::store::Store;
 use mc_bank::{Part, Site, Sizes};
-use mc_words::{Aid, Stop, Word};
 use mc_blocks::take_plan;
 use mc_nvm::Nvm;
 use mc_packed::write_words;
+use mc_words::{Aid, Stop, Word};
 
 /// Makes an application of the bytes at a site that has room, under a name that is not there.
 ///

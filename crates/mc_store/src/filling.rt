@@ -12,8 +12,8 @@ ghost use Rattle.mc_store.specs.StoreItems.{store_did};
 use crate::place::part_place;
 use crate::store::Store;
 use mc_bank::{Part, Site};
-use mc_words::{Stop, Word};
 use mc_nvm::Nvm;
+use mc_words::{Stop, Word};
 
 /// Sets bytes of a section of a site that has room.
 ///

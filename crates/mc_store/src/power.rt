@@ -11,10 +11,10 @@ ghost use Rattle.mc_gate.specs.Recovery.{outcome_of};
 ghost use Rattle.mc_store.specs.Store.{settled_words};
 ghost use Rattle.mc_store.specs.Power.{new_root, base_of_words, migration_writes, power_writes, power_answer, PowersUp, PowerFollows, RecoverFollows, FinishFollows, recovery_end, preparation_end};
 
-use mc_words::{Stop, Word};
 use mc_blocks::{Cause, Shape, Unusable, walk};
 use mc_gate::{Layout, Recover, is_gate_open};
 use mc_nvm::Nvm;
+use mc_words::{Stop, Word};
 
 /// The byte of the root that holds the version of the layout.
 const VERSION: usize = 3;

@@ -10,9 +10,9 @@ ghost use Rattle.mc_store.specs.Store.{store_state, store_room, words_of_sizes, 
 
 use crate::place::needed_words;
 use mc_bank::{OpenRefusal, Site, Sizes};
-use mc_words::Steps;
 use mc_blocks::first_fit;
 use mc_nvm::{Nvm, Probe};
+use mc_words::Steps;
 use std::sync::ledger::Ledger;
 
 /// The greatest number of applications of a card.

@@ -3,8 +3,8 @@ ghost use Rattle.std.specs.Prelude.{◌≡◌, ◌+◌, ◌*◌, ◌<◌, ◌≤
 ghost use Rattle.mc_words.specs.model_device.specs.Card.{word};
 ghost use Rattle.mc_store.specs.Slots.{flat};
 
-use mc_words::Word;
 use mc_nvm::Nvm;
+use mc_words::Word;
 
 // Copies at most seven bytes of the words of a device, from `skip` bytes after the start of the word at a place on.
 // They lie in two words at the most.

@@ -10,8 +10,8 @@ use crate::reads::{read_code, read_section};
 use crate::room::find_room;
 use crate::{changes, creation, filling};
 use mc_bank::{Bank, Facts, OpenRefusal, Part, Site, Sizes, Slot};
-use mc_words::{Aid, Steps, Stop, Word};
 use mc_nvm::Nvm;
+use mc_words::{Aid, Steps, Stop, Word};
 use std::sync::ledger::Ledger;
 
 /// The applications of a card, in the words of its device. It keeps the number of applications, so that a search for

@@ -4,7 +4,9 @@ use crate::decks::DECKS;
 use crate::running::melcard;
 use crate::samples::{SAMPLES, Sample};
 use crate::worked_rows::{CUTS, DELEGATIONS, IMAGES, PLAYS, SMALL_DEVICE, TRACES};
-use mc_base::{MemSink, MemSource, NoMemory, ReadAll, StdSink, StdSource, Steps, put_all, read_all};
+use mc_base::{
+    MemSink, MemSource, NoMemory, ReadAll, StdSink, StdSource, Steps, put_all, read_all,
+};
 use mc_nvm::{DEVICE_WORDS, SimNvm};
 use std::alloc::{AllocError, Global};
 use std::marker::Brand;

@@ -16,11 +16,11 @@ use lab_application::explore_within;
 use lab_deck::{Application, ApplicationRefusal, read_application};
 use lab_record::Subject;
 use lab_search::Explored;
-use mc_words::Steps;
 use mc_deck::Deck;
 use mc_filter::{Rejection, Status, deck_of, refused};
 use mc_script::JobFault;
 use mc_streams::Sink;
+use mc_words::Steps;
 use std::alloc::Global;
 use std::sync::ledger::Ledger;
 

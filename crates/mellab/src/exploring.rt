@@ -13,10 +13,10 @@ use crate::applying::explore_application;
 use lab_moves::names_application;
 use lab_rules::{Exploration, ExplorationRefusal, read_exploration};
 use lab_search::{Explored, explore_within};
-use mc_words::Steps;
 use mc_filter::{Rejection, Status, read_input, refused};
 use mc_script::JobFault;
 use mc_streams::{Sink, Source};
+use mc_words::Steps;
 use std::alloc::Global;
 use std::sync::ledger::Ledger;
 

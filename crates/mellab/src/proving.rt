@@ -14,10 +14,10 @@ ghost use Rattle.mellab.specs.Statuses.{MellabDone};
 ghost use Rattle.mellab.specs.Verdicts.{refused_rules};
 
 use crate::running::status_by;
+use lab_app_rules::Rules;
 use mc_deck::Deck;
 use mc_filter::{Rejection, Status, deck_of, ended, read_input, refused};
 use mc_streams::{Sink, Source, put_all};
-use lab_app_rules::Rules;
 use prove_rules::{RuleRefusal, read_named_rules};
 use prove_tables::prove;
 use std::alloc::Global;

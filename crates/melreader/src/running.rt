@@ -9,12 +9,12 @@ ghost use Rattle.melreader.specs.Sessions.{outside, AreKept, ReaderEnds, Melread
 
 use crate::deck::{blank_deck, deck_from};
 use crate::lines::put_short;
-use mc_words::Steps;
 use mc_deck::Deck;
 use mc_filter::{Rejection, Status, ended, number, reject};
 use mc_nvm::Bench;
 use mc_reader::{ServeError, serve};
 use mc_streams::{Sink, Source};
+use mc_words::Steps;
 use std::alloc::Global;
 use std::sync::ledger::Ledger;
 

@@ -1,7 +1,7 @@
 // The classes of commands that the `command` and `answer` lines tell apart.
 use crate::patterns::{Patterns, Reached, any_bytes, number_in};
-use lab_app_rules::{Event, On};
 use indexmap::IndexSet;
+use lab_app_rules::{Event, On};
 use model_device::NoMemory;
 use prove_facts::{Values, push};
 use std::alloc::Global;

@@ -12,10 +12,10 @@ ghost use Rattle.prove_occasions.specs.Picks.{answer_marks, command_marks, has_r
 
 use crate::amounts::{first_mark, keep_marked, marks_after};
 use crate::lines::{has_mark, has_result, is_answer, is_command, is_of_allowance};
+use lab_app_rules::On;
 use lab_match::fits;
 use model_device::NoMemory;
 use model_text::model_machine::Abend;
-use lab_app_rules::On;
 use prove_facts::push;
 use std::alloc::Global;
 

@@ -12,9 +12,9 @@ ghost use Rattle.prove_occasions.specs.Turns.{line_of_turn, whole_line};
 
 use crate::amounts::{Occasion, keep_on};
 use arrayvec::ArrayVec;
-use model_device::{NoMemory, bytes_of};
-use mc_text::{add, add_hex, cut};
 use lab_app_rules::On;
+use mc_text::{add, add_hex, cut};
+use model_device::{NoMemory, bytes_of};
 use prove_events::TurnEvent;
 use std::alloc::Global;
 

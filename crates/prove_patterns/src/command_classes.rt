@@ -16,8 +16,8 @@ use crate::command_headers::{Header, headers};
 use crate::lines::opened_commands;
 use crate::opens::{Opens, matches_of};
 use crate::reaching::after_any;
-use model_device::NoMemory;
 use lab_app_rules::On;
+use model_device::NoMemory;
 use prove_facts::{Values, push};
 use std::alloc::Global;
 

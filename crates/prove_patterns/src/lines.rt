@@ -5,8 +5,8 @@ ghost use Rattle.prove_patterns.specs.Opens.{opens_of};
 ghost use Rattle.prove_patterns.specs.Lines.{is_some, has_command, has_result, opened_plain, command_patterns, result_patterns};
 
 use crate::opens::{Opens, opened};
-use model_device::NoMemory;
 use lab_app_rules::{Effect, Event, On};
+use model_device::NoMemory;
 use prove_facts::push;
 use std::alloc::Global;
 

@@ -16,8 +16,8 @@ use crate::lengths::lengths_of;
 use crate::lines::opened_results;
 use crate::opens::Opens;
 use crate::reaching::{Many, after_any, each_after_bytes};
-use model_device::NoMemory;
 use lab_app_rules::On;
+use model_device::NoMemory;
 use prove_facts::{Values, push};
 use std::alloc::Global;
 

@@ -15,9 +15,9 @@ use crate::fault::{Fault, bad_line, refused};
 use crate::field::{amount_field, assembly_number, name_field, two_fields};
 use crate::partial::{Partial, named_load, place_of};
 use crate::range::{range_ends, static_field};
+use lab_app_rules::{Always, Balance, Named, SignedSum};
 use lab_match::first_field;
 use mc_deck::DeckCause;
-use lab_app_rules::{Always, Balance, Named, SignedSum};
 use prove_facts::push;
 use std::alloc::Global;
 

@@ -14,10 +14,9 @@ use crate::field::{name_and_amount, name_field};
 use crate::lines::code_lines;
 use crate::load::{Found, load_of};
 use crate::partial::{Partial, named_load, place_of};
-use lab_match::first_field;
-use mc_deck::DeckCause;
-use mc_deck::Deck;
 use lab_app_rules::{Load, Named};
+use lab_match::first_field;
+use mc_deck::{Deck, DeckCause};
 use prove_facts::push;
 use std::alloc::Global;
 

@@ -8,9 +8,8 @@ ghost use Rattle.model_rule_text.specs.model_play.specs.RuleLines.{name_and_amou
 ghost use Rattle.prove_rules.specs.Fields.{two_of, IsNumber};
 
 use lab_match::first_field;
-use mc_deck::DeckCause;
 use mc_asm::natural;
-use mc_deck::number_field;
+use mc_deck::{DeckCause, number_field};
 use mc_text::has_name_characters;
 
 /// Returns a name: 1 to 32 letters, digits and underscores.

@@ -7,11 +7,11 @@ ghost use Rattle.model_rule_text.specs.model_play.specs.DeckGrammar.{deck_read};
 ghost use Rattle.model_rule_text.specs.Reading.{load_names};
 ghost use Rattle.prove_rules.specs.Loads.{first_named, is_second, loaded_at, loaded_line, loads_in, IsLoadOf};
 
+use lab_app_rules::Load;
 use lab_match::{begins_with, first_field, stays_inside};
-use mc_words::Aid;
 use mc_deck::{Deck, Line};
 use mc_text::next_line;
-use lab_app_rules::Load;
+use mc_words::Aid;
 
 /// What a line of a deck loads: the name of the application, and how it is created.
 #[derive(Clone, Copy, Debug)]

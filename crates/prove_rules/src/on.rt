@@ -15,9 +15,9 @@ use crate::field::{name_and_amount, name_field, two_fields};
 use crate::partial::{Partial, named_load, place_of};
 use crate::parts::{Action, Deeds, answer_parts, effect_parts, event_named};
 use crate::public::{amount_form, amount_of, amount_read};
+use lab_app_rules::{Effect, Event, On};
 use lab_match::first_field;
 use mc_deck::DeckCause;
-use lab_app_rules::{Effect, Event, On};
 use prove_facts::push;
 use std::alloc::Global;
 

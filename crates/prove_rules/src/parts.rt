@@ -8,10 +8,10 @@ ghost use Rattle.model_rule_text.specs.Reading.{action_words, event_words, gives
 ghost use Rattle.prove_rules.specs.Parts.{action_deeds, deeds_value, effect_words, event_value, HasNoParts, HasParts};
 
 use crate::fault::{Fault, bad_line};
-use lab_match::{first_field, small};
-use mc_words::NoMemory;
-use mc_text::is_blank;
 use lab_app_rules::Event;
+use lab_match::{first_field, small};
+use mc_text::is_blank;
+use mc_words::NoMemory;
 use prove_facts::push;
 use std::alloc::Global;
 

@@ -11,9 +11,9 @@ ghost use Rattle.prove_rules.specs.Fields.{form_value, IsAmountRead, IsPlace, Is
 
 use crate::field::{amount_field, assembly_number};
 use crate::range::{range_ends, register_field};
+use lab_app_rules::Amount;
 use mc_deck::DeckCause;
 use mc_text::{cut, decimal_number};
-use lab_app_rules::Amount;
 
 /// The address of the public segment.
 const PUBLIC: u16 = 0xC000;

@@ -20,11 +20,11 @@ use crate::app::{Source, add_allowance, add_app, add_never, add_sum};
 use crate::fault::{Fault, RuleCause, RuleRefusal, bad_line};
 use crate::on::add_on;
 use crate::partial::Partial;
+use lab_app_rules::Rules;
 use lab_match::{first_field, stays_inside};
-use mc_words::Aid;
 use mc_deck::Deck;
 use mc_text::next_line;
-use lab_app_rules::Rules;
+use mc_words::Aid;
 use std::alloc::Global;
 
 /// What the word of a rule makes of its line.

@@ -12,8 +12,8 @@ ghost use Rattle.prove_scenes.specs.Works.{operation_value, work_value};
 
 use crate::scene::Scene;
 use arrayvec::ArrayVec;
-use model_device::bytes_of;
 use mc_isa::Primitive;
+use model_device::bytes_of;
 use model_machine::Ins;
 
 /// At most 255 bytes.

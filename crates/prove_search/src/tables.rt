@@ -1,8 +1,8 @@
 // What a search found, and facts as they are kept between commands.
 use crate::keys::Break;
 use crate::successors::Successors;
-use model_device::NoMemory;
 use lab_app_rules::{Always, Rules};
+use model_device::NoMemory;
 use prove_facts::{Fact, Facts, Values};
 use prove_keys::Tables;
 use std::alloc::Global;

@@ -14,8 +14,8 @@ ghost use Rattle.prove_scenes.specs.ShapeValues.{act_value, shape_value};
 ghost use Rattle.prove_steps.specs.Steps.{AcceptsAll, after_fetch, before};
 
 use crate::stepping::Fetched;
-use model_device::NoMemory;
 use mc_isa::model_machine::Abend;
+use model_device::NoMemory;
 use prove_arrivals::{Subject, coarse, fails};
 use prove_keys::Begun;
 use prove_scenes::{

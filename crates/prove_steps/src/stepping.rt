@@ -16,9 +16,9 @@ ghost use Rattle.prove_spots.specs.Grounds.{spot_of};
 ghost use Rattle.prove_steps.specs.Steps.{AcceptsAll, IsSceneWith, after_fetch, before, by_choice, in_scene, named_value};
 
 use crate::scenes::scene_with;
-use model_device::NoMemory;
-use mc_isa::model_machine::Ins;
 use mc_isa::Primitive;
+use mc_isa::model_machine::Ins;
+use model_device::NoMemory;
 use prove_arrivals::{Subject, fails, row};
 use prove_facts::push;
 use prove_keys::Begun;

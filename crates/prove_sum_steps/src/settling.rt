@@ -19,8 +19,8 @@ ghost use Rattle.prove_sums.specs.Values.{SumsAre};
 
 use crate::goals::Goal;
 use crate::turns::Turn;
-use model_device::NoMemory;
 use mc_isa::text_of;
+use model_device::NoMemory;
 use prove_events::TurnEvent;
 use prove_occasions::{after_turn, whole_line, without_mark};
 use prove_scenes::Next;

@@ -7,9 +7,9 @@ ghost use Rattle.prove_sums.specs.model_sums.specs.Closed.{all_pass};
 ghost use Rattle.lab_app_rules.specs.Rules.{AreDistinct, AreRules, allowance_of, is_named, name_of};
 ghost use Rattle.lab_app_rules.specs.Sums.{AreSums, AreTotals, IsTotal};
 
+use lab_app_rules::{Balance, Load, Named, Rules};
 use lab_history::{first_block, is_block};
 use model_device::NoMemory;
-use lab_app_rules::{Balance, Load, Named, Rules};
 use std::alloc::Global;
 
 // Whether a name is among some.

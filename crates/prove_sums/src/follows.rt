@@ -8,8 +8,8 @@ ghost use Rattle.lab_app_rules.specs.Sums.{AreTotals, IsTotal};
 ghost use Rattle.prove_sums.specs.Values.{MoreIs, MoresAre, SumsAre};
 
 use crate::values::{More, Sums, first_off};
-use model_device::NoMemory;
 use lab_app_rules::Balance;
+use model_device::NoMemory;
 use prove_forms::Form;
 use std::alloc::Global;
 

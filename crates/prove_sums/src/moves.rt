@@ -14,9 +14,9 @@ ghost use Rattle.prove_sums.specs.Values.{IsBefore, SumsAre};
 use crate::acts::{acted_popped, acted_unknown, own_origins};
 use crate::values::{Before, Sums};
 use crate::works::{copied, worked};
+use lab_app_rules::Balance;
 use mc_arith::model_machine::Ins;
 use model_device::NoMemory;
-use lab_app_rules::Balance;
 use prove_scenes::{Shape, Work};
 use std::alloc::Global;
 

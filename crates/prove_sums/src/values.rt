@@ -8,8 +8,8 @@ ghost use Rattle.lab_app_rules.specs.Sums.{AreTotals};
 ghost use Rattle.prove_sums.specs.Values.{MoreIs, MoresAre, SumsAre, if_any, sums_value};
 
 use crate::optional::copied_if;
-use model_device::NoMemory;
 use lab_app_rules::Balance;
+use model_device::NoMemory;
 use prove_facts::push;
 use prove_forms::{Form, Origins};
 use std::alloc::Global;

@@ -13,8 +13,8 @@ ghost use Rattle.prove_sums.specs.Values.{MoreIs, MoresAre, SumsAre, if_any};
 
 use crate::optional::{copied_if, negative_if, plus_if};
 use crate::values::{More, Sums, add_any, add_off, first_off};
-use model_device::NoMemory;
 use lab_app_rules::Balance;
+use model_device::NoMemory;
 use prove_facts::push;
 use prove_forms::{Form, Origin};
 use std::alloc::Global;

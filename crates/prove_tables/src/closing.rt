@@ -10,9 +10,9 @@ ghost use Rattle.lab_app_rules.specs.Sums.{AreSums};
 ghost use Rattle.prove_tables.specs.Closed.{AreProved, HasSums, tables_with};
 
 use crate::sums_table::table_of_sums;
+use lab_app_rules::{Event, On};
 use model_device::NoMemory;
 use prove_closed::is_closed;
-use lab_app_rules::{Event, On};
 use prove_events::Class;
 use prove_facts::push;
 use prove_search::{Found, Subject};

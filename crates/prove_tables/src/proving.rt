@@ -10,10 +10,10 @@ ghost use Rattle.prove_tables.specs.Closed.{AreProved};
 ghost use Rattle.prove_report.specs.Reports.{IsReport};
 
 use crate::closing::are_proved;
+use lab_app_rules::{Balance, Load, Rules};
 use law_sum_plays::closed_sums_keep_rules;
 use law_sum_plays::law_prove_closed::closed_tables_keep_rules;
 use model_device::NoMemory;
-use lab_app_rules::{Balance, Load, Rules};
 use prove_facts::{Facts, Values, mask, push};
 use prove_keys::MomentKey;
 use prove_report::{add_verdict, break_ranges, text_of_tables};
