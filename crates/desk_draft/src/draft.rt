@@ -23,8 +23,9 @@ use crate::meaning::no_names;
 use crate::rule::{is_rule, push_rule};
 use crate::scope::{Scope, empty_scope, take_data, take_declaration};
 use crate::statement::{Sizes, push_statement};
-use crate::text::{push, push_zeros};
+use crate::text::push_zeros;
 use mc_deck::{DeckRefusal, Fault, ends_section, fields, has_data};
+use mc_text::push;
 use std::alloc::{AllocError, Global};
 
 /// A line of a section: its number, its text in the draft, and where its text in the deck begins and ends.
