@@ -13,8 +13,8 @@ use Rattle.desk_draft.specs.model_play.specs.DeckGrammar.{AppWord, ApduWord, Bud
 use Rattle.desk_draft.specs.Parts.{after_word, part_in, with_core}
 use Rattle.desk_draft.specs.Statements.{Loadable, after_open, aid_text, command_field, command_text, field_by, is_aid, plain_hex, statement_text, stated_text, text_in_brackets}
 use Rattle.desk_draft.specs.Drafts.{new_section}
-use Rattle.law_desk.proofs.Results.{Fine, fine_as, fine_if, looked}
-use Rattle.law_desk.proofs.SelfParts.{ends_after, part_joined}
+use Rattle.desk_laws.proofs.Results.{Fine, fine_as, fine_if, looked}
+use Rattle.desk_laws.proofs.SelfParts.{ends_after, part_joined}
 use Rattle.desk_draft.proofs.StayLemmas.{Good}
 
 -- ---- words

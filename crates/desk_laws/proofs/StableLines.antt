@@ -10,11 +10,11 @@ use Rattle.mc_text.specs.model_text.specs.declared.assembler.AsmCause.TheVariant
 use Rattle.desk_draft.specs.Parts.{after_word, before_rest, first_word, without_comment}
 use Rattle.desk_draft.specs.Declarations.{declaration_in, declaration_of, declaration_words, header_names, is_labelled}
 use Rattle.desk_draft.specs.Operands.{body_text, instruction_text, jump_words, labelled_text, later_text, operands_text, pieces_text, sized_words}
-use Rattle.law_desk.proofs.Results.{Fine, fine_as, fine_or, fine_ok, fine_then, looked, unknown}
-use Rattle.law_desk.proofs.SelfLines.{after_each, pieces_joined, rejoined}
-use Rattle.law_desk.proofs.SelfParts.{ends_after, piece_joined, rest_joined}
-use Rattle.law_desk.proofs.StableOperands.{AllStay, empty_stays, is_jump, item_stays}
-use Rattle.law_desk.proofs.Words.{Cuts, Follows, cut_trimmed, cuts, either_way, fields_blank, fields_by, filled, follows, kept_first, later_fields, no_first_word, some_text, trimmed_cut, with_word}
+use Rattle.desk_laws.proofs.Results.{Fine, fine_as, fine_or, fine_ok, fine_then, looked, unknown}
+use Rattle.desk_laws.proofs.SelfLines.{after_each, pieces_joined, rejoined}
+use Rattle.desk_laws.proofs.SelfParts.{ends_after, piece_joined, rest_joined}
+use Rattle.desk_laws.proofs.StableOperands.{AllStay, empty_stays, is_jump, item_stays}
+use Rattle.desk_laws.proofs.Words.{Cuts, Follows, cut_trimmed, cuts, either_way, fields_blank, fields_by, filled, follows, kept_first, later_fields, no_first_word, some_text, trimmed_cut, with_word}
 use Rattle.desk_draft.proofs.StayLemmas.{some_pieces}
 
 -- ---- pieces without blanks at their ends

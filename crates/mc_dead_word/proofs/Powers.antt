@@ -14,8 +14,8 @@ use Rattle.model_play.specs.Play.{Unarmed, Warm, StandsForBase, hit_of, power_mo
 use Rattle.mc_store.specs.Power.{base_of_words, migration_writes, new_root, power_count, power_writes, HoldsBase, IsHalted}
 use Rattle.mc_store.specs.Store.{settled_words}
 use Rattle.mc_store.proofs.PowerLemmas.{count_writes, done_base, fault_base, fault_writes, power_done, power_halted, settles}
-use Rattle.law_dead_word.specs.Powers.{after_power, after_powers, answer_by, failure_by, first_to, stops_at, words_by}
-use Rattle.law_dead_word.specs.Laws.{AnswerLaw, IsDevice, IsRead, IsSettled, OneCardLaw}
+use Rattle.mc_dead_word.specs.Powers.{after_power, after_powers, answer_by, failure_by, first_to, stops_at, words_by}
+use Rattle.mc_dead_word.specs.Laws.{AnswerLaw, IsDevice, IsRead, IsSettled, OneCardLaw}
 
 -- ---- the write that fails
 

@@ -20,11 +20,11 @@ use Rattle.desk_draft.specs.Statements.{stated_text, statement_text}
 use Rattle.desk_draft.specs.Rules.{is_rule, rule_text}
 use Rattle.desk_draft.specs.Drafts.{Before, closed_section, Draft, DraftTurn, OpenSection, by_name, coded_turn, deck_of, draft_of_lines, draft_read, draft_turn, ended_before, kept_line, marked, new_section, nothing_before, opening_line, rule_names, scope_turn, section_line, spoken_text, spoken_turn, with_line}
 use Rattle.desk_draft.specs.Drafts
-use Rattle.law_desk.proofs.Results.{Fine, fine_as, fine_err, fine_ok, fine_or, fine_then}
-use Rattle.law_desk.proofs.SelfLines.{joined, lines_joined, lines_read, texts_read}
-use Rattle.law_desk.proofs.StableLines.{line_stays, line_undeclared}
-use Rattle.law_desk.proofs.StableStatements.{IsLine, IsOpening, is_app, opening_kept, skipped_stays, statement_kept, statement_stays, word_known, word_name}
-use Rattle.law_desk.proofs.Words.{one_trimmed, other_fields}
+use Rattle.desk_laws.proofs.Results.{Fine, fine_as, fine_err, fine_ok, fine_or, fine_then}
+use Rattle.desk_laws.proofs.SelfLines.{joined, lines_joined, lines_read, texts_read}
+use Rattle.desk_laws.proofs.StableLines.{line_stays, line_undeclared}
+use Rattle.desk_laws.proofs.StableStatements.{IsLine, IsOpening, is_app, opening_kept, skipped_stays, statement_kept, statement_stays, word_known, word_name}
+use Rattle.desk_laws.proofs.Words.{one_trimmed, other_fields}
 use Rattle.desk_draft.proofs.StayLemmas.{Good}
 
 -- ---- the lines of a section

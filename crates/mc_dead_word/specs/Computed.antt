@@ -7,7 +7,7 @@ use Rattle.model_play.specs.model_device.specs.Layout.{layout, bad_block, bad_re
 use Rattle.model_play.specs.model_device.specs.Stopped.{word_of_number, four_targets}
 use Rattle.model_play.specs.Play.{LineResult, formatted_image}
 use Rattle.mc_store.specs.Power.{power_writes}
-use Rattle.law_dead_word.specs.Powers.{after_powers, answer_by, stops_at}
+use Rattle.mc_dead_word.specs.Powers.{after_powers, answer_by, stops_at}
 
 -- a formatted device of 256 words with an atomic write pending: word 200, of the hole, is to be zero
 abbrev pub pending : List (List ℕ)

@@ -8,9 +8,9 @@ use Rattle.model_play.specs.model_device.proofs.LookLemmas.{gate_inside, good_pe
 use Rattle.model_play.specs.model_device.proofs.StoppedLemmas.{length_torn, targets_outside, torn_other, torn_within}
 use Rattle.mc_store.specs.Power.{base_of_words, migration_writes, power_writes}
 use Rattle.mc_store.specs.Store.{settled_words}
-use Rattle.law_dead_word.specs.Powers.{after_power, after_powers, first_to, stops_at}
-use Rattle.law_dead_word.specs.Laws.{SettledLaw, StuckLaw}
-use Rattle.law_dead_word.proofs.Powers.{first_among, settled_after, settled_read, settled_shut}
+use Rattle.mc_dead_word.specs.Powers.{after_power, after_powers, first_to, stops_at}
+use Rattle.mc_dead_word.specs.Laws.{SettledLaw, StuckLaw}
+use Rattle.mc_dead_word.proofs.Powers.{first_among, settled_after, settled_read, settled_shut}
 
 -- ---- the first write to a word, in a front
 

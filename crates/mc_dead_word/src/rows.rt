@@ -5,7 +5,7 @@ ghost use Rattle.std.specs.Prelude.{◌≡◌, [], ◌∷◌};
 ghost use Rattle.model_play.specs.model_device.specs.Bytes.{zeros};
 ghost use Rattle.model_play.specs.model_device.specs.Image.{Two, gate, opening};
 ghost use Rattle.model_play.specs.Play.{FailureStop, Ready};
-ghost use Rattle.law_dead_word.specs.Computed.{answer_after};
+ghost use Rattle.mc_dead_word.specs.Computed.{answer_after};
 
 /// The word that the recovery has to write fails: 6581 at each power-up.
 pub fn target_fails()

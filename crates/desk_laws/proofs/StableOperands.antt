@@ -12,8 +12,8 @@ use Rattle.mc_text.specs.model_text.specs.Assembly.{Addressed, AddressedByte, Ad
 use Rattle.mc_text.specs.model_text.proofs.TextLemmas.{every_append}
 use Rattle.desk_draft.specs.Declarations.{header_names}
 use Rattle.desk_draft.specs.Operands.{named_text, operand_by_parts, operand_text, plain_operand, shifted_text, size_text}
-use Rattle.law_desk.proofs.Results.{Fine, among, fine_as, fine_both, fine_ok, fine_or, fine_then, unknown}
-use Rattle.law_desk.proofs.SelfLines.{pieces_joined, rejoined}
+use Rattle.desk_laws.proofs.Results.{Fine, among, fine_as, fine_both, fine_ok, fine_or, fine_then, unknown}
+use Rattle.desk_laws.proofs.SelfLines.{pieces_joined, rejoined}
 
 -- ---- an operand that begins as no name does
 

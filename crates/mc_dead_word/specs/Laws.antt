@@ -6,7 +6,7 @@ use Rattle.model_play.specs.model_device.specs.Layout.{IsWellLaid}
 use Rattle.model_play.specs.model_device.specs.PowerUp.{base_after_migration, pending_journal}
 use Rattle.model_play.specs.Play.{Unarmed, Warm, StandsForBase, hit_of, power_moves, power_says}
 use Rattle.mc_store.specs.Power.{base_of_words, power_count, power_writes}
-use Rattle.law_dead_word.specs.Powers.{after_power, after_powers, answer_by, failure_by, stops_at}
+use Rattle.mc_dead_word.specs.Powers.{after_power, after_powers, answer_by, failure_by, stops_at}
 
 -- a device of 256 to 16,384 words
 pub record IsDevice (m : List (List ℕ)) : Type 0 where

@@ -5,7 +5,7 @@
 
 mod rows;
 
-ghost use Rattle.law_dead_word.specs.Laws.{AnswerLaw, OneCardLaw, SettledLaw, StuckLaw};
+ghost use Rattle.mc_dead_word.specs.Laws.{AnswerLaw, OneCardLaw, SettledLaw, StuckLaw};
 
 /// However often such a device is powered, and whatever its failing word is left with: its words hold the card, or the
 /// fault, that they held at first, and no third one.

@@ -5,7 +5,7 @@ use Rattle.std.proofs.Math.Seq.{drop-append_seam, drop-length}
 use Rattle.mc_text.specs.model_text.specs.Text.{before_trimmed, fields, first_cut, halves_with_character, is_blank, is_empty, pieces, pieces_with_character, trim, trim_end, trim_front}
 use Rattle.mc_text.proofs.ReadingLemmas.{pieces_at, pieces_cut}
 use Rattle.desk_draft.specs.Parts.{after_word}
-use Rattle.law_desk.proofs.SelfLines.{cut_shorter}
+use Rattle.desk_laws.proofs.SelfLines.{cut_shorter}
 use Rattle.desk_draft.proofs.StayLemmas.{some_pieces}
 
 -- ---- a text that is cut
