@@ -5,7 +5,7 @@ import pathlib
 import sys
 
 ABOVE = list(pathlib.Path(__file__).resolve().parents)
-PLACES = [ABOVE[2] / "tools", *(folder / "melcard" for folder in ABOVE[4:5])]
+PLACES = [ABOVE[2] / "tools" / "mel", *(folder / "melcard" / "mel" for folder in ABOVE[4:5])]
 
 sys.path[:0] = [str(folder) for folder in PLACES if (folder / "card").is_dir()]
 

@@ -3,6 +3,7 @@
 import pathlib
 import sys
 
-sys.path.insert(0, str(pathlib.Path(__file__).resolve().parent.parent))
+sys.path.insert(0, str(pathlib.Path(__file__).resolve().parent.parent / "mel"))
+sys.path.insert(1, str(pathlib.Path(__file__).resolve().parent.parent))
 
 pytest_plugins = ["card.fixture"]

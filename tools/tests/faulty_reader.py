@@ -1,11 +1,11 @@
 #!/usr/bin/env python3
-"""`melreader` with a planted fault, for trials of tools/conform: the status 6985 is answered as 6986."""
+"""`melreader` with a planted fault, for trials of tools/mel/conform.py: the status 6985 is answered as 6986."""
 
 import pathlib
 import subprocess
 import sys
 
-sys.path.insert(0, str(pathlib.Path(__file__).resolve().parent.parent))
+sys.path.insert(0, str(pathlib.Path(__file__).resolve().parent.parent / "mel"))
 
 from card import framed, is_answered, program_path  # noqa: E402
 

@@ -1,4 +1,4 @@
-"""What tools/conform finds of a card: nothing of melreader's, and a planted fault. (tools/try_pcsc tries it behind pcscd.)
+"""What tools/mel/conform.py finds of a card: nothing of melreader's, and a planted fault. (tools/dev/try_pcsc tries it behind pcscd.)
 
 It needs pytest, and the programs, built by tools/build or by `rt ci`.
 """
@@ -18,12 +18,12 @@ def run(tool, *words):
 
 
 def test_the_decks_are_up_to_date():
-    done = run("conformance", "--check")
+    done = run("dev/make", "--check", "conformance")
     assert (done.returncode, done.stdout) == (0, ""), done.stderr
 
 
 def test_nothing_differs_of_the_card_itself():
-    done = run("conform", "melreader", TOP / "conformance")
+    done = run("mel/conform.py", "melreader", TOP / "conformance")
     assert (done.returncode, done.stderr) == (0, ""), done.stdout
     topics = {line.partition(":")[0] for line in done.stdout.splitlines()}
     assert topics == {it.name for it in (TOP / "conformance").iterdir()}
@@ -31,7 +31,7 @@ def test_nothing_differs_of_the_card_itself():
 
 
 def test_a_planted_fault_is_found_by_its_topic():
-    done = run("conform", "--program", FAULTY, "melreader", TOP / "conformance/commands", TOP / "conformance/machine")
+    done = run("mel/conform.py", "--program", FAULTY, "melreader", TOP / "conformance/commands", TOP / "conformance/machine")
     found = done.stdout.splitlines()
     assert done.returncode == 1
     assert found[-1] == "machine: 10 decks, 462 answers, 0 differ" and found[-2].startswith("commands: ") and not found[-2].endswith(" 0 differ")
@@ -41,7 +41,7 @@ def test_a_planted_fault_is_found_by_its_topic():
 def test_a_draft_is_a_deck_and_a_poke_leaves_it_out(tmp_path):
     poked = tmp_path / "poked.deck"
     poked.write_text("format\npoke 130 1122334455667788\npower\n", encoding="utf-8")
-    done = run("conform", "melreader", TOP / "examples/purse.draft", poked)
+    done = run("mel/conform.py", "melreader", TOP / "examples/purse.draft", poked)
     assert done.returncode == 0
     assert done.stdout.splitlines()[1].endswith("0 answers, 0 differ, 2 lines left out")
 
@@ -49,13 +49,13 @@ def test_a_draft_is_a_deck_and_a_poke_leaves_it_out(tmp_path):
 def test_a_stop_that_the_card_cannot_have_is_said(tmp_path):
     deck = tmp_path / "cut.deck"
     deck.write_text("format\npower\ncut 1 0000000000000000\npower\n", encoding="utf-8")
-    done = run("conform", "--cut", "test $K = 1 && test $FILL = 0000000000000000 && false", "melreader", deck)
+    done = run("mel/conform.py", "--cut", "test $K = 1 && test $FILL = 0000000000000000 && false", "melreader", deck)
     assert done.returncode == 2 and "ended with 1" in done.stderr
 
 
 def test_a_refused_deck_and_a_reader_that_is_not_there(tmp_path):
     deck = tmp_path / "refused.deck"
     deck.write_text("format\nnonsense\n", encoding="utf-8")
-    done = run("conform", "melreader", deck)
+    done = run("mel/conform.py", "melreader", deck)
     assert done.returncode == 2 and "line 2 BadLine" in done.stderr
-    assert run("conform", "No Such Reader", deck).returncode == 2
+    assert run("mel/conform.py", "No Such Reader", deck).returncode == 2

@@ -16,7 +16,7 @@ from debugger.walk import holds
 from desktexts import Play, sections_of
 
 TOP = pathlib.Path(__file__).resolve().parent.parent.parent
-ADAPTER = TOP / "tools" / "debug"
+ADAPTER = TOP / "tools" / "mel" / "debug.py"
 # A purse whose debit calls a routine, and a terminal's application that delegates to it.
 DRAFT = """format
 power

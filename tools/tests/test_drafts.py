@@ -24,8 +24,8 @@ def desk_with_names(monkeypatch):
 
 
 def tear(*words):
-    """What tools/tear.py does."""
-    return subprocess.run([sys.executable, str(TOP / "tools" / "tear.py"), *map(str, words)], stdout=subprocess.PIPE, stderr=subprocess.PIPE,
+    """What tools/mel/tear.py does."""
+    return subprocess.run([sys.executable, str(TOP / "tools" / "mel" / "tear.py"), *map(str, words)], stdout=subprocess.PIPE, stderr=subprocess.PIPE,
                           text=True, check=False)
 
 
@@ -85,6 +85,6 @@ def test_a_report_names_bytes(tmp_path):
     text = "line 3 expected static 0003 00?1 was static 0002 0001 (line 2 dump A000000002)\nexpected 1 failed 1\n"
     (tmp_path / "purse.expect").write_text(text, encoding="utf-8")
     (tmp_path / "expect.verdicts").write_text("1 purse.deck\n", encoding="utf-8")
-    page = subprocess.run([sys.executable, str(TOP / "tools" / "report.py"), str(tmp_path), "--decks", str(tmp_path)], stdout=subprocess.PIPE,
+    page = subprocess.run([sys.executable, str(TOP / "tools" / "mel" / "report.py"), str(tmp_path), "--decks", str(tmp_path)], stdout=subprocess.PIPE,
                           text=True, check=False)
     assert page.returncode == 1 and '<td class="text">payer+1</td>' in page.stdout

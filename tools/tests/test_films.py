@@ -15,7 +15,7 @@ import pytest
 from card import program_path
 
 TOP = pathlib.Path(__file__).resolve().parent.parent.parent
-TOOLS = TOP / "tools"
+TOOLS = TOP / "tools" / "mel"
 PURSE = TOP / "examples" / "purse.draft"
 DEBIT = 23
 
@@ -90,11 +90,12 @@ def test_costs_are_those_of_the_play():
 
 
 def test_the_words_of_editors_are_the_assemblers():
-    assert tool("words", "--check").returncode == 0
+    done = subprocess.run([sys.executable, str(TOP / "tools" / "dev" / "make"), "--check", "words"], check=False)
+    assert done.returncode == 0
 
 
 def test_the_grammar_and_the_extension_are_whole():
-    folder = TOOLS / "vscode"
+    folder = TOP / "tools" / "editors" / "vscode"
     package = json.loads((folder / "package.json").read_text(encoding="utf-8"))["contributes"]
     for path in [it["path"] for it in package["grammars"]] + [it["configuration"] for it in package["languages"]] + [package["debuggers"][0]["program"]]:
         assert (folder / path).is_file()

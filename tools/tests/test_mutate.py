@@ -1,4 +1,4 @@
-"""What tools/mutate.py makes of a draft, and which of it survives.
+"""What tools/mel/mutate.py makes of a draft, and which of it survives.
 
 It needs pytest, and the programs, built by tools/build or by `rt ci`.
 """
@@ -12,7 +12,7 @@ import mutate
 import pytest
 
 TOP = pathlib.Path(__file__).resolve().parent.parent.parent
-TOOLS = TOP / "tools"
+TOOLS = TOP / "tools" / "mel"
 # A counter with a limit of 3, of which its deck tests the first count alone.
 COUNTER = """format
 power

@@ -1,4 +1,4 @@
-"""What tools/outline writes of an application, and what it says of an outline that is another's. (tools/try_outline asks the prover.)
+"""What tools/mel/outline.py writes of an application, and what it says of an outline that is another's. (tools/dev/try_outline asks the prover.)
 
 It needs pytest, and melcard, built by tools/build or by `rt ci`.
 """
@@ -46,8 +46,8 @@ load twice 1 0
 
 
 def outline(*words):
-    """What tools/outline does."""
-    return subprocess.run([sys.executable, str(TOP / "tools" / "outline"), *map(str, words)], stdout=subprocess.PIPE, stderr=subprocess.PIPE,
+    """What tools/mel/outline.py does."""
+    return subprocess.run([sys.executable, str(TOP / "tools" / "mel" / "outline.py"), *map(str, words)], stdout=subprocess.PIPE, stderr=subprocess.PIPE,
                           text=True, check=False)
 
 

@@ -13,8 +13,8 @@ import pytest
 from card import deck_of, program_path
 from test_prove import Broken, Play, Victim
 
-TOOLS = pathlib.Path(__file__).resolve().parent.parent
-TOP = TOOLS.parent
+TOP = pathlib.Path(__file__).resolve().parent.parent.parent
+TOOLS = TOP / "tools" / "mel"
 DECKS = pathlib.Path(__file__).resolve().parent / "prove_decks.tar.xz"
 PURSE = (TOP / "examples" / "pin_proved.deck").read_text(encoding="ascii")
 # The try is counted down after a wrong comparison alone, so that whoever cuts power in between has another.

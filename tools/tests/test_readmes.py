@@ -1,4 +1,4 @@
-"""What tools/readmes finds of pages whose names are not there, over a tree of two crates.
+"""What tools/dev/make readmes finds of pages whose names are not there, over a tree of two crates.
 
 It needs pytest.
 """
@@ -10,7 +10,7 @@ import sys
 
 import pytest
 
-TOOL = pathlib.Path(__file__).resolve().parent.parent / "readmes"
+TOOL = pathlib.Path(__file__).resolve().parent.parent / "dev"
 README = """# one: a counter
 
 It counts up to `MOST`, as `two` has it.
@@ -23,7 +23,7 @@ It counts up to `MOST`, as `two` has it.
 FILES = {
     "crates.txt": "# Counters.\none: two\ntwo:\n",
     "README.md": "# All\n",
-    "docs/PROOFS.md": "# Proofs\n\n<!-- made by tools/readmes -->\n\n<!-- end -->\n\n`one::count_up` is here.\n",
+    "docs/PROOFS.md": "# Proofs\n\n<!-- made by tools/dev/make readmes -->\n\n<!-- end -->\n\n`one::count_up` is here.\n",
     "crates/one/src/lib.rt": "pub struct Counter {\n    count: u8,\n}\n\nimpl Counter {\n    pub fn raise(&mut self) {\n        other_call(1);\n    }\n}\n\n"
                              "pub fn count_up()\n    ensures { IsRaised }\n{}\n\nconst MOST: u8 = 9;\n",
     "crates/one/specs/Counts.antt": "-- counts\nabbrev pub raised : ℕ → ℕ\nraised n = n + 1\n\npub record IsRaised (n : ℕ) : Type 0 where\n  pub above : n ≡ n\n\n"
@@ -41,15 +41,14 @@ def tree(tmp_path):
     for name, text in FILES.items():
         (tmp_path / name).parent.mkdir(parents=True, exist_ok=True)
         (tmp_path / name).write_text(text, encoding="utf-8")
-    (tmp_path / "tools").mkdir()
-    shutil.copy(TOOL, tmp_path / "tools")
+    shutil.copytree(TOOL, tmp_path / "tools" / "dev", ignore=shutil.ignore_patterns("__pycache__"))
     assert run(tmp_path).returncode == 0
     return tmp_path
 
 
 def run(tree, *words):
     """What the tool does in a tree."""
-    return subprocess.run([sys.executable, str(tree / "tools" / "readmes"), *words], stdout=subprocess.PIPE, text=True, check=False)
+    return subprocess.run([sys.executable, str(tree / "tools" / "dev" / "make"), *words, "readmes"], stdout=subprocess.PIPE, text=True, check=False)
 
 
 def change(tree, name, old, new):

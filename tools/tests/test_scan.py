@@ -1,4 +1,4 @@
-"""What tools/scan.py finds of an application.
+"""What tools/mel/scan.py finds of an application.
 
 It needs pytest, and the programs, built by tools/build or by `rt ci`.
 """
@@ -32,7 +32,7 @@ load hidden 0 0
 
 def run(*words):
     """What the tool does."""
-    return subprocess.run([sys.executable, str(TOP / "tools" / "scan.py"), *map(str, words)], stdout=subprocess.PIPE, stderr=subprocess.PIPE,
+    return subprocess.run([sys.executable, str(TOP / "tools" / "mel" / "scan.py"), *map(str, words)], stdout=subprocess.PIPE, stderr=subprocess.PIPE,
                           text=True, check=False)
 
 

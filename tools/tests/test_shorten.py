@@ -1,4 +1,4 @@
-"""Tests of tools/shorten without a prover: what it takes for a declaration, and what it puts in its place."""
+"""Tests of tools/dev/shorten without a prover: what it takes for a declaration, and what it puts in its place."""
 
 import importlib.machinery
 import importlib.util
@@ -6,7 +6,7 @@ from pathlib import Path
 
 import pytest
 
-SCRIPT = Path(__file__).resolve().parent.parent / "shorten"
+SCRIPT = Path(__file__).resolve().parent.parent / "dev" / "shorten"
 
 FILE = """-- Numbers.
 use Rattle.std.proofs.Common.{◌≡◌, ℕ, ◌≤◌, refl}

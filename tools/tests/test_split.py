@@ -1,4 +1,4 @@
-"""A deck that is divided by tools/split_deck: its parts, one after the other, have its results.
+"""A deck that is divided by tools/mel/split_deck.py: its parts, one after the other, have its results.
 
 It needs pytest, and the programs, built by tools/build or by `rt ci`.
 """
@@ -70,7 +70,7 @@ def deck_of(seed, count):
 
 def split(deck, folder, *words):
     """What the tool does."""
-    return subprocess.run([sys.executable, str(TOP / "tools" / "split_deck"), *map(str, words), str(deck), str(folder)], stdout=subprocess.PIPE,
+    return subprocess.run([sys.executable, str(TOP / "tools" / "mel" / "split_deck.py"), *map(str, words), str(deck), str(folder)], stdout=subprocess.PIPE,
                           stderr=subprocess.PIPE, text=True, check=False)
 
 
@@ -126,7 +126,7 @@ def test_places_and_large_gaps_are_kept():
         lines += [f"unit u{place} {'00' * 8}{code:04X}{'00' * code}0000" + f"000961074F05{aid}" + f"00096F078405{aid}" + "00000000", f"load u{place} {size} 0"]
     lines += ["delete A000000101", "delete A000000102", "delete A000000104", "power", "load u3 8 0", "load u4 8 0", "load u1 8 0", "delete A000000103",
               "power", "load u2 4096 0", "cut 5 0000000000000000", "load u3 8 0", "power", "dump A000000103"]
-    loader = importlib.machinery.SourceFileLoader("split_deck", str(TOP / "tools" / "split_deck"))
+    loader = importlib.machinery.SourceFileLoader("split_deck", str(TOP / "tools" / "mel" / "split_deck.py"))
     module = importlib.util.module_from_spec(importlib.util.spec_from_loader("split_deck", loader))
     sys.modules["split_deck"] = module
     loader.exec_module(module)

@@ -15,7 +15,7 @@ import sweep_svg
 from card import program_path
 
 TOP = pathlib.Path(__file__).resolve().parent.parent.parent
-TOOLS = TOP / "tools"
+TOOLS = TOP / "tools" / "mel"
 
 
 def lab(job, deck):

@@ -1,4 +1,4 @@
-"""Runs commands under tools/watch with and without a terminal, and looks at what it writes there, how it ends, and which signals it passes on.
+"""Runs commands under tools/mel/watch.py with and without a terminal, and looks at what it writes there, how it ends, and which signals it passes on.
 
 It needs pytest, and mellab, built by tools/build or by `rt ci`.
 """
@@ -19,7 +19,7 @@ import time
 import pytest
 from card import program_path
 
-WATCH = str(pathlib.Path(__file__).resolve().parent.parent / "watch")
+WATCH = str(pathlib.Path(__file__).resolve().parent.parent / "mel" / "watch.py")
 LINE = re.compile(r"\d+ s, processor \d+ s, memory \d+ MiB, written \d+ bytes")
 # Seven hundred thousand keys and more: some seconds of `mellab prove`.
 MANY = """format

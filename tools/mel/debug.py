@@ -1,0 +1,39 @@
+#!/usr/bin/env python3
+"""Debugs a draft in an editor: forward and back through a play, by the Debug Adapter Protocol on standard input and output.
+
+    tools/mel/debug.py
+
+An editor starts it: `docs/DEBUGGING.md` has the settings. It plays the draft that the request `launch` names as `program` by `meldesk steps`,
+and stops at the first turn of its `line`, if there is one, else at the first breakpoint.
+
+It needs Python 3.9, and `meldesk` and `melcard`, built by tools/build or by `rt ci`. It ends with 0 when its client leaves.
+"""
+
+import argparse
+import os
+import sys
+import traceback
+from pathlib import Path
+
+# The modules lie beside the file that a link names.
+sys.path.insert(0, str(Path(__file__).resolve().parent))
+
+from debugger.adapter import Adapter  # noqa: E402
+from debugger.wire import Wire  # noqa: E402
+
+
+def main() -> None:
+    argparse.ArgumentParser(description="Debugs a draft by the Debug Adapter Protocol, on standard input and output.").parse_args()
+    status = 1
+    try:
+        Adapter(Wire(sys.stdin.buffer, sys.stdout.buffer)).serve()
+        status = 0
+    except Exception:
+        traceback.print_exc()
+    sys.stdout.flush()
+    # The thread that reads the input may wait for a client that is gone, so the program ends without it.
+    os._exit(status)
+
+
+if __name__ == "__main__":
+    main()
