@@ -82,6 +82,17 @@ def superfluous(crates):
             yield name, sorted(found)
 
 
+def upside_down(crates):
+    """What crates.txt lists and must not: of a crate of definitions a law or code, and of a crate of laws code."""
+    for members in crates.values():
+        for name, needed in members.items():
+            group = name.partition("_")[0]
+            allowed = {"model": ("model_",), "law": ("model_", "law_")}.get(group)
+            found = [it for it in needed if not it.startswith(allowed)] if allowed else []
+            if found:
+                yield name, found
+
+
 def levels(needs):
     """The layer of each one, from 0 at the bottom."""
     found = {}
@@ -222,4 +233,7 @@ def main(given_words):
     listed = list(superfluous(groups())) if given.check else []
     for name, found in listed:
         print(f"crates.txt: {name} is to cite {', '.join(found)} through another crate of its line", file=sys.stderr)
-    return 1 if listed else 0
+    turned = list(upside_down(groups())) if given.check else []
+    for name, found in turned:
+        print(f"crates.txt: {name} must not list {', '.join(found)}: definitions list definitions, laws list definitions and laws", file=sys.stderr)
+    return 1 if listed or turned else 0
