@@ -1,13 +1,13 @@
 -- A deck that was played before a recorder, and its text that was put.
 use Rattle.std.proofs.Common.{◌≡◌, ℕ, List, [], None, Result, refl, sym, subst}
 use Rattle.std.specs.List.{AllByRecursion}
-use Rattle.law_steps.specs.model_device.specs.Device.{IsImage}
-use Rattle.law_steps.specs.model_play.specs.DeckGrammar.{DeckLine}
-use Rattle.law_steps.specs.model_play.specs.Laws.{HoldsOf}
-use Rattle.law_steps.specs.model_play.specs.Play.{plays, start}
-use Rattle.law_steps.specs.model_play.specs.ReadyAgain.{AreLines, IsLine}
-use Rattle.law_steps.specs.law_family.proofs.DeckBytes.{played_bytes}
-use Rattle.law_steps.specs.law_family.proofs.PlayLaw.{play_law}
+use Rattle.mc_words.specs.model_device.specs.Device.{IsImage}
+use Rattle.mc_deck.specs.model_play.specs.DeckGrammar.{DeckLine}
+use Rattle.mc_deck.specs.model_play.specs.Laws.{HoldsOf}
+use Rattle.mc_deck.specs.model_play.specs.Play.{plays, start}
+use Rattle.mc_deck.specs.model_play.specs.ReadyAgain.{AreLines, IsLine}
+use Rattle.mc_deck.specs.law_family.proofs.DeckBytes.{played_bytes}
+use Rattle.mc_deck.specs.law_family.proofs.PlayLaw.{play_law}
 use Rattle.mc_streams.specs.declared.refusals.WriteFault.{WriteFault}
 use Rattle.mc_streams.specs.declared.sink.Sink.{Ghosts}
 use Rattle.mc_text.specs.Texts.{sunk, Puts, Sunk}

@@ -1,12 +1,12 @@
 -- The loop that plays a deck before a recorder.
 use Rattle.std.proofs.Common.{◌≡◌, inl, inr, ℕ, ◌<◌, List, [], ◌∷◌, ◌++◌, Option, None, refl, arith, sym, ap, subst, ◌∙◌, append_assoc, append-nil}
 use Rattle.std.specs.Prelude.{length, option_map, take}
-use Rattle.law_steps.specs.model_device.specs.Device.{DeviceState, BenchState}
-use Rattle.law_steps.specs.model_machine.specs.Chain.{Chain}
-use Rattle.law_steps.specs.model_play.specs.DeckGrammar.{DeckLine}
-use Rattle.law_steps.specs.model_play.specs.Play.{FailedWrite, LineResult, State, Step, plays, step}
-use Rattle.law_steps.specs.model_play.specs.TraceText.{shown_turns}
-use Rattle.law_steps.specs.model_play.proofs.PlayLemmas.{step_is}
+use Rattle.mc_words.specs.model_device.specs.Device.{DeviceState, BenchState}
+use Rattle.mc_text.specs.model_machine.specs.Chain.{Chain}
+use Rattle.mc_deck.specs.model_play.specs.DeckGrammar.{DeckLine}
+use Rattle.mc_deck.specs.model_play.specs.Play.{FailedWrite, LineResult, State, Step, plays, step}
+use Rattle.mc_deck.specs.model_play.specs.TraceText.{shown_turns}
+use Rattle.mc_deck.specs.model_play.proofs.PlayLemmas.{step_is}
 use Rattle.mc_streams.specs.declared.sink.Sink.{Ghosts}
 use Rattle.desk_draft.specs.Listings.{Source}
 use Rattle.mc_script.specs.declared.answer.Answer.{Answer}

@@ -2,9 +2,9 @@
 use Rattle.std.specs.Prelude.{◌≡◌, ◌⊎◌, ℕ, ◌+◌, ◌≤◌, Bool, true, false, cond, ◌==◌, nat_lt, min, List, [], ◌∷◌, ◌++◌, length, map, get_or, option_map, Option, Some, None, Result}
 use Rattle.std.specs.Borrow.{MutBor}
 use Rattle.std.proofs.Common.{inl, refl, sym, ap, subst, ◌∙◌, append_assoc, append-nil}
-use Rattle.law_steps.specs.model_play.specs.DeckGrammar.{DeckLine}
-use Rattle.law_steps.specs.model_play.specs.Play.{FailedWrite, State, Step, plays, start}
-use Rattle.law_steps.specs.model_machine.specs.Chain.{Chain, Follows, Continues, Ends, depth_of, turn_of}
+use Rattle.mc_deck.specs.model_play.specs.DeckGrammar.{DeckLine}
+use Rattle.mc_deck.specs.model_play.specs.Play.{FailedWrite, State, Step, plays, start}
+use Rattle.mc_text.specs.model_machine.specs.Chain.{Chain, Follows, Continues, Ends, depth_of, turn_of}
 use Rattle.mc_streams.specs.declared.refusals.WriteFault.{WriteFault}
 use Rattle.mc_streams.specs.declared.sink.Sink.{Ghosts}
 use Rattle.mc_text.specs.Texts.{sunk, Sunk}
@@ -13,10 +13,10 @@ use Rattle.desk_draft.specs.Listings.{Source}
 use Rattle.desk_draft.specs.Traces.{line_of_turn}
 use Rattle.mc_script.specs.Plays.{Bench, Played, SumsDeck}
 use Rattle.desk_json.specs.Sheets.{PutsOn, puts_both, puts_nothing}
-use Rattle.law_steps.specs.Nexts.{called_opens, open_after, open_by, opens_after}
-use Rattle.law_steps.specs.Readings.{first_sets, turn_sets}
-use Rattle.law_steps.specs.Registers.{frame_after}
-use Rattle.law_steps.specs.Writes.{IsRoomy, called_waits, moves_in, turn_moves, waits_after}
+use Rattle.desk_json.specs.law_steps.specs.Nexts.{called_opens, open_after, open_by, opens_after}
+use Rattle.desk_json.specs.law_steps.specs.Readings.{first_sets, turn_sets}
+use Rattle.desk_json.specs.law_steps.specs.Registers.{frame_after}
+use Rattle.desk_json.specs.law_steps.specs.Writes.{IsRoomy, called_waits, moves_in, turn_moves, waits_after}
 use Rattle.desk_steps.specs.declared.recording.Recorder.{Recorder}
 use Rattle.desk_steps.specs.declared.shot.Shot.{Shot}
 use Rattle.desk_steps.specs.Counted.{count_after, writes_after}

@@ -1,6 +1,6 @@
 // The application that runs on a card, and the source line of a place of its code.
 ghost use Rattle.std.specs.Prelude.{◌≡◌, ℕ, option_map, Some};
-ghost use Rattle.law_steps.specs.model_machine.specs.Chain.{Chain as ModelChain};
+ghost use Rattle.mc_text.specs.model_machine.specs.Chain.{Chain as ModelChain};
 ghost use Rattle.desk_draft.specs.Verdicts.{source_line};
 ghost use Rattle.mc_card.specs.Parts.{RunsChain};
 ghost use Rattle.desk_cover.specs.Looking.{section_at};

@@ -2,11 +2,11 @@
 ghost use Rattle.std.specs.Prelude.{◌≡◌, ◌≤◌, ◌++◌, ℕ, List, [], codes, option_map, Some};
 ghost use Rattle.std.specs.List.{AllByRecursion};
 ghost use Rattle.arrayvec.specs.ArrayVec.{array_vec_len};
-ghost use Rattle.law_steps.specs.model_device.specs.Device.{IsImage};
-ghost use Rattle.law_steps.specs.model_play.specs.Play.{start};
+ghost use Rattle.mc_words.specs.model_device.specs.Device.{IsImage};
+ghost use Rattle.mc_deck.specs.model_play.specs.Play.{start};
 ghost use Rattle.mc_text.specs.Texts.{sunk};
-ghost use Rattle.law_steps.specs.model_play.specs.Transcript.{text_of_result};
-ghost use Rattle.law_steps.specs.model_play.specs.ReadyAgain.{IsLine};
+ghost use Rattle.mc_deck.specs.model_play.specs.Transcript.{text_of_result};
+ghost use Rattle.mc_deck.specs.model_play.specs.ReadyAgain.{IsLine};
 ghost use Rattle.mc_script.specs.Players.{answer_value, IsUnfused};
 ghost use Rattle.mc_script.specs.Benches.{bench_at, IsPlaying};
 ghost use Rattle.desk_json.specs.Json.{characters};

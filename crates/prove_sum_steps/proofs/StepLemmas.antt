@@ -1,9 +1,9 @@
 -- What an instruction leaves in a scene.
 use Rattle.std.specs.Prelude.{◌≡◌, ℕ, List}
 use Rattle.std.proofs.Common.{sym, subst}
-use Rattle.model_text.specs.model_machine.specs.Shapes.{Shape}
-use Rattle.model_text.specs.model_machine.specs.declared.instruction.Ins.{Ins}
-use Rattle.model_text.specs.model_machine.specs.Frame.{Frame}
+use Rattle.mc_isa.specs.model_machine.specs.Shapes.{Shape}
+use Rattle.mc_isa.specs.model_machine.specs.declared.instruction.Ins.{Ins}
+use Rattle.mc_isa.specs.model_machine.specs.Frame.{Frame}
 use Rattle.prove_facts.specs.model_rules.specs.Rules.{Total}
 use Rattle.prove_facts.specs.model_prove.specs.Keys.{PlaceKey}
 use Rattle.prove_facts.specs.model_prove.specs.Reach.{Coarse}

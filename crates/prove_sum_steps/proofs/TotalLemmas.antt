@@ -4,7 +4,7 @@ use Rattle.std.specs.Prelude.{◌&&◌, ◌||◌, bytes_eq, nat_le, slice_get}
 use Rattle.std.proofs.lemmas.Bool.{and_from, eq-eqb}
 use Rattle.std.proofs.lemmas.Option.{same_Some}
 use Rattle.std.proofs.lemmas.Slice.Eq.{bytes_eq-Decides}
-use Rattle.model_text.specs.model_device.specs.Bytes.{num}
+use Rattle.model_device.specs.Bytes.{num}
 use Rattle.prove_facts.specs.model_rules.specs.Keeping.{Amounts, Sum, added_by, added_to, first_sums, is_total, taken_by, taken_from}
 use Rattle.prove_facts.specs.model_rules.specs.Rules.{SumLine, Total}
 use Rattle.prove_sums.specs.model_sums.specs.Closed.{all_pass, is_sum}

@@ -1,7 +1,7 @@
 -- What is checked of places and of beginnings of frames.
 use Rattle.std.specs.Prelude.{◌≡◌, ℕ, true, List, length, vec_len}
 use Rattle.std.specs.List.{AllByRecursion}
-use Rattle.model_text.specs.model_machine.specs.Primitives.{Then}
+use Rattle.mc_isa.specs.model_machine.specs.Primitives.{Then}
 use Rattle.prove_facts.specs.model_prove.specs.Arrivals.{Setting, AtPlace}
 use Rattle.prove_facts.specs.model_prove.specs.Keys as known
 use Rattle.prove_facts.specs.model_prove.specs.Steps.{Spot, place_arrivals}

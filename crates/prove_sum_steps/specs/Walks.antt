@@ -1,8 +1,8 @@
 -- What is checked of the instruction at a place, in parts.
 use Rattle.std.specs.Prelude.{◌≡◌, ℕ, Bool, true, ◌&&◌, List, []}
 use Rattle.std.specs.List.{AllByRecursion}
-use Rattle.model_text.specs.model_machine.specs.Primitives.{Then}
-use Rattle.model_text.specs.model_machine.specs.Shapes.{Shape}
+use Rattle.mc_isa.specs.model_machine.specs.Primitives.{Then}
+use Rattle.mc_isa.specs.model_machine.specs.Shapes.{Shape}
 use Rattle.prove_facts.specs.model_rules.specs.Keeping.{mode_of}
 use Rattle.prove_facts.specs.model_prove.specs.Arrivals.{Setting, Arrival, AtPlace}
 use Rattle.prove_facts.specs.model_prove.specs.Keys.{PlaceKey, Known}

@@ -1,6 +1,6 @@
 // The places of the tables, each with what the table of sums has there.
 ghost use Rattle.std.specs.Prelude.{◌≡◌, ◌≤◌, ℕ, true, List, length, vec_len, IfOk, IfSome, Ok};
-ghost use Rattle.model_text.specs.model_machine.specs.Code.{Shaped, instruction_at};
+ghost use Rattle.mc_isa.specs.model_machine.specs.Code.{Shaped, instruction_at};
 ghost use Rattle.prove_facts.specs.model_prove.specs.Arrivals.{Setting};
 ghost use Rattle.prove_facts.specs.model_prove.specs.Steps.{place_arrivals};
 ghost use Rattle.prove_facts.specs.model_prove.specs.Tables.{includes_all};

@@ -1,7 +1,7 @@
 // An instruction in the scene of its place, for one choice of the bytes that decide it.
 ghost use Rattle.std.specs.Prelude.{◌≡◌, ℕ, true, List, map, IfOk};
-ghost use Rattle.model_text.specs.model_machine.specs.Shapes as shapes;
-ghost use Rattle.model_text.specs.model_machine.specs.Code.{Shaped};
+ghost use Rattle.mc_isa.specs.model_machine.specs.Shapes as shapes;
+ghost use Rattle.mc_isa.specs.model_machine.specs.Code.{Shaped};
 ghost use Rattle.prove_facts.specs.model_prove.specs.Reach as reach;
 ghost use Rattle.prove_facts.specs.model_prove.specs.Steps.{coarse_around, coarse_for};
 ghost use Rattle.prove_sums.specs.model_sums.specs.Closed.{all_pass, choice_closed, coarse_closed, row_closed, turn_closed};

@@ -1,6 +1,6 @@
 // The totals of an application as it is created.
 ghost use Rattle.std.specs.Prelude.{◌≡◌, ◌+◌, ◌-◌, ◌++◌, ◌&&◌, ℕ, true, List, length, map, nat_le, IfOk};
-ghost use Rattle.model_text.specs.model_device.specs.Bytes.{zeros};
+ghost use Rattle.model_device.specs.Bytes.{zeros};
 ghost use Rattle.prove_facts.specs.model_rules.specs.Keeping.{are_totals, first_sums, is_total};
 ghost use Rattle.prove_facts.specs.model_rules.specs.Rules.{AppRules, Target, Total};
 ghost use Rattle.prove_sums.specs.model_sums.specs.Closed.{all_pass};

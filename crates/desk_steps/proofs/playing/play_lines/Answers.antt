@@ -1,6 +1,6 @@
 use Rattle.std.proofs.Common.{ℕ, ◌+◌, List, ◌≤◌, drop, length, sym, ap, subst, rules, ◌∙◌}
-use Rattle.law_steps.specs.model_play.specs.DeckGrammar.{DeckLine}
-use Rattle.law_steps.specs.model_play.specs.Play.{start}
+use Rattle.mc_deck.specs.model_play.specs.DeckGrammar.{DeckLine}
+use Rattle.mc_deck.specs.model_play.specs.Play.{start}
 use Rattle.mc_deck.specs.Lines.{line_of}
 use Rattle.mc_script.specs.Plays.{Bench}
 use Rattle.mc_script.proofs.DeckLemmas.{next_line, no_line}

@@ -1,5 +1,5 @@
 use Rattle.std.proofs.Common.{◌≡◌, drop}
-use Rattle.law_steps.specs.model_play.specs.Play.{start}
+use Rattle.mc_deck.specs.model_play.specs.Play.{start}
 use Rattle.mc_script.specs.Players.{device_of}
 use Rattle.desk_steps.specs.Statements.{StandsAt}
 use Rattle.desk_steps.proofs.PlayLemmas.{Recording}

@@ -1,5 +1,5 @@
 use Rattle.std.proofs.Common.{ap, map, sym}
-use Rattle.model_text.specs.model_machine.specs.Shapes.{Shape, shape}
+use Rattle.mc_isa.specs.model_machine.specs.Shapes.{Shape, shape}
 use Rattle.prove_facts.specs.model_prove.specs.Work.{work}
 use Rattle.prove_sums.specs.model_sums.specs.Moves.{moved}
 use Rattle.lab_app_rules.specs.Rules.{name_of}

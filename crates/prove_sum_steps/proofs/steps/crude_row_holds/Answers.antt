@@ -1,5 +1,5 @@
 use Rattle.std.proofs.Common.{◌∙◌, ap, map, sym}
-use Rattle.model_text.specs.model_machine.specs.Shapes.{Shape}
+use Rattle.mc_isa.specs.model_machine.specs.Shapes.{Shape}
 use Rattle.prove_facts.specs.model_prove.specs.Facts.{Facts}
 use Rattle.prove_facts.specs.model_prove.specs.Steps.{coarse_for}
 use Rattle.prove_sums.specs.model_sums.specs.Moves.{moved_coarsely}
