@@ -1,7 +1,7 @@
 -- The comments of a deck that begin with `#@`: which lines they are, and the parts that all of them have.
 use Rattle.std.specs.Prelude.{ℕ, Bool, true, false, not, ◌&&◌, ◌==◌, List, [], ◌∷◌, ◌++◌, Option, Some, None, Result, Ok, Err}
 use Rattle.model_play.specs.model_device.specs.Bytes.{lookup}
-use Rattle.model_play.specs.model_text.specs.Text.{only_if, is_empty, begins, fields}
+use Rattle.model_play.specs.model_text.specs.Text.{◌>>=◌, only_if, is_empty, begins, fields}
 use Rattle.model_play.specs.declared.deck.DeckCause.{DeckCause}
 use Rattle.model_play.specs.declared.deck.DeckCause.TheVariants.{BadLine}
 use Rattle.model_play.specs.DeckGrammar.{name_field, number_field}
