@@ -11,7 +11,6 @@ use Rattle.lab_app_rules.specs.declared.rules.On.{On}
 use Rattle.lab_app_rules.specs.declared.rules.Rules.{Rules}
 use Rattle.lab_app_rules.specs.declared.rules.SignedSum.{SignedSum}
 use Rattle.lab_app_rules.specs.Rules.{allowance_of, name_of}
-use Rattle.lab_app_rules.specs.Sums.{amount_value}
 use Rattle.std.specs.Prelude.{◌≡◌, ◌-◌, ℕ, Bool, List, [], ◌∷◌, Option, Some, None}
 use Rattle.model_rules.specs.Rules as rules
 use Rattle.lab_app_rules.specs.declared.rules.Amount.TheVariants as amount

@@ -4,7 +4,7 @@ use Rattle.std.specs.declared.alloc.Global.{Global}
 use Rattle.std.specs.declared.string.String.{String}
 use Rattle.std.specs.Global.{Vec}
 use Rattle.mc_words.specs.model_device.specs.Device.{device_words}
-use Rattle.mc_words.specs.model_device.specs.declared.refusals.NoMemory.{NoMemory as Memory}
+use Rattle.mc_words.specs.model_device.specs.declared.memory.NoMemory.{NoMemory as Memory}
 use Rattle.mc_streams.specs.declared.refusals.WriteFault.{WriteFault as Fault}
 use Rattle.mc_streams.specs.declared.sink.Sink as sink
 use Rattle.mc_streams.specs.declared.source.Source as source

@@ -1,7 +1,7 @@
 -- What a check of tables says, and what it means for the rules.
 use Rattle.std.proofs.Common.{◌≡◌, ◌∙◌, sym, subst, refl, arith}
 use Rattle.std.specs.Prelude.{Bool, true, false, List, [], ◌∷◌, length, vec_len, Result, Ok, Err, IfOk}
-use Rattle.model_device.specs.declared.refusals.NoMemory.{NoMemory}
+use Rattle.model_device.specs.declared.memory.NoMemory.{NoMemory}
 use Rattle.law_sum_plays.specs.Laws.{ClosedSumsLaw}
 use Rattle.law_sum_plays.specs.model_prove.specs.Keys.{Tables}
 use Rattle.law_sum_plays.specs.law_prove_closed.specs.ClosedLaw.{ClosedLaw}
