@@ -17,7 +17,7 @@ returns-in_err-push_spoken-in-None-clause-turned c = λ b h.
 pub returns-in_ok-push-in-Some-clause-kept : goal.returns-in_ok-push-in-Some-clause-kept
 returns-in_ok-push-in-Some-clause-kept c = λ b h k t e.
     let line = c.args.line.now in
-    opening_keeps (fields line) (new_section (fields line)) b line c.args.writer.now.deck.items c.push.new.deck.items t c.args.writer.now.sections.items c.in-Some.section refl c.in-Some.ensures.opens c.in-Some.ensures.empty c.in_ok-push-in-Some.ensures k e
+    opening_keeps (fields line) (new_section (fields line)) b line c.args.writer.now.deck.items c.push.new.text.items t c.args.writer.now.sections.items c.in-Some.section refl c.in-Some.ensures.opens c.in-Some.ensures.empty c.in_ok-push-in-Some.ensures k e
 
 pub returns-in_ok-push_spoken-in-None-clause-kept : goal.returns-in_ok-push_spoken-in-None-clause-kept
 returns-in_ok-push_spoken-in-None-clause-kept c = λ b h k t e.

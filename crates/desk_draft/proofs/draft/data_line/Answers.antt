@@ -14,4 +14,4 @@ returns-in_err-take_data c = λ l later h.
 pub returns : goal.returns
 returns c = λ l later h.
     let same : c.as_slice.result.now ≡ c.fields.result.items = search rules in
-    data_turned (scope_of c.args.scope.now l) c.args.line.now c.args.deck.now.items c.push.new.deck.items (texts c.as_slice.result.now) later c.take_data.new.scope (ap texts same ∙ c.fields.ensures.value) (c.in_ok-take_data.ensures.takes l h) c.in_ok-push.ensures
+    data_turned (scope_of c.args.scope.now l) c.args.line.now c.args.deck.now.items c.push.new.text.items (texts c.as_slice.result.now) later c.take_data.new.scope (ap texts same ∙ c.fields.ensures.value) (c.in_ok-take_data.ensures.takes l h) c.in_ok-push.ensures

@@ -8,4 +8,4 @@ returns-in_err-push_labelled c = λ l h.
     rw (p.1, p.2) (line_faulty l c.args.line.now c.without_comment-code.result.now c.in_err-push_labelled.field-0.0 c.without_comment-code.ensures.value (c.in_err-push_labelled.ensures l h))
 
 pub returns : goal.returns
-returns c = λ l h. line_pushed l c.args.line.now c.without_comment-code.result.now c.after_front.result.now c.args.deck.now.items c.push_labelled.new.deck.items c.push.new.deck.items c.without_comment-code.ensures.value c.after_front.ensures (c.in_ok-push_labelled.ensures l h) c.in_ok-push.ensures
+returns c = λ l h. line_pushed l c.args.line.now c.without_comment-code.result.now c.after_front.result.now c.args.deck.now.items c.push_labelled.new.deck.items c.push.new.text.items c.without_comment-code.ensures.value c.after_front.ensures (c.in_ok-push_labelled.ensures l h) c.in_ok-push.ensures

@@ -25,4 +25,4 @@ pub loop-rest-preserved : goal.loop-rest-preserved
 loop-rest-preserved c = λ l h.
     let whole = pieces_text l c.args.sized (pieces (λ c. c == 44) c.args.text.now) in
     let so_far = subst (λ (r : Option (Bor (List ℕ))). ok_as (λ t. c.loop-rest.deck.items ++ t) (left_text l c.args.sized (option_map (λ t. t.now) r)) ≡ ok_as (λ t. c.args.deck.now.items ++ t) whole) c.in-Some.is (c.loop-rest.invariant l h) in
-    later_pushed l c.args.sized c.in-Some.left.now c.cut-in-Some.result.0.now (option_map (λ t. t.now) c.cut-in-Some.result.1) c.loop-rest.deck.items c.push.new.deck.items c.push_piece-in-Some.new.deck.items c.args.deck.now.items whole c.cut-in-Some.ensures.front c.cut-in-Some.ensures.behind so_far c.in_ok-push.ensures (c.in_ok-push_piece-2.ensures l h)
+    later_pushed l c.args.sized c.in-Some.left.now c.cut-in-Some.result.0.now (option_map (λ t. t.now) c.cut-in-Some.result.1) c.loop-rest.deck.items c.push.new.text.items c.push_piece-in-Some.new.deck.items c.args.deck.now.items whole c.cut-in-Some.ensures.front c.cut-in-Some.ensures.behind so_far c.in_ok-push.ensures (c.in_ok-push_piece-2.ensures l h)

@@ -7,7 +7,7 @@ use Rattle.desk_draft.proofs.RuleLemmas.{first_added, left_braces, piece_added, 
 use Rattle.desk_draft.proofs.rule.push_braces.Goals as goal
 
 pub loop-rest-init : goal.loop-rest-init
-loop-rest-init c = λ l h. first_added l c.args.text.now c.cut.result.0.now (option_map (λ t. t.now) c.cut.result.1) c.args.deck.now.items c.push.new.deck.items c.cut.ensures.front c.cut.ensures.behind c.in_ok-push.ensures
+loop-rest-init c = λ l h. first_added l c.args.text.now c.cut.result.0.now (option_map (λ t. t.now) c.cut.result.1) c.args.deck.now.items c.push.new.text.items c.cut.ensures.front c.cut.ensures.behind c.in_ok-push.ensures
 
 pub returns-in_err-push_opened : goal.returns-in_err-push_opened
 returns-in_err-push_opened c = λ l h.

@@ -19,4 +19,4 @@ returns-in_err-push_brace-in-Some c = λ l h.
 pub returns-in_ok-push-in-Some : goal.returns-in_ok-push-in-Some
 returns-in_ok-push-in-Some c = λ l h.
     let e = subst (λ (o : Option (Bor (List ℕ))). option_map (λ t. t.now) o ≡ (first_cut (λ c. c == 125) c.args.piece.now).1) c.in-Some.is c.cut.ensures.behind in
-    opened_pushed l c.args.piece.now c.cut.result.0.now c.in-Some.rest.now c.args.deck.now.items c.push_brace.new.deck.items c.push.new.deck.items c.cut.ensures.front e (c.in_ok-push_brace-in-Some.ensures l h) c.in_ok-push-in-Some.ensures
+    opened_pushed l c.args.piece.now c.cut.result.0.now c.in-Some.rest.now c.args.deck.now.items c.push_brace.new.deck.items c.push.new.text.items c.cut.ensures.front e (c.in_ok-push_brace-in-Some.ensures l h) c.in_ok-push-in-Some.ensures

@@ -9,4 +9,4 @@ returns-in_err-push_rest c = λ l h.
     rw (p.1, p.2) (statement_faulty l c.args.line.now c.after_word.result.now (part_value c.part_in-part.result) c.in_err-push_rest.field-0.0 c.after_word.ensures.value c.part_in-part.ensures (c.in_err-push_rest.ensures l h))
 
 pub returns : goal.returns
-returns c = λ l h. statement_pushed l c.args.line.now c.after_word.result.now c.args.deck.now.items c.push.new.deck.items c.push_rest.new.deck.items c.push-2.new.deck.items (part_value c.part_in-part.result) c.after_word.ensures.value c.part_in-part.ensures c.in_ok-push.ensures (c.in_ok-push_rest.ensures l h) c.in_ok-push-2.ensures
+returns c = λ l h. statement_pushed l c.args.line.now c.after_word.result.now c.args.deck.now.items c.push.new.text.items c.push_rest.new.deck.items c.push-2.new.text.items (part_value c.part_in-part.result) c.after_word.ensures.value c.part_in-part.ensures c.in_ok-push.ensures (c.in_ok-push_rest.ensures l h) c.in_ok-push-2.ensures
