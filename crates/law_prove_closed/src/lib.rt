@@ -2,7 +2,7 @@
 
 //! What closed tables of abstract states mean: their rules are kept in every play.
 
-mod rows;
+mod worked;
 
 ghost use Rattle.std.specs.Prelude.{◌≡◌, [], ◌∷◌};
 ghost use Rattle.law_prove_commands.specs.model_prove.specs.Compares.{NoCompare, Bounds};
