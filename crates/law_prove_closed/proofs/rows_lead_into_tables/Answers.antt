@@ -1,5 +1,5 @@
 use Rattle.law_prove_closed.proofs.Rows.{all_leads}
-use Rattle.law_prove_closed.proofs.worked_lead_into_tables.Goals as goal
+use Rattle.law_prove_closed.proofs.rows_lead_into_tables.Goals as goal
 
 pub returns : goal.returns
 returns c = all_leads
