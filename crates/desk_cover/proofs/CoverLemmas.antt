@@ -2,7 +2,7 @@
 use Rattle.std.proofs.Common.{◌≡◌, ℕ, ◌+◌, ◌≤◌, List, [], ◌∷◌, ◌++◌, length, Result, arith, sym, ap, subst, ◌∙◌}
 use Rattle.std.specs.Prelude.{flat_map, map}
 use Rattle.std.specs.List.{AllByRecursion}
-use Rattle.mc_base.specs.model_device.specs.Device.{IsImage}
+use Rattle.mc_words.specs.model_device.specs.Device.{IsImage}
 use Rattle.mc_deck.specs.model_play.specs.DeckGrammar.{DeckLine}
 use Rattle.mc_deck.specs.model_play.specs.Laws.{HoldsOf}
 use Rattle.mc_deck.specs.model_play.specs.Play.{Step, plays, start}
@@ -50,9 +50,9 @@ record_covers name ss ts q r lines sections counted fits =
     record_same name r.lines.items (covered_lines ss us) are
 
 -- a deck that was played before a counter, and the record that was put
-pub covers_deck : (name : List ℕ) (ss : List Source) (ls : List (ℕ × DeckLine)) (a : Bench) (x : Sunk) (result : Result (Unit {0}) WriteFault) (b c : Bench) (y z : Sunk) (q r : Counter) (old new : ℕ) → q.lines.items ≡ new_lines 0 ss → q.sections.now ≡ ss
-    → CountsPlay (start a.device.words) ls a b q r old new → Puts x (record_text name r.lines.items) result y → IsImage a.device.words → AllByRecursion (λ l. IsLine l.1) ls → b.device ≡ c.device → b.bench ≡ c.bench → y.taken ≡ z.taken → y.faults ≡ z.faults → CoversDeck name ss ls a x result c z old new
-covers_deck name ss ls a x result b c y z q r old new lines sections counts puts image bytes device bench taken faults =
+pub covers_deck : (name : List ℕ) (ss : List Source) (ls : List (ℕ × DeckLine)) (a : Bench) (x : Sunk) (result : Result (Unit {0}) WriteFault) (b c : Bench) (y z : Sunk) (q r : Counter) → q.lines.items ≡ new_lines 0 ss → q.sections.now ≡ ss
+    → CountsPlay (start a.device.words) ls a b q r → Puts x (record_text name r.lines.items) result y → IsImage a.device.words → AllByRecursion (λ l. IsLine l.1) ls → b.device ≡ c.device → b.bench ≡ c.bench → y.taken ≡ z.taken → y.faults ≡ z.faults → CoversDeck name ss ls a x result c z
+covers_deck name ss ls a x result b c y z q r lines sections counts puts image bytes device bench taken faults =
     let m : List (List ℕ) = a.device.words in
     let text = record_text name r.lines.items in
     let played : Played (start m) ls counts.worn a c = rw (← device, ← bench) counts.played in
@@ -61,6 +61,6 @@ covers_deck name ss ls a x result b c y z q r old new lines sections counts puts
     let are : AreLines (plays (start m) ls counts.worn) = played_bytes (start m) ls counts.worn bytes in
     record {
       text = text;
-      sums = record { deck = record { worn = counts.worn; played = played; laws = laws; few = laws.few image are; ready = laws.ready image are; text = put }; steps = counts.steps };
+      sums = record { worn = counts.worn; played = played; laws = laws; few = laws.few image are; ready = laws.ready image are; text = put };
       covers = λ fits. record_covers name ss (plays (start m) ls counts.worn) q r lines sections counts.counted fits;
     }

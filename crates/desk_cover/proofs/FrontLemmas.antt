@@ -7,7 +7,7 @@ use Rattle.std.proofs.Math.Seq.{take-length}
 use Rattle.mc_arith.specs.model_machine.specs.declared.instruction.DecodeFault.{DecodeFault}
 use Rattle.mc_arith.specs.model_machine.specs.declared.instruction.Ins.{Ins}
 use Rattle.mc_arith.specs.model_machine.specs.Code.{DecodesTo, from_place, front, instruction_at}
-use Rattle.mc_isa.proofs.PlaceLemmas.{decoded_only}
+use Rattle.mc_isa.specs.law_rows.proofs.PlaceLemmas.{decoded_only}
 use Rattle.mc_machine.proofs.FetchLemmas.{IsWindow, fault_there, stands_there}
 use Rattle.desk_draft.specs.Coverage.{condition_decoded}
 

@@ -1,9 +1,9 @@
 -- A full turn of a chain: its turn, its code, and the frame that it leaves.
 use Rattle.std.proofs.Common.{◌≡◌, ℕ, zero, suc, List, Option, Some, None, Result, Ok, Err, refl, sym, ap, ◌∙◌}
 use Rattle.std.specs.Prelude.{unwrap_or, IsSome}
-use Rattle.mc_base.specs.model_device.specs.Bytes.{lookup}
-use Rattle.mc_base.specs.model_device.specs.Card.{App}
-use Rattle.mc_base.specs.model_device.specs.Device.{DeviceState}
+use Rattle.mc_words.specs.model_device.specs.Bytes.{lookup}
+use Rattle.mc_words.specs.model_device.specs.Card.{App}
+use Rattle.mc_words.specs.model_device.specs.Device.{DeviceState}
 use Rattle.mc_arith.specs.model_machine.specs.declared.instruction.Ins.{Ins}
 use Rattle.mc_arith.specs.model_machine.specs.declared.instruction.DecodeFault.{DecodeFault}
 use Rattle.mc_arith.specs.model_machine.specs.declared.instruction.DecodeFault.TheVariants.{Undefined, Past}

@@ -1,12 +1,12 @@
 -- What is known of the application that runs goes on from turn to turn: no turn changes code.
 use Rattle.std.proofs.Common.{◌≡◌, ℕ, zero, suc, Bool, true, false, cond, ◌||◌, List, [], ◌∷◌, Option, Some, None, Ok, Err, Result, refl, sym, ap, subst, ◌∙◌}
 use Rattle.std.specs.Prelude.{bytes_eq, nat_le, nat_lt, IfSome, length, ◌≤◌}
-use Rattle.mc_base.specs.model_device.specs.Bytes.{lookup, insert}
-use Rattle.mc_base.specs.model_device.specs.Card.{App}
-use Rattle.mc_base.specs.model_device.specs.Device.{DeviceState}
-use Rattle.mc_base.specs.model_device.specs.Limits.{most_code}
-use Rattle.mc_base.specs.model_device.specs.Orders.{Answer}
-use Rattle.mc_base.specs.model_device.proofs.MapLemmas.{same_name, lookup_inserted_lem, lookup_beside}
+use Rattle.mc_words.specs.model_device.specs.Bytes.{lookup, insert}
+use Rattle.mc_words.specs.model_device.specs.Card.{App}
+use Rattle.mc_words.specs.model_device.specs.Device.{DeviceState}
+use Rattle.mc_words.specs.model_device.specs.Limits.{most_code}
+use Rattle.mc_words.specs.model_device.specs.Orders.{Answer}
+use Rattle.mc_words.specs.model_device.proofs.MapLemmas.{same_name, lookup_inserted_lem, lookup_beside}
 use Rattle.mc_arith.specs.model_machine.specs.declared.instruction.Ins.{Ins}
 use Rattle.mc_arith.specs.model_machine.specs.declared.instruction.DecodeFault.{DecodeFault}
 use Rattle.mc_arith.specs.model_machine.specs.declared.instruction.DecodeFault.TheVariants.{Undefined, Past}

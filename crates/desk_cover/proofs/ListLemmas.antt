@@ -3,7 +3,7 @@ use Rattle.std.proofs.Common.{◌≡◌, ℕ, zero, suc, ◌+◌, ◌<◌, ◌�
 use Rattle.std.specs.Prelude.{bytes_eq, map, slice_set}
 use Rattle.std.proofs.Math.Seq.{take-add}
 use Rattle.std.proofs.lemmas.List.{append-nil}
-use Rattle.mc_base.specs.model_device.proofs.MapLemmas.{name_is_itself}
+use Rattle.mc_words.specs.model_device.proofs.MapLemmas.{name_is_itself}
 
 -- ---- a list whose elements are changed one after the other
 

@@ -2,7 +2,7 @@
 use Rattle.std.proofs.Common.{◌≡◌, ℕ, ◌+◌, ◌-◌, ◌≤◌, Bool, true, false, cond, ◌&&◌, ◌==◌, List, [], length, take, drop, Option, Some, None, refl, arith, sym, ap, subst, ◌∙◌}
 use Rattle.std.proofs.lemmas.Bool.Decides.{nat_tests}
 use Rattle.std.specs.Prelude.{ℤ, bytes_eq, min, nat_le, option_map, option_and_then, IfSome}
-use Rattle.mc_base.specs.model_device.specs.Device.{DeviceState}
+use Rattle.mc_words.specs.model_device.specs.Device.{DeviceState}
 use Rattle.mc_arith.specs.model_machine.specs.Code.{instruction_at}
 use Rattle.mc_arith.specs.model_machine.specs.Frame.{Frame, Place, Static, Dynamic, Public, dynamic_base, dynamic_end, floor, moved_address, public_base, public_end, register, resolve}
 use Rattle.mc_arith.specs.model_machine.specs.Chain.{Chain, Follows, Continues, Ends}

@@ -6,7 +6,7 @@ use Rattle.mc_arith.specs.model_machine.specs.declared.instruction.Ins.TheVarian
 use Rattle.mc_arith.specs.model_machine.specs.Frame.{Frame}
 use Rattle.mc_arith.specs.model_machine.specs.Primitives.{Around, Done, Goes}
 use Rattle.mc_arith.specs.model_machine.specs.Row.{causes, effect, first_cause, row}
-use Rattle.mc_deck.specs.law_rows.specs.Shapes.{shape}
+use Rattle.mc_text.specs.model_machine.specs.Shapes.{shape}
 use Rattle.mc_deck.specs.law_rows.specs.Keeping.{OnDone}
 use Rattle.mc_deck.specs.law_rows.proofs.RowShapes.{shapes}
 use Rattle.mc_deck.specs.law_rows.proofs.Keeping.{on_done}

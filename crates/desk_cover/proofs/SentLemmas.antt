@@ -1,9 +1,9 @@
 -- The full turns of a line are those of the command that its player sends.
 use Rattle.std.proofs.Common.{◌≡◌, ◌⊎◌, inl, inr, ℕ, zero, suc, Bool, true, false, List, [], ◌∷◌, ◌++◌, length, take, Option, Some, None, refl, sym, ap, subst, ◌∙◌}
 use Rattle.std.specs.List.{AllByRecursion}
-use Rattle.mc_base.specs.model_device.specs.Card as model
-use Rattle.mc_base.specs.model_device.specs.Device.{DeviceState, BenchState}
-use Rattle.mc_base.specs.model_device.specs.PowerUp.{Base, OnCard}
+use Rattle.mc_words.specs.model_device.specs.Card as model
+use Rattle.mc_words.specs.model_device.specs.Device.{DeviceState, BenchState}
+use Rattle.mc_words.specs.model_device.specs.PowerUp.{Base, OnCard}
 use Rattle.mc_arith.specs.model_machine.specs.Apdu.{ApduParts}
 use Rattle.mc_arith.specs.model_machine.specs.Chain.{Chain, Follows, Continues, Ends, Turn, start, turn_of_chain}
 use Rattle.mc_bank.specs.model_card.specs.Commands.{command}

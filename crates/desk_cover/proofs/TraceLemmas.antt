@@ -5,11 +5,11 @@ use Rattle.std.specs.Prelude.{bytes_eq, nat_le, option_and_then, option_map, sli
 use Rattle.std.proofs.Math.Seq.{take-append_seam}
 use Rattle.std.proofs.lemmas.List.{append-nil}
 use denote.Ref.{Bor}
-use Rattle.mc_base.specs.model_device.specs.Bytes.{bytes2}
-use Rattle.mc_base.specs.model_device.specs.Device.{DeviceState}
-use Rattle.mc_base.specs.model_device.specs.Limits.{most_code}
-use Rattle.mc_base.specs.model_device.specs.Orders.{Answer}
-use Rattle.mc_base.specs.model_device.proofs.MapLemmas.{same_name}
+use Rattle.mc_words.specs.model_device.specs.Bytes.{bytes2}
+use Rattle.mc_words.specs.model_device.specs.Device.{DeviceState}
+use Rattle.mc_words.specs.model_device.specs.Limits.{most_code}
+use Rattle.mc_words.specs.model_device.specs.Orders.{Answer}
+use Rattle.mc_words.specs.model_device.proofs.MapLemmas.{same_name}
 use Rattle.mc_arith.specs.model_machine.specs.declared.instruction.Ins.{Ins}
 use Rattle.mc_arith.specs.model_machine.specs.declared.instruction.DecodeFault.{DecodeFault}
 use Rattle.mc_arith.specs.model_machine.specs.declared.instruction.DecodeFault.TheVariants.{Undefined, Past}

@@ -1,7 +1,7 @@
 -- The text of a line that a tracer wrote.
 use Rattle.std.proofs.Common.{◌≡◌, ℕ, List, ◌++◌, Option, Some, None, refl, subst}
 use Rattle.std.specs.Prelude.{option_map}
-use Rattle.mc_base.specs.model_device.specs.Device.{DeviceState, BenchState}
+use Rattle.mc_words.specs.model_device.specs.Device.{DeviceState, BenchState}
 use Rattle.mc_deck.specs.model_play.specs.DeckGrammar.{DeckLine}
 use Rattle.mc_deck.specs.model_play.specs.Play.{FailedWrite, State, step}
 use Rattle.mc_deck.specs.model_play.specs.Transcript.{line_text}

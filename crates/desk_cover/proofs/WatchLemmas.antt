@@ -1,8 +1,8 @@
 -- Cards between the turns of a command: what a watcher may look at.
 use Rattle.std.proofs.Common.{◌≡◌, ℕ, List, Option, Some, Ok, sym, ap, subst}
 use Rattle.std.specs.Prelude.{not, IfSome}
-use Rattle.mc_base.specs.model_device.specs.Orders.{Answer}
-use Rattle.mc_base.specs.model_device.specs.Device.{DeviceState}
+use Rattle.mc_words.specs.model_device.specs.Orders.{Answer}
+use Rattle.mc_words.specs.model_device.specs.Device.{DeviceState}
 use Rattle.mc_arith.specs.model_machine.specs.Chain.{Chain, Continues, Ends, Follows, turn_of}
 use Rattle.mc_machine.specs.declared.outcome.Turn.{Turn}
 use Rattle.mc_machine.specs.Chains.{Chained}

@@ -1,7 +1,7 @@
 -- What is known of the application that runs a command, from turn to turn.
 use Rattle.std.specs.Prelude.{◌≡◌, ℕ, ◌≤◌, Bool, true, false, List, length, bytes_eq, IfSome}
-use Rattle.mc_base.specs.model_device.specs.Device.{DeviceState}
-use Rattle.mc_base.specs.model_device.specs.Limits.{most_code}
+use Rattle.mc_words.specs.model_device.specs.Device.{DeviceState}
+use Rattle.mc_words.specs.model_device.specs.Limits.{most_code}
 use Rattle.mc_arith.specs.model_machine.specs.Chain.{Chain}
 use Rattle.desk_draft.specs.FullTurns.{running_code}
 use Rattle.desk_draft.specs.Listings.{Source}

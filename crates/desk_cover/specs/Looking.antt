@@ -1,6 +1,6 @@
 -- What a watcher sees of a turn: the operand's place before it, and the operand's bytes and the stack after it.
 use Rattle.std.specs.Prelude.{◌≡◌, ℕ, ◌+◌, ◌-◌, ◌≤◌, cond, List, [], length, take, bytes_eq, slice_get, Option, Some, None, option_and_then, option_map, IfSome, Result, Ok, Err}
-use Rattle.mc_base.specs.model_device.specs.Device.{DeviceState}
+use Rattle.mc_words.specs.model_device.specs.Device.{DeviceState}
 use Rattle.mc_arith.specs.model_machine.specs.declared.instruction.Ins.{Ins}
 use Rattle.mc_arith.specs.model_machine.specs.declared.instruction.DecodeFault.{DecodeFault}
 use Rattle.mc_arith.specs.model_machine.specs.Code.{instruction_at}

@@ -1,6 +1,6 @@
 -- What a watcher may look at of a card between two turns, and the full turn that it sees.
 use Rattle.std.specs.Prelude.{◌≡◌, ℕ, zero, suc, false, List, [], IfSome}
-use Rattle.mc_base.specs.model_device.specs.Device.{DeviceState}
+use Rattle.mc_words.specs.model_device.specs.Device.{DeviceState}
 use Rattle.mc_arith.specs.model_machine.specs.Frame.{Frame}
 use Rattle.mc_arith.specs.model_machine.specs.Chain.{Chain, turn_of_chain, turn_without_budget}
 use Rattle.mc_bank.specs.Bank.{app_of, name_or}

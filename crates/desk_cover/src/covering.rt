@@ -1,7 +1,7 @@
 // How often each line of a draft's code ran, and each of its branches went each way.
 ghost use Rattle.std.specs.Prelude.{◌≡◌, ◌++◌, [], map, IfErr, IfOk};
 ghost use Rattle.std.specs.List.{AllByRecursion};
-ghost use Rattle.mc_base.specs.model_device.specs.Device.{IsImage};
+ghost use Rattle.mc_words.specs.model_device.specs.Device.{IsImage};
 ghost use Rattle.mc_arith.specs.model_machine.specs.Code.{front};
 ghost use Rattle.mc_deck.specs.model_play.specs.Play.{start};
 ghost use Rattle.mc_deck.specs.model_play.specs.ReadyAgain.{IsLine};
@@ -23,7 +23,6 @@ use crate::lcov::{LineCount, put_record};
 use crate::sections::{Section, Sections, bytes_of};
 use desk_draft::CodeLine;
 use mc_arith::Flags;
-use mc_base::{Steps, Stop};
 use mc_card::{BriefTurn, Card};
 use mc_deck::Deck;
 use mc_isa::{Ins, decode};
@@ -31,6 +30,7 @@ use mc_machine::Outcome;
 use mc_nvm::{Bench, Nvm};
 use mc_script::{JobFault, Player, Runner};
 use mc_streams::{Sink, WriteFault};
+use mc_words::{Steps, Stop};
 use std::alloc::{AllocError, Global};
 use std::sync::ledger::Ledger;
 
@@ -263,7 +263,7 @@ fn count_lines<N: Bench, L: Ledger>(
     requires { IsUnfused (N.bench device) }
     ensures counts { CountsPlay (start (N.state device).words) deck.now
         (bench_at N.Bench device)
-        (bench_at N.Bench result) counter.old counter.new steps.old steps.new }
+        (bench_at N.Bench result) counter.old counter.new }
     ensures image { IsImage (N.state device).words }
     ensures lines { AllByRecursion (λ l. IsLine l.1) deck.now }
     ensures keeps_device { N.same device result }
@@ -300,7 +300,7 @@ pub fn cover<N: Bench, T: Sink, L: Ledger>(
     // the draft. Out of memory, nothing is played.
     ensures covers { CoversBy name.now sections.now deck.now
         (bench_at N.Bench dev.old) (sunk T.Sink out.old) result
-        (bench_at N.Bench dev.new) (sunk T.Sink out.new) steps.old steps.new }
+        (bench_at N.Bench dev.new) (sunk T.Sink out.new) }
     ensures unplayed { IfErr result (λ e. e ≡ fault.NoMemory → dev.new ≡ dev.old) }
 {
     let Ok(lines) = new_lines(alloc, sections.all()) else {

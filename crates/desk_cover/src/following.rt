@@ -12,10 +12,10 @@ ghost use Rattle.desk_cover.specs.Known.{Knows};
 
 use crate::known::Known;
 use crate::sections::Sections;
-use mc_base::{Steps, Stop};
 use mc_card::{BriefTurn, Card};
 use mc_machine::Outcome;
 use mc_nvm::Nvm;
+use mc_words::{Steps, Stop};
 use std::sync::ledger::Ledger;
 
 /// Watches the turns of the applications of a play, as `mc_script`'s `Watcher` does, by which section of a draft runs.

@@ -1,6 +1,6 @@
 // What is known of the application that runs a command, from turn to turn.
 ghost use Rattle.std.specs.Prelude.{◌≡◌, ◌≤◌, ℕ, length, IfSome};
-ghost use Rattle.mc_base.specs.model_device.specs.Limits.{most_code};
+ghost use Rattle.mc_words.specs.model_device.specs.Limits.{most_code};
 ghost use Rattle.mc_arith.specs.model_machine.specs.Chain.{Chain as ModelChain};
 ghost use Rattle.desk_draft.specs.FullTurns.{running_code};
 ghost use Rattle.mc_card.specs.Parts.{IsRunning, RunsChain};

@@ -1,6 +1,6 @@
 // What a watcher finds of a card between two turns: the section that runs, its stack, and the place of its operand.
 ghost use Rattle.std.specs.Prelude.{◌≡◌, ◌-◌, ◌≤◌, ℕ, true, false, cond, List, [], Some, length, take, bytes_eq, option_map, IsSome, IfSome};
-ghost use Rattle.mc_base.specs.model_device.specs.Limits.{most_code};
+ghost use Rattle.mc_words.specs.model_device.specs.Limits.{most_code};
 ghost use Rattle.mc_arith.specs.model_machine.specs.Frame.{dynamic_end, floor, Frame as ModelFrame};
 ghost use Rattle.mc_arith.specs.model_machine.specs.Chain.{Chain as ModelChain, Follows};
 ghost use Rattle.desk_draft.specs.FullTurns.{running_code, stack_of};

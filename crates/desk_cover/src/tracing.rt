@@ -13,7 +13,6 @@ ghost use Rattle.mc_text.specs.Texts.{sunk};
 ghost use Rattle.mc_script.specs.Players.{answer_value, IsUnfused};
 ghost use Rattle.mc_script.specs.Benches.{bench_at, IsPlaying};
 ghost use Rattle.mc_script.specs.Plays.{PlaysDeck};
-ghost use Rattle.mc_script.specs.StepCounts.{CountsDeck};
 ghost use Rattle.mc_script.specs.Watching.{seen_of, Watches};
 ghost use Rattle.mc_script.specs.Writers.{write_result};
 ghost use Rattle.desk_cover.specs.Looking.{section_at};
@@ -26,7 +25,6 @@ use crate::looking::{After, Scene};
 use crate::sections::Sections;
 use arrayvec::ArrayVec;
 use desk_draft::CodeLine;
-use mc_base::{Steps, Stop};
 use mc_card::{BriefTurn, Card};
 use mc_deck::Deck;
 use mc_machine::Outcome;
@@ -35,6 +33,7 @@ use mc_script::{Answer, Player, Reporter, Runner, Text, gather_result, play_line
 use mc_streams::{Sink, WriteFault};
 use mc_text::{add, add_decimal, add_hex, put};
 use mc_trace::line_of_brief;
+use mc_words::{Steps, Stop};
 use std::sync::ledger::Ledger;
 
 /// The number of bytes of the stack that are shown.
@@ -297,11 +296,6 @@ pub fn trace<N: Bench, T: Sink, L: Ledger>(
     ensures plays { PlaysDeck (trace_text sections.now) deck.now
         (bench_at N.Bench dev.old) (sunk T.Sink out.old) result
         (bench_at N.Bench dev.new) (sunk T.Sink out.new) }
-    // Each executed instruction is one step, and the search of an OPEN for room takes at most two more than the card
-    // has gaps. A line that a stop hits makes no more steps than the whole line.
-    ensures steps { CountsDeck (trace_text sections.now) deck.now
-        (bench_at N.Bench dev.old) (sunk T.Sink out.old) result
-        (bench_at N.Bench dev.new) (sunk T.Sink out.new) steps.old steps.new }
 {
     let mut tracer = Tracer::new(&mut *out, sections);
     let _dev = play_lines(deck, &mut *dev, &mut tracer, steps);

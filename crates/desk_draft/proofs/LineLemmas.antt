@@ -2,7 +2,7 @@
 use Rattle.std.proofs.Common.{◌≡◌, ℕ, zero, suc, ◌+◌, ◌-◌, ◌<◌, Bool, List, [], ◌∷◌, ◌++◌, length, get_or, drop, set, Option, Some, None, refl, sym, ap, ◌∙◌, append_assoc, arith}
 use Rattle.std.specs.Prelude.{map, not, slice_get, slice_index, ◌==◌, ◌&&◌, ◌||◌}
 use Rattle.mc_text.specs.model_text.specs.Text.{fields, first_cut, with_numbers}
-use Rattle.mc_deck.specs.model_play.specs.DeckGrammar.{is_end}
+use Rattle.mc_text.specs.model_text.specs.Text.{is_end}
 use Rattle.mc_text.proofs.ReadingLemmas.{pieces_at, pieces_cut}
 use Rattle.desk_draft.specs.Parts.{EndedLine, ended_lines, ended_pieces, fed_line}
 use Rattle.desk_draft.specs.Declarations.{declaration_in, gives, gives_later}

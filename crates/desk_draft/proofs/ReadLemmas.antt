@@ -2,7 +2,7 @@
 use Rattle.std.proofs.Common.{◌≡◌, ℕ, zero, suc, ◌+◌, ◌≤◌, Bool, List, [], ◌∷◌, length, drop, Option, Some, None, Result, Ok, Err, refl, sym, ap, subst, ◌∙◌, arith}
 use Rattle.std.specs.Prelude.{map, slice_get, MatchResult, IfOk}
 use Rattle.mc_text.specs.model_text.specs.Text.{fields, ok_as, with_numbers}
-use Rattle.mc_deck.specs.model_play.specs.DeckGrammar.{is_end}
+use Rattle.mc_text.specs.model_text.specs.Text.{is_end}
 use Rattle.mc_deck.specs.model_play.specs.declared.deck.DeckCause.{DeckCause}
 use Rattle.mc_deck.specs.declared.refusal.Fault.{Fault}
 use Rattle.mc_deck.specs.declared.refusal.Fault.TheVariants as fault

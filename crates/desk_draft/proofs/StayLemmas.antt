@@ -5,7 +5,8 @@ use Rattle.mc_text.specs.model_device.specs.Bytes.{lookup, zeros}
 use Rattle.mc_text.specs.model_text.specs.Text.{◌>>=◌, ok_as, err_as, only_if, fields, pieces, pieces_with_character, with_numbers}
 use Rattle.mc_text.specs.model_text.specs.Assembly.{signed_number}
 use Rattle.mc_text.specs.model_text.specs.Listing.{hex_text}
-use Rattle.mc_deck.specs.model_play.specs.DeckGrammar.{is_data, is_end, number_field}
+use Rattle.mc_deck.specs.model_play.specs.DeckGrammar.{is_data, number_field}
+use Rattle.mc_text.specs.model_text.specs.Text.{is_end}
 use Rattle.mc_deck.specs.model_play.specs.declared.deck.DeckCause.{DeckCause}
 use Rattle.mc_deck.specs.model_play.specs.declared.deck.DeckCause.TheVariants.{BadLine, BadNumber, NameTwice, OutOfRange}
 use Rattle.mc_text.specs.Reading.{without_return}

@@ -3,7 +3,8 @@ use Rattle.std.proofs.Common.{◌≡◌, ℕ, ◌-◌, Bool, true, false, cond, 
 use Rattle.std.specs.Prelude.{bytes_eq, codes, map, IfOk}
 use Rattle.std.proofs.lemmas.List.{length-append, take_at, drop_at}
 use Rattle.mc_text.specs.model_text.specs.Text.{ok_as, fields}
-use Rattle.mc_deck.specs.model_play.specs.DeckGrammar.{is_data, is_end}
+use Rattle.mc_deck.specs.model_play.specs.DeckGrammar.{is_data}
+use Rattle.mc_text.specs.model_text.specs.Text.{is_end}
 use Rattle.mc_deck.specs.model_play.specs.declared.deck.DeckCause.{DeckCause}
 use Rattle.mc_deck.specs.declared.refusal.Fault.{Fault}
 use Rattle.desk_draft.specs.Declarations.{empty_scope}

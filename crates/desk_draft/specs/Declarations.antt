@@ -4,7 +4,8 @@ use Rattle.mc_text.specs.model_device.specs.Bytes.{lookup, has_name, zeros}
 use Rattle.mc_text.specs.model_text.specs.Text.{◌>>=◌, ok_as, only_if, begins, fields, decimal_number, hex_bytes}
 use Rattle.mc_text.specs.model_text.specs.Listing.{condition_names, register_names, hex_text}
 use Rattle.mc_text.specs.model_text.specs.Assembly.{is_label, signed_number}
-use Rattle.mc_deck.specs.model_play.specs.DeckGrammar.{number_field, hex_field, is_end}
+use Rattle.mc_deck.specs.model_play.specs.DeckGrammar.{number_field, hex_field}
+use Rattle.mc_text.specs.model_text.specs.Text.{is_end}
 use Rattle.mc_deck.specs.model_play.specs.declared.deck.DeckCause.{DeckCause}
 use Rattle.mc_deck.specs.model_play.specs.declared.deck.DeckCause.TheVariants.{BadLine, BadName, BadNumber, OutOfRange, NameTwice}
 use Rattle.desk_draft.specs.Parts.{without_comment}

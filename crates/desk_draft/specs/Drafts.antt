@@ -2,7 +2,8 @@
 use Rattle.std.specs.Prelude.{ℕ, ◌-◌, Bool, true, false, cond, not, ◌&&◌, ◌||◌, nat_lt, List, [], ◌∷◌, ◌++◌, map, bytes_eq, codes, unwrap_or, Option, Some, None, Result, Ok}
 use Rattle.mc_text.specs.model_device.specs.Bytes.{lookup}
 use Rattle.mc_text.specs.model_text.specs.Text.{◌>>=◌, ok_as, err_as, with_numbers, fields}
-use Rattle.mc_deck.specs.model_play.specs.DeckGrammar.{is_data, is_end}
+use Rattle.mc_deck.specs.model_play.specs.DeckGrammar.{is_data}
+use Rattle.mc_text.specs.model_text.specs.Text.{is_end}
 use Rattle.mc_deck.specs.model_play.specs.declared.deck.DeckCause.{DeckCause}
 use Rattle.desk_draft.specs.Parts.{EndedLine, ended_lines, first_word}
 use Rattle.desk_draft.specs.Declarations.{NameMeaning, Scope, DeclarationWord, empty_scope, header_names, scope_after, data_scope, declaration_in, declaration_text, gives_later}

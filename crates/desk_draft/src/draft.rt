@@ -3,7 +3,8 @@ ghost use Rattle.std.specs.Prelude.{◌≡◌, ◌<◌, ◌≤◌, ◌^◌, leng
 ghost use Rattle.mc_text.specs.model_device.specs.Bytes.{zeros};
 ghost use Rattle.mc_text.specs.model_text.specs.Text.{fields};
 ghost use Rattle.mc_text.specs.model_text.specs.Listing.{hex_text};
-ghost use Rattle.mc_deck.specs.model_play.specs.DeckGrammar.{is_data, is_end};
+ghost use Rattle.mc_deck.specs.model_play.specs.DeckGrammar.{is_data};
+ghost use Rattle.mc_text.specs.model_text.specs.Text.{is_end};
 ghost use Rattle.mc_asm.specs.Items.{texts};
 ghost use Rattle.mc_deck.specs.Refused.{DeckRefuses, Faulty};
 ghost use Rattle.mc_deck.specs.declared.refusal.DeckRefusal.TheVariants.{NoMemory};
@@ -22,8 +23,9 @@ use crate::meaning::no_names;
 use crate::rule::{is_rule, push_rule};
 use crate::scope::{Scope, empty_scope, take_data, take_declaration};
 use crate::statement::{Sizes, push_statement};
-use crate::text::{push, push_zeros};
+use crate::text::push_zeros;
 use mc_deck::{DeckRefusal, Fault, ends_section, fields, has_data};
+use mc_text::push;
 use std::alloc::{AllocError, Global};
 
 /// A line of a section: its number, its text in the draft, and where its text in the deck begins and ends.

@@ -9,9 +9,8 @@ ghost use Rattle.desk_draft.specs.Views.{AreNames, Pushes};
 use crate::meaning::Names;
 use crate::operand::{operand_of, push_operand};
 use crate::part::{after_front, after_word, before_rest, first_word, part_of, without_comment};
-use crate::text::push;
 use mc_deck::Fault;
-use mc_text::cut;
+use mc_text::{cut, push};
 
 // Whether a word goes to a place of the code.
 fn is_jump(word: &[u8]) -> bool

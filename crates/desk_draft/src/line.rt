@@ -1,7 +1,7 @@
 // The lines of a draft.
 ghost use Rattle.std.specs.Prelude.{◌≡◌, ◌&&◌, ◌||◌, length, map, not, option_map, IfOk, vec_len};
 ghost use Rattle.mc_text.specs.model_text.specs.Text.{fields};
-ghost use Rattle.mc_deck.specs.model_play.specs.DeckGrammar.{is_end};
+ghost use Rattle.mc_text.specs.model_text.specs.Text.{is_end};
 ghost use Rattle.desk_draft.specs.Declarations.{declaration_in, gives};
 ghost use Rattle.desk_draft.specs.Parts.{ended_lines, fed_line};
 ghost use Rattle.desk_draft.specs.Views.{ended_line_of, gives_later_each, line_texts, piece_line};

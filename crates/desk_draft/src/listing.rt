@@ -8,8 +8,8 @@ ghost use Rattle.desk_draft.specs.Sources.{code_line_value, source_value, source
 
 use crate::desk::read_desk;
 use crate::source::{CodeLine, Source};
-use crate::text::{push, push_bytes, push_decimal};
 use mc_deck::DeckRefusal;
+use mc_text::{push, push_bytes, push_decimal};
 use std::alloc::{AllocError, Global};
 
 // Adds a place in upper case hexadecimal.

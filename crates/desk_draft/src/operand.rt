@@ -8,9 +8,8 @@ ghost use Rattle.desk_draft.specs.Operands.{bytes_text, named_text, operand_text
 ghost use Rattle.desk_draft.specs.Views.{register_tag, text_of_operand, AreNames};
 
 use crate::meaning::{Meaning, Names, Register, look_up};
-use crate::text::{push, push_decimal, push_signed};
 use mc_deck::model_play::DeckCause;
-use mc_text::{cut, decimal_number};
+use mc_text::{cut, decimal_number, push, push_decimal, push_signed};
 use std::alloc::AllocError;
 
 /// What an operand becomes: a text, a place, a place and a size, or a size alone.

@@ -13,10 +13,9 @@ use crate::meaning::Names;
 use crate::operand::{operand_of, push_operand};
 use crate::part::{after_word, before_rest, first_word};
 use crate::statement::{Sections, is_unnamed, push_statement};
-use crate::text::push;
 use mc_deck::model_play::DeckCause;
 use mc_deck::{Fault, fields};
-use mc_text::cut;
+use mc_text::{cut, push};
 use std::alloc::Global;
 
 /// Returns whether a line is a rule.

@@ -10,10 +10,9 @@ ghost use Rattle.desk_draft.specs.Views.{loadable_of, part_text, AreSections, Pu
 
 use crate::hexadecimal::byte_count;
 use crate::part::{after_word, part_in};
-use crate::text::{push, push_byte, push_decimal};
 use mc_deck::model_play::DeckCause;
 use mc_deck::{Fault, fields};
-use mc_text::cut_blank;
+use mc_text::{cut_blank, push, push_byte, push_decimal};
 use std::alloc::AllocError;
 use std::collections::BTreeMap;
 

@@ -9,9 +9,8 @@ ghost use Rattle.desk_draft.specs.Sources.{code_line_value, source_value, source
 ghost use Rattle.desk_draft.specs.Verdicts.{line_text, loaded_source, second_field, source_line, source_named, source_part};
 
 use crate::source::{CodeLine, Source};
-use crate::text::{push, push_decimal};
 use mc_deck::fields;
-use mc_text::next_line;
+use mc_text::{next_line, push, push_decimal};
 use std::alloc::{AllocError, Global};
 use std::collections::BTreeMap;
 

@@ -5,8 +5,8 @@ ghost use Rattle.desk_explain.specs.Explained.{causes};
 use crate::column::column_at;
 use crate::part::Part;
 use crate::sentence::{Sentence, warning_sentence};
-use crate::text::push;
 use crate::warning::Warning;
+use mc_text::push;
 use std::alloc::{AllocError, Global};
 
 /// What is said of a place: the number of its line, its column, the word of the cause, and a text. A warning refuses

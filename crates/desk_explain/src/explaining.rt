@@ -14,12 +14,12 @@ use crate::place::part_of;
 use crate::refusals::{Reading, Refused, read_all};
 use crate::rule::rule_part;
 use crate::sentence::refusal_sentence;
-use crate::text::{push, push_number};
 use crate::uses::Uses;
 use crate::verdicts::judge_codes;
 use crate::warnings::warn_of_section;
 use desk_draft::{Desk, Section, Source, read_desk, read_draft};
 use mc_deck::{DeckCause, DeckRefusal};
+use mc_text::{push, push_decimal};
 use std::alloc::{AllocError, Global};
 
 /// What is explained of a draft, and whether it passes: nothing of it is refused, though it may be warned of something.
@@ -36,9 +36,9 @@ fn push_place(text: &mut Vec<u8>, name: &[u8], number: u32, column: u32) -> Resu
 {
     push(text, name)?;
     push(text, b":")?;
-    push_number(text, number)?;
+    push_decimal(text, number as usize)?;
     push(text, b":")?;
-    push_number(text, column)?;
+    push_decimal(text, column as usize)?;
     push(text, b": ")
 }
 

@@ -14,7 +14,6 @@ mod refusals;
 mod rows;
 mod rule;
 mod sentence;
-mod text;
 mod uses;
 mod verdicts;
 mod warning;

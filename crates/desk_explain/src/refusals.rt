@@ -5,11 +5,11 @@ ghost use Rattle.desk_draft.specs.Listings.{desk_read, Desk};
 use crate::kind::{Kind, first_of_section, kind_at};
 use crate::lines::lines_of;
 use crate::part::{field_at, label_part};
-use crate::text::{push, push_number};
 use desk_draft::read_desk;
 use mc_asm::{AsmCause, is_label};
 use mc_deck::model_card::UnitRefusal;
 use mc_deck::{DeckCause, DeckRefusal};
+use mc_text::{push, push_decimal};
 use std::alloc::{AllocError, Global};
 
 /// A line that is refused, counted from 1, its kind and the cause.
@@ -108,7 +108,7 @@ fn field_or(
 // A name in place of one that is refused.
 fn other_name(alloc: Global, number: u32) -> Result<Vec<u8>, AllocError> {
     let mut name = Vec::from_slice(alloc, b"left_out_")?;
-    push_number(&mut name, number)?;
+    push_decimal(&mut name, number as usize)?;
     Ok(name)
 }
 

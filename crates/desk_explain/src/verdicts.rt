@@ -13,12 +13,11 @@ use crate::entry::{Entry, push_sentence};
 use crate::lines::line_numbered;
 use crate::part::{without_comment, word_part};
 use crate::sentence::verdict_sentence;
-use crate::text::{push, push_number};
 use crate::ways::{Way, Ways, ways_to};
 use desk_draft::{Desk, Loads, Source};
 use mc_check::{CheckCause, Routine, Verdict, check};
 use mc_deck::Line;
-use mc_text::trim;
+use mc_text::{push, push_decimal, trim};
 use std::alloc::{AllocError, Global};
 
 /// The most bytes of code.
@@ -45,11 +44,11 @@ fn push_place(
     match line {
         Some(line) => {
             push(text, b"line ")?;
-            push_number(text, line.number)
+            push_decimal(text, line.number as usize)
         }
         None => {
             push(text, b"place ")?;
-            push_number(text, place as u32)
+            push_decimal(text, place as usize)
         }
     }
 }
@@ -97,7 +96,7 @@ fn push_way(
         push_routine(text, source, way.entry.routine)?;
     }
     push(text, b" with a stack of ")?;
-    push_number(text, way.entry.height as u32)
+    push_decimal(text, way.entry.height as usize)
 }
 
 // Adds the ways to a place: both that disagree, or the first.

@@ -3,7 +3,8 @@ use Rattle.std.proofs.Common.{◌≡◌, ℕ, zero, suc, ◌+◌, ◌≤◌, Boo
 use Rattle.std.specs.Prelude.{min}
 use Rattle.std.proofs.lemmas.Bool.Decides.{nat_tests}
 use Rattle.mc_text.specs.model_text.specs.Listing.{hex_text}
-use Rattle.desk_json.specs.Json.{any_run, before_if, before_runs, changes, run_text, runs_after, runs_more}
+use Rattle.desk_json.specs.Json.{any_run, run_text, runs_after, runs_more}
+use Rattle.law_steps.specs.Runs.{before_if, before_runs, changes}
 use Rattle.desk_json.specs.Runs.{any_after, begin_text, byte_text, close_text, rest_text}
 
 abbrev Run : Type 0

@@ -1,6 +1,7 @@
 // The runs of addresses whose bytes differ.
 ghost use Rattle.std.specs.Prelude.{◌≡◌, ◌≤◌, ◌+◌, ◌==◌, true, false, not, length};
-ghost use Rattle.desk_json.specs.Json.{any_run, changes, runs_more};
+ghost use Rattle.desk_json.specs.Json.{any_run, runs_more};
+ghost use Rattle.law_steps.specs.Runs.{changes};
 ghost use Rattle.desk_json.specs.Runs.{any_after, begin_text, byte_text, close_text, open_text};
 ghost use Rattle.desk_json.specs.Sheets.{Adds};
 

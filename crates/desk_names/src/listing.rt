@@ -1,8 +1,9 @@
 // The names and labels of sections as JSON Lines.
 
 use crate::entry::{Declared, Meaning, Named, label_in, named_in, place_of};
-use crate::text::{push, push_number, push_upper};
+use crate::text::push_upper;
 use desk_draft::{Section, Source};
+use mc_text::{push, push_signed};
 use std::alloc::{AllocError, Global};
 
 // Adds the keys of a section: its name and its AID.
@@ -16,7 +17,7 @@ fn push_section_keys(text: &mut Vec<u8>, section: &Section<'_>) -> Result<(), Al
 // Adds a key, as it is written, and a number.
 fn push_key(text: &mut Vec<u8>, key: &[u8], number: i32) -> Result<(), AllocError> {
     push(text, key)?;
-    push_number(text, number)
+    push_signed(text, number)
 }
 
 // Adds the key of a line, and ends the line of JSON.

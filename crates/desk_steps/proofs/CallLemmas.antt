@@ -1,14 +1,14 @@
 -- The lines of a turn: the first frame before it, its own, and that of the frame that it called.
 use Rattle.std.proofs.Common.{◌≡◌, ℕ, zero, suc, ◌+◌, ◌≤◌, Bool, true, false, cond, List, [], ◌++◌, Option, Some, None, codes, Result, Ok, Err, refl, arith, sym, ap, subst, ◌∙◌}
 use Rattle.std.specs.Prelude.{get_or, length, min, slice_set}
-use Rattle.law_steps.specs.model_device.specs.Bytes.{lookup}
-use Rattle.law_steps.specs.model_device.specs.Device.{DeviceState}
-use Rattle.law_steps.specs.model_machine.specs.declared.instruction.Ins.{Ins}
-use Rattle.law_steps.specs.model_machine.specs.declared.instruction.DecodeFault.{DecodeFault}
-use Rattle.law_steps.specs.model_machine.specs.declared.instruction.DecodeFault.TheVariants.{Undefined, Past}
-use Rattle.law_steps.specs.model_machine.specs.Code.{instruction_at}
-use Rattle.law_steps.specs.model_machine.specs.Row.{RowEnd, Abends, Does, row}
-use Rattle.law_steps.specs.model_machine.specs.Chain.{Chain, Continues, Ends, Follows, Outcome, Reply, Abended, Turn as ModelTurn, around, code_in, depth_of, frame_at, row_turn, turn_of, turn_of_chain, turn_of_fetch}
+use Rattle.mc_words.specs.model_device.specs.Bytes.{lookup}
+use Rattle.mc_words.specs.model_device.specs.Device.{DeviceState}
+use Rattle.mc_text.specs.model_machine.specs.declared.instruction.Ins.{Ins}
+use Rattle.mc_text.specs.model_machine.specs.declared.instruction.DecodeFault.{DecodeFault}
+use Rattle.mc_text.specs.model_machine.specs.declared.instruction.DecodeFault.TheVariants.{Undefined, Past}
+use Rattle.mc_text.specs.model_machine.specs.Code.{instruction_at}
+use Rattle.mc_text.specs.model_machine.specs.Row.{RowEnd, Abends, Does, row}
+use Rattle.mc_text.specs.model_machine.specs.Chain.{Chain, Continues, Ends, Follows, Outcome, Reply, Abended, Turn as ModelTurn, around, code_in, depth_of, frame_at, row_turn, turn_of, turn_of_chain, turn_of_fetch}
 use Rattle.std.specs.Borrow.{MutBor}
 use Rattle.mc_streams.specs.declared.refusals.WriteFault.{WriteFault}
 use Rattle.mc_streams.specs.declared.sink.Sink.{Ghosts}
@@ -16,9 +16,9 @@ use Rattle.mc_text.specs.Texts.{sunk}
 use Rattle.mc_machine.specs.declared.outcome.BriefTurn.{BriefTurn}
 use Rattle.mc_card.specs.declared.card.Card.{Card}
 use Rattle.mc_card.specs.Parts.{RunsChain}
-use Rattle.law_steps.specs.Nexts.{open_by}
-use Rattle.law_steps.specs.Writes.{chain_span, moves_in, waits_of}
-use Rattle.law_steps.specs.Readings.{Reading, first_sets, reading_of, sets_between, turn_sets}
+use Rattle.desk_json.specs.law_steps.specs.Nexts.{open_by}
+use Rattle.desk_json.specs.law_steps.specs.Writes.{chain_span, moves_in, waits_of}
+use Rattle.desk_json.specs.law_steps.specs.Readings.{Reading, first_sets, reading_of, sets_between, turn_sets}
 use Rattle.desk_cover.specs.Looking.{Shows}
 use Rattle.desk_json.specs.Sheets.{PutsOn}
 use Rattle.desk_steps.specs.declared.recording.Recorder.{Recorder}

@@ -1,20 +1,20 @@
 -- What a recorder keeps along the turns of a line: protection and the words that wait are those of each frame.
 use Rattle.std.proofs.Common.{◌≡◌, ℕ, zero, suc, Bool, List, [], ◌∷◌, ◌++◌, Option, Some, None, take, refl, arith, ap, ◌∙◌}
 use Rattle.std.specs.Prelude.{unwrap_or}
-use Rattle.law_steps.specs.model_device.specs.Card as model
-use Rattle.law_steps.specs.model_device.specs.Bytes.{lookup}
-use Rattle.law_steps.specs.model_device.specs.Card.{App}
-use Rattle.law_steps.specs.model_device.specs.Pieces.{touched_words}
-use Rattle.law_steps.specs.model_machine.specs.Apdu.{ApduParts}
-use Rattle.law_steps.specs.model_machine.specs.Chain.{Chain, Follows, Continues, Ends, no_app, start, start_app, turn_of, turn_of_chain}
-use Rattle.law_steps.specs.model_card.specs.Manager.{Selected, SessionState, Route, WrongLength, WrongClass, ToSelect, ToManager, ToApplication, route}
+use Rattle.mc_words.specs.model_device.specs.Card as model
+use Rattle.mc_words.specs.model_device.specs.Bytes.{lookup}
+use Rattle.mc_words.specs.model_device.specs.Card.{App}
+use Rattle.mc_words.specs.model_device.specs.Pieces.{touched_words}
+use Rattle.mc_text.specs.model_machine.specs.Apdu.{ApduParts}
+use Rattle.mc_text.specs.model_machine.specs.Chain.{Chain, Follows, Continues, Ends, no_app, start, start_app, turn_of, turn_of_chain}
+use Rattle.mc_bank.specs.model_card.specs.Manager.{Selected, SessionState, Route, WrongLength, WrongClass, ToSelect, ToManager, ToApplication, route}
 use Rattle.mc_script.specs.Runs.{SentCommand}
 use Rattle.mc_script.specs.Watching.{seen_of, seen_of_application, seen_of_route, seen_of_run, seen_on}
 use Rattle.desk_draft.specs.Listings.{Source}
-use Rattle.law_steps.specs.Nexts.{OpensOf, open_after, open_by}
-use Rattle.law_steps.specs.Writes.{WaitsOf, turn_moves}
-use Rattle.law_steps.proofs.Opens.{opens_law}
-use Rattle.law_steps.proofs.Waits.{writes_law}
+use Rattle.desk_json.specs.law_steps.specs.Nexts.{OpensOf, open_after, open_by}
+use Rattle.desk_json.specs.law_steps.specs.Writes.{WaitsOf, turn_moves}
+use Rattle.desk_json.specs.law_steps.proofs.Opens.{opens_law}
+use Rattle.desk_json.specs.law_steps.proofs.Waits.{writes_law}
 use Rattle.desk_steps.specs.Counted.{count_after, writes_after}
 use Rattle.desk_steps.specs.Guards.{all_clear}
 use Rattle.desk_steps.specs.Moments.{Moment, moment}

@@ -1,17 +1,17 @@
 -- The moments of a line are those of the command that its player sends, and their full turns are those of the line.
 use Rattle.std.proofs.Common.{◌≡◌, ◌⊎◌, inl, inr, ℕ, zero, suc, List, [], ◌∷◌, length, take, Option, Some, None, refl, sym, ap, subst, ◌∙◌}
 use Rattle.std.specs.Prelude.{map}
-use Rattle.law_steps.specs.model_device.specs.Card as model
-use Rattle.law_steps.specs.model_device.specs.Device.{DeviceState, BenchState}
-use Rattle.law_steps.specs.model_device.specs.PowerUp.{Base, OnCard}
-use Rattle.law_steps.specs.model_machine.specs.Apdu.{ApduParts}
-use Rattle.law_steps.specs.model_machine.specs.Chain.{Chain, Follows, Continues, Ends, Turn, start, turn_of_chain}
-use Rattle.law_steps.specs.model_card.specs.Items.{StopAt}
-use Rattle.law_steps.specs.model_card.specs.Manager.{Selected, SessionState, Route, WrongLength, WrongClass, ToSelect, ToManager, ToApplication, route}
-use Rattle.law_steps.specs.model_play.specs.DeckGrammar.{DeckLine}
-use Rattle.law_steps.specs.model_play.specs.Play.{FailedWrite, Live, Running, State, BeforePower, AfterPower, step}
-use Rattle.law_steps.specs.model_play.specs.TraceText.{before_stop, shown_turns}
-use Rattle.law_steps.specs.model_play.proofs.PlayLemmas.{step_is}
+use Rattle.mc_words.specs.model_device.specs.Card as model
+use Rattle.mc_words.specs.model_device.specs.Device.{DeviceState, BenchState}
+use Rattle.mc_words.specs.model_device.specs.PowerUp.{Base, OnCard}
+use Rattle.mc_text.specs.model_machine.specs.Apdu.{ApduParts}
+use Rattle.mc_text.specs.model_machine.specs.Chain.{Chain, Follows, Continues, Ends, Turn, start, turn_of_chain}
+use Rattle.mc_bank.specs.model_card.specs.Items.{StopAt}
+use Rattle.mc_bank.specs.model_card.specs.Manager.{Selected, SessionState, Route, WrongLength, WrongClass, ToSelect, ToManager, ToApplication, route}
+use Rattle.mc_deck.specs.model_play.specs.DeckGrammar.{DeckLine}
+use Rattle.mc_deck.specs.model_play.specs.Play.{FailedWrite, Live, Running, State, BeforePower, AfterPower, step}
+use Rattle.mc_deck.specs.model_play.specs.TraceText.{before_stop, shown_turns}
+use Rattle.mc_deck.specs.model_play.proofs.PlayLemmas.{step_is}
 use Rattle.desk_draft.specs.FullTurns.{FullTurn, turns_of_line_in, turns_of_live, turns_of_step}
 use Rattle.desk_draft.proofs.TurnLemmas.{step_turns, turns_of}
 use Rattle.mc_card.specs.Parts.{card_in, session_state_in}

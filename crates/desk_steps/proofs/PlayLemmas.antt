@@ -1,12 +1,12 @@
 -- The loop that plays a deck before a recorder.
 use Rattle.std.proofs.Common.{◌≡◌, inl, inr, ℕ, ◌<◌, List, [], ◌∷◌, ◌++◌, Option, None, refl, arith, sym, ap, subst, ◌∙◌, append_assoc, append-nil}
 use Rattle.std.specs.Prelude.{length, option_map, take}
-use Rattle.law_steps.specs.model_device.specs.Device.{DeviceState, BenchState}
-use Rattle.law_steps.specs.model_machine.specs.Chain.{Chain}
-use Rattle.law_steps.specs.model_play.specs.DeckGrammar.{DeckLine}
-use Rattle.law_steps.specs.model_play.specs.Play.{FailedWrite, LineResult, State, Step, plays, step}
-use Rattle.law_steps.specs.model_play.specs.TraceText.{shown_turns}
-use Rattle.law_steps.specs.model_play.proofs.PlayLemmas.{step_is}
+use Rattle.mc_words.specs.model_device.specs.Device.{DeviceState, BenchState}
+use Rattle.mc_text.specs.model_machine.specs.Chain.{Chain}
+use Rattle.mc_deck.specs.model_play.specs.DeckGrammar.{DeckLine}
+use Rattle.mc_deck.specs.model_play.specs.Play.{FailedWrite, LineResult, State, Step, plays, step}
+use Rattle.mc_deck.specs.model_play.specs.TraceText.{shown_turns}
+use Rattle.mc_deck.specs.model_play.proofs.PlayLemmas.{step_is}
 use Rattle.mc_streams.specs.declared.sink.Sink.{Ghosts}
 use Rattle.desk_draft.specs.Listings.{Source}
 use Rattle.mc_script.specs.declared.answer.Answer.{Answer}
@@ -15,11 +15,9 @@ use Rattle.mc_script.specs.Players.{answer_value, IsPlayerAt}
 use Rattle.mc_script.specs.Lines.{LineDone, bench_of}
 use Rattle.mc_script.specs.Plays.{Bench, Played}
 use Rattle.mc_script.specs.Runs.{sent_by}
-use Rattle.mc_script.specs.StepCounts.{CountsLine, PlaySteps}
 use Rattle.mc_script.specs.Watching.{Watches, seen_of}
 use Rattle.mc_script.proofs.LinedLemmas.{at_stands}
 use Rattle.mc_script.proofs.PlayLemmas.{played_none, played_on, plays_none, plays_on}
-use Rattle.mc_script.proofs.StepPlayLemmas.{step_counts, steps_as, steps_none, steps_then}
 use Rattle.desk_steps.specs.declared.recording.Recorder.{Recorder}
 use Rattle.desk_steps.specs.Guards.{all_clear}
 use Rattle.desk_steps.specs.Lines.{line_text}
@@ -34,27 +32,27 @@ use Rattle.desk_steps.proofs.MomentLemmas.{moments_full, moments_shown}
 module _ {T : Type 0} (sink : Ghosts T) {N : Type 0} (state : N → DeviceState) (bench : N → BenchState) (script : List ℕ) where
   -- a player at a state of a play of a deck with this text, with the given lines left, and what its recorder wrote: a play of these from here
   -- makes the play of all lines from the start, and its text after this one is the text of that
-  pub record Recording (s : State) (ls : List (ℕ × DeckLine)) (a : Bench) (q : Recorder T) (old : ℕ) (left : List (ℕ × DeckLine)) (p : Player N) (r : Recorder T) (now : ℕ) : Type 0 where
+  pub record Recording (s : State) (ls : List (ℕ × DeckLine)) (a : Bench) (q : Recorder T) (left : List (ℕ × DeckLine)) (p : Player N) (r : Recorder T) : Type 0 where
     pub here : State
     pub at : IsPlayerAt state bench p here
     pub text : List ℕ
     pub adds : PutsText sink q text r
     pub sections : r.sections.now ≡ q.sections.now
-    pub rest : (ws : List (Option FailedWrite)) (b : Bench) (new : ℕ) → Played here left ws (bench_of state bench p) b → PlaySteps (plays here left ws) now new
-        → (vs : List (Option FailedWrite)) × Played s ls vs a b × PlaySteps (plays s ls vs) old new × ((more : List ℕ) → ShowsSteps q.sections.now script (plays here left ws) more → ShowsSteps q.sections.now script (plays s ls vs) (text ++ more))
+    pub rest : (ws : List (Option FailedWrite)) (b : Bench) → Played here left ws (bench_of state bench p) b
+        → (vs : List (Option FailedWrite)) × Played s ls vs a b × ((more : List ℕ) → ShowsSteps q.sections.now script (plays here left ws) more → ShowsSteps q.sections.now script (plays s ls vs) (text ++ more))
 
   -- before the first line all lines are left, with what the recorder has
-  pub recording_start : (s : State) (ls : List (ℕ × DeckLine)) (p : Player N) (q : Recorder T) (old : ℕ) → IsPlayerAt state bench p s → Recording s ls (bench_of state bench p) q old ls p q old
-  recording_start s ls p q old at = record { here = s; at = at; text = []; adds = puts_none sink q; sections = refl; rest = λ ws b new h k. (ws, h, k, λ more shows. shows) }
+  pub recording_start : (s : State) (ls : List (ℕ × DeckLine)) (p : Player N) (q : Recorder T) → IsPlayerAt state bench p s → Recording s ls (bench_of state bench p) q ls p q
+  recording_start s ls p q at = record { here = s; at = at; text = []; adds = puts_none sink q; sections = refl; rest = λ ws b h. (ws, h, λ more shows. shows) }
 
   -- if no line is left, the recorder has the whole play
-  pub recording_end : (s : State) (ls : List (ℕ × DeckLine)) (a : Bench) (q : Recorder T) (p : Player N) (r : Recorder T) (old now : ℕ) → Recording s ls a q old [] p r now → RecordsPlay sink script s ls a (bench_of state bench p) q r old now
-  recording_end s ls a q p r old now h =
+  pub recording_end : (s : State) (ls : List (ℕ × DeckLine)) (a : Bench) (q : Recorder T) (p : Player N) (r : Recorder T) → Recording s ls a q [] p r → RecordsPlay sink script s ls a (bench_of state bench p) q r
+  recording_end s ls a q p r h =
       let none = plays_none h.here in
-      let all = h.rest [] (bench_of state bench p) now (played_none h.here (bench_of state bench p) (at_stands state bench p h.here h.at) h.at.unfused) (steps_as [] (plays h.here [] []) now now (sym none) (steps_none now)) in
+      let all = h.rest [] (bench_of state bench p) (played_none h.here (bench_of state bench p) (at_stands state bench p h.here h.at) h.at.unfused) in
       let nothing : ShowsSteps q.sections.now script (plays h.here [] []) [] = subst (λ (ts : List Step). ShowsSteps q.sections.now script ts []) (sym none) refl in
-      let shows = subst (λ (t : List ℕ). ShowsSteps q.sections.now script (plays s ls all.0) t) (append-nil h.text) (all.3 [] nothing) in
-      record { worn = all.0; played = all.1; steps = all.2; text = h.text; adds = h.adds; shows = shows }
+      let shows = subst (λ (t : List ℕ). ShowsSteps q.sections.now script (plays s ls all.0) t) (append-nil h.text) (all.2 [] nothing) in
+      record { worn = all.0; played = all.1; text = h.text; adds = h.adds; shows = shows }
 
   -- what a recorder has at the beginning of a line
   pub record BeginsLine (ss : List Source) (l : DeckLine) (q : Recorder T) : Type 0 where
@@ -111,16 +109,15 @@ module _ {T : Type 0} (sink : Ghosts T) {N : Type 0} (state : N → DeviceState)
       )
 
   -- a line that was recorded leaves those after it
-  pub recording_on : (s : State) (ls : List (ℕ × DeckLine)) (a : Bench) (q : Recorder T) (left : List (ℕ × DeckLine)) (n : ℕ) (l : DeckLine) (p v : Player N) (before begun after last : Recorder T) (answer : Option Answer) (statement frame : List ℕ) (old now new : ℕ) → Recording s ls a q old ((n, l) ∷ left) p before now → statement ≡ statement_at n script
-      → begun.out ≡ before.out → begun.fault ≡ before.fault → BeginsLine before.sections.now l begun → LineDone state bench (Watches moment (Recorded sink) (sent_by state p l)) p l begun after answer v → CountsLine state bench p l answer now new
-      → StoppedBy after frame → PutsText sink after (frame ++ line_text n statement (option_map (answer_value state v) answer)) last → last.sections.now ≡ after.sections.now → Recording s ls a q old left v last new
-  recording_on s ls a q left n l p v before begun after last answer statement frame old now new h words out fault begins done counts stopped adds kept =
+  pub recording_on : (s : State) (ls : List (ℕ × DeckLine)) (a : Bench) (q : Recorder T) (left : List (ℕ × DeckLine)) (n : ℕ) (l : DeckLine) (p v : Player N) (before begun after last : Recorder T) (answer : Option Answer) (statement frame : List ℕ) → Recording s ls a q ((n, l) ∷ left) p before → statement ≡ statement_at n script
+      → begun.out ≡ before.out → begun.fault ≡ before.fault → BeginsLine before.sections.now l begun → LineDone state bench (Watches moment (Recorded sink) (sent_by state p l)) p l begun after answer v
+      → StoppedBy after frame → PutsText sink after (frame ++ line_text n statement (option_map (answer_value state v) answer)) last → last.sections.now ≡ after.sections.now → Recording s ls a q left v last
+  recording_on s ls a q left n l p v before begun after last answer statement frame h words out fault begins done stopped adds kept =
       let line = done h.here n h.at in
       let w = line.0 in
       let t = step h.here (n, l) w in
       let end = line.1.stepped in
       let ss : List Source = q.sections.now in
-      let steps = step_counts state v h.here (n, l) w answer now new end.answers (counts h.here h.at) in
       let did : Recorded sink begun (moments_of_step t) after = subst (λ (ts : List Moment). Recorded sink begun ts after) (moments_shown state bench p h.here (n, l) w h.at) line.1.reports in
       let begun_on : BeginsLine ss l begun = record { sections = begins.sections ∙ h.sections; turns = begins.turns; first = begins.first; command = begins.command; opens = begins.opens; guards = begins.guards; writes = begins.writes } in
       let shown = line_shown ss h.here (n, l) w p begun after last statement frame (option_map (answer_value state v) answer) h.at words begun_on stopped did end.answers adds in
@@ -131,16 +128,14 @@ module _ {T : Type 0} (sink : Ghosts T) {N : Type 0} (state : N → DeviceState)
         text = h.text ++ shown.0;
         adds = puts_on sink q before last h.text shown.0 h.adds from;
         sections = kept ∙ did.sections ∙ begins.sections ∙ h.sections;
-        rest = λ ws b end played rest.
+        rest = λ ws b played.
             let one = plays_on h.here (n, l) w left ws in
-            let both = steps_as (t ∷ plays t.after left ws) (plays h.here ((n, l) ∷ left) (w ∷ ws)) now end (sym one) (steps_then (t ∷ []) (plays t.after left ws) now new end steps rest) in
-            let all = h.rest (w ∷ ws) b end (played_on h.here (n, l) w left ws (bench_of state bench p) (bench_of state bench v) b line.1.stepped.played played) both in (
+            let all = h.rest (w ∷ ws) b (played_on h.here (n, l) w left ws (bench_of state bench p) (bench_of state bench v) b line.1.stepped.played played) in (
               all.0,
               all.1,
-              all.2,
               λ more shows.
                   let here : ShowsSteps ss script (t ∷ plays t.after left ws) (shown.0 ++ more) = (shown.0, more, shown.1, shows, refl) in
                   let there : ShowsSteps ss script (plays h.here ((n, l) ∷ left) (w ∷ ws)) (shown.0 ++ more) = subst (λ (ts : List Step). ShowsSteps ss script ts (shown.0 ++ more)) (sym one) here in
-                  subst (λ (x : List ℕ). ShowsSteps ss script (plays s ls all.0) x) (sym (append_assoc h.text shown.0 more)) (all.3 (shown.0 ++ more) there),
+                  subst (λ (x : List ℕ). ShowsSteps ss script (plays s ls all.0) x) (sym (append_assoc h.text shown.0 more)) (all.2 (shown.0 ++ more) there),
             );
       }

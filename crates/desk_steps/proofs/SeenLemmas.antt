@@ -4,23 +4,23 @@ use Rattle.std.specs.Prelude.{get_or, is_none, min, nat_le, nat_lt}
 use Rattle.std.proofs.lemmas.Bool.{and_parts, leb-true}
 use Rattle.std.proofs.lemmas.Bool.Decides.{nat_tests}
 use Rattle.std.proofs.lemmas.List.{length-take}
-use Rattle.law_steps.specs.model_device.specs.Bytes.{num}
-use Rattle.law_steps.specs.model_device.specs.Pieces.{laid_pieces}
-use Rattle.law_steps.specs.model_device.proofs.ListLemmas.{splice_longer}
-use Rattle.law_steps.specs.model_device.specs.Bytes.{splice}
-use Rattle.law_steps.specs.model_machine.specs.declared.instruction.Ins.{Ins}
-use Rattle.law_steps.specs.model_machine.specs.declared.machine.Abend.{Abend}
-use Rattle.law_steps.specs.model_machine.specs.Frame.{Frame, Place, Static, Dynamic, Public, address_at, bytes_at, bytes_in, dynamic_base, dynamic_end, is_outside, public_base, public_end, static_bytes}
-use Rattle.law_steps.specs.model_machine.specs.Primitives.{number_below_top}
-use Rattle.law_steps.specs.model_machine.specs.Chain.{Abended, Chain, Outcome, Reply, Turn as ModelTurn, around, delegator_in, depth_of, frame_at, turn_of}
+use Rattle.mc_words.specs.model_device.specs.Bytes.{num}
+use Rattle.mc_words.specs.model_device.specs.Pieces.{laid_pieces}
+use Rattle.mc_words.specs.model_device.proofs.ListLemmas.{splice_longer}
+use Rattle.mc_words.specs.model_device.specs.Bytes.{splice}
+use Rattle.mc_text.specs.model_machine.specs.declared.instruction.Ins.{Ins}
+use Rattle.mc_text.specs.model_machine.specs.declared.machine.Abend.{Abend}
+use Rattle.mc_text.specs.model_machine.specs.Frame.{Frame, Place, Static, Dynamic, Public, address_at, bytes_at, bytes_in, dynamic_base, dynamic_end, is_outside, public_base, public_end, static_bytes}
+use Rattle.mc_text.specs.model_machine.specs.Primitives.{number_below_top}
+use Rattle.mc_text.specs.model_machine.specs.Chain.{Abended, Chain, Outcome, Reply, Turn as ModelTurn, around, delegator_in, depth_of, frame_at, turn_of}
 use Rattle.mc_machine.specs.declared.outcome.BriefTurn.{BriefTurn}
-use Rattle.law_steps.specs.Readings.{Reading, reading_after, reading_of}
-use Rattle.law_steps.specs.Registers.{mode_of}
-use Rattle.law_steps.specs.Spans.{Looks, SeesName}
-use Rattle.law_steps.specs.Writes.{IsRoomy, chain_span, moves_in, now_by, now_of, waits_by, waits_of, writes_of_words}
-use Rattle.law_steps.proofs.DoneRows.{RanDone, name_read, ran_done}
-use Rattle.law_steps.proofs.SeenSpans.{SeesIns, target_is}
-use Rattle.law_steps.proofs.TurnWrites.{span_at}
+use Rattle.desk_json.specs.law_steps.specs.Readings.{Reading, reading_after, reading_of}
+use Rattle.desk_json.specs.law_steps.specs.Registers.{mode_of}
+use Rattle.desk_json.specs.law_steps.specs.Spans.{Looks, SeesName}
+use Rattle.desk_json.specs.law_steps.specs.Writes.{IsRoomy, chain_span, moves_in, now_by, now_of, waits_by, waits_of, writes_of_words}
+use Rattle.desk_json.specs.law_steps.proofs.DoneRows.{RanDone, name_read, ran_done}
+use Rattle.desk_json.specs.law_steps.proofs.SeenSpans.{SeesIns, target_is}
+use Rattle.desk_json.specs.law_steps.proofs.TurnWrites.{span_at}
 use Rattle.desk_steps.specs.declared.shot.Shot.{Shot}
 use Rattle.desk_steps.specs.Counted.{moves_by_shots, waits_by_shots}
 use Rattle.desk_steps.specs.Shots.{dynamics, look_of, name_seen, shot_byte, shot_number, shot_reading, span_seen, statics}

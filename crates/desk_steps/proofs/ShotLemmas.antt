@@ -1,12 +1,12 @@
 -- Shots of the frame that ran a turn, before it and after it.
 use Rattle.std.proofs.Common.{◌≡◌, ◌≢◌, inl, inr, ℕ, ◌-◌, ◌≤◌, Bool, true, false, cond, List, [], ◌∷◌, Option, Some, None, refl, sym, ap, subst, arith, ◌∙◌}
 use Rattle.std.specs.Prelude.{bytes_eq, length, not, take, is_some, IsSome}
-use Rattle.law_steps.specs.model_device.specs.Bytes.{lookup}
-use Rattle.law_steps.specs.model_device.specs.Device.{DeviceState}
-use Rattle.law_steps.specs.model_machine.specs.declared.instruction.Ins.{Ins}
-use Rattle.law_steps.specs.model_machine.specs.declared.machine.Abend.{Abend}
-use Rattle.law_steps.specs.model_machine.specs.Frame.{Frame, dynamic_base}
-use Rattle.law_steps.specs.model_machine.specs.Chain.{Chain, Follows, Continues, Ends, Outcome, Reply, Abended, depth_of, turn_of}
+use Rattle.mc_words.specs.model_device.specs.Bytes.{lookup}
+use Rattle.mc_words.specs.model_device.specs.Device.{DeviceState}
+use Rattle.mc_text.specs.model_machine.specs.declared.instruction.Ins.{Ins}
+use Rattle.mc_text.specs.model_machine.specs.declared.machine.Abend.{Abend}
+use Rattle.mc_text.specs.model_machine.specs.Frame.{Frame, dynamic_base}
+use Rattle.mc_text.specs.model_machine.specs.Chain.{Chain, Follows, Continues, Ends, Outcome, Reply, Abended, depth_of, turn_of}
 use Rattle.mc_machine.specs.Chains.{Chained}
 use Rattle.mc_machine.specs.declared.outcome.End.{End}
 use Rattle.mc_machine.specs.declared.outcome.End.TheVariants as ending
@@ -15,11 +15,11 @@ use Rattle.mc_bank.specs.Bank.{app_of}
 use Rattle.mc_segs.specs.HeldFrames.{Seen, frame_reading, no_pieces}
 use Rattle.mc_card.specs.declared.card.Card.{Card}
 use Rattle.mc_card.specs.Parts.{RunsChain, card_in}
-use Rattle.law_steps.specs.Readings.{Reading, reading_of}
-use Rattle.law_steps.specs.Registers.{frame_after, registers_of, registers_shown}
-use Rattle.law_steps.specs.Shown.{exit_public, is_exit_of, shown_reading}
-use Rattle.law_steps.proofs.AfterTurns.{abended_reading, exited_reading, going_reading}
-use Rattle.law_steps.proofs.RegistersAfter.{registers_law}
+use Rattle.desk_json.specs.law_steps.specs.Readings.{Reading, reading_of}
+use Rattle.desk_json.specs.law_steps.specs.Registers.{frame_after, registers_of, registers_shown}
+use Rattle.desk_json.specs.law_steps.specs.Shown.{exit_public, is_exit_of, shown_reading}
+use Rattle.desk_json.specs.law_steps.proofs.AfterTurns.{abended_reading, exited_reading, going_reading}
+use Rattle.desk_json.specs.law_steps.proofs.RegistersAfter.{registers_law}
 use Rattle.desk_cover.specs.Looking.{Shows}
 use Rattle.desk_cover.specs.Watching.{frame_in, name_in}
 use Rattle.desk_cover.proofs.LookLemmas.{alike}

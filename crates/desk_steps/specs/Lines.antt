@@ -1,12 +1,12 @@
 -- The play of a draft as JSON Lines: the lines of frames that begin, of turns, and of the lines of the deck.
 use Rattle.std.specs.Prelude.{ℕ, Bool, true, false, List, [], ◌∷◌, ◌++◌, codes, decimal, Option, Some, None}
-use Rattle.law_steps.specs.model_machine.specs.declared.instruction.Ins.{Ins}
-use Rattle.law_steps.specs.model_machine.specs.Words.{abend_code}
-use Rattle.law_steps.specs.model_machine.specs.Chain.{Outcome, Reply, Abended, Turn}
-use Rattle.law_steps.specs.model_text.specs.Listing.{hex_text}
-use Rattle.law_steps.specs.model_text.specs.TurnText.{bit_text, ins_text}
-use Rattle.law_steps.specs.model_play.specs.Play.{LineResult}
-use Rattle.law_steps.specs.model_play.specs.Transcript.{text_of_result}
+use Rattle.mc_text.specs.model_machine.specs.declared.instruction.Ins.{Ins}
+use Rattle.mc_text.specs.model_machine.specs.Words.{abend_code}
+use Rattle.mc_text.specs.model_machine.specs.Chain.{Outcome, Reply, Abended, Turn}
+use Rattle.mc_text.specs.model_text.specs.Listing.{hex_text}
+use Rattle.mc_text.specs.model_text.specs.TurnText.{bit_text, ins_text}
+use Rattle.mc_deck.specs.model_play.specs.Play.{LineResult}
+use Rattle.mc_deck.specs.model_play.specs.Transcript.{text_of_result}
 use Rattle.desk_json.specs.Json.{characters, runs_text}
 
 -- ---- keys

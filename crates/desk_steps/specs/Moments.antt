@@ -1,11 +1,11 @@
 -- The chain before each turn of a line that was played.
 use Rattle.std.specs.Prelude.{ℕ, List, [], length, take}
-use Rattle.law_steps.specs.model_device.specs.PowerUp.{Base, OnCard, AtFault}
-use Rattle.law_steps.specs.model_machine.specs.Chain.{Chain}
-use Rattle.law_steps.specs.model_play.specs.DeckGrammar.{DeckLine}
-use Rattle.law_steps.specs.model_play.specs.DeckGrammar as line
-use Rattle.law_steps.specs.model_play.specs.Play.{State, BeforePower, AfterPower, Live, Running, Unpowered, Muted, Step}
-use Rattle.law_steps.specs.model_play.specs.TraceText.{shown_turns}
+use Rattle.mc_words.specs.model_device.specs.PowerUp.{Base, OnCard, AtFault}
+use Rattle.mc_text.specs.model_machine.specs.Chain.{Chain}
+use Rattle.mc_deck.specs.model_play.specs.DeckGrammar.{DeckLine}
+use Rattle.mc_deck.specs.model_play.specs.DeckGrammar as line
+use Rattle.mc_deck.specs.model_play.specs.Play.{State, BeforePower, AfterPower, Live, Running, Unpowered, Muted, Step}
+use Rattle.mc_deck.specs.model_play.specs.TraceText.{shown_turns}
 use Rattle.desk_draft.specs.FullTurns.{FullTurn}
 use Rattle.mc_script.specs.Runs.{line_bytes}
 use Rattle.mc_script.specs.Watching.{seen_of}

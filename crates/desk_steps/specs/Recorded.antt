@@ -2,22 +2,21 @@
 use Rattle.std.specs.Prelude.{◌≡◌, ◌⊎◌, ℕ, ◌+◌, ◌≤◌, Bool, true, false, cond, ◌==◌, nat_lt, min, List, [], ◌∷◌, ◌++◌, length, map, get_or, option_map, Option, Some, None, Result}
 use Rattle.std.specs.Borrow.{MutBor}
 use Rattle.std.proofs.Common.{inl, refl, sym, ap, subst, ◌∙◌, append_assoc, append-nil}
-use Rattle.law_steps.specs.model_play.specs.DeckGrammar.{DeckLine}
-use Rattle.law_steps.specs.model_play.specs.Play.{FailedWrite, State, Step, plays, start}
-use Rattle.law_steps.specs.model_machine.specs.Chain.{Chain, Follows, Continues, Ends, depth_of, turn_of}
+use Rattle.mc_deck.specs.model_play.specs.DeckGrammar.{DeckLine}
+use Rattle.mc_deck.specs.model_play.specs.Play.{FailedWrite, State, Step, plays, start}
+use Rattle.mc_text.specs.model_machine.specs.Chain.{Chain, Follows, Continues, Ends, depth_of, turn_of}
 use Rattle.mc_streams.specs.declared.refusals.WriteFault.{WriteFault}
 use Rattle.mc_streams.specs.declared.sink.Sink.{Ghosts}
 use Rattle.mc_text.specs.Texts.{sunk, Sunk}
 use Rattle.desk_draft.specs.FullTurns.{turns_of_step}
 use Rattle.desk_draft.specs.Listings.{Source}
 use Rattle.desk_draft.specs.Traces.{line_of_turn}
-use Rattle.mc_script.specs.Plays.{Bench, Played}
-use Rattle.mc_script.specs.StepCounts.{CountsSum, PlaySteps}
+use Rattle.mc_script.specs.Plays.{Bench, Played, SumsDeck}
 use Rattle.desk_json.specs.Sheets.{PutsOn, puts_both, puts_nothing}
-use Rattle.law_steps.specs.Nexts.{called_opens, open_after, open_by, opens_after}
-use Rattle.law_steps.specs.Readings.{first_sets, turn_sets}
-use Rattle.law_steps.specs.Registers.{frame_after}
-use Rattle.law_steps.specs.Writes.{IsRoomy, called_waits, moves_in, turn_moves, waits_after}
+use Rattle.desk_json.specs.law_steps.specs.Nexts.{called_opens, open_after, open_by, opens_after}
+use Rattle.desk_json.specs.law_steps.specs.Readings.{first_sets, turn_sets}
+use Rattle.desk_json.specs.law_steps.specs.Registers.{frame_after}
+use Rattle.desk_json.specs.law_steps.specs.Writes.{IsRoomy, called_waits, moves_in, turn_moves, waits_after}
 use Rattle.desk_steps.specs.declared.recording.Recorder.{Recorder}
 use Rattle.desk_steps.specs.declared.shot.Shot.{Shot}
 use Rattle.desk_steps.specs.Counted.{count_after, writes_after}
@@ -142,10 +141,10 @@ ShowsSteps ss deck (t ∷ ts) text = (one : List ℕ) × (rest : List ℕ) × Sh
 
 -- All lines of a deck with this text were played in order, and the text of the play under the sections of its draft was
 -- written, or a proper front of it if the sink failed.
-pub record StepsDeck (ss : List Source) (script : List ℕ) (ls : List (ℕ × DeckLine)) (a : Bench) (x : Sunk) (result : Result (Unit {0}) WriteFault) (b : Bench) (y : Sunk) (old new : ℕ) : Type 0 where
+pub record StepsDeck (ss : List Source) (script : List ℕ) (ls : List (ℕ × DeckLine)) (a : Bench) (x : Sunk) (result : Result (Unit {0}) WriteFault) (b : Bench) (y : Sunk) : Type 0 where
   pub text : List ℕ
-  pub sums : CountsSum (λ ts. text) ls a x result b y old new
-  pub shows : ShowsSteps ss script (plays (start a.device.words) ls sums.deck.worn) text
+  pub sums : SumsDeck (λ ts. text) ls a x result b y
+  pub shows : ShowsSteps ss script (plays (start a.device.words) ls sums.worn) text
 
 -- ---- the laws of lines
 
@@ -317,10 +316,9 @@ module _ {T : Type 0} (sink : Ghosts T) where
 
 module _ {T : Type 0} (sink : Ghosts T) where
   -- all lines were played from a state before a recorder, which wrote their text
-  pub record RecordsPlay (script : List ℕ) (s : State) (ls : List (ℕ × DeckLine)) (a b : Bench) (q r : Recorder T) (old new : ℕ) : Type 0 where
+  pub record RecordsPlay (script : List ℕ) (s : State) (ls : List (ℕ × DeckLine)) (a b : Bench) (q r : Recorder T) : Type 0 where
     pub worn : List (Option FailedWrite)
     pub played : Played s ls worn a b
-    pub steps : PlaySteps (plays s ls worn) old new
     pub text : List ℕ
     pub adds : PutsText sink q text r
     pub shows : ShowsSteps q.sections.now script (plays s ls worn) text

@@ -1,6 +1,6 @@
 -- The statements of a deck in its text, by the numbers of their lines.
 use Rattle.std.specs.Prelude.{◌≡◌, ℕ, zero, suc, ◌-◌, List, [], Option, Some, None}
-use Rattle.law_steps.specs.model_text.specs.Text.{trim}
+use Rattle.mc_text.specs.model_text.specs.Text.{trim}
 use Rattle.mc_text.specs.Reading.{next_line}
 use Rattle.desk_steps.specs.declared.statements.Statements.{Statements}
 

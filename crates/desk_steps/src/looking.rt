@@ -1,6 +1,6 @@
 // The application that runs on a card, and the source line of a place of its code.
 ghost use Rattle.std.specs.Prelude.{◌≡◌, ℕ, option_map, Some};
-ghost use Rattle.law_steps.specs.model_machine.specs.Chain.{Chain as ModelChain};
+ghost use Rattle.mc_text.specs.model_machine.specs.Chain.{Chain as ModelChain};
 ghost use Rattle.desk_draft.specs.Verdicts.{source_line};
 ghost use Rattle.mc_card.specs.Parts.{RunsChain};
 ghost use Rattle.desk_cover.specs.Looking.{section_at};
@@ -8,9 +8,9 @@ ghost use Rattle.desk_cover.specs.Watching.{IsWatched};
 
 use desk_cover::Sections;
 use mc_bank::Bank;
-use mc_base::Aid;
 use mc_card::Card;
 use mc_nvm::Nvm;
+use mc_words::Aid;
 
 /// Returns the name of the application that runs on a card, or `None` if no command runs.
 #[tactic(auto, using(desk_cover::proofs::WatchLemmas::watched_chain))]

@@ -1,15 +1,15 @@
 // What is kept of the frames of a play between two turns: their bytes, their protection and the device writes.
 ghost use Rattle.std.specs.Prelude.{◌≡◌, ◌≤◌, ℕ, bytes_eq, get_or, length, slice_set, take, false, IsSome, Some, []};
-ghost use Rattle.law_steps.specs.model_device.specs.Bytes.{lookup};
+ghost use Rattle.mc_words.specs.model_device.specs.Bytes.{lookup};
 ghost use Rattle.mc_bank.specs.Bank.{app_of};
-ghost use Rattle.law_steps.specs.model_machine.specs.Chain.{depth_of, turn_of, Chain as ModelChain, Follows};
+ghost use Rattle.mc_text.specs.model_machine.specs.Chain.{depth_of, turn_of, Chain as ModelChain, Follows};
 ghost use Rattle.mc_deck.specs.Lines.{line_of};
 ghost use Rattle.mc_card.specs.Parts.{IsUp, RunsChain, card_in};
 ghost use Rattle.desk_cover.specs.Looking.{Shows};
 ghost use Rattle.desk_cover.specs.Watching.{FrameRuns, IsWatched, frame_in, name_in};
-ghost use Rattle.law_steps.specs.Nexts.{open_by};
-ghost use Rattle.law_steps.specs.Readings.{reading_of};
-ghost use Rattle.law_steps.specs.Shown.{exit_public, shown_reading};
+ghost use Rattle.desk_json.specs.law_steps.specs.Nexts.{open_by};
+ghost use Rattle.desk_json.specs.law_steps.specs.Readings.{reading_of};
+ghost use Rattle.desk_json.specs.law_steps.specs.Shown.{exit_public, shown_reading};
 ghost use Rattle.desk_steps.specs.Counted.{count_after, moves_by_shots, waits_by_shots, writes_after};
 ghost use Rattle.desk_steps.specs.Guards.{all_clear};
 ghost use Rattle.desk_steps.specs.Moments.{command_of};
@@ -22,11 +22,11 @@ use crate::shot::Shot;
 use crate::writes::{device_writes, turn_words};
 use arrayvec::ArrayVec;
 use mc_bank::Bank;
-use mc_base::Aid;
 use mc_card::{BriefTurn, Card, Chain};
 use mc_deck::Line;
 use mc_isa::Ins;
 use mc_nvm::Nvm;
+use mc_words::Aid;
 
 /// The most bytes of a command that an application gets.
 const COMMAND: usize = 1040;

@@ -2,11 +2,11 @@
 ghost use Rattle.std.specs.Prelude.{◌≡◌, ◌≤◌, ◌++◌, ℕ, List, [], codes, option_map, Some};
 ghost use Rattle.std.specs.List.{AllByRecursion};
 ghost use Rattle.arrayvec.specs.ArrayVec.{array_vec_len};
-ghost use Rattle.law_steps.specs.model_device.specs.Device.{IsImage};
-ghost use Rattle.law_steps.specs.model_play.specs.Play.{start};
+ghost use Rattle.mc_words.specs.model_device.specs.Device.{IsImage};
+ghost use Rattle.mc_deck.specs.model_play.specs.Play.{start};
 ghost use Rattle.mc_text.specs.Texts.{sunk};
-ghost use Rattle.law_steps.specs.model_play.specs.Transcript.{text_of_result};
-ghost use Rattle.law_steps.specs.model_play.specs.ReadyAgain.{IsLine};
+ghost use Rattle.mc_deck.specs.model_play.specs.Transcript.{text_of_result};
+ghost use Rattle.mc_deck.specs.model_play.specs.ReadyAgain.{IsLine};
 ghost use Rattle.mc_script.specs.Players.{answer_value, IsUnfused};
 ghost use Rattle.mc_script.specs.Benches.{bench_at, IsPlaying};
 ghost use Rattle.desk_json.specs.Json.{characters};
@@ -19,11 +19,11 @@ use crate::statements::Statements;
 use arrayvec::ArrayVec;
 use desk_cover::Sections;
 use desk_json::{Sheet, written};
-use mc_base::Steps;
 use mc_deck::Deck;
 use mc_nvm::Bench;
 use mc_script::{Answer, Player, Text, add_result};
 use mc_streams::{Sink, WriteFault};
+use mc_words::Steps;
 use std::sync::ledger::Ledger;
 
 // The text of a result of a player.
@@ -153,7 +153,7 @@ fn play_lines<N: Bench, T: Sink, L: Ledger>(
     requires { IsUnfused (N.bench device) }
     ensures records { RecordsPlay T.Sink text.now (start (N.state device).words) deck.now
         (bench_at N.Bench device)
-        (bench_at N.Bench result) recorder.old recorder.new steps.old steps.new }
+        (bench_at N.Bench result) recorder.old recorder.new }
     ensures image { IsImage (N.state device).words }
     ensures lines { AllByRecursion (λ l. IsLine l.1) deck.now }
     ensures keeps_device { N.same device result }
@@ -194,7 +194,7 @@ pub fn put_steps<N: Bench, T: Sink, L: Ledger>(
     // first turn is the line of the first frame, and after a turn that called a frame is its line.
     ensures { StepsDeck sections.now text.now deck.now
         (bench_at N.Bench dev.old) (sunk T.Sink out.old) result
-        (bench_at N.Bench dev.new) (sunk T.Sink out.new) steps.old steps.new }
+        (bench_at N.Bench dev.new) (sunk T.Sink out.new) }
 {
     let mut recorder = Recorder::new(&mut *out, sections);
     let _dev = play_lines(deck, text, &mut *dev, &mut recorder, steps);

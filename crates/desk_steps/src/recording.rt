@@ -1,15 +1,15 @@
 // The lines of frames and turns, as a recorder writes them.
 ghost use Rattle.std.specs.Prelude.{◌≡◌, ◌≤◌, length, ℕ, Option, [], ◌++◌, codes, get_or, slice_set, Some, None, true, false, IfSome};
-ghost use Rattle.law_steps.specs.model_machine.specs.Code.{Shaped};
-ghost use Rattle.law_steps.specs.model_machine.specs.Chain.{depth_of, turn_of, Chain as ModelChain, Follows};
+ghost use Rattle.mc_text.specs.model_machine.specs.Code.{Shaped};
+ghost use Rattle.mc_text.specs.model_machine.specs.Chain.{depth_of, turn_of, Chain as ModelChain, Follows};
 ghost use Rattle.mc_card.specs.Parts.{IsUp, RunsChain};
 ghost use Rattle.mc_deck.specs.Lines.{line_of};
 ghost use Rattle.desk_cover.specs.Looking.{Shows};
 ghost use Rattle.desk_cover.specs.Watching.{IsWatched};
 ghost use Rattle.mc_text.specs.Texts.{sunk};
 ghost use Rattle.desk_json.specs.Sheets.{Adds, PutsOn};
-ghost use Rattle.law_steps.specs.Nexts.{open_by};
-ghost use Rattle.law_steps.specs.Readings.{first_sets};
+ghost use Rattle.desk_json.specs.law_steps.specs.Nexts.{open_by};
+ghost use Rattle.desk_json.specs.law_steps.specs.Readings.{first_sets};
 ghost use Rattle.desk_steps.specs.Counted.{count_after, moves_by_shots, waits_by_shots, writes_after};
 ghost use Rattle.desk_steps.specs.Guards.{all_clear};
 ghost use Rattle.desk_steps.specs.Lines.{aid_key, frame_text, number_key, sets_key, turn_text};
@@ -25,11 +25,11 @@ use crate::memory::Memory;
 use crate::shot::Shot;
 use desk_cover::Sections;
 use desk_json::Sheet;
-use mc_base::Aid;
 use mc_card::{BriefTurn, Card};
 use mc_deck::Line;
 use mc_nvm::Nvm;
 use mc_streams::{Sink, WriteFault};
+use mc_words::Aid;
 
 /// Records the turns of a play as JSON. Once its sink failed it writes no more, and commands are run to their end.
 ///

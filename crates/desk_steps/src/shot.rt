@@ -1,19 +1,19 @@
 // The bytes that a frame reads between two turns.
 ghost use Rattle.std.specs.Prelude.{◌≡◌, ◌+◌, ◌-◌, ◌≤◌, length, take, IsSome, Some};
-ghost use Rattle.law_steps.specs.model_machine.specs.Frame.{dynamic_base, static_bytes, with_la, with_sw};
-ghost use Rattle.law_steps.specs.model_device.specs.Bytes.{bytes2, lookup, splice};
+ghost use Rattle.mc_text.specs.model_machine.specs.Frame.{dynamic_base, static_bytes, with_la, with_sw};
+ghost use Rattle.mc_words.specs.model_device.specs.Bytes.{bytes2, lookup, splice};
 ghost use Rattle.mc_bank.specs.Bank.{app_of};
 ghost use Rattle.mc_card.specs.Parts.{IsUp, card_in};
 ghost use Rattle.mc_segs.specs.HeldFrames.{CanRun, frame_on_bank};
-ghost use Rattle.law_steps.specs.Readings.{reading_of};
-ghost use Rattle.law_steps.specs.Spans.{look_register, look_resolve};
+ghost use Rattle.desk_json.specs.law_steps.specs.Readings.{reading_of};
+ghost use Rattle.desk_json.specs.law_steps.specs.Spans.{look_register, look_resolve};
 ghost use Rattle.desk_steps.specs.Shots.{dynamics, look_of, shot_byte, shot_number, shot_reading, statics};
 
 use mc_bank::Bank;
-use mc_base::{Aid, bytes_of};
 use mc_card::Card;
 use mc_nvm::Nvm;
 use mc_segs::{Frame, Place, Public, look};
+use mc_words::{Aid, bytes_of};
 
 /// DB, the address of the first dynamic byte.
 pub const DYNAMIC: u16 = 0x8000;

@@ -7,12 +7,12 @@ ghost use Rattle.desk_steps.specs.Recorded.{recorded_none, recorded_on, Recorded
 use crate::looking::{running_aid, source_of};
 use crate::recording::Recorder;
 use desk_cover::running_section;
-use mc_base::{Steps, Stop};
 use mc_card::{BriefTurn, Card};
 use mc_machine::Outcome;
 use mc_nvm::Nvm;
 use mc_script::{Runner, Watcher, run_watched};
 use mc_streams::Sink;
+use mc_words::{Steps, Stop};
 use std::sync::ledger::Ledger;
 
 impl<'s, 'o, T: Sink> Watcher for Recorder<'s, 'o, T> {

@@ -1,9 +1,9 @@
 // The static bytes that an executed instruction writes, and the device writes that they take.
 ghost use Rattle.std.specs.Prelude.{◌≡◌, ◌≤◌, ◌+◌, ◌-◌, ◌||◌, ◌==◌, cond, length, nat_lt, option_map, []};
-ghost use Rattle.mc_prims.specs.Table.{primitive_of};
-ghost use Rattle.law_steps.specs.Registers.{mode_of};
-ghost use Rattle.law_steps.specs.Spans.{below_top, pair_target, placed, pointed, pointer, prim_target, static_only, target};
-ghost use Rattle.law_steps.specs.Writes.{now_by, now_of, span_now, span_waits, waits_by, waits_of, words_under, writes_of_words};
+ghost use Rattle.mc_isa.specs.Primitives.{primitive_of};
+ghost use Rattle.desk_json.specs.law_steps.specs.Registers.{mode_of};
+ghost use Rattle.desk_json.specs.law_steps.specs.Spans.{below_top, pair_target, placed, pointed, pointer, prim_target, static_only, target};
+ghost use Rattle.desk_json.specs.law_steps.specs.Writes.{now_by, now_of, span_now, span_waits, waits_by, waits_of, words_under, writes_of_words};
 ghost use Rattle.desk_steps.specs.Shots.{look_of, name_seen, span_seen};
 ghost use Rattle.desk_steps.specs.Turning.{end_of};
 
@@ -11,8 +11,7 @@ use crate::guard::Guard;
 use crate::modes::{abend_of, mode_of};
 use crate::shot::Shot;
 use mc_card::BriefTurn;
-use mc_isa::Ins;
-use mc_prims::Primitive;
+use mc_isa::{Ins, Primitive};
 
 // Bytes are a pair: the address of the first one, and their number.
 

@@ -4,7 +4,7 @@ use Rattle.model_text.specs.model_machine.specs.declared.instruction.Ins.{Ins}
 use Rattle.model_text.specs.model_machine.specs.declared.instruction.Ins.TheVariants as ins
 use Rattle.model_text.specs.model_device.specs.Bytes.{num}
 use Rattle.model_text.specs.model_device.specs.Card.{App}
-use Rattle.law_promise.specs.History.{Deed, Watch}
+use Rattle.law_promise.specs.model_events.specs.Deeds.{Deed, Watch}
 use Rattle.example_purse.specs.declared.purse.TheConstants.{CODE, TEXT}
 
 -- its name

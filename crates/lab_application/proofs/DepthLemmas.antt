@@ -22,7 +22,7 @@ use Rattle.lab_search.specs.Reports.{depth_line, how_text}
 use Rattle.lab_search.specs.Rounds.{Depth, Holds, KeepsNode}
 use Rattle.lab_search.proofs.AlikeLemmas.{alike_length}
 use Rattle.lab_search.proofs.HaltLemmas.{explored_err, nothing_yet}
-use Rattle.prove_events.specs.declared.rules.Rules.{Rules}
+use Rattle.lab_app_rules.specs.declared.rules.Rules.{Rules}
 use Rattle.lab_application.specs.declared.attempts.Halt.{Halt}
 use Rattle.lab_application.specs.declared.attempts.Halt.TheVariants as halt
 use Rattle.lab_application.specs.Finding.{CanTryFrom, ComesTo, HoldsMore}

@@ -1,5 +1,5 @@
 -- The first state of an exploration of moves, with the amounts of an application.
-use Rattle.std.proofs.Common.{◌≡◌, ℕ, suc, not, ◌&&◌, List, [], ◌∷◌, length, refl, sym, ap, ◌∙◌}
+use Rattle.std.proofs.Common.{◌≡◌, ℕ, suc, not, ◌&&◌, List, [], ◌∷◌, length, sym, ap, ◌∙◌}
 use Rattle.law_histories.specs.model_play.specs.DeckGrammar.{DeckLine}
 use Rattle.law_histories.specs.law_explore.specs.Rules as rule
 use Rattle.law_histories.specs.law_explore.specs.Search.{first_state}
@@ -34,7 +34,6 @@ starts_with x ls ms most n b first s z begins card runs many holds lead ran =
     let k = kept_named b.laboratory b.rosters (names_in (counting ms)) b.first first (first_state (moves_alone ls ms)) held begins.kept card runs (many ∙ ap suc (sym (length_others n))) in
     record {
       node = record { state = state; path = [] };
-      first = refl;
       holds = holds (shadow ms n) state k begins.counts;
       start = record {
         lead = record { armed = ap (λ l. l.armed) lead ∙ begins.lead.armed; power = ap (λ l. l.power) lead ∙ begins.lead.power };

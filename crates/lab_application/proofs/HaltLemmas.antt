@@ -18,7 +18,7 @@ use Rattle.lab_search.specs.Endings.{IsPut}
 use Rattle.lab_search.specs.Reports.{how_text}
 use Rattle.lab_search.specs.Rounds.{AreReached, Depth, IsFrom, IsTry}
 use Rattle.lab_search.proofs.AlikeLemmas.{get_within}
-use Rattle.prove_events.specs.declared.rules.Rules.{Rules}
+use Rattle.lab_app_rules.specs.declared.rules.Rules.{Rules}
 use Rattle.lab_application.specs.declared.attempts.Halt.{Halt}
 use Rattle.lab_application.specs.declared.attempts.Halt.TheVariants as halt
 use Rattle.lab_application.specs.Finding.{BreaksAt, ComesTo}

@@ -4,4 +4,3 @@ mod FirstLemmas
 mod WordLemmas
 mod DepthLemmas
 mod HaltLemmas
-mod StepLemmas

@@ -1,13 +1,11 @@
 -- What a search keeps while it makes tries.
-use Rattle.std.proofs.Common.{◌≡◌, ◌≢◌, ℕ, zero, suc, ◌<◌, ◌≤◌, Bool, true, arith, append-nil, length-append, List, [], ◌∷◌, ◌++◌, length, map, Option, Some, None, Result, Ok, Err, IfOk, OnOk, refl, sym, ap, subst, ◌∙◌, slice_get}
-use Rattle.std.specs.Prelude.{false, is_some, nat_lt}
-use Rattle.std.specs.List.{AllByRecursion}
-use Rattle.law_histories.specs.model_text.specs.Text.{ok_as}
+use Rattle.std.proofs.Common.{◌≡◌, ◌≢◌, ℕ, zero, suc, List, [], ◌∷◌, ◌++◌, length, map, Option, Some, None, Result, Ok, Err, IfOk, OnOk, refl, sym, ap, subst, ◌∙◌, slice_get}
+use Rattle.std.specs.Prelude.{false, is_some}
 use Rattle.law_histories.specs.law_explore.specs.Rules as rule
 use Rattle.law_histories.specs.law_explore.specs.States as model
-use Rattle.law_histories.specs.law_explore.specs.States.{is_known, play_of, state_in}
-use Rattle.law_histories.specs.law_explore.specs.Search.{Node, Round, Tally, with_new, with_reached}
-use Rattle.law_histories.specs.law_explore.specs.Tries.{Manner as TryManner, Try, allowances_after, outcome, recovery, step_of}
+use Rattle.law_histories.specs.law_explore.specs.States.{is_known}
+use Rattle.law_histories.specs.law_explore.specs.Search.{Node, Round, HaltedRound, with_reached}
+use Rattle.law_histories.specs.law_explore.specs.Tries.{Try}
 use Rattle.lab_key.specs.declared.kept.Rosters.{Rosters}
 use Rattle.lab_key.specs.declared.state.CardState.{CardState}
 use Rattle.lab_key.specs.Kept.{IsKeptCard}
@@ -20,17 +18,14 @@ use Rattle.lab_search.specs.declared.trying.Laboratory.{Laboratory}
 use Rattle.lab_search.specs.declared.trying.Tried.{Tried}
 use Rattle.lab_search.specs.declared.trying.Tried.TheVariants as tried
 use Rattle.lab_search.specs.Kept.{names_in, root_of, Kept, KeepsKept, TryIs}
-use Rattle.lab_search.specs.Reports.{manner_value}
 use Rattle.lab_search.specs.Rounds.{known_in, round_in, tally_of, try_value, Comes, Depth, Extends, Holds, IsFrom, IsTry, TriesMove}
 use Rattle.lab_search.specs.Trying.{CanCut, IsMade, IsMissed}
-use Rattle.lab_search.proofs.AlikeLemmas.{all_get}
 use Rattle.lab_search.proofs.AttemptLemmas.{keeps_self, keeps_then, keeps_there}
 use Rattle.lab_search.proofs.RoundLemmas.{extends_more, extends_none, found_later, holds_still}
 use Rattle.lab_application.specs.declared.attempts.Halt.{Halt}
 use Rattle.lab_application.specs.declared.attempts.Halt.TheVariants as halt
 use Rattle.lab_application.specs.declared.attempts.Reached.{Reached}
-use Rattle.lab_application.specs.ApplicationSteps.{led_by, led_by_tries, IsLedTo, IsReachable, IsSameCard}
-use Rattle.lab_application.specs.Finding.{AreKeptFrom, AreReachable, BreaksAt, ComesTo, Grows, HoldsMore, IfReached, IsKeptFrom, IsReachedFrom, IsSameSearch}
+use Rattle.lab_application.specs.Finding.{AreKeptWith, BreaksAt, ComesTo, HoldsMore, IfReached, IsKeptWith, IsReachedFrom, IsSameSearch}
 
 -- ---- the same search
 
@@ -57,46 +52,42 @@ pub same_tries : (d : Depth) (ns : List Node) (n : Node) (m : rule.Move) (c : Ca
 same_tries d ns n m c i j s u h t =
     record { at = record { holds = same_holds d ns s u h t.at.holds; found = t.at.found }; candidate = t.candidate; place = t.place }
 
-pub kept_from : (s u : Search) (names : List (List ℕ)) (b : model.CardState) (m : rule.Move) (x : CardState) → KeepsKept s.laboratory s.rosters u.laboratory u.rosters → IsKeptFrom s names b m x → IsKeptFrom u names b m x
-kept_from s u names b m x keeps k = (k.0, k.1, keeps.kept names x k.0 k.2)
+pub kept_with : (s u : Search) (names : List (List ℕ)) (x : CardState) → KeepsKept s.laboratory s.rosters u.laboratory u.rosters → IsKeptWith s names x → IsKeptWith u names x
+kept_with s u names x keeps k = (k.0, keeps.kept names x k.0 k.1)
 
-pub are_kept_from : (s u : Search) (names : List (List ℕ)) (b : model.CardState) (m : rule.Move) (rs : List Reached) → KeepsKept s.laboratory s.rosters u.laboratory u.rosters → AreKeptFrom s names b m rs → AreKeptFrom u names b m rs
-are_kept_from s u names b m [] keeps h = tt
-are_kept_from s u names b m (r ∷ rs) keeps h = (kept_from s u names b m r.state keeps h.0, are_kept_from s u names b m rs keeps h.1)
+pub are_kept_with : (s u : Search) (names : List (List ℕ)) (rs : List Reached) → KeepsKept s.laboratory s.rosters u.laboratory u.rosters → AreKeptWith s names rs → AreKeptWith u names rs
+are_kept_with s u names [] keeps h = tt
+are_kept_with s u names (r ∷ rs) keeps h = (kept_with s u names r.state keeps h.0, are_kept_with s u names rs keeps h.1)
 
 -- ---- more nodes
 
-pub grows_none : (d : Depth) (ns : List Node) → Grows d ns ns
-grows_none d ns = record { extends = extends_none ns; few = λ k room le. le; reachable = λ c h. h }
-
-grows_then : (d : Depth) (ns ms ls : List Node) → Grows d ns ms → Grows d ms ls → Grows d ns ls
-grows_then d ns ms ls f g =
-    record {
-      extends = extends_more ns ms ls f.extends g.extends;
-      few = λ k room le. g.few k room (f.few k room le);
-      reachable = λ c h. g.reachable c (f.reachable c h);
-    }
-
-pub tries_more : (d : Depth) (ns all : List Node) (n : Node) (m : rule.Move) (c : Candidate) (i j : ℕ) (s u : Search) → Grows d ns all → Holds d u all → TriesMove d s ns n m c i j → TriesMove d u all n m c i j
+pub tries_more : (d : Depth) (ns all : List Node) (n : Node) (m : rule.Move) (c : Candidate) (i j : ℕ) (s u : Search) → Extends ns all → Holds d u all → TriesMove d s ns n m c i j → TriesMove d u all n m c i j
 tries_more d ns all n m c i j s u e h t =
-    record { at = record { holds = h; found = found_later ns all i n e.extends t.at.found }; candidate = t.candidate; place = t.place }
+    record { at = record { holds = h; found = found_later ns all i n e t.at.found }; candidate = t.candidate; place = t.place }
 
 pub more_none : (d : Depth) (ns : List Node) (s : Search) → Holds d s ns → HoldsMore d ns s
-more_none d ns s h = record { all = ns; grew = grows_none d ns; holds = h }
+more_none d ns s h = record { all = ns; grew = extends_none ns; holds = h }
 
-pub more_then : (d : Depth) (ns all : List Node) (s : Search) → Grows d ns all → HoldsMore d all s → HoldsMore d ns s
-more_then d ns all s e h = record { all = h.all; grew = grows_then d ns all h.all e h.grew; holds = h.holds }
+pub more_then : (d : Depth) (ns all : List Node) (s : Search) → Extends ns all → HoldsMore d all s → HoldsMore d ns s
+more_then d ns all s e h = record { all = h.all; grew = extends_more ns all h.all e h.grew; holds = h.holds }
 
 -- what tries came to from more nodes, they came to from these
-pub comes_then : (d : Depth) (ns all : List Node) (o : Option Halt) (s : Search) → Grows d ns all → ComesTo d all o s → ComesTo d ns o s
+pub comes_then : (d : Depth) (ns all : List Node) (o : Option Halt) (s : Search) → Extends ns all → ComesTo d all o s → ComesTo d ns o s
 comes_then d ns all None s e h = more_then d ns all s e h
 comes_then d ns all (Some halt.Full) s e h = more_then d ns all s e h
 comes_then d ns all (Some (halt.Broken b r)) s e h =
-    record { all = h.all; grew = grows_then d ns all h.all e h.grew; holds = h.holds; before = h.before; found = h.found; last = h.last; is = h.is }
+    record { all = h.all; grew = extends_more ns all h.all e h.grew; holds = h.holds; before = h.before; found = h.found; last = h.last; is = h.is }
 
 pub comes_none : (d : Depth) (ns : List Node) (o : Option Halt) (s : Search) → o ≡ None → ComesTo d ns o s → HoldsMore d ns s
 comes_none d ns None s e h = h
 comes_none d ns (Some k) s e h = absurd (cc e)
+
+-- a search that goes on as the definition does, or ends
+pub comes_holds : (d : Depth) (ns : List Node) (x : Result Round HaltedRound) (o : Option SearchHalt) (s : Search) → Comes d ns x o s → HoldsMore d ns s
+comes_holds d ns (Ok r) None s h = record { all = h.all; grew = h.grew; holds = h.holds }
+comes_holds d ns (Ok r) (Some k) s h = absurd h
+comes_holds d ns (Err e) None s h = absurd h
+comes_holds d ns (Err e) (Some k) s h = record { all = h.all; grew = h.grew; holds = h.holds }
 
 -- ---- what is kept
 
@@ -146,24 +137,13 @@ kept_as lab r names x y c k card runs count =
 reached_is : (y x : CardState) → tried.Reached y ≡ tried.Reached x → y ≡ x
 reached_is y x e = cc e
 
--- a try that is not stopped by an allowance leads on
-ok_led : (b : model.CardState) (m : rule.Move) (w : TryManner) (r : Result (List (List ℕ × ℕ)) (List ℕ)) (c : model.CardState) → ok_as (λ a. state_in (recovery m.number w (step_of (play_of b) m w).after) a) r ≡ Ok c → IsSameCard c (led_by b m w)
-ok_led b m w (Ok a) c e =
-    let is : state_in (recovery m.number w (step_of (play_of b) m w).after) a ≡ c = cc e in
-    subst (λ (d : model.CardState). IsSameCard d (led_by b m w)) is refl
-ok_led b m w (Err name) c e = absurd (cc e)
-
-outcome_led : (ons : List rule.OnRule) (b : model.CardState) (m : rule.Move) (w : TryManner) (c : model.CardState) → outcome ons b (record { move = m; manner = w }) ≡ Ok c → IsLedTo b m c
-unfolding outcome
-outcome_led ons b m w c e = (w, ok_led b m w (allowances_after ons m (step_of (play_of b) m w) b.allowances) c e)
-
 pub tried_reached : (lab : Laboratory) (r : Rosters) (names : List (List ℕ)) (ons : List rule.OnRule) (c : model.CardState) (m : rule.Move) (w : Manner) (t : Tried) (x : CardState) → t ≡ tried.Reached x → TryIs lab r names ons c m w t
-    → IsMade c m w × ((e : model.CardState) × IsLedTo c m e × Kept lab r names x e)
+    → IsMade c m w × ((e : model.CardState) × Kept lab r names x e)
 tried_reached lab r names ons c m w tried.NotHit x e h = absurd (cc e)
 tried_reached lab r names ons c m w (tried.Broken i) x e h = absurd (cc e)
 tried_reached lab r names ons c m w (tried.Reached y) x e h =
     let same : y ≡ x = reached_is y x e in
-    (h.0, (h.1.0, outcome_led ons c m (manner_value w) h.1.0 h.1.1, subst (λ (z : CardState). Kept lab r names z h.1.0) same h.1.2))
+    (h.0, (h.1.0, subst (λ (z : CardState). Kept lab r names z h.1.0) same h.1.2))
 
 pub tried_missed : (lab : Laboratory) (r : Rosters) (names : List (List ℕ)) (ons : List rule.OnRule) (c : model.CardState) (m : rule.Move) (w : Manner) (t : Tried) → t ≡ tried.NotHit → TryIs lab r names ons c m w t → IsMissed c m w
 tried_missed lab r names ons c m w tried.NotHit e h = h
@@ -190,16 +170,12 @@ if_ok_then (Err e) P Q f h = tt
 abbrev pub Reaches : Search → Search → Candidate → ℕ → ℕ → Manner → Option Reached → Type 0
 Reaches s u c i j w o = (d : Depth) (ns : List Node) (n : Node) (m : rule.Move) → TriesMove d s ns n m c i j → CanCut n.state w → IsReachedFrom d u n m w o
 
-pub reached_then : (P Q : CardState → Type 0) → ((x : CardState) → P x → Q x) → (o : Option Reached) → IfReached P o → IfReached Q o
-reached_then P Q f None h = absurd h
-reached_then P Q f (Some r) h = f r.state h
-
-reached_case : (d : Depth) (u : Search) (n : Node) (m : rule.Move) (w : Manner) (o : Option Reached) → IsMade n.state m w → IfReached (IsKeptFrom u (names_in d.rules) n.state m) o → IsReachedFrom d u n m w o
+reached_case : (d : Depth) (u : Search) (n : Node) (m : rule.Move) (w : Manner) (o : Option Reached) → IsMade n.state m w → IfReached (IsKeptWith u (names_in d.rules)) o → IsReachedFrom d u n m w o
 reached_case d u n m w None made h = absurd h
 reached_case d u n m w (Some r) made h = (made, h)
 
 pub all_reached : {E : Type 0} (s u : Search) (c : Candidate) (i j : ℕ) (w : Manner) (r : Result (Option Reached) E)
-    → ((d : Depth) (ns : List Node) (n : Node) (m : rule.Move) → TriesMove d s ns n m c i j → CanCut n.state w → IsMade n.state m w × IfOk r (IfReached (IsKeptFrom u (names_in d.rules) n.state m)))
+    → ((d : Depth) (ns : List Node) (n : Node) (m : rule.Move) → TriesMove d s ns n m c i j → CanCut n.state w → IsMade n.state m w × IfOk r (IfReached (IsKeptWith u (names_in d.rules))))
     → IfOk r (Reaches s u c i j w)
 all_reached s u c i j w (Ok o) f = λ d ns n m h k. let p = f d ns n m h k in reached_case d u n m w o p.0 p.1
 all_reached s u c i j w (Err e) f = tt
@@ -210,7 +186,7 @@ pub breaks_by : (d : Depth) (ns : List Node) (n : Node) (m : rule.Move) (c : Can
 breaks_by d ns n m c i j w s u r same h e =
     subst (λ (q : Step). BreaksAt d ns q u) (sym e) (record {
       all = ns;
-      grew = grows_none d ns;
+      grew = extends_none ns;
       holds = same_holds d ns s u same h.at.holds;
       before = n;
       found = h.at.found;
@@ -225,119 +201,34 @@ keeps_equal s u lab ros =
       counts = ap (λ (l : Laboratory). length l.counts.items) lab;
     }
 
--- ---- a state that is kept
-
-all_append : (P : Node → Type 0) (ns : List Node) (n : Node) → AllByRecursion P ns → P n → AllByRecursion P (ns ++ n ∷ [])
-all_append P [] n h k = (k, tt)
-all_append P (x ∷ ns) n h k = (h.0, all_append P ns n h.1 k)
-
-tries_on : (c : model.CardState) (t : Try) (ts : List Try) → led_by_tries c (t ∷ ts) ≡ led_by (led_by_tries c ts) t.move t.manner
-unfolding led_by_tries
-tries_on c t ts = refl
-
--- one try more
-reachable_on : (c b e : model.CardState) (ms : List rule.Move) (m : rule.Move) (i : ℕ) → IsReachable c ms b → slice_get ms i ≡ Some m → IsLedTo b m e → IsReachable c ms e
-reachable_on c b e ms m i h place k =
-    let t : Try = record { move = m; manner = k.0 } in (
-      t ∷ h.0,
-      ((i, place), h.1),
-      k.1
-          ∙ ap (λ (s : model.CardState). record (led_by s m k.0) { allowances = e.allowances }) h.2
-          ∙ sym (ap (λ (s : model.CardState). record s { allowances = e.allowances }) (tries_on c t h.0)),
-    )
-
--- a node more, to which a try of a move leads from one of these
-grows_new : (d : Depth) (ns all : List Node) (n new : Node) (m : rule.Move) (i j : ℕ) → length ns < d.most → slice_get ns i ≡ Some n → slice_get d.rules.moves j ≡ Some m → IsLedTo n.state m new.state → ns ++ new ∷ [] ≡ all → Grows d ns all
-grows_new d ns all n new m i j below found place led is =
-    let long = ap length (sym is) ∙ length-append ns (new ∷ []) in
-    record {
-      extends = (new ∷ [], sym is);
-      few = λ k room le. omega (arith, below, room, long);
-      reachable = λ c h. subst (λ (xs : List Node). AreReachable c d.rules.moves xs) is
-          (all_append (λ x. IsReachable c d.rules.moves x.state) ns new h
-          (reachable_on c n.state new.state d.rules.moves m j (all_get (λ (x : Node). IsReachable c d.rules.moves x.state) ns i n h found) place led));
-    }
-
-grows_same : (d : Depth) (ns all : List Node) → ns ≡ all → Grows d ns all
-grows_same d ns all is = subst (λ (xs : List Node). Grows d ns xs) is (grows_none d ns)
-
--- nodes that are as many as some of them are these
-as_many : (ns all : List Node) → Extends ns all → length ns ≡ length all → ns ≡ all
-as_many ns all ([], is) many = sym (is ∙ append-nil ns)
-as_many ns all (x ∷ more, is) many =
-    let long = ap length is ∙ length-append ns (x ∷ more) in
-    absurd (omega (arith, many, long))
-
--- a depth that begins with the first node
-abbrev from_first : Depth → Depth
-from_first d = record { rules = d.rules; most = d.most; from = 0 }
-
-holds_first : (d : Depth) (s : Search) (ns : List Node) → Holds d s ns → Holds (from_first d) s ns
-holds_first d s ns h = record { room = h.room; within = omega arith; counts = h.counts; kept = h.kept; reached = h.reached }
-
-holds_back : (d : Depth) (s : Search) (ns all : List Node) → d.from ≤ length ns → Grows d ns all → Holds (from_first d) s all → Holds d s all
-holds_back d s ns all within grew h =
-    let e = grew.extends in
-    let long = ap length e.1 ∙ length-append ns e.0 in
-    record { room = h.room; within = omega (arith, within, long); counts = h.counts; kept = h.kept; reached = h.reached }
-
-below_by : (a b : ℕ) → nat_lt a b ≡ true → a < b
-below_by a b h = grind (arith, h)
-
--- what a search holds after a state that is known, or new, or one too many
-room_grew : (d : Depth) (ns : List Node) (n new : Node) (m : rule.Move) (i j : ℕ) (a : Tally) (u : Search) (o : Option SearchHalt) (b : Bool) → nat_lt (length ns) d.most ≡ b → d.from ≤ length ns → slice_get ns i ≡ Some n
-    → slice_get d.rules.moves j ≡ Some m → IsLedTo n.state m new.state → Comes (from_first d) ns (with_new b new (round_in (from_first d) a ns)) o u → HoldsMore d ns u
-room_grew d ns n new m i j a u None true room within found place led h =
-    let is = ap (λ (r : Round). r.fresh) h.round in
-    let grew = grows_new d ns h.all n new m i j (below_by (length ns) d.most room) found place led is in
-    record { all = h.all; grew = grew; holds = holds_back d u ns h.all within grew h.holds }
-room_grew d ns n new m i j a u (Some k) true room within found place led h = absurd h
-room_grew d ns n new m i j a u None false room within found place led h = absurd h
-room_grew d ns n new m i j a u (Some k) false room within found place led h =
-    let grew = grows_same d ns h.all (as_many ns h.all h.grew h.count) in
-    record { all = h.all; grew = grew; holds = holds_back d u ns h.all within grew h.holds }
-
-reached_grew : (d : Depth) (ns : List Node) (n new : Node) (m : rule.Move) (i j : ℕ) (a : Tally) (u : Search) (o : Option SearchHalt) (b : Bool) → d.from ≤ length ns → slice_get ns i ≡ Some n → slice_get d.rules.moves j ≡ Some m
-    → IsLedTo n.state m new.state → Comes (from_first d) ns (with_reached b d.most new (round_in (from_first d) a ns)) o u → HoldsMore d ns u
-reached_grew d ns n new m i j a u None true within found place led h =
-    let grew = grows_same d ns h.all (ap (λ (r : Round). r.fresh) h.round) in
-    record { all = h.all; grew = grew; holds = holds_back d u ns h.all within grew h.holds }
-reached_grew d ns n new m i j a u (Some k) true within found place led h = absurd h
-reached_grew d ns n new m i j a u o false within found place led h = room_grew d ns n new m i j a u o (nat_lt (length ns) d.most) refl within found place led h
-
 -- a state that was kept, or for which there is no room
 pub kept_comes : (d : Depth) (ns : List Node) (n : Node) (m : rule.Move) (s u : Search) (r : Step) (x y : CardState) (o : Option SearchHalt) → IsFrom d s ns n r.before → slice_get d.rules.moves r.chosen ≡ Some m
-    → IsKeptFrom s (names_in d.rules) n.state m x → y.card ≡ x.card → y.runs ≡ x.runs → length y.allowances.items ≡ length x.allowances.items
+    → IsKeptWith s (names_in d.rules) x → y.card ≡ x.card → y.runs ≡ x.runs → length y.allowances.items ≡ length x.allowances.items
     → ((d : Depth) (ns : List Node) (n : Node) (t : Try) (c : model.CardState) → IsFrom d s ns n r.before → IsTry d.rules.moves r t → Kept s.laboratory s.rosters (names_in d.rules) y c
     → Comes d ns (with_reached (is_known c (known_in ns)) d.most (record { state = c; path = t ∷ n.path }) (round_in d (tally_of s) ns)) o u)
     → HoldsMore d ns u
 kept_comes d ns n m s u r x y o from place k card runs count f =
-    let c : model.CardState = record k.0 { allowances = amounts_with (k.0).allowances y.allowances.items } in
-    let kept = kept_as s.laboratory s.rosters (names_in d.rules) x y k.0 k.2 card runs count in
-    let t = try_value m r.manner in
-    let new : Node = record { state = c; path = t ∷ n.path } in
-    let led : IsLedTo n.state m c = (k.1.0, ap (λ (e : model.CardState). record e { allowances = c.allowances }) k.1.1) in
-    reached_grew d ns n new m r.before r.chosen (tally_of s) u o (is_known c (known_in ns)) from.holds.within from.found place led
-    (f (from_first d) ns n t c (record { holds = holds_first d s ns from.holds; found = from.found }) (record { move = place; manner = refl }) kept)
+    let kept = kept_as s.laboratory s.rosters (names_in d.rules) x y k.0 k.1 card runs count in
+    comes_holds d ns _ o u (f d ns n (try_value m r.manner) _ from (record { move = place; manner = refl }) kept)
 
-kept_append : (s : Search) (names : List (List ℕ)) (b : model.CardState) (m : rule.Move) (rs : List Reached) (r : Reached) → AreKeptFrom s names b m rs → IsKeptFrom s names b m r.state → AreKeptFrom s names b m (rs ++ r ∷ [])
-kept_append s names b m [] r h k = (k, tt)
-kept_append s names b m (x ∷ rs) r h k = (h.0, kept_append s names b m rs r h.1 k)
+kept_append : (s : Search) (names : List (List ℕ)) (rs : List Reached) (r : Reached) → AreKeptWith s names rs → IsKeptWith s names r.state → AreKeptWith s names (rs ++ r ∷ [])
+kept_append s names [] r h k = (k, tt)
+kept_append s names (x ∷ rs) r h k = (h.0, kept_append s names rs r h.1 k)
 
 -- one more that is kept
-pub kept_more : (s : Search) (names : List (List ℕ)) (b : model.CardState) (m : rule.Move) (rs new : List Reached) (r : Reached) → new ≡ rs ++ r ∷ [] → AreKeptFrom s names b m rs → IsKeptFrom s names b m r.state → AreKeptFrom s names b m new
-kept_more s names b m rs new r e h k = subst (λ (xs : List Reached). AreKeptFrom s names b m xs) (sym e) (kept_append s names b m rs r h k)
+pub kept_more : (s : Search) (names : List (List ℕ)) (rs new : List Reached) (r : Reached) → new ≡ rs ++ r ∷ [] → AreKeptWith s names rs → IsKeptWith s names r.state → AreKeptWith s names new
+kept_more s names rs new r e h k = subst (λ (xs : List Reached). AreKeptWith s names xs) (sym e) (kept_append s names rs r h k)
 
 -- the one at a place is kept
-pub kept_place : (s : Search) (names : List (List ℕ)) (b : model.CardState) (m : rule.Move) (rs : List Reached) (i : ℕ) (r : Reached) → slice_get rs i ≡ Some r → AreKeptFrom s names b m rs → IsKeptFrom s names b m r.state
-kept_place s names b m [] i r e h = absurd (cc e)
-kept_place s names b m (x ∷ rs) zero r e h = let same : x ≡ r = cc e in subst (λ (y : Reached). IsKeptFrom s names b m y.state) same h.0
-kept_place s names b m (x ∷ rs) (suc i) r e h = kept_place s names b m rs i r e h.1
+pub kept_place : (s : Search) (names : List (List ℕ)) (rs : List Reached) (i : ℕ) (r : Reached) → slice_get rs i ≡ Some r → AreKeptWith s names rs → IsKeptWith s names r.state
+kept_place s names [] i r e h = absurd (cc e)
+kept_place s names (x ∷ rs) zero r e h = let same : x ≡ r = cc e in subst (λ (y : Reached). IsKeptWith s names y.state) same h.0
+kept_place s names (x ∷ rs) (suc i) r e h = kept_place s names rs i r e h.1
 
 -- what a move reached in a manner is kept
-pub reached_kept : (d : Depth) (u : Search) (n : Node) (m : rule.Move) (w : Manner) (o : Option Reached) (r : Reached) → o ≡ Some r → IsReachedFrom d u n m w o → IsKeptFrom u (names_in d.rules) n.state m r.state
+pub reached_kept : (d : Depth) (u : Search) (n : Node) (m : rule.Move) (w : Manner) (o : Option Reached) (r : Reached) → o ≡ Some r → IsReachedFrom d u n m w o → IsKeptWith u (names_in d.rules) r.state
 reached_kept d u n m w None r e h = absurd (cc e)
-reached_kept d u n m w (Some x) r e h = let same : x ≡ r = cc e in subst (λ (y : Reached). IsKeptFrom u (names_in d.rules) n.state m y.state) same h.1
+reached_kept d u n m w (Some x) r e h = let same : x ≡ r = cc e in subst (λ (y : Reached). IsKeptWith u (names_in d.rules) y.state) same h.1
 
 -- and the move was made
 pub reached_made : (d : Depth) (u : Search) (n : Node) (m : rule.Move) (w : Manner) (o : Option Reached) (r : Reached) → o ≡ Some r → IsReachedFrom d u n m w o → IsMade n.state m w

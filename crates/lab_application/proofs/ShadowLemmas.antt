@@ -7,8 +7,9 @@ use Rattle.law_histories.specs.model_device.specs.Bytes.{lookup}
 use Rattle.law_histories.specs.model_play.specs.Play.{Step, is_card_line}
 use Rattle.law_histories.specs.law_explore.specs.Rules as rule
 use Rattle.law_histories.specs.law_explore.specs.States.{CardState, play_of, state_in}
-use Rattle.law_histories.specs.law_explore.specs.Tries.{allowances_after, effect_times, outcome, recovery, step_of, times, with_amount}
-use Rattle.law_histories.specs.law_explore.specs.Matching.{fits, matches, plain, some_rest}
+use Rattle.law_histories.specs.law_explore.specs.Tries.{allowances_after, effect_times, outcome, recovery, step_of, times}
+use Rattle.lab_app_rules.specs.model_events.specs.Amounts.{with_amount}
+use Rattle.lab_app_rules.specs.model_events.specs.Matching.{fits, matches, plain, some_rest}
 use Rattle.law_histories.specs.model_play.specs.DeckGrammar.{DeckLine}
 use Rattle.lab_rules.specs.declared.reading.Exploration.{Exploration}
 use Rattle.lab_rules.specs.declared.rules.Move.{Move}
@@ -23,24 +24,10 @@ use Rattle.lab_search.specs.declared.trying.Tried.{Tried}
 use Rattle.lab_search.specs.declared.trying.Tried.TheVariants as tried
 use Rattle.lab_search.specs.Kept.{IsCandidate, TryIs}
 use Rattle.lab_search.specs.Reports.{manner_value}
-use Rattle.lab_search.specs.Rounds.{Depth}
-use Rattle.lab_search.proofs.AlikeLemmas.{all_get, alike_get_second, alike_length, get_within}
+use Rattle.lab_search.proofs.AlikeLemmas.{all_get, alike_get_second}
 use Rattle.lab_application.specs.Shadows.{AreMovesOf, AreShadows, SpendNothing, counter, others, shadow}
 
 -- ---- a candidate
-
--- a listed move is that of the definition at its place
-pub listed_is : (d : Depth) (e : Rules) (i : ℕ) (listed : Move) (m : rule.Move) → AreShadows e d.rules → slice_get e.moves.items i ≡ Some listed → slice_get d.rules.moves i ≡ Some m → IsMove listed m
-listed_is d e i listed m h at place =
-    let k = alike_get_second IsMove e.moves.items d.rules.moves i listed h.moves at in
-    let same : k.0 ≡ m = cc (sym k.1 ∙ place) in
-    subst (λ (v : rule.Move). IsMove listed v) same k.2
-
--- there is a move of the definition at the place of a listed one
-pub move_within : (d : Depth) (e : Rules) (i : ℕ) → AreShadows e d.rules → i < length e.moves.items → (m : rule.Move) × (slice_get d.rules.moves i ≡ Some m)
-move_within d e i h below =
-    let many = alike_length IsMove e.moves.items d.rules.moves h.moves in
-    get_within d.rules.moves i (omega (arith, below, many))
 
 -- a move of a deck at a place, as the definition has it
 pub record HasCandidate (r : rule.Rules) (c : Candidate) (i : ℕ) : Type 0 where

@@ -24,8 +24,8 @@ use Rattle.lab_search.specs.Tallies.{silent_if}
 use Rattle.lab_search.proofs.AlikeLemmas.{drop_at, drop_past}
 use Rattle.lab_search.proofs.EndingLemmas.{put_failed}
 use Rattle.lab_search.proofs.HaltLemmas.{err_ending}
-use Rattle.prove_events.specs.declared.rules.On.{On}
-use Rattle.prove_events.specs.declared.rules.Rules.{Rules}
+use Rattle.lab_app_rules.specs.declared.rules.On.{On}
+use Rattle.lab_app_rules.specs.declared.rules.Rules.{Rules}
 use Rattle.lab_search.specs.declared.rounds.Search.{Search}
 use Rattle.lab_application.specs.Texts.{heard_from, kept_text_of, silent_from, text_from, IsOfMoves}
 

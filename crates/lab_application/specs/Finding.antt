@@ -1,5 +1,5 @@
 -- What the tries of a search come to: nodes that are found, and what ends the search.
-use Rattle.std.specs.Prelude.{◌≡◌, ℕ, ◌<◌, ◌≤◌, true, List, length, map, slice_get, Option, Some, None}
+use Rattle.std.specs.Prelude.{◌≡◌, ℕ, ◌<◌, ◌≤◌, true, List, length, slice_get, Option, Some, None}
 use Rattle.std.specs.List.{AllByRecursion}
 use Rattle.law_histories.specs.model_play.specs.Family.{is_running}
 use Rattle.law_histories.specs.law_explore.specs.Rules as rule
@@ -21,7 +21,6 @@ use Rattle.lab_search.specs.Trying.{IsMade, IsMissed}
 use Rattle.lab_application.specs.declared.attempts.Halt.{Halt}
 use Rattle.lab_application.specs.declared.attempts.Halt.TheVariants as halt
 use Rattle.lab_application.specs.declared.attempts.Reached.{Reached}
-use Rattle.lab_application.specs.ApplicationSteps.{IsLedTo, IsReachable}
 use Rattle.lab_application.specs.Shadows.{AreShadows}
 
 -- ---- searches
@@ -37,18 +36,18 @@ pub record IsSameSearch (s u : Search) : Type 0 where
 abbrev pub IsKept : Laboratory → Rosters → CardState → Type 0
 IsKept lab r s = (names : List (List ℕ)) × (c : model.CardState) × Kept lab r names s c
 
--- a state that is kept, with these names, to which some try of a move leads from a state
-abbrev pub IsKeptFrom : Search → List (List ℕ) → model.CardState → rule.Move → CardState → Type 0
-IsKeptFrom s names b m x = (c : model.CardState) × IsLedTo b m c × Kept s.laboratory s.rosters names x c
+-- a state that is kept, with these names
+abbrev pub IsKeptWith : Search → List (List ℕ) → CardState → Type 0
+IsKeptWith s names x = (c : model.CardState) × Kept s.laboratory s.rosters names x c
 
--- what is reached by tries of a move is kept
-abbrev pub AreKeptFrom : Search → List (List ℕ) → model.CardState → rule.Move → List Reached → Type 0
-AreKeptFrom s names b m rs = AllByRecursion (λ r. IsKeptFrom s names b m r.state) rs
+-- what is reached is kept
+abbrev pub AreKeptWith : Search → List (List ℕ) → List Reached → Type 0
+AreKeptWith s names rs = AllByRecursion (λ r. IsKeptWith s names r.state) rs
 
 -- a move was made in a manner from a node, and what it reached is kept; or its cut hit no write
 abbrev pub IsReachedFrom : Depth → Search → Node → rule.Move → Manner → Option Reached → Type 0
 IsReachedFrom d s n m w None = IsMissed n.state m w
-IsReachedFrom d s n m w (Some r) = IsMade n.state m w × IsKeptFrom s (names_in d.rules) n.state m r.state
+IsReachedFrom d s n m w (Some r) = IsMade n.state m w × IsKeptWith s (names_in d.rules) r.state
 
 -- a state is reached, of which this holds
 abbrev pub IfReached : (CardState → Type 0) → Option Reached → Type 0
@@ -57,30 +56,16 @@ IfReached P (Some r) = P r.state
 
 -- ---- what tries came to
 
--- the states of nodes
-abbrev pub states_in : List Node → List model.CardState
-states_in ns = map (λ n. n.state) ns
-
--- nodes whose states are reachable from a first one
-abbrev pub AreReachable : model.CardState → List rule.Move → List Node → Type 0
-AreReachable c ms ns = AllByRecursion (λ n. IsReachable c ms n.state) ns
-
--- nodes with more after them: as many as there is room for, each reachable if the first ones are
-pub record Grows (d : Depth) (ns all : List Node) : Type 0 where
-  pub extends : Extends ns all
-  pub few : (k : ℕ) → d.most ≤ k → length ns ≤ k → length all ≤ k
-  pub reachable : (c : model.CardState) → AreReachable c d.rules.moves ns → AreReachable c d.rules.moves all
-
 -- a search holds nodes, and more after them
 pub record HoldsMore (d : Depth) (ns : List Node) (s : Search) : Type 0 where
   pub all : List Node
-  pub grew : Grows d ns all
+  pub grew : Extends ns all
   pub holds : Holds d s all
 
 -- a rule is broken by a step from a node that a search holds
 pub record BreaksAt (d : Depth) (ns : List Node) (r : Step) (s : Search) : Type 0 where
   pub all : List Node
-  pub grew : Grows d ns all
+  pub grew : Extends ns all
   pub holds : Holds d s all
   pub before : Node
   pub found : slice_get all r.before ≡ Some before
@@ -103,7 +88,7 @@ CanCutAt s c before chosen made =
 -- a cut of a move from a node, at the device write after the first `made` ones, reached this, which can be taken
 abbrev pub CanTakeCut : Search → Candidate → ℕ → ℕ → ℕ → CardState → Type 0
 CanTakeCut s c before chosen made x =
-    (d : Depth) × (ns : List Node) × (n : Node) × (m : rule.Move) × TriesMove d s ns n m c before chosen × (is_running n.state.live ≡ true) × IsKeptFrom s (names_in d.rules) n.state m x × (made < writes_of (play_of n.state) m)
+    (d : Depth) × (ns : List Node) × (n : Node) × (m : rule.Move) × TriesMove d s ns n m c before chosen × (is_running n.state.live ≡ true) × IsKeptWith s (names_in d.rules) x × (made < writes_of (play_of n.state) m)
 
 -- all moves of a deck can be tried from a node
 abbrev pub CanTryAll : Search → Rules → ℕ → Type 0

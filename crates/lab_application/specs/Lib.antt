@@ -1,5 +1,4 @@
 pub mod Shadows
-pub mod ApplicationSteps
 pub mod Finding
 pub mod Names
 pub mod Texts

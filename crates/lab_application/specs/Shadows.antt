@@ -4,7 +4,7 @@ use Rattle.std.specs.List.{AllByRecursion}
 use Rattle.law_histories.specs.model_play.specs.DeckGrammar.{DeckLine}
 use Rattle.law_histories.specs.model_play.specs.Play.{is_card_line}
 use Rattle.law_histories.specs.law_explore.specs.Rules as rule
-use Rattle.law_histories.specs.law_explore.specs.Matching.{fits}
+use Rattle.lab_app_rules.specs.model_events.specs.Matching.{fits}
 use Rattle.lab_rules.specs.declared.reading.Exploration.{Exploration}
 use Rattle.lab_rules.specs.declared.rules.OnRule.{OnRule}
 use Rattle.lab_rules.specs.declared.rules.Rules.{Rules}

@@ -7,12 +7,10 @@ use Rattle.lab_search.specs.declared.endings.Start.{Start}
 use Rattle.lab_search.specs.declared.rounds.Search.{Search}
 use Rattle.lab_search.specs.Endings.{StartIs}
 use Rattle.lab_search.specs.Rounds.{Holds}
-use Rattle.lab_application.specs.ApplicationSteps.{first_of, IsSameCard}
 use Rattle.lab_application.specs.Shadows.{shadow}
 
 -- a search of a deck with these moves, and with n allowances, holds one node
 pub record StartsWith (ls : List (ℕ × DeckLine)) (ms : List rule.Move) (n most : ℕ) (s : Search) (z : Start) : Type 0 where
   pub node : Node
-  pub first : IsSameCard node.state (first_of ls ms)
   pub holds : Holds (record { rules = shadow ms n; most = most; from = 0 }) s (node ∷ [])
   pub start : StartIs z (record { lines = ls; rules = shadow ms n })

@@ -17,8 +17,8 @@ use Rattle.lab_search.specs.Endings.{IsExplored, IsPut}
 use Rattle.lab_search.specs.Reports.{how_text}
 use Rattle.lab_search.specs.Rounds.{Holds}
 use Rattle.lab_search.specs.Tallies.{silent_if}
-use Rattle.prove_events.specs.declared.rules.On.{On}
-use Rattle.prove_events.specs.declared.rules.Rules.{Rules}
+use Rattle.lab_app_rules.specs.declared.rules.On.{On}
+use Rattle.lab_app_rules.specs.declared.rules.Rules.{Rules}
 use Rattle.lab_application.specs.declared.attempts.Halt.{Halt}
 use Rattle.lab_application.specs.declared.attempts.Halt.TheVariants as halt
 use Rattle.lab_history.specs.declared.standing.Break.{Break}

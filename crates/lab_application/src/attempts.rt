@@ -1,21 +1,19 @@
 // A move that is tried from a state, and what is counted of each try.
-ghost use Rattle.std.specs.Prelude.{◌≡◌, ◌+◌, ◌≤◌, ℕ, suc, IfOk, List, OnOk, drop, length, slice_get, Some};
+ghost use Rattle.std.specs.Prelude.{◌≡◌, ℕ, suc, IfOk, List, OnOk, drop, length, slice_get, Some};
 ghost use Rattle.law_histories.specs.law_explore.specs.Rules as rule;
-ghost use Rattle.law_histories.specs.law_explore.specs.States as model;
 ghost use Rattle.law_histories.specs.law_explore.specs.Search.{Node};
-ghost use Rattle.lab_search.specs.ExplorationSteps.{most_of_move};
-ghost use Rattle.lab_search.specs.Kept.{names_in, Kept, KeepsKept};
+ghost use Rattle.lab_search.specs.Kept.{names_in, KeepsKept};
 ghost use Rattle.lab_search.specs.Rounds.{CanStep, CanTryMove, Depth, IsFrom, TriesMove};
 ghost use Rattle.lab_search.specs.Trying.{CanCut};
 ghost use Rattle.lab_application.specs.Shadows.{SpendNothing};
-ghost use Rattle.lab_application.specs.Finding.{ComesTo, IfReached, IsKept, IsKeptFrom, IsReachedFrom, IsSameSearch};
+ghost use Rattle.lab_application.specs.Finding.{ComesTo, IfReached, IsKept, IsKeptWith, IsReachedFrom, IsSameSearch};
 
 use crate::statics::statics_in;
 use lab_history::{Break, Course, Extent, Standing, apply, broken_always, first_amounts};
 use lab_key::CardState;
 use lab_record::Subject;
 use lab_search::{Candidate, Laboratory, Manner, Search, Step, Tried};
-use mc_base::{NoMemory, Steps};
+use mc_words::{NoMemory, Steps};
 use std::alloc::Global;
 use std::sync::ledger::Ledger;
 
@@ -117,10 +115,6 @@ impl<'a> Attempt<'a> {
         ensures made { IfOk result (λ o. (d : Depth) (ns : List Node) (n : Node) (m : rule.Move)
             → TriesMove d search.old ns n m self.now.candidate.now self.now.before self.now.chosen
             → CanCut n.state manner → IsReachedFrom d search.new n m manner o) }
-        // At most the steps of the move, made once.
-        ensures steps { (d : Depth) (ns : List Node) (n : Node) (m : rule.Move)
-            → TriesMove d search.old ns n m self.now.candidate.now self.now.before self.now.chosen
-            → CanCut n.state manner → steps.new ≤ steps.old + most_of_move n.state m }
     {
         let Some(state) = search.states.get_index(self.before) else {
             unreachable!()
@@ -144,9 +138,8 @@ impl<'a> Attempt<'a> {
     fn look(&self, search: &mut Search, state: CardState) -> Result<Option<Reached>, NoMemory>
         requires { IsKept search.old.laboratory search.old.rosters state }
         ensures same { OnOk result (IsSameSearch search.old search.new) }
-        ensures reached { (names : List (List ℕ)) (c : model.CardState)
-            → Kept search.old.laboratory search.old.rosters names state c
-            → IfOk result (IfReached (λ x. Kept search.new.laboratory search.new.rosters names x c)) }
+        ensures reached { (names : List (List ℕ)) → IsKeptWith search.old names state
+            → IfOk result (IfReached (IsKeptWith search.new names)) }
     {
         let turns = turns_of(&search.laboratory);
         let fixed = statics_in(
@@ -246,7 +239,7 @@ impl<'a> Attempt<'a> {
             search.new.rosters) }
         ensures comes { IfOk result (λ h. (d : Depth) (ns : List Node) (n : Node) (m : rule.Move)
             → TriesMove d search.old ns n m self.now.candidate.now self.now.before self.now.chosen
-            → IsKeptFrom search.old (names_in d.rules) n.state m reached.now.state → ComesTo d ns h search.new) }
+            → IsKeptWith search.old (names_in d.rules) reached.now.state → ComesTo d ns h search.new) }
     {
         let step = self.step(manner);
         match self.count(search, &reached.fixed, extent)? {
@@ -267,7 +260,7 @@ impl<'a> Attempt<'a> {
             search.new.rosters) }
         ensures comes { IfOk result (λ h. (d : Depth) (ns : List Node) (n : Node) (m : rule.Move)
             → IsFrom d search.old ns n step.before → slice_get d.rules.moves step.chosen ≡ Some m
-            → IsKeptFrom search.old (names_in d.rules) n.state m reached.now → ComesTo d ns h search.new) }
+            → IsKeptWith search.old (names_in d.rules) reached.now → ComesTo d ns h search.new) }
     {
         let allowances = allowances_with(self.alloc, amounts, reached.allowances.len())?;
         let state = CardState {

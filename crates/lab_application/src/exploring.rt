@@ -1,11 +1,9 @@
 // The search through all states, breadth first.
-ghost use Rattle.std.specs.Prelude.{◌≡◌, ◌+◌, ◌≤◌, ◌&&◌, ℕ, suc, List, length, not, IfOk};
+ghost use Rattle.std.specs.Prelude.{◌≡◌, ◌&&◌, ℕ, suc, List, length, not, IfOk};
 ghost use Rattle.law_histories.specs.model_play.specs.DeckGrammar.{DeckLine};
 ghost use Rattle.law_histories.specs.law_explore.specs.Rules as rule;
 ghost use Rattle.law_histories.specs.law_explore.specs.States.{play_of_deck};
 ghost use Rattle.mc_text.specs.Texts.{sunk};
-ghost use Rattle.lab_search.specs.ExplorationSteps.{most_of_deck};
-ghost use Rattle.lab_application.specs.ApplicationSteps.{SearchSteps, TakesSteps};
 ghost use Rattle.lab_application.specs.Shadows.{AreMovesOf};
 ghost use Rattle.lab_application.specs.Starts.{StartsWith};
 ghost use Rattle.lab_application.specs.Texts.{IsAppExplored};
@@ -17,9 +15,9 @@ use lab_key::CardState;
 use lab_record::{Subject, chronicle};
 use lab_rules::Exploration;
 use lab_search::{Beginning, Explored, Search, Start, begin, put_depth};
-use mc_base::{NoMemory, Steps};
 use mc_script::JobFault;
 use mc_streams::Sink;
+use mc_words::{NoMemory, Steps};
 use std::alloc::Global;
 use std::sync::ledger::Ledger;
 
@@ -52,9 +50,8 @@ fn start<L: Ledger>(
     ons: usize,
     steps: &mut Steps<L>,
 ) -> Result<(Search, Start), NoMemory>
-    ensures starts { IfOk result (λ r. (ls : List (ℕ × DeckLine)) (ms : List rule.Move) → AreMovesOf moves.now ls ms
+    ensures { IfOk result (λ r. (ls : List (ℕ × DeckLine)) (ms : List rule.Move) → AreMovesOf moves.now ls ms
         → StartsWith ls ms (length amounts.now) limit r.0 r.1) }
-    ensures steps { steps.new ≤ steps.old + most_of_deck moves.now.deck }
 {
     let Beginning {
         laboratory,
@@ -86,12 +83,10 @@ fn search_on<T: Sink, L: Ledger>(
 ) -> Result<Explored, JobFault>
     requires { (ls : List (ℕ × DeckLine)) × (ms : List rule.Move) × (n : ℕ) × (limit : ℕ) × AreMovesOf moves.now ls ms
         × StartsWith ls ms n limit search.old start }
-    ensures explored { (ls : List (ℕ × DeckLine)) (ms : List rule.Move) (n limit : ℕ) → AreMovesOf moves.now ls ms
+    ensures { (ls : List (ℕ × DeckLine)) (ms : List rule.Move) (n limit : ℕ) → AreMovesOf moves.now ls ms
         → StartsWith ls ms n limit search.old start
         → IsAppExplored subject.entry.rules.now ms depth (play_of_deck ls) (sunk T.Sink out.old) result
         (sunk T.Sink out.new) }
-    ensures steps { (ls : List (ℕ × DeckLine)) (ms : List rule.Move) (n limit : ℕ) → AreMovesOf moves.now ls ms
-        → StartsWith ls ms n limit search.old start → SearchSteps ls ms limit steps.old steps.new }
 {
     let mut from = 0;
     for done in 0..depth {
@@ -135,13 +130,9 @@ pub fn explore_within<T: Sink, L: Ledger>(
     steps: &mut Steps<L>,
 ) -> Result<Explored, JobFault>
     requires read { (ls : List (ℕ × DeckLine)) × (ms : List rule.Move) × AreMovesOf moves.now ls ms }
-    ensures explored { (ls : List (ℕ × DeckLine)) (ms : List rule.Move) → AreMovesOf moves.now ls ms
+    ensures { (ls : List (ℕ × DeckLine)) (ms : List rule.Move) → AreMovesOf moves.now ls ms
         → IsAppExplored subject.entry.rules.now ms depth (play_of_deck ls) (sunk T.Sink out.old) result
         (sunk T.Sink out.new) }
-    // At most the steps of the deck, recorded and played, and of its moves, tried from as many states as there is room for, to
-    // which tries lead.
-    ensures steps { (ls : List (ℕ × DeckLine)) (ms : List rule.Move) → AreMovesOf moves.now ls ms
-        → TakesSteps ls ms limit steps.old steps.new }
 {
     let amounts = match chronicle(alloc, &moves.deck, subject, steps)? {
         Ok(amounts) => amounts,
@@ -174,13 +165,9 @@ pub fn explore<T: Sink, L: Ledger>(
     steps: &mut Steps<L>,
 ) -> Result<Explored, JobFault>
     requires read { (ls : List (ℕ × DeckLine)) × (ms : List rule.Move) × AreMovesOf moves.now ls ms }
-    ensures explored { (ls : List (ℕ × DeckLine)) (ms : List rule.Move) → AreMovesOf moves.now ls ms
+    ensures { (ls : List (ℕ × DeckLine)) (ms : List rule.Move) → AreMovesOf moves.now ls ms
         → IsAppExplored subject.entry.rules.now ms depth (play_of_deck ls) (sunk T.Sink out.old) result
         (sunk T.Sink out.new) }
-    // At most the steps of the deck, recorded and played, and of its moves, tried from as many states as there is room for, to
-    // which tries lead.
-    ensures steps { (ls : List (ℕ × DeckLine)) (ms : List rule.Move) → AreMovesOf moves.now ls ms
-        → TakesSteps ls ms 1000000 steps.old steps.new }
 {
     explore_within(alloc, moves, subject, MOST_STATES, depth, out, steps)
 }

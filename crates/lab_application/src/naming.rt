@@ -6,11 +6,11 @@ ghost use Rattle.lab_history.specs.declared.standing.Break.TheVariants as Break;
 ghost use Rattle.lab_application.specs.Names.{allowance_name, block_text, broken_name, name_of, range_text};
 
 use arrayvec::ArrayVec;
+use lab_app_rules::{Always, Balance, Named, Rules};
 use lab_history::Break;
 use lab_search::put_broken;
 use mc_streams::{Sink, WriteFault};
 use mc_text::{add, add_decimal};
-use prove_events::{Always, Balance, Named, Rules};
 
 /// The name of some static bytes: at most 26 characters.
 type Name = ArrayVec<u8, 32>;

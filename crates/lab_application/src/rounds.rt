@@ -1,10 +1,8 @@
 // The tries of a depth: each move from each state.
-ghost use Rattle.std.specs.Prelude.{◌≡◌, ◌+◌, ◌≤◌, IfOk, drop, length, List, slice_get, Some};
-ghost use Rattle.law_histories.specs.law_explore.specs.Rules as rule;
+ghost use Rattle.std.specs.Prelude.{◌≡◌, ◌≤◌, IfOk, length, List};
 ghost use Rattle.law_histories.specs.law_explore.specs.Search.{Node};
 ghost use Rattle.lab_search.specs.Rounds.{Depth, Holds, IsFrom};
-ghost use Rattle.lab_application.specs.ApplicationSteps.{most_of_moves, most_of_states, most_of_tried};
-ghost use Rattle.lab_application.specs.Finding.{states_in, CanTryAll, CanTryFrom, ComesTo};
+ghost use Rattle.lab_application.specs.Finding.{CanTryAll, CanTryFrom, ComesTo};
 ghost use Rattle.lab_application.specs.Shadows.{AreShadows};
 
 use crate::attempts::{Attempt, Halt};
@@ -12,7 +10,7 @@ use crate::courses::course_of;
 use lab_record::Subject;
 use lab_rules::Exploration;
 use lab_search::{Candidate, Search};
-use mc_base::{NoMemory, Steps};
+use mc_words::{NoMemory, Steps};
 use std::alloc::Global;
 use std::sync::ledger::Ledger;
 
@@ -27,12 +25,8 @@ fn try_move<L: Ledger>(
     steps: &mut Steps<L>,
 ) -> Result<Option<Halt>, NoMemory>
     requires { CanTryAll search.old moves.now.rules before }
-    ensures comes { IfOk result (λ h. (d : Depth) (ns : List Node) (n : Node) → IsFrom d search.old ns n before
+    ensures { IfOk result (λ h. (d : Depth) (ns : List Node) (n : Node) → IsFrom d search.old ns n before
         → AreShadows moves.now.rules d.rules → ComesTo d ns h search.new) }
-    // One play to record the move, and those of its tries.
-    ensures steps { (d : Depth) (ns : List Node) (n : Node) (m : rule.Move) → IsFrom d search.old ns n before
-        → AreShadows moves.now.rules d.rules → slice_get d.rules.moves chosen ≡ Some m
-        → steps.new ≤ steps.old + most_of_tried n.state m }
 {
     let all = moves.rules.moves.as_slice();
     if chosen >= all.len() {
@@ -67,10 +61,8 @@ fn try_moves<L: Ledger>(
     steps: &mut Steps<L>,
 ) -> Result<Option<Halt>, NoMemory>
     requires { CanTryAll search.old moves.now.rules before }
-    ensures comes { IfOk result (λ h. (d : Depth) (ns : List Node) (n : Node) → IsFrom d search.old ns n before
+    ensures { IfOk result (λ h. (d : Depth) (ns : List Node) (n : Node) → IsFrom d search.old ns n before
         → AreShadows moves.now.rules d.rules → ComesTo d ns h search.new) }
-    ensures steps { (d : Depth) (ns : List Node) (n : Node) → IsFrom d search.old ns n before
-        → AreShadows moves.now.rules d.rules → steps.new ≤ steps.old + most_of_moves d.rules.moves n.state }
 {
     for chosen in 0..moves.rules.moves.len() {
         let halt = try_move(alloc, search, moves, subject, chosen, before, steps)?;
@@ -96,12 +88,8 @@ pub fn try_states<L: Ledger>(
     steps: &mut Steps<L>,
 ) -> Result<Option<Halt>, NoMemory>
     requires { CanTryFrom search.old moves.now.rules from to }
-    ensures comes { IfOk result (λ h. (d : Depth) (ns : List Node) → Holds d search.old ns → from ≤ to
-        → to ≡ length ns → AreShadows moves.now.rules d.rules → ComesTo d ns h search.new) }
-    // At most the steps of the moves, tried from each of the states.
-    ensures steps { (d : Depth) (ns : List Node) → Holds d search.old ns → from ≤ to → to ≡ length ns
-        → AreShadows moves.now.rules d.rules
-        → steps.new ≤ steps.old + most_of_states d.rules.moves (states_in (drop from ns)) }
+    ensures { IfOk result (λ h. (d : Depth) (ns : List Node) → Holds d search.old ns → from ≤ to → to ≡ length ns
+        → AreShadows moves.now.rules d.rules → ComesTo d ns h search.new) }
 {
     for before in from..to {
         let halt = try_moves(alloc, search, moves, subject, before, steps)?;

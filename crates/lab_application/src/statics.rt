@@ -9,8 +9,8 @@ ghost use Rattle.lab_application.specs.Finding.{IsKept};
 use lab_branch::{BranchNvm, read_applications, static_bytes};
 use lab_key::{CardState, Rosters};
 use lab_search::{Laboratory, put_card};
-use mc_base::{Aid, NoMemory};
 use mc_script::{Live, Player};
+use mc_words::{Aid, NoMemory};
 use std::alloc::Global;
 
 // The static bytes of the application with a name on a device, or `None` if it is not there.

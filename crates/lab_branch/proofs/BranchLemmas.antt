@@ -7,9 +7,9 @@ use Rattle.std.proofs.Math.Seq.{drop-cons}
 use Rattle.std.proofs.lemmas.Bool.{cases_eq, cases_lt, ne_eqb}
 use Rattle.std.proofs.lemmas.Map.Steps.{length-le_from_distinct_below}
 use Rattle.std.proofs.lemmas.Slice.Eq.{bytes_eq-Decides}
-use Rattle.mc_base.specs.model_device.specs.Image.{image_with}
-use Rattle.mc_base.specs.model_device.specs.Orders.{Answer}
-use Rattle.mc_base.specs.model_device.specs.Device.{Due, DueCut, DueFailure, DueNot, blank_words, device_words}
+use Rattle.mc_words.specs.model_device.specs.Image.{image_with}
+use Rattle.mc_words.specs.model_device.specs.Orders.{Answer}
+use Rattle.mc_words.specs.model_device.specs.Device.{Due, DueCut, DueFailure, DueNot, blank_words, device_words}
 use Rattle.mc_nvm.specs.Sim.{Sim, after_write, next_due, SimWrote, blank_sim}
 use Rattle.lab_branch.specs.Branches.{IsListed, MarksAreListed, HasRoom, BranchState, IsBranch, IsDifference, has_root_word, unless_root, differences_at}
 

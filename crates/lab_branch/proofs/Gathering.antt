@@ -2,11 +2,11 @@
 use Rattle.std.proofs.Common.{◌≡◌, ℕ, ◌+◌, ◌<◌, ◌≤◌, Bool, true, false, cond, ◌||◌, List, [], ◌∷◌, length, Option, Some, None, refl, sym, ◌∙◌, ap, subst, arith}
 use Rattle.std.specs.Prelude.{◌==◌, slice_index, bytes_eq}
 use Rattle.std.proofs.lemmas.Bool.{le-leb}
-use Rattle.mc_base.specs.model_device.specs.Bytes.{be2, has_name, lookup, insert}
-use Rattle.mc_base.specs.model_device.specs.Device.{IsSized}
-use Rattle.mc_base.specs.model_device.specs.Card.{App, Block, word, header, blocks, name_at, app_at, apps_of, card_of, used_tag}
-use Rattle.mc_base.specs.model_device.specs.Layout.{words_fault}
-use Rattle.mc_base.specs.model_device.proofs.MapLemmas.{apart, insert_swap, lookup_beside}
+use Rattle.mc_words.specs.model_device.specs.Bytes.{be2, has_name, lookup, insert}
+use Rattle.mc_words.specs.model_device.specs.Device.{IsSized}
+use Rattle.mc_words.specs.model_device.specs.Card.{App, Block, word, header, blocks, name_at, app_at, apps_of, card_of, used_tag}
+use Rattle.mc_words.specs.model_device.specs.Layout.{words_fault}
+use Rattle.mc_words.specs.model_device.proofs.MapLemmas.{apart, insert_swap, lookup_beside}
 use Rattle.mc_blocks.specs.Blocks.{block_within, blocks_at}
 use Rattle.mc_blocks.proofs.Steps.{HeaderIs, header_is, blocks_step, blocks_all}
 use Rattle.mc_blocks.proofs.Bridge.{AreNamed, named, faultless}

@@ -1,13 +1,13 @@
 -- Insertion under a new name, at the place of the name.
 use Rattle.std.proofs.Common.{◌≡◌, ℕ, suc, ◌≤◌, Bool, true, false, cond, List, [], ◌∷◌, length, Some, None, refl, ap, arith}
 use Rattle.std.specs.Prelude.{bytes_eq, insert as put_in}
-use Rattle.mc_base.specs.model_device.specs.Bytes.{lookup, insert, name_before}
+use Rattle.mc_words.specs.model_device.specs.Bytes.{lookup, insert, name_before}
 use Rattle.std.specs.Ordering.{is_lt, nat_cmp}
 use Rattle.std.specs.declared.cmp.Ordering.{Ordering}
 use Rattle.std.proofs.lemmas.Bool.Decides.{nat_tests}
 use Rattle.std.proofs.lemmas.Cmp.{same_from_slice_cmp}
 use Rattle.std.specs.Cmp.Lexicographic.{slice_cmp}
-use Rattle.mc_base.specs.model_device.specs.Card.{App}
+use Rattle.mc_words.specs.model_device.specs.Card.{App}
 use Rattle.lab_branch.specs.Applications.{place_of_name}
 
 pub place_within : (es : List (List ℕ × App)) (n : List ℕ) → place_of_name es n ≤ length es

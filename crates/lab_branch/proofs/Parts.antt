@@ -1,8 +1,8 @@
 -- The sections of a used block end within the device.
 use Rattle.std.proofs.Common.{◌≡◌, ℕ, ◌+◌, ◌≤◌, List, length, sym, subst, arith}
 use Rattle.std.specs.Prelude.{slice_index}
-use Rattle.mc_base.specs.model_device.specs.Bytes.{be2}
-use Rattle.mc_base.specs.model_device.specs.Card.{record_at, words_of_lengths}
+use Rattle.mc_words.specs.model_device.specs.Bytes.{be2}
+use Rattle.mc_words.specs.model_device.specs.Card.{record_at, words_of_lengths}
 use Rattle.mc_store.specs.Slots.{IsUsedBlock}
 use Rattle.mc_store.proofs.RecordLemmas.{RecordIs, record_is}
 

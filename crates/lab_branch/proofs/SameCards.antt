@@ -1,7 +1,7 @@
 -- A roster and the static bytes beside it are those of one card alone.
 use Rattle.std.proofs.Common.{◌≡◌, ℕ, List, [], ◌∷◌, ◌++◌, length, take, drop, refl, sym, ◌∙◌, ap}
 use Rattle.std.proofs.Math.Seq.{take-append_seam, drop-append_seam}
-use Rattle.mc_base.specs.model_device.specs.Card.{App}
+use Rattle.mc_words.specs.model_device.specs.Card.{App}
 use Rattle.lab_branch.specs.Rosters.{ResidentValue, resident_of, roster_of, statics_of}
 
 split : (a b c d : List ℕ) → length a ≡ length b → a ++ c ≡ b ++ d → (a ≡ b) × (c ≡ d)

@@ -3,9 +3,9 @@ use Rattle.std.proofs.Common.{◌≡◌, ℕ, suc, ◌+◌, ◌-◌, ◌≤◌, 
 use Rattle.std.proofs.lemmas.List.{take-append-le, take_all}
 use Rattle.std.proofs.Math.Seq.{take-append-add}
 use Rattle.std.proofs.lemmas.Bool.{cases_lt}
-use Rattle.mc_base.specs.model_device.specs.Bytes.{up}
-use Rattle.mc_base.specs.model_device.specs.Device.{IsSized}
-use Rattle.mc_base.specs.model_device.specs.Card.{word, cells, section}
+use Rattle.mc_words.specs.model_device.specs.Bytes.{up}
+use Rattle.mc_words.specs.model_device.specs.Device.{IsSized}
+use Rattle.mc_words.specs.model_device.specs.Card.{word, cells, section}
 use Rattle.mc_blocks.proofs.Sections.{cells_more}
 
 module _ (m : List (List ℕ)) (p n : ℕ) (image : IsSized m) (some : 1 ≤ n) (within : p + up n 8 ≤ length m) where

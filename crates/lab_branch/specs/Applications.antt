@@ -1,7 +1,7 @@
 -- Applications in the order of their names, as they are read block by block.
 use Rattle.std.specs.Prelude.{ℕ, suc, Bool, true, false, cond, List, [], ◌∷◌}
-use Rattle.mc_base.specs.model_device.specs.Bytes.{insert, name_before}
-use Rattle.mc_base.specs.model_device.specs.Card.{App, name_at, app_at}
+use Rattle.mc_words.specs.model_device.specs.Bytes.{insert, name_before}
+use Rattle.mc_words.specs.model_device.specs.Card.{App, name_at, app_at}
 
 -- the number of entries before the first whose name comes after a name
 abbrev pub place_of_name : List (List ℕ × App) → List ℕ → ℕ

@@ -1,8 +1,8 @@
 -- A device in memory with a root, the words to which it goes back.
 use Rattle.std.specs.Prelude.{◌≡◌, ◌≢◌, ◌⊎◌, ℕ, ◌<◌, ◌≤◌, Bool, true, false, eqb, List, [], ◌∷◌, length, get_or, slice_index_or, bytes_eq}
 use Rattle.std.specs.List.{IsDistinct}
-use Rattle.mc_base.specs.model_device.specs.Orders.{Answer}
-use Rattle.mc_base.specs.model_device.specs.Device.{DeviceState, BenchState, blank_words, device_words}
+use Rattle.mc_words.specs.model_device.specs.Orders.{Answer}
+use Rattle.mc_words.specs.model_device.specs.Device.{DeviceState, BenchState, blank_words, device_words}
 use Rattle.mc_nvm.specs.Sim.{Sim, sim_state, sim_bench, SimWrote, blank_sim}
 
 -- ---- places

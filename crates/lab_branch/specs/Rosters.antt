@@ -1,6 +1,6 @@
 -- The roster of a card, which is its applications but for their static bytes, and the static bytes beside it.
 use Rattle.std.specs.Prelude.{ℕ, Bool, List, [], ◌∷◌, ◌++◌, length, map}
-use Rattle.mc_base.specs.model_device.specs.Card.{App}
+use Rattle.mc_words.specs.model_device.specs.Card.{App}
 use Rattle.lab_branch.specs.declared.roster.Resident.{Resident}
 use Rattle.lab_branch.specs.declared.roster.Roster.{Roster}
 use Rattle.lab_branch.specs.contracts.roster.ResidentPartialEq.TheImpl as resident

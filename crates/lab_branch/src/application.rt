@@ -1,13 +1,13 @@
 // An application of a card, as the words of its device hold it.
 ghost use Rattle.std.specs.Prelude.{◌≡◌, ◌+◌, slice_index, IfOk};
-ghost use Rattle.mc_base.specs.model_device.specs.Bytes.{be2};
-ghost use Rattle.mc_base.specs.model_device.specs.Card.{name_at, app_at};
+ghost use Rattle.mc_words.specs.model_device.specs.Bytes.{be2};
+ghost use Rattle.mc_words.specs.model_device.specs.Card.{name_at, app_at};
 ghost use Rattle.mc_store.specs.Slots.{IsUsedBlock};
 
 use crate::section::read_section;
-use mc_base::{NoMemory, number_of};
 use mc_blocks::{Record, name_of, read_record, words_of};
 use mc_nvm::Nvm;
+use mc_words::{NoMemory, number_of};
 use std::alloc::Global;
 use std::marker::Model;
 
@@ -27,7 +27,7 @@ pub struct Application {
 
 impl Model for Application {
     ghost use Rattle.std.specs.Prelude.{ℕ, List};
-    ghost use Rattle.mc_base.specs.model_device.specs.Card.{App};
+    ghost use Rattle.mc_words.specs.model_device.specs.Card.{App};
 
     ghost Value = { List ℕ × App };
 

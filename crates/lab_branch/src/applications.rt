@@ -1,15 +1,15 @@
 // The applications of a card in the order of their names.
 ghost use Rattle.std.specs.Prelude.{◌≡◌, ◌<◌, None, IfOk, OnOk, true};
-ghost use Rattle.mc_base.specs.model_device.specs.Bytes.{lookup, insert, name_before};
-ghost use Rattle.mc_base.specs.model_device.specs.Card.{name_at, card_of};
-ghost use Rattle.mc_base.specs.model_device.specs.Layout.{words_fault};
+ghost use Rattle.mc_words.specs.model_device.specs.Bytes.{lookup, insert, name_before};
+ghost use Rattle.mc_words.specs.model_device.specs.Card.{name_at, card_of};
+ghost use Rattle.mc_words.specs.model_device.specs.Layout.{words_fault};
 ghost use Rattle.mc_store.specs.Slots.{IsUsedBlock};
 ghost use Rattle.lab_branch.specs.Applications.{place_of_name, with_block};
 
 use crate::application::Application;
-use mc_base::NoMemory;
 use mc_blocks::{HEAP, read_header};
 use mc_nvm::Nvm;
+use mc_words::NoMemory;
 use std::alloc::Global;
 
 /// Reads the applications of the card in the words of a device, which have no fault and no open journal. They come in

@@ -2,16 +2,16 @@
 ghost use Rattle.std.specs.Prelude.{◌≡◌, ◌≢◌, ◌⊎◌, ◌++◌, ℕ, ◌<◌, eqb, false, [], length, map, slice_index_or, slice_set};
 ghost use Rattle.std.specs.Prelude.{None, IfOk, OnErr, OnOk};
 ghost use Rattle.std.specs.List.{AllByRecursion, IsDistinct};
-ghost use Rattle.mc_base.specs.model_device.specs.Bytes.{zeros};
-ghost use Rattle.mc_base.specs.model_device.specs.Image.{image_with};
-ghost use Rattle.mc_base.specs.model_device.specs.Device.{device_words, blank_words};
+ghost use Rattle.mc_words.specs.model_device.specs.Bytes.{zeros};
+ghost use Rattle.mc_words.specs.model_device.specs.Image.{image_with};
+ghost use Rattle.mc_words.specs.model_device.specs.Device.{device_words, blank_words};
 ghost use Rattle.lab_branch.specs.Branches.{IsBranch, IsDifference, IsListed, blank_branch, HasWords};
 ghost use Rattle.lab_branch.specs.Branches.{differences_at, has_root_word, unless_root};
 
 use crate::growth::push;
 use crate::places::Places;
-use mc_base::{NoMemory, Stop, Word};
 use mc_nvm::{Bench, DEVICE_WORDS, Nvm, SimNvm};
+use mc_words::{NoMemory, Stop, Word};
 use std::alloc::Global;
 use std::marker::Model;
 

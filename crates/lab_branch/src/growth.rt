@@ -1,7 +1,7 @@
 // Lists that grow.
 ghost use Rattle.std.specs.Prelude.{◌≡◌, ◌++◌, ◌∷◌, ◌≤◌, [], vec_capacity, vec_len, OnErr, OnOk};
 
-use mc_base::NoMemory;
+use mc_words::NoMemory;
 
 /// Appends a value to a list.
 ///

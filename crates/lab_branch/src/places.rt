@@ -2,11 +2,11 @@
 ghost use Rattle.std.specs.Prelude.{◌≡◌, ◌⊎◌, ◌++◌, ◌∷◌, ◌<◌, ◌≤◌, ℕ, true, false, eqb, [], IfOk, get_or, length};
 ghost use Rattle.std.specs.Prelude.{replicate, slice_set, vec_len, vec_capacity};
 ghost use Rattle.std.specs.List.{IsDistinct};
-ghost use Rattle.mc_base.specs.model_device.specs.Device.{device_words};
+ghost use Rattle.mc_words.specs.model_device.specs.Device.{device_words};
 ghost use Rattle.lab_branch.specs.Branches.{IsListed, MarksAreListed};
 
-use mc_base::NoMemory;
 use mc_nvm::DEVICE_WORDS;
+use mc_words::NoMemory;
 use std::alloc::Global;
 use std::marker::Model;
 

@@ -4,7 +4,7 @@ ghost use Rattle.lab_branch.specs.Rosters.{resident_value, roster_value, residen
 
 use crate::application::Application;
 use crate::growth::push;
-use mc_base::NoMemory;
+use mc_words::NoMemory;
 use std::alloc::Global;
 
 /// An application of a card, but for its static bytes: its name, the place of its block, its number of session bytes,

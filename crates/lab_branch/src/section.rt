@@ -1,10 +1,10 @@
 // The bytes of a section of a block, in the words of a device.
 ghost use Rattle.std.specs.Prelude.{◌≡◌, ◌+◌, ◌≤◌, length, IfOk};
-ghost use Rattle.mc_base.specs.model_device.specs.Bytes.{up};
-ghost use Rattle.mc_base.specs.model_device.specs.Card.{section};
+ghost use Rattle.mc_words.specs.model_device.specs.Bytes.{up};
+ghost use Rattle.mc_words.specs.model_device.specs.Card.{section};
 
-use mc_base::NoMemory;
 use mc_nvm::Nvm;
+use mc_words::NoMemory;
 use std::alloc::Global;
 
 /// Returns the first `count` bytes of the words of a device from word `first` on.

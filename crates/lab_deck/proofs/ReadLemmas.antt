@@ -2,30 +2,30 @@
 use Rattle.std.proofs.Common.{◌≡◌, ℕ, List, [], ◌∷◌, Bool, true, false, cond, not, length, map, Option, Some, None, Result, Ok, Err, arith, refl, sym, ap, subst, ◌∙◌}
 use Rattle.std.specs.Prelude.{nat_lt, ◌==◌, ◌||◌, is_some}
 use Rattle.mc_text.specs.model_text.specs.Text.{◌>>=◌, only_if}
-use Rattle.lab_match.specs.model_play.specs.declared.deck.DeckCause.{DeckCause}
-use Rattle.lab_match.specs.model_play.specs.DeckGrammar.{deck_read, DeckLine}
+use Rattle.mc_deck.specs.model_play.specs.declared.deck.DeckCause.{DeckCause}
+use Rattle.mc_deck.specs.model_play.specs.DeckGrammar.{deck_read, DeckLine}
 use Rattle.mc_deck.specs.declared.refusal.DeckRefusal.{DeckRefusal}
 use Rattle.mc_deck.specs.declared.refusal.DeckRefusal.TheVariants as refusal
 use Rattle.mc_deck.specs.Refused.{DeckRefuses}
-use Rattle.lab_match.specs.law_explore.specs.Rules as model
-use Rattle.lab_match.specs.law_explore.specs.Rules.{is_some_of}
+use Rattle.lab_moves.specs.law_explore_text.specs.law_explore.specs.Rules as model
+use Rattle.lab_moves.specs.law_explore_text.specs.law_explore.specs.Rules.{is_some_of}
 use Rattle.prove_facts.specs.model_rules.specs.Rules.{AppRules, OnLine, SumLine, Target, Total}
-use Rattle.prove_facts.specs.model_rules.specs.Reading.{Deck, app_rules_read}
+use Rattle.lab_moves.specs.law_histories.specs.model_rule_text.specs.Reading.{Deck, app_rules_read}
 use Rattle.lab_moves.specs.law_histories.specs.Histories.{app_exploration_read, can_break, line_fault, tested, AppExploration, AppFault, NoMove, NoRule}
-use Rattle.prove_events.specs.declared.rules.Always.{Always}
-use Rattle.prove_events.specs.declared.rules.Balance.{Balance}
-use Rattle.prove_events.specs.declared.rules.Effect.{Effect}
-use Rattle.prove_events.specs.declared.rules.Effect.TheVariants as effect
-use Rattle.prove_events.specs.declared.rules.On.{On}
-use Rattle.prove_events.specs.declared.rules.Rules.{Rules}
-use Rattle.prove_events.specs.Rules.{deed_of, name_of, range_of, AreLines, FirstLine}
-use Rattle.prove_events.specs.Rules.{AreRules as AreAppRules}
+use Rattle.lab_app_rules.specs.declared.rules.Always.{Always}
+use Rattle.lab_app_rules.specs.declared.rules.Balance.{Balance}
+use Rattle.lab_app_rules.specs.declared.rules.Effect.{Effect}
+use Rattle.lab_app_rules.specs.declared.rules.Effect.TheVariants as effect
+use Rattle.lab_app_rules.specs.declared.rules.On.{On}
+use Rattle.lab_app_rules.specs.declared.rules.Rules.{Rules}
+use Rattle.lab_app_rules.specs.Rules.{deed_of, name_of, range_of, AreLines, FirstLine}
+use Rattle.lab_app_rules.specs.Rules.{AreRules as AreAppRules}
 use Rattle.prove_rules.specs.declared.fault.RuleCause.{RuleCause as CodeCause}
 use Rattle.prove_rules.specs.declared.fault.RuleCause.TheVariants as cause
 use Rattle.prove_rules.specs.declared.fault.RuleRefusal.{RuleRefusal}
 use Rattle.prove_rules.specs.declared.fault.RuleRefusal.TheVariants as rule
 use Rattle.prove_rules.specs.Refused.{cause_value, RefusesRules}
-use Rattle.prove_rules.specs.Sums.{move_of, AreSumLines, AreSums, AreTotals, FirstSumLine}
+use Rattle.lab_app_rules.specs.Sums.{move_of, AreSumLines, AreSums, AreTotals, FirstSumLine}
 use Rattle.lab_rules.specs.declared.rules.Move.{Move}
 use Rattle.lab_rules.specs.Meanings.{AlikeLists, AreRules, IsMove}
 use Rattle.lab_deck.specs.declared.reading.Application.{Application}

@@ -1,17 +1,17 @@
 -- A deck with the rules of one application, as the code has it.
 use Rattle.std.specs.Prelude.{◌≡◌, ℕ, cond, nat_lt, ◌==◌, ◌||◌, List, [], ◌∷◌, codes, Option, Some, None, Result, Ok, Err, ⊤}
-use Rattle.lab_match.specs.model_play.specs.declared.deck.DeckCause.{DeckCause}
+use Rattle.mc_deck.specs.model_play.specs.declared.deck.DeckCause.{DeckCause}
 use Rattle.mc_deck.specs.declared.refusal.DeckRefusal.{DeckRefusal}
 use Rattle.mc_deck.specs.declared.refusal.DeckRefusal.TheVariants as refusal
 use Rattle.mc_deck.specs.Refused.{DeckRefuses}
-use Rattle.lab_match.specs.law_explore.specs.Rules as model
+use Rattle.lab_moves.specs.law_explore_text.specs.law_explore.specs.Rules as model
 use Rattle.lab_moves.specs.law_histories.specs.Histories.{AppExploration, AppFault, LineFault, NoMove, NoRule}
-use Rattle.prove_events.specs.Rules.{AreRules as AreAppRules}
+use Rattle.lab_app_rules.specs.Rules.{AreRules as AreAppRules}
 use Rattle.prove_rules.specs.declared.fault.RuleCause.TheVariants as cause
 use Rattle.prove_rules.specs.declared.fault.RuleRefusal.{RuleRefusal}
 use Rattle.prove_rules.specs.declared.fault.RuleRefusal.TheVariants as rule
 use Rattle.prove_rules.specs.Refused.{cause_value}
-use Rattle.prove_rules.specs.Sums.{AreSums}
+use Rattle.lab_app_rules.specs.Sums.{AreSums}
 use Rattle.lab_rules.specs.Meanings.{AreRules}
 use Rattle.lab_deck.specs.declared.reading.Application.{Application}
 use Rattle.lab_deck.specs.declared.refusal.ApplicationRefusal.{ApplicationRefusal}

@@ -8,10 +8,10 @@ use Rattle.std.proofs.lemmas.List.{append-nil, drop_all, drop_at, drop_min, leng
 use Rattle.std.proofs.lemmas.List.{drop-drop, length-append, length-drop, length-take, take-append-drop}
 use Rattle.std.proofs.lemmas.Slice.{drop-put_mid, take-put_mid}
 use borrow.Rule.Slice.PartMut.{put_mid}
-use Rattle.mc_base.specs.model_device.specs.Bytes.{num, zeros}
-use Rattle.prove_events.specs.declared.rules.Balance.{Balance}
-use Rattle.prove_events.specs.declared.rules.Named.{Named}
-use Rattle.prove_events.specs.declared.rules.SignedSum.{SignedSum}
+use Rattle.model_device.specs.Bytes.{num, zeros}
+use Rattle.lab_app_rules.specs.declared.rules.Balance.{Balance}
+use Rattle.lab_app_rules.specs.declared.rules.Named.{Named}
+use Rattle.lab_app_rules.specs.declared.rules.SignedSum.{SignedSum}
 use Rattle.lab_history.specs.Blocks.{added_by, count_of_added, count_of_taken, first_amount, is_same, taken_by}
 use Rattle.lab_history.specs.Moves.{AreMoved, IsMoved}
 use Rattle.lab_history.specs.Standings.{AreFirst, IsFirst}

@@ -5,8 +5,8 @@ use Rattle.std.proofs.Math.Nat.{add-mod-mod, add-mul-mod_self_right, mul-add-mod
 use Rattle.std.proofs.Math.Seq.{drop-nil}
 use Rattle.std.proofs.lemmas.Bool.{ltb-false, ltb-true}
 use Rattle.std.proofs.lemmas.Nat.{pow-add}
-use Rattle.mc_base.specs.model_device.specs.Bytes.{num}
-use Rattle.mc_arith.proofs.StepLemmas.{num_drop, num_drop_set, pow_at}
+use Rattle.model_device.specs.Bytes.{num}
+use Rattle.mc_arith.specs.law_rows.proofs.StepLemmas.{num_drop, num_drop_set, pow_at}
 use Rattle.lab_history.specs.Digits.{digit_at}
 
 low_more : (l : List ℕ) (k : ℕ) (b : Bool) → nat_lt k (length l) ≡ b → num (drop (length l - suc k) l) ≡ cond b (slice_index_or l (length l - 1 - k) 0) 0 * 256 ^ k + num (drop (length l - k) l)

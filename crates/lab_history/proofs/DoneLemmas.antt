@@ -2,14 +2,14 @@
 use Rattle.std.proofs.Common.{◌≡◌, ℕ, suc, ◌<◌, ◌≤◌, Bool, true, false, List, [], ◌∷◌, drop, take, length, get_or, Option, Some, None, Result, Ok, Err, refl, sym, ◌∙◌, ap, subst, arith, drop-cons}
 use Rattle.std.specs.Prelude.{is_some, slice_get}
 use Rattle.std.proofs.lemmas.List.{drop_all, length-append, take-append-drop}
-use Rattle.mc_base.specs.model_device.specs.Bytes.{num}
-use Rattle.prove_events.specs.declared.rules.Balance.{Balance}
-use Rattle.prove_events.specs.declared.rules.On.{On}
+use Rattle.model_device.specs.Bytes.{num}
+use Rattle.lab_app_rules.specs.declared.rules.Balance.{Balance}
+use Rattle.lab_app_rules.specs.declared.rules.On.{On}
 use Rattle.lab_history.specs.declared.course.Deed.{Deed}
 use Rattle.lab_history.specs.declared.course.Deed.TheVariants as deed
 use Rattle.lab_history.specs.declared.course.Extent.{Extent}
 use Rattle.lab_history.specs.declared.course.Happening.{Happening}
-use Rattle.prove_events.specs.model_text.specs.Text.{◌>>=◌}
+use Rattle.lab_app_rules.specs.model_events.specs.model_text.specs.Text.{◌>>=◌}
 use Rattle.lab_history.specs.declared.standing.Break.{Break}
 use Rattle.lab_history.specs.Applying.{deed_effect, deeds_effect, effect_where, ComesTo}
 use Rattle.lab_history.specs.Courses.{has_turn}

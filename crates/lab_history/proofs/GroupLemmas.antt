@@ -2,8 +2,8 @@
 use Rattle.std.proofs.Common.{◌≡◌, ◌≢◌, ℕ, zero, suc, ◌+◌, ◌<◌, ◌≤◌, List, [], ◌∷◌, ◌++◌, length, get_or, replicate, refl, sym, subst, arith, length-append}
 use Rattle.std.proofs.lemmas.List.{length-replicate}
 use Rattle.std.specs.List.{AllByRecursion}
-use Rattle.mc_base.specs.model_device.specs.Image.{Two}
-use Rattle.mc_base.specs.model_device.specs.Stopped.{cost}
+use Rattle.model_device.specs.Image.{Two}
+use Rattle.model_device.specs.Stopped.{cost}
 use Rattle.lab_history.specs.Durable.{count_in, first_in, IsGroup}
 
 counts_none : (xs : List ℕ) (n : ℕ) → AllByRecursion (λ x. x ≢ n) xs → count_in xs n ≡ 0

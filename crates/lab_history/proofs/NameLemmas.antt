@@ -2,13 +2,13 @@
 use Rattle.std.proofs.Common.{◌≡◌, ℕ, zero, suc, ◌-◌, List, [], ◌∷◌, Bool, true, false, cond, Option, Some, None, refl, sym, ap, subst, ◌∙◌}
 use Rattle.std.specs.Prelude.{bytes_eq, nat_le, option_map, slice_get, slice_set, unwrap_or}
 use Rattle.std.proofs.lemmas.Slice.Eq.{bytes_eq-Decides}
-use Rattle.mc_base.specs.model_device.specs.Bytes.{lookup}
-use Rattle.prove_events.specs.law_explore.specs.Tries.{amount_of, with_amount}
-use Rattle.prove_events.specs.model_rules.specs.Rules.{Action, Allows, Spends, Needs, OnLine}
-use Rattle.prove_events.specs.model_rules.specs.Keeping.{Amounts, after_action, if_enough}
-use Rattle.prove_events.specs.declared.rules.Effect.{Effect}
-use Rattle.prove_events.specs.declared.rules.Effect.TheVariants as effect
-use Rattle.prove_events.specs.declared.rules.On.{On}
+use Rattle.model_device.specs.Bytes.{lookup}
+use Rattle.lab_app_rules.specs.model_events.specs.Amounts.{amount_of, with_amount}
+use Rattle.lab_app_rules.specs.model_rules.specs.Rules.{Action, Allows, Spends, Needs, OnLine}
+use Rattle.lab_app_rules.specs.model_rules.specs.Keeping.{Amounts, after_action, if_enough}
+use Rattle.lab_app_rules.specs.declared.rules.Effect.{Effect}
+use Rattle.lab_app_rules.specs.declared.rules.Effect.TheVariants as effect
+use Rattle.lab_app_rules.specs.declared.rules.On.{On}
 use Rattle.lab_history.specs.Amounts.{amount_after, amounts_after, amounts_at}
 use Rattle.lab_history.specs.Lines.{amounts_of, names_of, place_of, AreAmounts, AreDistinct, DoesAs, IsAllowanceLine}
 

@@ -2,11 +2,11 @@
 use Rattle.std.proofs.Common.{◌≡◌, ℕ, zero, suc, ◌+◌, ◌*◌, ◌%◌, ◌^◌, ◌<◌, Bool, true, false, cond, not, List, [], ◌∷◌, length, Some, refl, sym, ◌∙◌, ap, subst, arith}
 use Rattle.std.specs.Prelude.{◌&&◌, ◌||◌, ◌==◌, bytes_eq, slice_get, unwrap_or}
 use Rattle.std.proofs.lemmas.Slice.Eq.{bytes_eq-Decides}
-use Rattle.mc_base.specs.model_device.specs.Bytes.{num}
-use Rattle.prove_events.specs.model_rules.specs.Rules.{SumLine}
-use Rattle.prove_events.specs.model_rules.specs.Keeping.{Sum, added_by, added_to, after_sum_line, amount_in, moved_sum, taken_by, taken_from}
-use Rattle.prove_events.specs.declared.rules.SignedSum.{SignedSum}
-use Rattle.prove_events.specs.Rules.{is_named, AreDistinct}
+use Rattle.model_device.specs.Bytes.{num}
+use Rattle.lab_app_rules.specs.model_rules.specs.Rules.{SumLine}
+use Rattle.lab_app_rules.specs.model_rules.specs.Keeping.{Sum, added_by, added_to, after_sum_line, amount_in, moved_sum, taken_by, taken_from}
+use Rattle.lab_app_rules.specs.declared.rules.SignedSum.{SignedSum}
+use Rattle.lab_app_rules.specs.Rules.{is_named, AreDistinct}
 use Rattle.lab_history.specs.Blocks.{count_of_added, count_of_taken, is_same}
 use Rattle.lab_history.specs.Moves.{IsMoved}
 use Rattle.lab_history.specs.Sums.{names_of, terms_by, AreWithin, IsSummed}

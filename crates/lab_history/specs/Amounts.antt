@@ -1,7 +1,7 @@
 -- Amounts of allowances by their places.
 use Rattle.std.specs.Prelude.{ℕ, ◌-◌, cond, nat_le, List, option_map, slice_get, slice_set, Option, Some, None}
-use Rattle.prove_events.specs.declared.rules.Effect.{Effect}
-use Rattle.prove_events.specs.declared.rules.Effect.TheVariants as effect
+use Rattle.lab_app_rules.specs.declared.rules.Effect.{Effect}
+use Rattle.lab_app_rules.specs.declared.rules.Effect.TheVariants as effect
 
 -- an amount after an effect, or none if it breaks the rule; an effect on a sum leaves it
 abbrev pub amount_after : Effect → ℕ → Option ℕ

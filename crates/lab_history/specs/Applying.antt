@@ -1,9 +1,9 @@
 -- What the events of a line do to the amounts of the allowances.
 use Rattle.std.specs.Prelude.{◌≡◌, ℕ, ◌+◌, Bool, true, false, List, [], ◌∷◌, slice_get, Option, Some, None, Result, Ok, Err}
-use Rattle.prove_events.specs.model_text.specs.Text.{◌>>=◌}
-use Rattle.prove_events.specs.declared.rules.Event.{Event}
-use Rattle.prove_events.specs.declared.rules.Event.TheVariants as event
-use Rattle.prove_events.specs.declared.rules.On.{On}
+use Rattle.lab_app_rules.specs.model_events.specs.model_text.specs.Text.{◌>>=◌}
+use Rattle.lab_app_rules.specs.declared.rules.Event.{Event}
+use Rattle.lab_app_rules.specs.declared.rules.Event.TheVariants as event
+use Rattle.lab_app_rules.specs.declared.rules.On.{On}
 use Rattle.lab_history.specs.declared.course.Deed.{Deed}
 use Rattle.lab_history.specs.declared.course.Deed.TheVariants as deed
 use Rattle.lab_history.specs.declared.course.Happening.{Happening}

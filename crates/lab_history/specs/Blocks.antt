@@ -1,7 +1,7 @@
 -- What the terms of a block add to it and take from it.
 use Rattle.std.specs.Prelude.{ℕ, ◌+◌, Bool, not, cond, ◌&&◌, ◌==◌, List, [], ◌∷◌, slice_get, unwrap_or, option_map}
-use Rattle.prove_events.specs.declared.rules.Named.{Named}
-use Rattle.prove_events.specs.declared.rules.SignedSum.{SignedSum}
+use Rattle.lab_app_rules.specs.declared.rules.Named.{Named}
+use Rattle.lab_app_rules.specs.declared.rules.SignedSum.{SignedSum}
 
 -- two signs are the same
 abbrev pub is_same : Bool → Bool → Bool

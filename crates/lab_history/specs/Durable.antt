@@ -1,8 +1,8 @@
 -- The device writes of one instruction among those of a line: those before which the number of instructions is the same.
 use Rattle.std.specs.Prelude.{◌≡◌, ◌≢◌, ℕ, suc, ◌+◌, ◌<◌, ◌≤◌, cond, ◌==◌, List, [], ◌∷◌, ◌++◌, length, replicate}
 use Rattle.std.specs.List.{AllByRecursion}
-use Rattle.mc_base.specs.model_device.specs.Image.{Two}
-use Rattle.mc_base.specs.model_device.specs.Stopped.{cost}
+use Rattle.model_device.specs.Image.{Two}
+use Rattle.model_device.specs.Stopped.{cost}
 
 -- the number of places of a list that have a value
 abbrev pub count_in : List ℕ → ℕ → ℕ

@@ -1,12 +1,12 @@
 -- The lines of rules as the code has them, and those of the definition.
 use Rattle.std.specs.Prelude.{◌≡◌, ℕ, suc, cond, List, [], ◌∷◌, map, bytes_eq, option_map, Option, Some, None, Result, Ok, Err, ⊤}
-use Rattle.mc_base.specs.model_device.specs.Bytes.{lookup}
-use Rattle.prove_events.specs.model_rules.specs.Rules.{Action, Allows, Spends, Needs, OnLine, Range}
-use Rattle.prove_events.specs.model_rules.specs.Keeping.{Amounts, Break, ByLine, after_action, is_in_range}
-use Rattle.prove_events.specs.declared.rules.Always.{Always}
-use Rattle.prove_events.specs.declared.rules.Effect.{Effect}
-use Rattle.prove_events.specs.declared.rules.Effect.TheVariants as effect
-use Rattle.prove_events.specs.declared.rules.On.{On}
+use Rattle.model_device.specs.Bytes.{lookup}
+use Rattle.lab_app_rules.specs.model_rules.specs.Rules.{Action, Allows, Spends, Needs, OnLine, Range}
+use Rattle.lab_app_rules.specs.model_rules.specs.Keeping.{Amounts, Break, ByLine, after_action, is_in_range}
+use Rattle.lab_app_rules.specs.declared.rules.Always.{Always}
+use Rattle.lab_app_rules.specs.declared.rules.Effect.{Effect}
+use Rattle.lab_app_rules.specs.declared.rules.Effect.TheVariants as effect
+use Rattle.lab_app_rules.specs.declared.rules.On.{On}
 use Rattle.lab_history.specs.Amounts.{amounts_after}
 use Rattle.lab_history.specs.Standings.{is_within}
 

@@ -1,11 +1,11 @@
 -- What a sum that is moved does to blocks of bytes, one after the other.
 use Rattle.std.specs.Prelude.{◌≡◌, ℕ, ◌+◌, ◌*◌, ◌%◌, ◌^◌, Bool, true, false, List, [], ◌∷◌, ◌++◌, drop, length, slice_get, take, Option, Some, None}
-use Rattle.mc_base.specs.model_device.specs.Bytes.{num}
-use Rattle.prove_events.specs.declared.rules.Balance.{Balance}
-use Rattle.prove_events.specs.declared.rules.Effect.{Effect}
-use Rattle.prove_events.specs.declared.rules.Effect.TheVariants as effect
-use Rattle.prove_events.specs.declared.rules.On.{On}
-use Rattle.prove_events.specs.declared.rules.SignedSum.{SignedSum}
+use Rattle.model_device.specs.Bytes.{num}
+use Rattle.lab_app_rules.specs.declared.rules.Balance.{Balance}
+use Rattle.lab_app_rules.specs.declared.rules.Effect.{Effect}
+use Rattle.lab_app_rules.specs.declared.rules.Effect.TheVariants as effect
+use Rattle.lab_app_rules.specs.declared.rules.On.{On}
+use Rattle.lab_app_rules.specs.declared.rules.SignedSum.{SignedSum}
 use Rattle.lab_history.specs.declared.course.Deed.{Deed}
 use Rattle.lab_history.specs.declared.course.Deed.TheVariants as deed
 use Rattle.lab_history.specs.declared.course.Extent.{Extent}

@@ -1,9 +1,9 @@
 -- What is counted of an application, and what its static bytes break.
 use Rattle.std.specs.Prelude.{◌≡◌, ℕ, ◌+◌, ◌%◌, ◌^◌, Bool, cond, ◌&&◌, nat_le, nat_lt, List, [], ◌∷◌, ◌++◌, bytes_eq, drop, length, slice_index_or, take, Option, Some, None}
-use Rattle.mc_base.specs.model_device.specs.Bytes.{num}
-use Rattle.prove_events.specs.declared.rules.Always.{Always}
-use Rattle.prove_events.specs.declared.rules.Balance.{Balance}
-use Rattle.prove_events.specs.declared.rules.Named.{Named}
+use Rattle.model_device.specs.Bytes.{num}
+use Rattle.lab_app_rules.specs.declared.rules.Always.{Always}
+use Rattle.lab_app_rules.specs.declared.rules.Balance.{Balance}
+use Rattle.lab_app_rules.specs.declared.rules.Named.{Named}
 use Rattle.lab_history.specs.declared.standing.Break.{Break}
 use Rattle.lab_history.specs.declared.standing.Break.TheVariants as broken
 use Rattle.lab_history.specs.Blocks.{added_by, taken_by}

@@ -1,10 +1,10 @@
 -- Blocks that sums bind, in the terms of the definition: sums by their names, each with what was added and what was taken.
 use Rattle.std.specs.Prelude.{◌≡◌, ℕ, ◌+◌, ◌%◌, ◌^◌, ◌<◌, Bool, not, List, [], ◌∷◌, length, map, slice_get, unwrap_or, Some, ⊤}
-use Rattle.mc_base.specs.model_device.specs.Bytes.{num}
-use Rattle.prove_events.specs.model_rules.specs.Rules.{SumLine}
-use Rattle.prove_events.specs.model_rules.specs.Keeping.{Sum, added_by, after_sum_line, amount_in, taken_by}
-use Rattle.prove_events.specs.declared.rules.SignedSum.{SignedSum}
-use Rattle.prove_events.specs.Rules.{AreDistinct}
+use Rattle.model_device.specs.Bytes.{num}
+use Rattle.lab_app_rules.specs.model_rules.specs.Rules.{SumLine}
+use Rattle.lab_app_rules.specs.model_rules.specs.Keeping.{Sum, added_by, after_sum_line, amount_in, taken_by}
+use Rattle.lab_app_rules.specs.declared.rules.SignedSum.{SignedSum}
+use Rattle.lab_app_rules.specs.Rules.{AreDistinct}
 use Rattle.lab_history.specs.Moves.{IsMoved}
 
 -- the names of sums

@@ -2,8 +2,8 @@
 ghost use Rattle.std.specs.Prelude.{◌≡◌, is_some, map, unwrap_or, IfOk};
 ghost use Rattle.lab_history.specs.Amounts.{amount_after, amounts_after};
 
-use mc_base::NoMemory;
-use prove_events::{Effect, On, Rules};
+use lab_app_rules::{Effect, On, Rules};
+use model_device::NoMemory;
 use std::alloc::Global;
 
 /// Returns the amounts of the allowances as the application is created.

@@ -1,13 +1,13 @@
 // What happens to an application, counted.
 ghost use Rattle.std.specs.Prelude.{◌≡◌, slice_get, slice_set, vec_len, IfNone};
-ghost use Rattle.mc_base.specs.model_device.specs.Bytes.{num};
+ghost use Rattle.model_device.specs.Bytes.{num};
 ghost use Rattle.lab_history.specs.Applying.{course_effect, deed_effect, deeds_effect, end_effect, is_session, line_effect, lines_effect, session_effect, session_if, ComesTo};
 ghost use Rattle.lab_history.specs.Moves.{takes_from_sum, AreDone, IsDone, IsLineMoved};
 
 use crate::amounts::is_kept;
 use crate::course::{Course, Deed, Extent};
 use crate::standing::{Break, Standing};
-use prove_events::{Effect, Event, On, Rules};
+use lab_app_rules::{Effect, Event, On, Rules};
 
 // Notes that the `on` line with a number applied, if there is such a line.
 fn hear(times: &mut [u64], i: usize)

@@ -1,6 +1,6 @@
 // Numbers in bytes, the highest first, modulo 256 to the power of their size.
 ghost use Rattle.std.specs.Prelude.{◌≡◌, ◌+◌, ◌%◌, ◌^◌, cond, length};
-ghost use Rattle.mc_base.specs.model_device.specs.Bytes.{num};
+ghost use Rattle.model_device.specs.Bytes.{num};
 ghost use Rattle.lab_history.specs.Digits.{digit_at};
 
 // The digit at a place counted from the lowest one, 0 above the highest.

@@ -1,12 +1,12 @@
 // Blocks of static bytes that sums bind: the numbers that they are to be.
 ghost use Rattle.std.specs.Prelude.{◌≡◌, ◌+◌, ◌*◌, ◌%◌, ◌^◌, bytes_eq, drop, length, take, IfOk};
-ghost use Rattle.mc_base.specs.model_device.specs.Bytes.{num, zeros};
+ghost use Rattle.model_device.specs.Bytes.{num, zeros};
 ghost use Rattle.lab_history.specs.Blocks.{added_by, count_of_added, count_of_taken, first_amount, taken_by};
 ghost use Rattle.lab_history.specs.Moves.{AreMoved};
 
 use crate::arithmetic::{number_bytes, shift};
-use mc_base::NoMemory;
-use prove_events::{Balance, Named, SignedSum};
+use lab_app_rules::{Balance, Named, SignedSum};
+use model_device::NoMemory;
 use std::alloc::Global;
 
 /// Returns the static bytes of a block.

@@ -1,7 +1,7 @@
 // Whether the write of an instruction that a stop hit is durable.
 ghost use Rattle.std.specs.Prelude.{◌≡◌, ◌+◌, ◌-◌, ◌≤◌, ℕ, List, bytes_eq, length};
-ghost use Rattle.mc_base.specs.model_device.specs.Image.{Two, opening};
-ghost use Rattle.mc_base.specs.model_device.specs.Stopped.{cost, stands};
+ghost use Rattle.model_device.specs.Image.{Two, opening};
+ghost use Rattle.model_device.specs.Stopped.{cost, stands};
 ghost use Rattle.lab_history.specs.Durable.{count_in, first_in, IsGroup};
 
 /// The greatest number of device writes of an atomic write, one of 64 words.

@@ -1,13 +1,13 @@
 // What the rules of an application count.
 ghost use Rattle.std.specs.Prelude.{◌≡◌, length, map, vec_len, IfOk};
-ghost use Rattle.mc_base.specs.model_device.specs.Bytes.{num};
+ghost use Rattle.model_device.specs.Bytes.{num};
 ghost use Rattle.lab_history.specs.Moves.{AreMoved};
 ghost use Rattle.lab_history.specs.Standings.{blocks_of, first_of, is_within, AreFirst, IsFirstBlock, IsFirstBroken, IsFirstRange};
 
 use crate::amounts::first_amounts;
 use crate::blocks::{block_in, first_block, is_block, move_blocks};
-use mc_base::NoMemory;
-use prove_events::{Always, Balance, Rules};
+use lab_app_rules::{Always, Balance, Rules};
+use model_device::NoMemory;
 use std::alloc::Global;
 
 /// What is counted of an application: the amounts of its allowances, and of each block of static bytes that sums bind the

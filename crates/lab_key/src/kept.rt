@@ -8,8 +8,8 @@ ghost use Rattle.lab_key.specs.Kept.{IsKeptCard, IsOfDevice, IsSavedOf};
 use crate::key::{CardKey, PlaceKey, Stage};
 use indexmap::{IndexMap, IndexSet};
 use lab_branch::{BranchNvm, Roster};
-use mc_base::{NoMemory, Word};
 use mc_script::Live;
+use mc_words::{NoMemory, Word};
 use std::alloc::Global;
 
 /// What puts a card back on a device: the words that differ from its root, each with its place, and what ran on them.

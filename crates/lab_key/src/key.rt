@@ -11,9 +11,9 @@ ghost use Rattle.lab_key.specs.KeyOf.{KeyOf};
 use crate::session::SessionKey;
 use indexmap::IndexSet;
 use lab_branch::{Application, Roster, read_applications, static_bytes};
-use mc_base::NoMemory;
 use mc_nvm::Nvm;
 use mc_script::Live;
+use mc_words::NoMemory;
 use std::alloc::Global;
 
 /// The key of what runs on a device: no card, which may be mute after a failed write, or a card with its session state.

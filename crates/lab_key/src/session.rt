@@ -7,11 +7,11 @@ ghost use Rattle.lab_key.specs.Sessions.{session_value, selected_value, load_val
 
 use lab_branch::read_section;
 use mc_bank::Part;
-use mc_base::NoMemory;
 use mc_card::SavedSession;
 use mc_manager::Load;
 use mc_nvm::Nvm;
 use mc_store::part_place;
+use mc_words::NoMemory;
 use std::alloc::Global;
 
 /// A selection: the name of its application, and the session bytes.

@@ -1,7 +1,7 @@
 -- The fields of a line, by the first of them.
 use Rattle.std.proofs.Common.{◌≡◌, ◌≤◌, ◌<◌, ℕ, suc, List, [], ◌∷◌, Bool, true, false, cond, not, filter, length, Option, Some, None, arith, refl, sym, ap, subst, ◌∙◌}
-use Rattle.law_explore.specs.model_text.specs.Text.{before_trimmed, fields, first_cut, halves_with_character, is_blank, is_empty, pieces, pieces_with_character, trim, trim_end, trim_front}
-use Rattle.law_explore.specs.Matching.{plain}
+use Rattle.mc_text.specs.model_text.specs.Text.{before_trimmed, fields, first_cut, halves_with_character, is_blank, is_empty, pieces, pieces_with_character, trim, trim_end, trim_front}
+use Rattle.model_events.specs.Matching.{plain}
 use Rattle.mc_text.proofs.ReadingLemmas.{pieces_at, pieces_cut}
 use Rattle.lab_match.specs.Fields.{first_field, or_nothing, rest_of}
 

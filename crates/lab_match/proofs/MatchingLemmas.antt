@@ -1,13 +1,13 @@
 -- Texts without blanks, and walks of a pattern along a text.
 use Rattle.std.proofs.Common.{◌≡◌, ◌≤◌, ℕ, ◌+◌, ◌-◌, ◌&&◌, ◌||◌, ◌==◌, length, take, drop, refl, sym, ◌∙◌, ap, subst, List, [], ◌∷◌, Bool, true, false, cond, arith}
 use Rattle.std.specs.Prelude.{not, slice_index}
-use Rattle.law_explore.specs.model_text.specs.Text.{is_blank, is_empty, is_within}
+use Rattle.mc_text.specs.model_text.specs.Text.{is_blank, is_empty, is_within}
 use Rattle.lab_match.specs.Walks.{Parts}
-use Rattle.law_explore.specs.model_play.specs.Patterns.{is_any, is_star}
-use Rattle.law_explore.specs.Matching.{some_rest, first_and_rest, fits, matches, plain, small}
+use Rattle.model_events.specs.Patterns.{is_any, is_star}
+use Rattle.model_events.specs.Matching.{some_rest, first_and_rest, fits, matches, plain, small}
 use Rattle.std.proofs.lemmas.Bool.{or_left, or_right}
 use Rattle.std.proofs.lemmas.List.{take_rest}
-use Rattle.law_explore.specs.model_device.proofs.BoolLemmas.{and_second}
+use Rattle.mc_text.specs.model_device.proofs.BoolLemmas.{and_second}
 
 -- ---- blanks
 

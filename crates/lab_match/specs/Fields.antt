@@ -1,6 +1,6 @@
 -- The first field of a line, and what follows it.
 use Rattle.std.specs.Prelude.{ℕ, List, [], Option, Some, None}
-use Rattle.law_explore.specs.model_text.specs.Text.{first_cut, is_blank, trim_front}
+use Rattle.mc_text.specs.model_text.specs.Text.{first_cut, is_blank, trim_front}
 
 -- the text after a cut, empty if there is none
 abbrev pub or_nothing : Option (List ℕ) → List ℕ

@@ -2,7 +2,7 @@
 use Rattle.std.specs.Prelude.{◌≡◌, ◌+◌, ◌<◌, List, ℕ, length, true, false}
 use Rattle.lab_match.specs.declared.matching.Walk.{Walk}
 use Rattle.lab_match.specs.declared.matching.Walk.TheVariants as walk
-use Rattle.law_explore.specs.Matching.{matches, plain, some_rest}
+use Rattle.model_events.specs.Matching.{matches, plain, some_rest}
 
 -- a pattern and a text, without blanks and capital letters, were walked up to a `*`: the pattern matches here, or
 -- further on, exactly if the rest of it does

@@ -1,9 +1,9 @@
 // The first field of a line, and whether a line is in a section.
 ghost use Rattle.std.specs.Prelude.{◌≡◌, ◌<◌, ◌∷◌, [], false, length, IfSome, MatchOption};
-ghost use Rattle.law_explore.specs.model_text.specs.Text.{fields, is_empty};
-ghost use Rattle.law_explore.specs.model_play.specs.DeckGrammar.{is_end};
-ghost use Rattle.law_explore.specs.Matching.{plain};
-ghost use Rattle.law_explore.specs.Rules.{begins_with, stays_inside};
+ghost use Rattle.mc_text.specs.model_text.specs.Text.{fields, is_empty};
+ghost use Rattle.mc_text.specs.model_text.specs.Text.{is_end};
+ghost use Rattle.model_events.specs.Matching.{plain};
+ghost use Rattle.mc_text.specs.model_text.specs.Text.{begins_with, stays_inside};
 ghost use Rattle.lab_match.specs.Fields.{first_field, rest_of};
 
 use mc_text::{cut_blank, trim_front};

@@ -7,5 +7,5 @@ mod field;
 mod matching;
 
 pub use field::{begins_with, first_field, stays_inside};
-pub use law_explore::model_play;
 pub use matching::{fits, small};
+pub use model_events::model_machine;

@@ -1,7 +1,7 @@
 // Patterns matched against texts.
 ghost use Rattle.std.specs.Prelude.{◌≡◌, ◌<◌, ◌≤◌, ◌||◌, ◌==◌, ◌∷◌, ℕ, List, [], length, IfSome, MatchOption};
-ghost use Rattle.law_explore.specs.model_play.specs.Patterns.{is_any};
-ghost use Rattle.law_explore.specs.Matching.{fits, matches, plain, small, some_rest};
+ghost use Rattle.model_events.specs.Patterns.{is_any};
+ghost use Rattle.model_events.specs.Matching.{fits, matches, plain, small, some_rest};
 ghost use Rattle.lab_match.specs.Walks.{WalkEnds, WalkIs};
 
 use mc_text::is_blank;
@@ -136,7 +136,7 @@ fn matches_some_rest(pattern: &[u8], text: &[u8]) -> bool
 ///
 /// It allocates no memory. A pattern with at most one `*` takes time linear in both; each `*` restarts the
 /// walk at each place of the text at most once.
-#[tactic(auto, unfolding(law_explore::specs::Matching::fits))]
+#[tactic(auto, unfolding(model_events::specs::Matching::fits))]
 pub fn fits(pattern: &[u8], text: &[u8]) -> bool
     ensures { result ≡ fits pattern.now text.now }
 {

@@ -6,7 +6,9 @@ use Rattle.law_histories.specs.model_text.specs.Text.{◌>>=◌, err_as, fields,
 use Rattle.law_histories.specs.model_play.specs.declared.deck.DeckCause.{DeckCause}
 use Rattle.law_histories.specs.model_play.specs.DeckGrammar.{DeckLine}
 use Rattle.law_histories.specs.law_explore.specs.Rules as model
-use Rattle.law_histories.specs.law_explore.specs.Rules.{is_marked, line_if, marked_lines, move_line, stays_inside, with_line, with_rule, without_field}
+use Rattle.law_histories.specs.model_play.specs.RuleLines.{is_marked, line_if, marked_lines}
+use Rattle.mc_text.specs.model_text.specs.Text.{stays_inside}
+use Rattle.law_histories.specs.law_explore.specs.Rules.{move_line, with_line, with_rule, without_field}
 use Rattle.law_histories.specs.Histories.{is_rule_of}
 use Rattle.mc_text.specs.Reading.{next_line}
 use Rattle.mc_text.proofs.ReadingLemmas.{lines_at, lines_from}

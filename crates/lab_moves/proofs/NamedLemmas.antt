@@ -2,7 +2,7 @@
 use Rattle.std.proofs.Common.{◌≡◌, ℕ, List, Bool, true, false, not, Some, None, sym, ap, ◌∙◌}
 use Rattle.std.specs.Prelude.{◌&&◌, ◌||◌}
 use Rattle.law_histories.specs.model_text.specs.Text.{fields, lines}
-use Rattle.law_histories.specs.law_explore.specs.Rules.{stays_inside}
+use Rattle.mc_text.specs.model_text.specs.Text.{stays_inside}
 use Rattle.law_histories.specs.Histories.{has_rule_of, is_rule_of}
 use Rattle.mc_text.specs.Reading.{next_line}
 use Rattle.mc_text.proofs.ReadingLemmas.{lines_at, lines_from}

@@ -3,7 +3,8 @@ use Rattle.std.specs.Prelude.{ℕ, Bool, false, cond, not, ◌&&◌, List, [], �
 use Rattle.law_histories.specs.model_text.specs.Text.{◌>>=◌, ok_as, err_as, fields, lines, with_numbers}
 use Rattle.law_histories.specs.model_play.specs.declared.deck.DeckCause.{DeckCause}
 use Rattle.law_histories.specs.law_explore.specs.Rules as model
-use Rattle.law_histories.specs.law_explore.specs.Rules.{is_marked, marked_lines, move_line, without_field}
+use Rattle.law_histories.specs.model_play.specs.RuleLines.{is_marked, marked_lines}
+use Rattle.law_histories.specs.law_explore.specs.Rules.{move_line, without_field}
 use Rattle.lab_rules.specs.declared.rules.Move.{Move}
 use Rattle.lab_rules.specs.declared.rules.Rules.{Rules}
 use Rattle.lab_rules.specs.Meanings.{AlikeLists, AreRules, IsMove}

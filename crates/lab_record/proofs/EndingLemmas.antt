@@ -1,8 +1,8 @@
 -- What a line answers says how it ended.
 use Rattle.std.proofs.Common.{◌≡◌, ℕ, false, List, Option, Some, None, option_map, refl}
-use Rattle.mc_base.specs.model_device.specs.Card.{App}
-use Rattle.mc_base.specs.model_device.specs.Device.{DeviceState}
-use Rattle.lab_match.specs.model_play.specs.Play.{LineResult, static_of}
+use Rattle.mc_words.specs.model_device.specs.Card.{App}
+use Rattle.mc_words.specs.model_device.specs.Device.{DeviceState}
+use Rattle.law_promise.specs.model_play.specs.Play.{LineResult, static_of}
 use Rattle.mc_card.specs.declared.card.Card.{Card}
 use Rattle.mc_script.specs.Players.{answer_value, dump_value}
 use Rattle.mc_script.specs.declared.answer.Answer.{Answer}

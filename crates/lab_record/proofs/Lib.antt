@@ -4,4 +4,4 @@ mod SightLemmas
 mod EndingLemmas
 mod LogLemmas
 mod RecordingLemmas
-mod StepLemmas
+mod SteadyLemmas

@@ -2,24 +2,24 @@
 use Rattle.std.proofs.Common.{◌≡◌, ℕ, Bool, false, true, List, Option, Some, None, option_map, sym, ap, subst, ◌∙◌}
 use Rattle.std.specs.Prelude.{is_some}
 use Rattle.std.specs.Borrow.{Bor}
-use Rattle.mc_base.specs.model_device.specs.Device.{DeviceState, BenchState}
+use Rattle.mc_words.specs.model_device.specs.Device.{DeviceState, BenchState}
 use Rattle.mc_apdu.specs.model_machine.specs.Chain.{Outcome}
-use Rattle.lab_match.specs.model_play.specs.DeckGrammar.{DeckLine}
-use Rattle.lab_match.specs.model_play.specs.Play.{FailedWrite, LineResult, State, armed_stop_in, moves_of, steady_at, step}
-use Rattle.lab_match.specs.model_play.proofs.PlayLemmas.{step_is}
-use Rattle.prove_events.specs.law_promise.specs.History.{is_selected_in}
+use Rattle.law_promise.specs.model_play.specs.DeckGrammar.{DeckLine}
+use Rattle.law_promise.specs.model_play.specs.Play.{FailedWrite, LineResult, State, armed_stop_in, moves_of, steady_at, step}
+use Rattle.law_promise.specs.model_play.proofs.PlayLemmas.{step_is}
+use Rattle.law_promise.specs.History.{is_selected_in}
 use Rattle.mc_script.specs.declared.answer.Answer.{Answer}
 use Rattle.mc_script.specs.declared.player.Player.{Player}
 use Rattle.mc_script.specs.Lines.{LineDone}
 use Rattle.mc_script.specs.Players.{device_of, IsPlayerAt}
 use Rattle.mc_script.specs.Runs.{sent_by}
 use Rattle.mc_script.specs.Watching.{Watches}
-use Rattle.prove_events.specs.declared.rules.Rules.{Rules}
+use Rattle.lab_app_rules.specs.declared.rules.Rules.{Rules}
 use Rattle.lab_history.specs.declared.course.Course.{Course}
 use Rattle.lab_record.specs.declared.recorder.Recorder.{Recorder}
 use Rattle.lab_record.specs.Courses.{ended_by, is_outcome, is_stop, outcome_in, passed_command, stop_in}
 use Rattle.lab_record.specs.Logs.{DeedValue, Log, Sight, log_turns, no_log, sight, values_of}
-use Rattle.lab_record.specs.RecordSteps.{steady_step, IsSteadyAt}
+use Rattle.lab_record.specs.Steady.{steady_step, IsSteadyAt}
 use Rattle.lab_record.specs.declared.recording.Played.{Played}
 use Rattle.lab_record.specs.Playing.{IsCourse, IsPlayed, log_of_step, sights_of_step}
 use Rattle.lab_record.specs.Recorders.{log_of, log_rules, Recorded}

@@ -4,17 +4,17 @@ use Rattle.std.specs.Prelude.{ℕ, ◌+◌, Bool, true, false, cond, ◌&&◌, �
 use Rattle.mc_apdu.specs.model_machine.specs.Chain.{Outcome, Reply}
 use Rattle.mc_bank.specs.model_card.specs.Manager.{Route, ToSelect, ToApplication, route}
 use Rattle.mc_isa.specs.model_text.specs.Listing.{hex_text}
-use Rattle.lab_match.specs.model_play.specs.DeckGrammar.{DeckLine}
-use Rattle.lab_match.specs.model_play.specs.DeckGrammar as line
-use Rattle.lab_match.specs.model_play.specs.Play.{LineResult, Answered, OffAt, FailureStop}
-use Rattle.lab_match.specs.model_play.specs.Transcript.{outcome_text}
-use Rattle.lab_match.specs.law_explore.specs.Matching.{fits}
+use Rattle.law_promise.specs.model_play.specs.DeckGrammar.{DeckLine}
+use Rattle.law_promise.specs.model_play.specs.DeckGrammar as line
+use Rattle.law_promise.specs.model_play.specs.Play.{LineResult, Answered, OffAt, FailureStop}
+use Rattle.mc_text.specs.model_text.specs.TurnText.{outcome_text}
+use Rattle.law_promise.specs.model_events.specs.Matching.{fits}
 use Rattle.mc_machine.specs.Turns.{outcome_value}
 use Rattle.mc_script.specs.declared.answer.Answer.{Answer}
 use Rattle.mc_script.specs.declared.answer.Answer.TheVariants as answer
 use Rattle.mc_script.specs.declared.player.Player.{Player}
-use Rattle.prove_events.specs.declared.rules.Event.TheVariants as event
-use Rattle.prove_events.specs.declared.rules.On.{On}
+use Rattle.lab_app_rules.specs.declared.rules.Event.TheVariants as event
+use Rattle.lab_app_rules.specs.declared.rules.On.{On}
 use Rattle.lab_record.specs.Fitting.{fitting_from, is_fitting}
 
 -- ---- routes

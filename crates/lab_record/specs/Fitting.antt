@@ -1,14 +1,14 @@
 -- The `on` lines that fit an event, and what they move.
 use Rattle.std.specs.Prelude.{ℕ, ◌+◌, ◌-◌, Bool, true, false, cond, ◌&&◌, ◌||◌, List, [], ◌∷◌, take, drop, slice_get, Option, Some, None}
-use Rattle.mc_base.specs.model_device.specs.Bytes.{num}
-use Rattle.lab_match.specs.law_explore.specs.Matching.{fits}
-use Rattle.prove_events.specs.declared.rules.Amount.{Amount}
-use Rattle.prove_events.specs.declared.rules.Amount.TheVariants as amount
-use Rattle.prove_events.specs.declared.rules.Effect.{Effect}
-use Rattle.prove_events.specs.declared.rules.Effect.TheVariants as effect
-use Rattle.prove_events.specs.declared.rules.Event.{Event}
-use Rattle.prove_events.specs.declared.rules.Event.TheVariants as event
-use Rattle.prove_events.specs.declared.rules.On.{On}
+use Rattle.mc_words.specs.model_device.specs.Bytes.{num}
+use Rattle.law_promise.specs.model_events.specs.Matching.{fits}
+use Rattle.lab_app_rules.specs.declared.rules.Amount.{Amount}
+use Rattle.lab_app_rules.specs.declared.rules.Amount.TheVariants as amount
+use Rattle.lab_app_rules.specs.declared.rules.Effect.{Effect}
+use Rattle.lab_app_rules.specs.declared.rules.Effect.TheVariants as effect
+use Rattle.lab_app_rules.specs.declared.rules.Event.{Event}
+use Rattle.lab_app_rules.specs.declared.rules.Event.TheVariants as event
+use Rattle.lab_app_rules.specs.declared.rules.On.{On}
 
 -- whether two events are one
 abbrev pub is_event : Event → Event → Bool

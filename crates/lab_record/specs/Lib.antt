@@ -3,5 +3,5 @@ pub mod Logs
 pub mod Recorders
 pub mod Courses
 pub mod Playing
-pub mod RecordSteps
+pub mod Steady
 pub mod Benches

@@ -1,16 +1,16 @@
 -- What is recorded of the instructions of a command: what each of them does to what is counted of one application.
 use Rattle.std.specs.Prelude.{ℕ, ◌+◌, Bool, true, false, cond, not, ◌&&◌, ◌||◌, ◌==◌, nat_le, nat_lt, min, List, [], ◌∷◌, ◌++◌, bytes_eq, is_none, slice_get, Option, Some, None}
-use Rattle.mc_base.specs.model_device.specs.Bytes.{num}
+use Rattle.mc_words.specs.model_device.specs.Bytes.{num}
 use Rattle.mc_apdu.specs.model_machine.specs.declared.instruction.Ins.{Ins}
 use Rattle.mc_apdu.specs.model_machine.specs.declared.machine.Abend.{Abend}
 use Rattle.mc_apdu.specs.model_machine.specs.declared.machine.Abend.TheVariants as abend
 use Rattle.mc_apdu.specs.model_machine.specs.Chain.{Chain, Turn, Outcome, Reply, Abended, turn_of}
-use Rattle.lab_match.specs.law_explore.specs.Tries.{turn_text}
-use Rattle.prove_events.specs.model_rules.specs.Keeping.{mode_of}
-use Rattle.prove_events.specs.declared.rules.Effect.{Effect}
-use Rattle.prove_events.specs.declared.rules.Effect.TheVariants as effect
-use Rattle.prove_events.specs.declared.rules.Event.TheVariants as event
-use Rattle.prove_events.specs.declared.rules.On.{On}
+use Rattle.law_promise.specs.model_events.specs.Amounts.{turn_text}
+use Rattle.lab_app_rules.specs.model_rules.specs.Keeping.{mode_of}
+use Rattle.lab_app_rules.specs.declared.rules.Effect.{Effect}
+use Rattle.lab_app_rules.specs.declared.rules.Effect.TheVariants as effect
+use Rattle.lab_app_rules.specs.declared.rules.Event.TheVariants as event
+use Rattle.lab_app_rules.specs.declared.rules.On.{On}
 use Rattle.lab_history.specs.declared.course.Deed.{Deed}
 use Rattle.lab_history.specs.declared.course.Deed.TheVariants as deed
 use Rattle.lab_history.specs.declared.course.Happening.{Happening}

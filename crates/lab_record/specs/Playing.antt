@@ -1,14 +1,14 @@
 -- A line that was played, and what it did to what is counted of an application.
 use Rattle.std.specs.Prelude.{◌≡◌, ℕ, Bool, List, [], length, take, is_some, Option}
-use Rattle.mc_base.specs.model_device.specs.PowerUp.{Base, OnCard, AtFault}
+use Rattle.mc_words.specs.model_device.specs.PowerUp.{Base, OnCard, AtFault}
 use Rattle.mc_apdu.specs.model_machine.specs.Chain.{Outcome}
-use Rattle.lab_match.specs.model_play.specs.DeckGrammar.{DeckLine}
-use Rattle.lab_match.specs.model_play.specs.Play.{State, BeforePower, AfterPower, Live, Running, Unpowered, Muted, Step}
-use Rattle.lab_match.specs.model_play.specs.TraceText.{shown_turns}
-use Rattle.prove_events.specs.law_promise.specs.History.{is_selected_in}
+use Rattle.law_promise.specs.model_play.specs.DeckGrammar.{DeckLine}
+use Rattle.law_promise.specs.model_play.specs.Play.{State, BeforePower, AfterPower, Live, Running, Unpowered, Muted, Step}
+use Rattle.law_promise.specs.model_play.specs.TraceText.{shown_turns}
+use Rattle.law_promise.specs.History.{is_selected_in}
 use Rattle.mc_script.specs.Runs.{line_bytes}
 use Rattle.mc_script.specs.Watching.{seen_of}
-use Rattle.prove_events.specs.declared.rules.Rules.{Rules}
+use Rattle.lab_app_rules.specs.declared.rules.Rules.{Rules}
 use Rattle.lab_history.specs.declared.course.Course.{Course}
 use Rattle.lab_record.specs.declared.recording.Played.{Played}
 use Rattle.lab_record.specs.Courses.{answer_lines, command_lines, has_session, is_done, is_stop, outcome_in, own_command, passed_command}

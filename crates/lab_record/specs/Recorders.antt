@@ -3,7 +3,7 @@ use Rattle.std.specs.Prelude.{◌≡◌, ℕ, Bool, true, false, not, nat_eq, Li
 use Rattle.std.proofs.Common.{◌∙◌, ap, sym}
 use Rattle.mc_machine.specs.declared.outcome.Turn.{Turn}
 use Rattle.mc_machine.specs.Turns.{turn_value}
-use Rattle.prove_events.specs.declared.rules.Rules.{Rules}
+use Rattle.lab_app_rules.specs.declared.rules.Rules.{Rules}
 use Rattle.lab_record.specs.declared.recorder.Recorder.{Recorder}
 use Rattle.lab_record.specs.Logs.{Log, LogRules, Sight, log_turns, public_seen, values_of}
 

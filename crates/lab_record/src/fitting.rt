@@ -1,16 +1,16 @@
 // The `on` lines that fit an event, and what they move.
 ghost use Rattle.std.specs.Prelude.{◌≡◌, IfOk};
-ghost use Rattle.mc_base.specs.model_device.specs.Bytes.{num};
+ghost use Rattle.mc_words.specs.model_device.specs.Bytes.{num};
 ghost use Rattle.mc_isa.specs.model_text.specs.Listing.{hex_text};
-ghost use Rattle.prove_events.specs.declared.rules.Amount.TheVariants as amount;
+ghost use Rattle.lab_app_rules.specs.declared.rules.Amount.TheVariants as amount;
 ghost use Rattle.lab_record.specs.Fitting.{amount_of, are_sums, fitting_from, is_fitting, moves_sum};
 
+use lab_app_rules::{Amount, Effect, Event, On};
 use lab_branch::push;
 use lab_history::number_bytes;
 use lab_match::fits;
-use mc_base::NoMemory;
 use mc_text::digit;
-use prove_events::{Amount, Effect, Event, On};
+use mc_words::NoMemory;
 use std::alloc::Global;
 
 /// The first address of the public segment.

@@ -1,21 +1,20 @@
 // What happened to an application while the lines of its deck were played.
-ghost use Rattle.std.specs.Prelude.{◌≡◌, ◌+◌, ◌*◌, ◌<◌, ◌≤◌, ℕ, length, option_map, slice_get, take, None, OnOk, Some};
-ghost use Rattle.mc_base.specs.model_device.specs.Device.{blank_words, device_words};
-ghost use Rattle.lab_match.specs.model_play.specs.DeckGrammar.{DeckLine};
-ghost use Rattle.lab_match.specs.model_play.specs.Play.{State, start};
+ghost use Rattle.std.specs.Prelude.{◌≡◌, ◌<◌, ◌≤◌, ℕ, length, option_map, slice_get, take, None, OnOk, Some};
+ghost use Rattle.law_promise.specs.model_play.specs.DeckGrammar.{DeckLine};
+ghost use Rattle.law_promise.specs.model_play.specs.Play.{State};
 ghost use Rattle.mc_script.specs.Benches.{IsPlaying};
 ghost use Rattle.lab_record.specs.Benches.{IsSteadyAt};
-ghost use Rattle.lab_record.specs.RecordSteps.{armed_in, is_replayed, most_of_chronicle, most_of_line, most_of_lines, plays_again, plays_of_stop, steady_step};
+ghost use Rattle.lab_record.specs.Steady.{armed_in, steady_step};
 
 use crate::playing::{play_before, play_line};
 use crate::recording::{Played, play_recorded};
 use crate::subject::Subject;
 use lab_branch::push;
 use lab_history::{Break, Course, Extent, Standing, apply, broken_always, is_durable};
-use mc_base::{NoMemory, Steps};
 use mc_deck::{Deck, Line};
 use mc_nvm::{Bench, DEVICE_WORDS, SimNvm};
 use mc_script::Player;
+use mc_words::{NoMemory, Steps};
 use std::alloc::Global;
 use std::sync::ledger::Ledger;
 
@@ -81,8 +80,6 @@ fn replay_on<N: Bench, L: Ledger>(
     requires playing { IsPlaying N.Bench player.old }
     requires cut { 1 ≤ k }
     requires there { i < length deck.now }
-    ensures steps { (s : State) → IsSteadyAt N.Bench player.old s
-        → steps.new ≤ steps.old + most_of_lines s (take (i + 1) deck.now) }
 {
     play_before(player, deck, i, steps);
     play_line(player, &Line::Cut { k, fill: [0; 8] }, steps);
@@ -100,8 +97,6 @@ fn replay<L: Ledger>(
 ) -> Result<Played, NoMemory>
     requires cut { 1 ≤ k }
     requires there { i < length deck.now }
-    ensures steps { steps.new
-        ≤ steps.old + most_of_lines (start (blank_words device_words)) (take (i + 1) deck.now) }
 {
     let mut player = Player::new(SimNvm::new(alloc, DEVICE_WORDS)?);
     replay_on(alloc, &mut player, deck, i, k, subject, steps)
@@ -118,9 +113,6 @@ fn turns_before<L: Ledger>(
     steps: &mut Steps<L>,
 ) -> Result<Vec<u64>, NoMemory>
     requires { i < length deck.now }
-    // One play for each device write up to 147 after that of the stop.
-    ensures steps { steps.new
-        ≤ steps.old + (k + 147) * most_of_lines (start (blank_words device_words)) (take (i + 1) deck.now) }
 {
     let mut turns = Vec::new(alloc);
     for write in 0..k.saturating_add(MOST_WRITES) {
@@ -143,8 +135,6 @@ fn stopped<L: Ledger>(
     steps: &mut Steps<L>,
 ) -> Result<(Course, Extent), NoMemory>
     requires { i < length deck.now }
-    ensures steps { steps.new ≤ steps.old + plays_of_stop (armed_in None (take i deck.now))
-        * most_of_lines (start (blank_words device_words)) (take (i + 1) deck.now) }
 {
     let whole = replay(alloc, deck, i, u32::MAX, subject, steps)?;
     let durable = match armed_for(deck, i) {
@@ -241,11 +231,6 @@ impl<'a> Past<'a> {
         ensures playing { IsPlaying N.Bench player.new }
         ensures at { OnOk result ((s : State) (l : ℕ × DeckLine) → IsSteadyAt N.Bench player.old s
             → slice_get deck.now i ≡ Some l → IsSteadyAt N.Bench player.new (steady_step s l).after) }
-        // Those of the line, and of the plays of the lines up to it if a stop hit it.
-        ensures steps { (s : State) (l : ℕ × DeckLine) → IsSteadyAt N.Bench player.old s
-            → slice_get deck.now i ≡ Some l → steps.new ≤ steps.old + most_of_line s l.1
-            + plays_again (is_replayed (steady_step s l)) (armed_in None (take i deck.now))
-            * most_of_lines (start (blank_words device_words)) (take (i + 1) deck.now) }
     {
         let played = play_recorded(alloc, player, &deck.line(i).1, self.subject, steps)?;
         if played.is_stopped && played.has_begun {
@@ -271,7 +256,6 @@ impl<'a> Past<'a> {
         steps: &mut Steps<L>,
     ) -> Result<Option<Break>, NoMemory>
         requires { IsPlaying N.Bench player.old }
-        ensures steps { steps.new ≤ steps.old }
     {
         drop_stop(player, steps);
         if player.card().is_some() {
@@ -285,8 +269,7 @@ impl<'a> Past<'a> {
 // Drops a stop that is armed for the next card line.
 fn drop_stop<N: Bench, L: Ledger>(player: &mut Player<N>, steps: &mut Steps<L>)
     requires { IsPlaying N.Bench player.old }
-    ensures playing { IsPlaying N.Bench player.new }
-    ensures steps { steps.new ≤ steps.old }
+    ensures { IsPlaying N.Bench player.new }
 {
     if !player.is_armed() {
         return;
@@ -303,8 +286,6 @@ fn chronicle_on<N: Bench, L: Ledger>(
     steps: &mut Steps<L>,
 ) -> Result<Result<Vec<u32>, Break>, NoMemory>
     requires { IsPlaying N.Bench player.old }
-    ensures steps { IsSteadyAt N.Bench player.old (start (blank_words device_words))
-        → steps.new ≤ steps.old + most_of_chronicle deck.now }
 {
     let mut past = Past {
         subject,
@@ -332,11 +313,7 @@ pub fn chronicle<L: Ledger>(
     deck: &Deck,
     subject: Subject<'_>,
     steps: &mut Steps<L>,
-) -> Result<Result<Vec<u32>, Break>, NoMemory>
-    // Those of the deck, and for each line that a stop hit those of the lines up to it, whole and for each device write
-    // up to the stop, with those of one atomic write after it.
-    ensures steps { steps.new ≤ steps.old + most_of_chronicle deck.now }
-{
+) -> Result<Result<Vec<u32>, Break>, NoMemory> {
     let mut player = Player::new(SimNvm::new(alloc, DEVICE_WORDS)?);
     chronicle_on(alloc, &mut player, deck, subject, steps)
 }

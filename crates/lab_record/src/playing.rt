@@ -1,16 +1,16 @@
 // A line that is played, of which nothing is recorded.
-ghost use Rattle.std.specs.Prelude.{◌+◌, ◌≤◌, ℕ, length, take};
-ghost use Rattle.lab_match.specs.model_play.specs.Play.{State};
+ghost use Rattle.std.specs.Prelude.{◌≤◌, ℕ, length, take};
+ghost use Rattle.law_promise.specs.model_play.specs.Play.{State};
 ghost use Rattle.mc_deck.specs.Lines.{line_of, GoodLine};
 ghost use Rattle.mc_script.specs.Players.{device_of};
-ghost use Rattle.mc_script.specs.Benches.{IsPlayerAt, IsPlaying};
+ghost use Rattle.mc_script.specs.Benches.{IsPlaying};
 ghost use Rattle.lab_record.specs.Benches.{IsSteadyAt};
-ghost use Rattle.lab_record.specs.RecordSteps.{most_of_line, most_of_lines, state_after, steady_step};
+ghost use Rattle.lab_record.specs.Steady.{state_after, steady_step};
 
-use mc_base::Steps;
 use mc_deck::{Deck, Line};
 use mc_nvm::Bench;
 use mc_script::{Player, Silent};
+use mc_words::Steps;
 use std::sync::ledger::Ledger;
 
 /// Plays a line, and records nothing.
@@ -20,8 +20,6 @@ pub fn play_line<N: Bench, L: Ledger>(player: &mut Player<N>, line: &Line<'_>, s
     ensures playing { IsPlaying N.Bench player.new }
     ensures at { (s : State) (n : ℕ) → IsSteadyAt N.Bench player.old s
         → IsSteadyAt N.Bench player.new (steady_step s (n, line_of line.now)).after }
-    ensures steps { (s : State) → IsPlayerAt N.Bench player.old s
-        → steps.new ≤ steps.old + most_of_line s (line_of line.now) }
     ensures keeps_device { N.same (device_of player.old) (device_of player.new) }
 {
     let _answer = player.line(line, &mut Silent, steps);
@@ -38,8 +36,6 @@ pub fn play_before<N: Bench, L: Ledger>(
     ensures playing { IsPlaying N.Bench player.new }
     ensures at { (s : State) → IsSteadyAt N.Bench player.old s → i ≤ length deck.now
         → IsSteadyAt N.Bench player.new (state_after s (take i deck.now)) }
-    ensures steps { (s : State) → IsSteadyAt N.Bench player.old s → i ≤ length deck.now
-        → steps.new ≤ steps.old + most_of_lines s (take i deck.now) }
 {
     let count = deck.len();
     for j in 0..i.min(count) {

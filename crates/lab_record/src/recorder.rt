@@ -12,15 +12,15 @@ ghost use Rattle.lab_record.specs.Recorders.{log_of, log_rules, IsSight, LooksAt
 use crate::fitting::{move_sums, number_of};
 use crate::subject::Subject;
 use crate::turning::{fitting_turn, is_named, mode_of};
+use lab_app_rules::{Amount, Effect, Rules};
 use lab_branch::push;
 use lab_history::{Deed, Happening};
-use mc_base::{Aid, NoMemory, Steps, Stop};
 use mc_card::{BriefTurn, Card};
 use mc_machine::{End, Outcome};
 use mc_nvm::Nvm;
 use mc_script::{Runner, Watcher, run_watched};
 use mc_segs::Abend;
-use prove_events::{Amount, Effect, Rules};
+use mc_words::{Aid, NoMemory, Steps, Stop};
 use std::alloc::Global;
 use std::sync::ledger::Ledger;
 

@@ -1,33 +1,33 @@
 // A line that is played and recorded.
-ghost use Rattle.std.specs.Prelude.{◌≡◌, ◌+◌, ◌≤◌, ℕ, false, List, IfOk, Option, option_map, Some};
-ghost use Rattle.lab_match.specs.model_play.specs.Play as play;
-ghost use Rattle.lab_match.specs.model_play.specs.Play.{FailedWrite, State, step};
-ghost use Rattle.prove_events.specs.law_promise.specs.History.{is_selected_in, is_selected_on};
+ghost use Rattle.std.specs.Prelude.{◌≡◌, ℕ, false, List, IfOk, Option, option_map, Some};
+ghost use Rattle.law_promise.specs.model_play.specs.Play as play;
+ghost use Rattle.law_promise.specs.model_play.specs.Play.{FailedWrite, State, step};
+ghost use Rattle.law_promise.specs.History.{is_selected_in, is_selected_on};
 ghost use Rattle.mc_isa.specs.model_text.specs.Listing.{hex_text};
 ghost use Rattle.mc_deck.specs.Lines.{line_of, GoodLine};
 ghost use Rattle.mc_script.specs.Benches.{IsPlayerAt, IsPlaying};
 ghost use Rattle.mc_script.specs.Lives.{LiveShows};
 ghost use Rattle.mc_script.specs.Players.{device_of};
-ghost use Rattle.lab_match.specs.model_play.specs.Transcript.{outcome_text};
+ghost use Rattle.mc_text.specs.model_text.specs.TurnText.{outcome_text};
 ghost use Rattle.mc_machine.specs.Turns.{outcome_value};
 ghost use Rattle.lab_record.specs.Courses.{answer_lines, answered_from, command_lines, ended_by, has_session, is_answered, own_command};
 ghost use Rattle.lab_record.specs.Benches.{IsSteadyAt};
 ghost use Rattle.lab_record.specs.Logs.{values_of};
 ghost use Rattle.lab_record.specs.Playing.{IsCourse, IsPlayed};
-ghost use Rattle.lab_record.specs.RecordSteps.{most_of_line, steady_step};
+ghost use Rattle.lab_record.specs.Steady.{steady_step};
 
 use crate::fitting::{fitting, hex_of, is_fitting};
 use crate::recorder::Recorder;
 use crate::sending::{is_done, is_outcome, is_power, is_selection, is_stopped, passed_command};
 use crate::subject::Subject;
+use lab_app_rules::{Event, On};
 use lab_branch::push;
 use lab_history::{Course, Happening};
 use lab_match::fits;
-use mc_base::{Aid, NoMemory, Steps};
 use mc_deck::Line;
 use mc_nvm::Bench;
 use mc_script::{Answer, Live, Player, Text, add_result};
-use prove_events::{Event, On};
+use mc_words::{Aid, NoMemory, Steps};
 use std::alloc::Global;
 use std::sync::ledger::Ledger;
 
@@ -210,9 +210,6 @@ pub fn play_recorded<N: Bench, L: Ledger>(
     ensures recorded { IfOk result (λ p. (s : State) (n : ℕ) → IsSteadyAt N.Bench player.old s
         → IsSteadyAt N.Bench player.new (steady_step s (n, line_of line.now)).after
         × IsPlayed subject.entry.rules.now subject.entry.aid.now (steady_step s (n, line_of line.now)) p) }
-    // At most the steps of the line, played once.
-    ensures steps { (s : State) → IsPlayerAt N.Bench player.old s
-        → steps.new ≤ steps.old + most_of_line s (line_of line.now) }
 {
     let was_selected = is_selected(alloc, player, subject.aid)?;
     let mut recorder = Recorder::new(alloc, subject);

@@ -1,6 +1,6 @@
 // The application that is recorded.
-use mc_base::Aid;
-use prove_events::Rules;
+use lab_app_rules::Rules;
+use mc_words::Aid;
 
 /// An application: its rules, and its AID.
 #[derive(Clone, Copy)]

@@ -2,27 +2,26 @@
 ghost use Rattle.std.specs.Prelude.{◌≡◌, ◌≤◌, ◌==◌, ℕ, bytes_eq, drop, Option, option_map, IfOk, IfSome};
 ghost use Rattle.mc_apdu.specs.model_machine.specs.Code.{Shaped};
 ghost use Rattle.mc_isa.specs.model_text.specs.Text.{first_cut};
-ghost use Rattle.prove_events.specs.model_rules.specs.Keeping.{mode_of_primitive};
-ghost use Rattle.lab_match.specs.law_explore.specs.Tries.{turn_text};
+ghost use Rattle.lab_app_rules.specs.model_rules.specs.Keeping.{mode_of_primitive};
+ghost use Rattle.law_promise.specs.model_events.specs.Amounts.{turn_text};
 ghost use Rattle.mc_bank.specs.Bank.{name_or};
 ghost use Rattle.mc_machine.specs.declared.outcome.Outcome.{Outcome as ModelOutcome};
 ghost use Rattle.mc_machine.specs.Turns.{full_turn, turn_value};
-ghost use Rattle.mc_prims.specs.Table.{primitive_of};
+ghost use Rattle.mc_isa.specs.Primitives.{primitive_of};
 ghost use Rattle.mc_segs.specs.HeldFrames.{CanRun};
 ghost use Rattle.lab_record.specs.Fitting.{fitting_from};
 ghost use Rattle.lab_record.specs.Logs.{mode_in};
-ghost use Rattle.prove_events.specs.declared.rules.Event.TheVariants as event;
+ghost use Rattle.lab_app_rules.specs.declared.rules.Event.TheVariants as event;
 
 use crate::fitting::fitting;
+use lab_app_rules::{Event, On};
 use mc_bank::Bank;
-use mc_base::{Aid, NoMemory};
 use mc_card::BriefTurn;
-use mc_isa::Ins;
-use mc_prims::Primitive;
+use mc_isa::{Ins, Primitive};
 use mc_segs::Frame;
 use mc_text::cut;
 use mc_trace::line_of_brief;
-use prove_events::{Event, On};
+use mc_words::{Aid, NoMemory};
 use std::alloc::Global;
 
 /// Returns whether a frame is one of the application with a name.

@@ -2,8 +2,8 @@
 use Rattle.std.proofs.Common.{◌≡◌, ◌⊎◌, inl, inr, ℕ, zero, suc, ◌-◌, ◌*◌, ◌≤◌, ◌<◌, List, [], ◌∷◌, map, Bool, true, false, cond, Option, Some, None, refl, sym, ap, ◌∙◌, arith}
 use Rattle.std.specs.Prelude.{nat_le, option_and_then, slice_index_or}
 use Rattle.std.proofs.lemmas.Bool.{lt-leb}
-use Rattle.lab_match.specs.law_explore.specs.Rules as model
-use Rattle.lab_match.specs.law_explore.specs.Rules.{Allows, Spends}
+use Rattle.law_explore.specs.Rules as model
+use Rattle.law_explore.specs.Rules.{Allows, Spends}
 use Rattle.lab_rules.specs.Occasions.{amount_once, amount_times, capped}
 
 -- ---- counts

@@ -3,14 +3,15 @@ use Rattle.std.proofs.Common.{◌≡◌, ℕ, suc, ◌+◌, min, List, [], ◌�
 use Rattle.std.specs.Prelude.{filter, slice_index_or}
 use Rattle.std.specs.declared.alloc.Global.{Global}
 use Rattle.std.specs.declared.vec.Vec.{Vec}
-use Rattle.mc_base.specs.model_device.specs.Counts.{last_count}
+use Rattle.model_device.specs.Counts.{last_count}
 use Rattle.mc_text.specs.model_machine.specs.Chain.{Turn}
-use Rattle.lab_match.specs.model_play.specs.Play.{Step}
-use Rattle.lab_match.specs.model_play.specs.TraceText.{shown_turns}
-use Rattle.lab_match.specs.law_explore.specs.Rules as model
-use Rattle.lab_match.specs.law_explore.specs.Rules.{AtResult, AtTurn}
-use Rattle.lab_match.specs.law_explore.specs.Matching.{fits, plain}
-use Rattle.lab_match.specs.law_explore.specs.Tries.{occasions, result_text, times, turn_text}
+use Rattle.law_explore.specs.model_play.specs.Play.{Step}
+use Rattle.law_explore.specs.model_play.specs.TraceText.{shown_turns}
+use Rattle.law_explore.specs.Rules as model
+use Rattle.law_explore.specs.Rules.{AtResult, AtTurn}
+use Rattle.law_explore.specs.model_events.specs.Matching.{fits, plain}
+use Rattle.law_explore.specs.Tries.{occasions, result_text, times}
+use Rattle.law_explore.specs.model_events.specs.Amounts.{turn_text}
 use Rattle.lab_match.proofs.MatchingLemmas.{fits_again}
 use Rattle.lab_rules.specs.declared.rules.Move.{Move}
 use Rattle.lab_rules.specs.declared.rules.OnRule.{OnRule}

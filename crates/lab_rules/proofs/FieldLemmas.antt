@@ -2,7 +2,7 @@
 use Rattle.std.proofs.Common.{◌≡◌, ◌-◌, ℕ, zero, suc, List, [], ◌∷◌, Bool, true, false, cond, length, take, Option, Some, None, refl, sym, subst}
 use Rattle.std.specs.Prelude.{◌==◌, slice_index}
 use Rattle.mc_text.specs.model_text.specs.Text.{before_trimmed, first_cut, halves_with_character, is_blank, is_empty, trim, trim_end, trim_front}
-use Rattle.lab_match.specs.law_explore.specs.Rules.{after_field, without_field}
+use Rattle.law_explore.specs.Rules.{after_field, without_field}
 use Rattle.mc_text.specs.Reading.{line_cut, next_line}
 use Rattle.lab_match.specs.Fields.{first_field, or_nothing, rest_of}
 use Rattle.lab_rules.specs.Fields.{IsOneLine}

@@ -2,13 +2,13 @@
 use Rattle.std.proofs.Common.{◌≡◌, ℕ, List, [], ◌∷◌, ◌++◌, Bool, true, false, cond, Option, Some, None, Result, Ok, Err, refl, sym, ap, subst, ◌∙◌}
 use Rattle.std.specs.Prelude.{◌==◌, bytes_eq, codes, is_some, ok_or}
 use Rattle.std.proofs.lemmas.Slice.Eq.{bytes_eq-Decides}
-use Rattle.mc_base.specs.model_device.specs.Bytes.{lookup}
+use Rattle.model_device.specs.Bytes.{lookup}
 use Rattle.mc_text.specs.model_text.specs.Text.{◌>>=◌, err_as, fields, first_cut, halves_with_character, lines, ok_as, with_numbers}
-use Rattle.lab_match.specs.model_play.specs.declared.deck.DeckCause.{DeckCause}
-use Rattle.lab_match.specs.model_play.specs.declared.deck.DeckCause.TheVariants.{BadLine}
-use Rattle.lab_match.specs.model_play.specs.DeckGrammar.{aid_field, between, deck_lines, deck_read, hex_field, statement_of, turn_of, ApduWord, Between, Context, DeckLine, DeleteWord, PowerWord, Says, SelectWord, Stated, Word}
-use Rattle.lab_match.specs.model_play.specs.DeckGrammar as line
-use Rattle.lab_match.specs.law_explore.specs.Rules.{line_stated, move_line, move_words}
+use Rattle.law_explore.specs.model_play.specs.declared.deck.DeckCause.{DeckCause}
+use Rattle.law_explore.specs.model_play.specs.declared.deck.DeckCause.TheVariants.{BadLine}
+use Rattle.law_explore.specs.model_play.specs.DeckGrammar.{aid_field, between, deck_lines, deck_read, hex_field, statement_of, turn_of, ApduWord, Between, Context, DeckLine, DeleteWord, PowerWord, Says, SelectWord, Stated, Word}
+use Rattle.law_explore.specs.model_play.specs.DeckGrammar as line
+use Rattle.law_explore.specs.Rules.{line_stated, move_line, move_words}
 use Rattle.mc_text.specs.Reading.{line_cut}
 use Rattle.mc_text.proofs.ReadingLemmas.{lines_at, lines_from}
 use Rattle.lab_rules.specs.Fields.{is_move, IsOneLine}

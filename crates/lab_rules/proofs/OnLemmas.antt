@@ -2,14 +2,15 @@
 use Rattle.std.proofs.Common.{◌≡◌, ℕ, suc, List, [], ◌∷◌, ◌++◌, Bool, true, false, cond, Option, Some, None, Result, Ok, Err, refl, sym, ap, subst, ◌∙◌}
 use Rattle.std.specs.Prelude.{bytes_eq, is_none, is_some, option_map}
 use Rattle.std.proofs.lemmas.Slice.Eq.{bytes_eq-Decides}
-use Rattle.mc_base.specs.model_device.specs.Bytes.{lookup}
+use Rattle.model_device.specs.Bytes.{lookup}
 use Rattle.mc_text.specs.model_text.specs.Text.{◌>>=◌, fields, ok_as, only_if}
-use Rattle.lab_match.specs.model_play.specs.declared.deck.DeckCause.{DeckCause}
-use Rattle.lab_match.specs.model_play.specs.DeckGrammar.{DeckLine}
-use Rattle.lab_match.specs.model_play.specs.declared.deck.DeckCause.TheVariants.{NameTwice, UnknownName}
-use Rattle.lab_match.specs.law_explore.specs.Matching.{plain}
-use Rattle.lab_match.specs.law_explore.specs.Rules as model
-use Rattle.lab_match.specs.law_explore.specs.Rules.{full_parts, move_line, name_and_amount, parts_of, effect_words, occasion_words, with_rule, AllowWord, MoveWord, OnWord, Parts}
+use Rattle.law_explore.specs.model_play.specs.declared.deck.DeckCause.{DeckCause}
+use Rattle.law_explore.specs.model_play.specs.DeckGrammar.{DeckLine}
+use Rattle.law_explore.specs.model_play.specs.declared.deck.DeckCause.TheVariants.{NameTwice, UnknownName}
+use Rattle.law_explore.specs.model_events.specs.Matching.{plain}
+use Rattle.law_explore.specs.Rules as model
+use Rattle.law_explore.specs.model_play.specs.RuleLines.{full_parts, name_and_amount, parts_of, Parts}
+use Rattle.law_explore.specs.Rules.{move_line, effect_words, occasion_words, with_rule, AllowWord, MoveWord, OnWord}
 use Rattle.lab_rules.specs.declared.rules.Move.{Move}
 use Rattle.lab_rules.specs.declared.rules.Allowance.{Allowance}
 use Rattle.lab_rules.specs.declared.rules.OnRule.{OnRule}

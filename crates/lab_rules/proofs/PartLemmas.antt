@@ -1,11 +1,11 @@
 -- The fields of a line up to a word, one after the other.
 use Rattle.std.proofs.Common.{◌≡◌, ℕ, List, [], ◌∷◌, ◌++◌, Bool, true, false, not, length, Option, Some, None, Ok, Err, append-nil, append_assoc, arith, refl, sym, ap, subst, ◌∙◌}
 use Rattle.std.specs.Prelude.{nat_eq}
-use Rattle.mc_base.specs.model_device.specs.Bytes.{lookup}
+use Rattle.model_device.specs.Bytes.{lookup}
 use Rattle.mc_text.specs.model_text.specs.Text.{fields, is_blank, is_empty, only_if}
-use Rattle.lab_match.specs.model_play.specs.declared.deck.DeckCause.TheVariants.{BadLine}
-use Rattle.lab_match.specs.law_explore.specs.Matching.{plain, small}
-use Rattle.lab_match.specs.law_explore.specs.Rules.{full_parts, parts_at, parts_of, with_front, Parts}
+use Rattle.law_explore.specs.model_play.specs.declared.deck.DeckCause.TheVariants.{BadLine}
+use Rattle.law_explore.specs.model_events.specs.Matching.{plain, small}
+use Rattle.law_explore.specs.model_play.specs.RuleLines.{full_parts, parts_at, parts_of, with_front, Parts}
 use Rattle.lab_rules.specs.Parts.{AreFullParts}
 
 -- ---- plain texts

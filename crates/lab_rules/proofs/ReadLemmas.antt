@@ -2,13 +2,15 @@
 use Rattle.std.proofs.Common.{◌≡◌, ◌+◌, ◌≤◌, ◌<◌, ℕ, suc, List, [], ◌∷◌, ◌++◌, Bool, true, false, cond, length, Some, None, Result, Ok, Err, arith, add-one, refl, sym, ap, subst, ◌∙◌}
 use Rattle.std.specs.Prelude.{◌==◌, ◌&&◌, not, bytes_eq, codes, ok_or}
 use Rattle.std.proofs.lemmas.Slice.Eq.{bytes_eq-Decides}
-use Rattle.mc_base.specs.model_device.specs.Bytes.{lookup}
+use Rattle.model_device.specs.Bytes.{lookup}
 use Rattle.mc_text.specs.model_text.specs.Text.{◌>>=◌, err_as, fields, lines, ok_as, only_if, trim, with_numbers}
-use Rattle.lab_match.specs.model_play.specs.declared.deck.DeckCause.{DeckCause}
-use Rattle.lab_match.specs.model_play.specs.declared.deck.DeckCause.TheVariants.{BadLine}
-use Rattle.lab_match.specs.model_play.specs.DeckGrammar.{deck_lines, deck_read, turn_at, turn_in, DeckLine, LineTurn, Mode}
-use Rattle.lab_match.specs.law_explore.specs.Rules as model
-use Rattle.lab_match.specs.law_explore.specs.Rules.{exploration_read, is_marked, is_some_of, line_fault, line_if, marked_lines, no_rules, rule_words, tested_rules, ExplorationFault, NoMove, NoRule, rules_from, rules_read, stays_inside, with_line, with_rule, without_field, RuleWord}
+use Rattle.law_explore.specs.model_play.specs.declared.deck.DeckCause.{DeckCause}
+use Rattle.law_explore.specs.model_play.specs.declared.deck.DeckCause.TheVariants.{BadLine}
+use Rattle.law_explore.specs.model_play.specs.DeckGrammar.{deck_lines, deck_read, turn_at, turn_in, DeckLine, LineTurn, Mode}
+use Rattle.law_explore.specs.Rules as model
+use Rattle.law_explore.specs.Rules.{exploration_read, is_some_of, line_fault, no_rules, rule_words, tested_rules, ExplorationFault, NoMove, NoRule, rules_from, rules_read, with_line, with_rule, without_field, RuleWord}
+use Rattle.law_explore.specs.model_play.specs.RuleLines.{is_marked, line_if, marked_lines}
+use Rattle.law_explore.specs.model_text.specs.Text.{stays_inside}
 use Rattle.mc_text.specs.Reading.{next_line}
 use Rattle.mc_text.proofs.ReadingLemmas.{lines_at, lines_from}
 use Rattle.mc_deck.specs.declared.refusal.DeckRefusal.{DeckRefusal}

@@ -2,12 +2,13 @@
 use Rattle.std.proofs.Common.{◌≡◌, ℕ, zero, suc, ◌-◌, List, [], ◌∷◌, map, Bool, true, false, cond, Option, Some, None, Result, Ok, Err, refl, sym, ap, subst, ◌∙◌}
 use Rattle.std.specs.Prelude.{bytes_eq, nat_le, option_and_then, option_map, slice_get, slice_index_or, slice_set, unwrap_or}
 use Rattle.std.proofs.lemmas.Slice.Eq.{bytes_eq-Decides}
-use Rattle.mc_base.specs.model_device.specs.Bytes.{lookup}
+use Rattle.model_device.specs.Bytes.{lookup}
 use Rattle.mc_text.specs.model_text.specs.Text.{◌>>=◌}
-use Rattle.lab_match.specs.model_play.specs.Play.{Step}
-use Rattle.lab_match.specs.law_explore.specs.Rules as model
-use Rattle.lab_match.specs.law_explore.specs.Rules.{Allows, Spends}
-use Rattle.lab_match.specs.law_explore.specs.Tries.{after_spending, allowances_after, amount_of, effect_times, times, with_amount}
+use Rattle.law_explore.specs.model_play.specs.Play.{Step}
+use Rattle.law_explore.specs.Rules as model
+use Rattle.law_explore.specs.Rules.{Allows, Spends}
+use Rattle.law_explore.specs.Tries.{after_spending, allowances_after, effect_times, times}
+use Rattle.law_explore.specs.model_events.specs.Amounts.{amount_of, with_amount}
 use Rattle.lab_rules.specs.declared.rules.OnRule.{OnRule}
 use Rattle.lab_rules.specs.Meanings.{effect_value, place_of, AlikeLists, AreDistinct, IsOn}
 use Rattle.lab_rules.specs.Occasions.{amount_times, amounts_after_rule, amounts_by, amounts_from, amounts_of, capped, names_of, with_amount_at, AmountsAre, AreSpent, CountsMove}

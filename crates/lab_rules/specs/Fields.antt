@@ -1,8 +1,8 @@
 -- Lines of rules, and their first words.
 use Rattle.std.specs.Prelude.{◌≡◌, ◌==◌, ℕ, Bool, false, List, [], ◌∷◌, is_some}
 use Rattle.std.specs.List.{AllByRecursion}
-use Rattle.mc_base.specs.model_device.specs.Bytes.{lookup}
-use Rattle.lab_match.specs.law_explore.specs.Rules.{move_words}
+use Rattle.model_device.specs.Bytes.{lookup}
+use Rattle.law_explore.specs.Rules.{move_words}
 
 -- a text without a line feed
 abbrev pub IsOneLine : List ℕ → Type 0

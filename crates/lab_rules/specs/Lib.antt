@@ -3,5 +3,5 @@ pub mod Meanings
 pub mod Moves
 pub mod Occasions
 pub mod Parts
+
 -- the libraries below that those above cite through this one
-pub use Rattle.lab_match.specs.law_explore as law_explore

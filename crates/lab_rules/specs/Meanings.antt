@@ -1,18 +1,20 @@
 -- The rules of a deck as the code has them, and the rules that they are.
 use Rattle.std.specs.Prelude.{◌≡◌, ℕ, suc, Bool, true, not, ◌&&◌, cond, List, [], ◌∷◌, map, bytes_eq, codes, is_some, option_map, ok_or, Option, Some, None, Result, Ok, Err, ⊤}
-use Rattle.mc_base.specs.model_device.specs.Bytes.{lookup}
+use Rattle.model_device.specs.Bytes.{lookup}
 use Rattle.mc_text.specs.model_text.specs.Text.{◌>>=◌, only_if, fields}
-use Rattle.lab_match.specs.model_play.specs.declared.deck.DeckCause.{DeckCause}
-use Rattle.lab_match.specs.model_play.specs.declared.deck.DeckCause.TheVariants.{BadLine, UnknownName}
+use Rattle.law_explore.specs.model_play.specs.declared.deck.DeckCause.{DeckCause}
+use Rattle.law_explore.specs.model_play.specs.declared.deck.DeckCause.TheVariants.{BadLine, UnknownName}
 use Rattle.mc_deck.specs.declared.refusal.DeckRefusal.{DeckRefusal}
 use Rattle.mc_deck.specs.declared.refusal.DeckRefusal.TheVariants as refusal
 use Rattle.mc_deck.specs.declared.refusal.Fault.{Fault}
 use Rattle.mc_deck.specs.declared.refusal.Fault.TheVariants as fault
-use Rattle.lab_match.specs.law_explore.specs.Matching.{plain}
-use Rattle.lab_match.specs.law_explore.specs.Rules as model
+use Rattle.law_explore.specs.model_events.specs.Matching.{plain}
+use Rattle.law_explore.specs.Rules as model
 use Rattle.lab_rules.specs.declared.refusal.ExplorationRefusal.{ExplorationRefusal}
 use Rattle.lab_rules.specs.declared.refusal.ExplorationRefusal.TheVariants as explored
-use Rattle.lab_match.specs.law_explore.specs.Rules.{ExplorationFault, LineFault, NoMove, NoRule, Parts, RuleWord, begins_with, is_marked, effect_words, full_parts, name_and_amount, occasion_words, parts_of, rule_words, with_line, with_rule, without_field}
+use Rattle.law_explore.specs.Rules.{ExplorationFault, LineFault, NoMove, NoRule, RuleWord, effect_words, occasion_words, rule_words, with_line, with_rule, without_field}
+use Rattle.law_explore.specs.model_play.specs.RuleLines.{Parts, is_marked, full_parts, name_and_amount, parts_of}
+use Rattle.law_explore.specs.model_text.specs.Text.{begins_with}
 use Rattle.lab_rules.specs.declared.rules.Move.{Move}
 use Rattle.lab_rules.specs.declared.rules.Allowance.{Allowance}
 use Rattle.lab_rules.specs.declared.rules.Occasion.{Occasion}

@@ -3,16 +3,17 @@
 use Rattle.std.specs.Prelude.{◌≡◌, ℕ, zero, suc, ◌-◌, min, Bool, true, false, cond, ◌&&◌, ◌||◌, nat_le, List, [], ◌∷◌, drop, length, map, replicate, slice_get, slice_index_or, slice_set, option_and_then, Option, Some, None, Result, Ok, Err}
 use Rattle.std.specs.declared.alloc.Global.{Global}
 use Rattle.std.specs.declared.vec.Vec.{Vec}
-use Rattle.mc_base.specs.model_device.specs.Counts.{last_count}
+use Rattle.model_device.specs.Counts.{last_count}
 use Rattle.mc_text.specs.model_text.specs.Text.{◌>>=◌}
 use Rattle.mc_text.specs.model_machine.specs.Chain.{Turn}
-use Rattle.lab_match.specs.model_play.specs.Play.{Step}
-use Rattle.lab_match.specs.model_play.specs.TraceText.{shown_turns}
+use Rattle.law_explore.specs.model_play.specs.Play.{Step}
+use Rattle.law_explore.specs.model_play.specs.TraceText.{shown_turns}
 use Rattle.mc_streams.specs.Streams.{one_more}
-use Rattle.lab_match.specs.law_explore.specs.Rules as model
-use Rattle.lab_match.specs.law_explore.specs.Rules.{AtResult, AtTurn, Allows, Spends}
-use Rattle.lab_match.specs.law_explore.specs.Matching.{fits, plain}
-use Rattle.lab_match.specs.law_explore.specs.Tries.{result_text, times, turn_text}
+use Rattle.law_explore.specs.Rules as model
+use Rattle.law_explore.specs.Rules.{AtResult, AtTurn, Allows, Spends}
+use Rattle.law_explore.specs.model_events.specs.Matching.{fits, plain}
+use Rattle.law_explore.specs.Tries.{result_text, times}
+use Rattle.law_explore.specs.model_events.specs.Amounts.{turn_text}
 use Rattle.lab_rules.specs.declared.rules.OnRule.{OnRule}
 use Rattle.lab_rules.specs.Meanings.{effect_value, occasion_value, AlikeLists, AreDistinct, IsOn}
 

@@ -1,12 +1,11 @@
 // Names and numbers in the lines of rules.
 ghost use Rattle.std.specs.Prelude.{◌≡◌, Ok, Err, MatchResult};
 ghost use Rattle.mc_text.specs.model_text.specs.Text.{fields};
-ghost use Rattle.lab_match.specs.law_explore.specs.Rules.{name_and_amount};
-ghost use Rattle.lab_match.specs.model_play.specs.DeckGrammar.{name_field};
+ghost use Rattle.law_explore.specs.model_play.specs.RuleLines.{name_and_amount};
+ghost use Rattle.law_explore.specs.model_play.specs.DeckGrammar.{name_field};
 
 use lab_match::first_field;
-use lab_match::model_play::DeckCause;
-use mc_deck::number_field;
+use mc_deck::{DeckCause, number_field};
 use mc_text::has_name_characters;
 
 // Returns a name: 1 to 32 letters, digits and underscores.

@@ -2,11 +2,12 @@
 ghost use Rattle.std.specs.Prelude.{◌≡◌, ◌≤◌, ◌==◌, ℕ, List, true, false, length, map, slice_index_or, IfOk};
 ghost use Rattle.mc_text.specs.model_machine.specs.Chain.{Turn};
 ghost use Rattle.mc_text.specs.model_text.specs.TurnText.{turn_line};
-ghost use Rattle.lab_match.specs.model_play.specs.Play.{Step};
-ghost use Rattle.lab_match.specs.law_explore.specs.Rules as model;
-ghost use Rattle.lab_match.specs.law_explore.specs.Rules.{AtTurn};
-ghost use Rattle.lab_match.specs.law_explore.specs.Matching.{plain};
-ghost use Rattle.lab_match.specs.law_explore.specs.Tries.{allowances_after, turn_text};
+ghost use Rattle.law_explore.specs.model_play.specs.Play.{Step};
+ghost use Rattle.law_explore.specs.Rules as model;
+ghost use Rattle.law_explore.specs.Rules.{AtTurn};
+ghost use Rattle.law_explore.specs.model_events.specs.Matching.{plain};
+ghost use Rattle.law_explore.specs.Tries.{allowances_after};
+ghost use Rattle.law_explore.specs.model_events.specs.Amounts.{turn_text};
 ghost use Rattle.lab_rules.specs.Meanings.{effect_value, occasion_value, AlikeLists, AreRules};
 ghost use Rattle.lab_rules.specs.Occasions.{amount_once, amount_times, amounts_after_rule, amounts_from, capped, counts_after, counts_with, has_turns, is_counted, is_same_occasion, row_of, AmountsAre, AreSpent, CountsMove, IsRow};
 
@@ -14,8 +15,8 @@ use crate::pattern::{plain, plain_into};
 use crate::rules::{Effect, Move, Occasion, OnRule, Rules};
 use arrayvec::ArrayVec;
 use lab_match::fits;
-use mc_base::NoMemory;
 use mc_text::cut;
+use model_device::NoMemory;
 use std::alloc::{AllocError, Global};
 
 // Returns for each `on` line whether it applies to a move whose plain text is `plain`.

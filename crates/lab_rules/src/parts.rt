@@ -1,8 +1,9 @@
 // The parts of an `on` line: a pattern, and the word after it.
 ghost use Rattle.std.specs.Prelude.{◌≡◌, option_map, MatchResult};
-ghost use Rattle.mc_base.specs.model_device.specs.Bytes.{lookup};
+ghost use Rattle.model_device.specs.Bytes.{lookup};
 ghost use Rattle.mc_text.specs.model_text.specs.Text.{fields};
-ghost use Rattle.lab_match.specs.law_explore.specs.Rules.{effect_words, full_parts, occasion_words, parts_of};
+ghost use Rattle.law_explore.specs.Rules.{effect_words, occasion_words};
+ghost use Rattle.law_explore.specs.model_play.specs.RuleLines.{full_parts, parts_of};
 ghost use Rattle.mc_deck.specs.Refused.{Faulty};
 ghost use Rattle.lab_rules.specs.Meanings.{effect_value, occasion_value};
 ghost use Rattle.lab_rules.specs.Parts.{AreFullParts};

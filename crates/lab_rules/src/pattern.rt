@@ -1,7 +1,7 @@
 // Texts without blanks and capital letters, as patterns are kept.
 ghost use Rattle.std.specs.Prelude.{◌≡◌, ◌≤◌, ◌+◌, ◌++◌, length, IfOk, OnOk};
 ghost use Rattle.arrayvec.specs.ArrayVec.{array_vec_len};
-ghost use Rattle.lab_match.specs.law_explore.specs.Matching.{plain};
+ghost use Rattle.law_explore.specs.model_events.specs.Matching.{plain};
 
 use arrayvec::ArrayVec;
 use lab_match::small;

@@ -1,10 +1,11 @@
 // The rules of a deck, read from its comments that begin with `#@`.
 ghost use Rattle.std.specs.Prelude.{◌≡◌, ◌≤◌, ℕ, List, false, true, is_some, length, option_map, Ok, IfErr, IfOk, MatchResult, OnOk};
-ghost use Rattle.mc_base.specs.model_device.specs.Bytes.{lookup};
+ghost use Rattle.model_device.specs.Bytes.{lookup};
 ghost use Rattle.mc_text.specs.model_text.specs.Text.{fields, lines, trim};
-ghost use Rattle.lab_match.specs.law_explore.specs.Rules as model;
-ghost use Rattle.lab_match.specs.law_explore.specs.Rules.{exploration_read, is_marked, move_line, move_words, rule_words, rules_read, with_rule, AllowWord, MoveWord, OnWord};
-ghost use Rattle.lab_match.specs.model_play.specs.declared.deck.DeckCause.TheVariants.{BadLine};
+ghost use Rattle.law_explore.specs.Rules as model;
+ghost use Rattle.law_explore.specs.Rules.{exploration_read, move_line, move_words, rule_words, rules_read, with_rule, AllowWord, MoveWord, OnWord};
+ghost use Rattle.law_explore.specs.model_play.specs.RuleLines.{is_marked};
+ghost use Rattle.law_explore.specs.model_play.specs.declared.deck.DeckCause.TheVariants.{BadLine};
 ghost use Rattle.mc_deck.specs.declared.refusal.Fault.TheVariants.{Cause};
 ghost use Rattle.mc_deck.specs.Refused.{DeckRefuses, Faulty};
 ghost use Rattle.lab_rules.specs.Fields.{is_move, IsOneLine};

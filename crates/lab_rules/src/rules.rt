@@ -1,12 +1,12 @@
 // The rules of a deck.
 ghost use Rattle.std.specs.Prelude.{◌≡◌, map, IfOk};
-ghost use Rattle.lab_match.specs.model_play.specs.DeckGrammar.{DeckLine};
+ghost use Rattle.law_explore.specs.model_play.specs.DeckGrammar.{DeckLine};
 ghost use Rattle.mc_deck.specs.Lines.{line_of, GoodLine};
 ghost use Rattle.lab_rules.specs.Meanings.{allowance_values, place_of};
 ghost use Rattle.lab_rules.specs.Moves.{move_deck};
 
-use mc_base::NoMemory;
 use mc_deck::{Deck, Line};
+use model_device::NoMemory;
 
 /// A move of a terminal: its statement as its line has it, and a deck of one `power` line and this statement.
 #[derive(Drop)]

@@ -9,7 +9,7 @@ use Rattle.law_explore_text.specs.model_play.specs.Family.{is_running}
 use Rattle.law_explore_text.specs.model_play.specs.TraceText.{shown_turns}
 use Rattle.law_explore_text.specs.law_explore.specs.Rules as rule
 use Rattle.law_explore_text.specs.law_explore.specs.Rules.{AtResult}
-use Rattle.law_explore_text.specs.law_explore.specs.Matching.{plain}
+use Rattle.law_explore_text.specs.law_explore.specs.model_events.specs.Matching.{plain}
 use Rattle.law_explore_text.specs.law_explore.specs.States as model
 use Rattle.law_explore_text.specs.law_explore.specs.States.{play_of, state_in}
 use Rattle.law_explore_text.specs.law_explore.specs.Tries.{outcome, allowances_after, step_of, result_text}

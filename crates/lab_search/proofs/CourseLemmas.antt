@@ -6,7 +6,7 @@ use Rattle.std.proofs.lemmas.Option.{slice_get-get_or, slice_get_read}
 use Rattle.law_explore_text.specs.model_text.specs.Text.{◌>>=◌}
 use Rattle.law_explore_text.specs.model_play.specs.Play.{Live, Running, Unpowered, Muted, is_card_line}
 use Rattle.law_explore_text.specs.model_play.specs.Family.{is_running}
-use Rattle.law_explore_text.specs.law_explore.specs.Matching.{fits}
+use Rattle.law_explore_text.specs.law_explore.specs.model_events.specs.Matching.{fits}
 use Rattle.law_explore_text.specs.law_explore.specs.Rules as rule
 use Rattle.law_explore_text.specs.law_explore.specs.States.{play_of}
 use Rattle.law_explore_text.specs.law_explore.specs.Tries.{Manner as TryManner, Try, Whole, cuts_from, manners, tries_of, tries_with, writes_of}
@@ -365,10 +365,3 @@ pub record IsGoing (d : Depth) (ns : List Node) (s : Search) : Type 0 where
 pub going : (d : Depth) (ns : List Node) (x : Result Round HaltedRound) (s : Search) → Comes d ns x None s → IsGoing d ns s
 going d ns (Ok r) s h = record { all = h.all; grew = h.grew; holds = h.holds }
 going d ns (Err e) s h = absurd h
-
--- a cut that goes on hit a write
-pub cut_went : (d : Depth) (ns : List Node) (n : Node) (m : rule.Move) (made : ℕ) (ts : List Try) (r : Round) (a : Attempt) (s : Search) → a ≡ attempt.GoesOn → CutsCome d ns n m made ts r a s
-    → (made < writes_of (play_of n.state) m) × IsGoing d ns s
-cut_went d ns n m made ts r a s e h =
-    let k = cuts_as d ns n m made ts r a attempt.GoesOn s e h in
-    (k.0, going d ns (tries_from d n ts r) s k.1)

@@ -3,7 +3,6 @@ use Rattle.std.specs.Prelude.{Vec}
 use Rattle.std.specs.declared.alloc.Global.{Global}
 use Rattle.std.proofs.Common.{◌≡◌, ◌≢◌, ℕ, zero, suc, ◌+◌, ◌-◌, ◌<◌, ◌≤◌, Bool, List, [], ◌∷◌, ◌++◌, codes, decimal, drop, length, Option, Some, None, Result, Ok, Err, IsErr, refl, arith, sym, ap, subst, ◌∙◌, append_assoc, length-drop}
 use Rattle.std.specs.Result.{IsErrAnd}
-use Rattle.law_explore_text.specs.model_play.specs.DeckGrammar.{DeckLine}
 use Rattle.law_explore_text.specs.model_play.specs.Play.{State}
 use Rattle.law_explore_text.specs.law_explore.specs.Rules as rule
 use Rattle.law_explore_text.specs.law_explore.specs.States as model
@@ -26,10 +25,8 @@ use Rattle.lab_search.specs.Kept.{IsExplorationOf}
 use Rattle.lab_search.specs.Reports.{depth_line}
 use Rattle.lab_search.specs.Rounds.{round_in, tally_of, AreCandidates, CanTryStates, Comes, Depth, Ends, Extends, Holds, KeepsNode}
 use Rattle.lab_search.specs.Endings.{explored_as, text_from, DepthsAhead, Explores, IsExplored, IsPut}
-use Rattle.lab_search.specs.ExplorationSteps.{most_of_deck, most_of_exploration, most_of_nodes}
 use Rattle.lab_search.proofs.AlikeLemmas.{alike_length, drop_past}
 use Rattle.lab_search.proofs.EndingLemmas.{put_failed}
-use Rattle.lab_search.proofs.StepCountLemmas.{depth_more, depth_within, explores_first, most_left}
 use Rattle.lab_search.proofs.HaltLemmas.{err_ending, explored_err, nothing_yet}
 
 -- ---- texts
@@ -155,12 +152,6 @@ new_some (n ∷ ns) r again h = refl
 some_left : (n : ℕ) (ms : List Node) → n ≡ length ms → n ≢ 0 → ms ≢ []
 some_left n ms e h k = h (e ∙ ap length k)
 
--- What is left of an exploration, and its steps: those that were made and the most of those that are left are at most
--- those of the whole.
-pub record DepthsLeft (x : rule.Exploration) (most depth done from : ℕ) (s : Search) (a b : Sunk) (old now : ℕ) : Type 0 where
-  pub ahead : DepthsAhead x most depth done from s a b
-  pub steps : now + most_left x.rules most depth done from (tally_of s) ahead.nodes ≤ old + most_of_exploration most depth x
-
 -- the tries of the nodes of a depth
 abbrev pub depth_round : rule.Rules → ℕ → ℕ → Search → List Node → Result Round HaltedRound
 depth_round rules most from s ns = round_of_states most rules (drop from ns) (round_in (next_depth rules most ns) (tally_of s) ns)
@@ -224,29 +215,24 @@ module _ (x : rule.Exploration) (most depth done from : ℕ) (s u : Search) (a b
       (subst (λ (ms : List Node). Explores x.rules.ons (done + 1 + 1) (play_of_deck x.lines) (after_new ms q again) m r c) (sym none) all)))
 
   -- a depth with new nodes
-  pub depth_next : (o : Option Halt) (n : ℕ) (m : Sunk) (old now new : ℕ) → o ≡ None → Comes (next_depth x.rules most k.nodes) k.nodes (depth_round x.rules most from s k.nodes) o u
-      → n ≡ length u.states.keys - length s.states.keys → n ≢ 0 → Writes b (depth_line (done + 1) n) m → (to : ℕ) → to ≡ length s.states.keys
-      → now + most_left x.rules most depth done from (tally_of s) k.nodes ≤ old + most_of_exploration most depth x → new ≤ now + most_of_nodes x.rules.moves (drop from k.nodes)
-      → DepthsLeft x most depth (done + 1) to u a m old new
-  depth_next o n m old now new e comes count some_new written to at before_steps tries =
+  pub depth_next : (o : Option Halt) (n : ℕ) (m : Sunk) → o ≡ None → Comes (next_depth x.rules most k.nodes) k.nodes (depth_round x.rules most from s k.nodes) o u
+      → n ≡ length u.states.keys - length s.states.keys → n ≢ 0 → Writes b (depth_line (done + 1) n) m → (to : ℕ) → to ≡ length s.states.keys → DepthsAhead x most depth (done + 1) to u a m
+  depth_next o n m e comes count some_new written to at =
       let w = went_is (next_depth x.rules most k.nodes) k.nodes (depth_round x.rules most from s k.nodes) o u e comes in
-      let more = new_count w n count in
+      let new = new_count w n count in
       let before = alike_length (KeepsNode x.rules s) s.states.keys k.nodes k.holds.kept in
       let q = round_in (next_depth x.rules most k.nodes) (tally_of u) w.all in
       let again = λ (ms : List Node) (q : Round). search_on (depth - (done + 1)) (done + 1) most x.rules ms q in
-      subst (λ (i : ℕ). DepthsLeft x most depth (done + 1) i u a m old new) (sym (at ∙ before))
+      subst (λ (i : ℕ). DepthsAhead x most depth (done + 1) i u a m) (sym (at ∙ before))
       (record {
-        ahead = record {
-          nodes = w.all;
-          holds = w.holds;
-          rest = λ r c h.
-              k.rest r c
-              (subst (λ (y : Found). Explores x.rules.ons (done + 1) (play_of_deck x.lines) y b r c) (sym (left_went w))
-              (explores_then x.rules.ons (done + 1) (play_of_deck x.lines) (length (drop (length k.nodes) w.all)) (after_new (drop (length k.nodes) w.all) q again) b m c r
-              (subst (λ (i : ℕ). Writes b (depth_line (done + 1) i) m) more written)
-              (subst (λ (y : Found). Explores x.rules.ons (done + 1 + 1) (play_of_deck x.lines) y m r c) (sym (new_some (drop (length k.nodes) w.all) q again (some_left n (drop (length k.nodes) w.all) more some_new))) h)));
-        };
-        steps = depth_more x.rules most depth done from (tally_of s) (tally_of u) k.nodes w.all old (most_of_exploration most depth x) now new below before_steps tries w.is;
+        nodes = w.all;
+        holds = w.holds;
+        rest = λ r c h.
+            k.rest r c
+            (subst (λ (y : Found). Explores x.rules.ons (done + 1) (play_of_deck x.lines) y b r c) (sym (left_went w))
+            (explores_then x.rules.ons (done + 1) (play_of_deck x.lines) (length (drop (length k.nodes) w.all)) (after_new (drop (length k.nodes) w.all) q again) b m c r
+            (subst (λ (i : ℕ). Writes b (depth_line (done + 1) i) m) new written)
+            (subst (λ (y : Found). Explores x.rules.ons (done + 1 + 1) (play_of_deck x.lines) y m r c) (sym (new_some (drop (length k.nodes) w.all) q again (some_left n (drop (length k.nodes) w.all) new some_new))) h)));
       })
 
 -- ---- the ends of the loop
@@ -273,20 +259,16 @@ unfolding search_from
 from_start most depth rules c = refl
 
 -- the search begins
-pub depth_first : (x : rule.Exploration) (most depth : ℕ) (s : Search) (a : Sunk) (ls : List (ℕ × DeckLine)) (old now : ℕ)
-    → Holds (record { rules = x.rules; most = most; from = 0 }) s (record { state = first_state x; path = [] } ∷ []) → (tally_of s) ≡ no_tries x.rules.ons → ls ≡ x.lines → now ≤ old + most_of_deck ls
-    → DepthsLeft x most depth 0 0 s a a old now
-depth_first x most depth s a ls old now h none same steps =
+pub depth_first : (x : rule.Exploration) (most depth : ℕ) (s : Search) (a : Sunk) → Holds (record { rules = x.rules; most = most; from = 0 }) s (record { state = first_state x; path = [] } ∷ []) → (tally_of s) ≡ no_tries x.rules.ons
+    → DepthsAhead x most depth 0 0 s a a
+depth_first x most depth s a h none =
     let n : Node = record { state = first_state x; path = [] } in
     record {
-      ahead = record {
-        nodes = n ∷ [];
-        holds = h;
-        rest = λ r c e.
-            text_whole x most depth a c r
-            (subst (λ (y : Found). Explores x.rules.ons 1 (play_of_deck x.lines) y a r c) (left_first x.rules most depth (tally_of s) n none ∙ from_start most depth x.rules (first_state x)) e);
-      };
-      steps = explores_first most depth x (tally_of s) ls old now same none steps;
+      nodes = n ∷ [];
+      holds = h;
+      rest = λ r c e.
+          text_whole x most depth a c r
+          (subst (λ (y : Found). Explores x.rules.ons 1 (play_of_deck x.lines) y a r c) (left_first x.rules most depth (tally_of s) n none ∙ from_start most depth x.rules (first_state x)) e);
     }
 
 -- the last depth is done
@@ -320,24 +302,6 @@ candidates_of x e rows used h u f =
       cards = h.cards;
       rows = subst (λ (rs : List (Vec Bool Global)). AlikeLists (IsRow x.rules.ons) rs x.rules.moves) (sym u) (f x.rules h.rules);
     }
-
--- the steps of the tries of a depth
-pub depth_tries : (x : rule.Exploration) (most depth done from to : ℕ) (s : Search) (a b : Sunk) (old new : ℕ) (rules : Rules) (used : List (Vec Bool Global)) → (k : DepthsAhead x most depth done from s a b) → to ≡ length s.states.keys
-    → AreCandidates x.rules rules used
-    → ((d : Depth) (ns : List Node) → Holds d s ns → from ≤ to → to ≡ length ns → AreCandidates d.rules rules used → new ≤ old + most_of_nodes d.rules.moves (drop from ns))
-    → new ≤ old + most_of_nodes x.rules.moves (drop from k.nodes)
-depth_tries x most depth done from to s a b old new rules used k at can f =
-    let count = at ∙ alike_length (KeepsNode x.rules s) s.states.keys k.nodes k.holds.kept in
-    let within = k.holds.within in
-    f (next_depth x.rules most k.nodes) k.nodes (holds_next x.rules most from s k.nodes k.holds) (omega (arith, count, within)) count can
-
--- they are within those of the whole
-pub depth_steps : (x : rule.Exploration) (most depth done from to : ℕ) (s : Search) (a b : Sunk) (old now new : ℕ) (rules : Rules) (used : List (Vec Bool Global)) → DepthsLeft x most depth done from s a b old now → done < depth
-    → to ≡ length s.states.keys → AreCandidates x.rules rules used
-    → ((d : Depth) (ns : List Node) → Holds d s ns → from ≤ to → to ≡ length ns → AreCandidates d.rules rules used → new ≤ now + most_of_nodes d.rules.moves (drop from ns))
-    → new ≤ old + most_of_exploration most depth x
-depth_steps x most depth done from to s a b old now new rules used l below at can f =
-    depth_within x.rules most depth done from (tally_of s) l.ahead.nodes old (most_of_exploration most depth x) now new below l.steps (depth_tries x most depth done from to s a b now new rules used l.ahead at can f)
 
 -- what the tries of a depth come to
 pub depth_comes : (x : rule.Exploration) (most depth done from to : ℕ) (s u : Search) (a b : Sunk) (o : Option Halt) (rules : Rules) (used : List (Vec Bool Global)) → (k : DepthsAhead x most depth done from s a b) → to ≡ length s.states.keys

@@ -17,5 +17,4 @@ pub mod EndingLemmas
 mod PathLemmas
 pub mod HaltLemmas
 pub mod StartLemmas
-mod StepCountLemmas
 mod DepthLemmas

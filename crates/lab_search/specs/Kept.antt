@@ -5,7 +5,7 @@ use Rattle.law_explore_text.specs.model_device.specs.PowerUp.{Base, OnCard, AtFa
 use Rattle.law_explore_text.specs.model_play.specs.Play as play
 use Rattle.law_explore_text.specs.model_play.specs.Play.{Running, Unpowered, Muted, Step, Armed, Unarmed, ArmedCut, ArmedFail, armed_stop_in, is_card_line}
 use Rattle.law_explore_text.specs.law_explore.specs.Rules as rule
-use Rattle.law_explore_text.specs.law_explore.specs.Matching.{fits}
+use Rattle.law_explore_text.specs.law_explore.specs.model_events.specs.Matching.{fits}
 use Rattle.law_explore_text.specs.law_explore.specs.States as model
 use Rattle.law_explore_text.specs.law_explore.specs.States.{warm_in, play_of_deck}
 use Rattle.law_explore_text.specs.law_explore.specs.Search.{first_state}

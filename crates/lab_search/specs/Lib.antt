@@ -8,5 +8,4 @@ pub mod Kept
 pub mod Beginnings
 pub mod Tallies
 pub mod Rounds
-pub mod ExplorationSteps
 pub mod Endings

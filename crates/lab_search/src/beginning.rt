@@ -1,5 +1,5 @@
 // The beginning of an exploration: its deck is played, and leads to the first state.
-ghost use Rattle.std.specs.Prelude.{◌≡◌, ◌+◌, ◌≤◌, ℕ, true, List, IfOk};
+ghost use Rattle.std.specs.Prelude.{◌≡◌, ℕ, true, List, IfOk};
 ghost use Rattle.law_explore_text.specs.model_device.specs.Device.{blank_words, device_words};
 ghost use Rattle.law_explore_text.specs.model_play.specs.Play.{Unarmed, State, armed_stop_in};
 ghost use Rattle.law_explore_text.specs.law_explore.specs.Rules as rule;
@@ -11,17 +11,16 @@ ghost use Rattle.mc_script.specs.Players.{device_of, IsUnfused};
 ghost use Rattle.mc_script.specs.Benches.{IsPlayerAt, IsPlaying};
 ghost use Rattle.lab_search.specs.Kept.{is_armed, Begins, IsExplorationOf};
 ghost use Rattle.lab_search.specs.Beginnings.{is_ready_answer, without_stop, IsFirst, IsPowered};
-ghost use Rattle.lab_search.specs.ExplorationSteps.{most_of_deck};
 
 use crate::playing::{Budget, play, play_all};
 use crate::trying::{Laboratory, runs};
 use lab_branch::BranchNvm;
 use lab_key::{CardState, Rosters};
 use lab_rules::Exploration;
-use mc_base::{NoMemory, Steps};
 use mc_deck::{Deck, Line};
 use mc_nvm::Bench;
 use mc_script::{Answer, Live, Player, Silent, Text};
+use mc_words::{NoMemory, Steps};
 use std::alloc::Global;
 use std::sync::ledger::Ledger;
 
@@ -51,7 +50,6 @@ fn drop_stop<N: Bench, L: Ledger>(player: &mut Player<N>, steps: &mut Steps<L>) 
     ensures at { (s : State) → IsPlayerAt N.Bench player.old s
         → (N.bench (device_of player.old)).steady ≡ true → IsPlayerAt N.Bench player.new (without_stop s) }
     ensures steady { (N.bench (device_of player.old)).steady ≡ true → (N.bench (device_of player.new)).steady ≡ true }
-    ensures steps { steps.new ≤ steps.old }
     ensures keeps_device { N.same (device_of player.old) (device_of player.new) }
 {
     if !player.is_armed() {
@@ -68,7 +66,6 @@ fn play_idle<N: Bench, L: Ledger>(player: &mut Player<N>, steps: &mut Steps<L>)
     ensures at { (s : State) → IsPlayerAt N.Bench player.old s
         → (N.bench (device_of player.old)).steady ≡ true → IsPlayerAt N.Bench player.new (without_stop s) }
     ensures steady { (N.bench (device_of player.old)).steady ≡ true → (N.bench (device_of player.new)).steady ≡ true }
-    ensures steps { steps.new ≤ steps.old }
     ensures keeps_device { N.same (device_of player.old) (device_of player.new) }
 {
     let _dropped = player.line(&Line::Apdu(&[0]), &mut Silent, steps);
@@ -97,7 +94,6 @@ fn power_up<N: Bench, L: Ledger>(
         → (N.bench (device_of player.old)).steady ≡ true → armed_stop_in s ≡ Unarmed
         → IsSettled (first_warm (warm_in s)).live (first_warm (warm_in s)).base (first_warm (warm_in s)).owed
         → IsPowered (warm_in s) (N.state (device_of player.new)).words r.0 r.1 player.new.budget) }
-    ensures steps { steps.new ≤ steps.old }
     ensures keeps_device { N.same (device_of player.old) (device_of player.new) }
 {
     let before = player.live(alloc)?;
@@ -122,7 +118,6 @@ fn lead_on<N: Bench, L: Ledger>(
     ensures first { IfOk result (λ r. (ls : List (ℕ × DeckLine))
         → IsPlayerAt N.Bench player.old (play_of_deck ls) → (N.bench (device_of player.old)).steady ≡ true
         → IsFirst ls (N.state (device_of player.new)).words r.0 r.1 r.2) }
-    ensures steps { steps.new ≤ steps.old }
     ensures keeps_device { N.same (device_of player.old) (device_of player.new) }
 {
     let armed = drop_stop(player, steps);
@@ -142,7 +137,6 @@ fn play_on<N: Bench, L: Ledger>(
     requires steady { (N.bench device).steady ≡ true }
     requires blank { (N.state device).words ≡ blank_words device_words }
     ensures first { IfOk result.1 (λ r. IsFirst deck.now (N.state result.0).words r.0 r.1 r.2) }
-    ensures steps { steps.new ≤ steps.old + most_of_deck deck.now }
     ensures keeps_device { N.same device result.0 }
 {
     let mut player = Player::new(device);
@@ -161,7 +155,6 @@ fn play_deck<L: Ledger>(
     requires { device.old ≡ blank_branch device_words }
     ensures first { IfOk result (λ r. IsFirst deck.now device.new.device.words r.0 r.1 r.2) }
     ensures root { device.new.root ≡ device.new.device.words }
-    ensures steps { steps.new ≤ steps.old + most_of_deck deck.now }
 {
     let (_device, first) = play_on(alloc, &mut *device, deck, steps);
     device.take_root();
@@ -197,9 +190,7 @@ pub fn begin<L: Ledger>(
     exploration: &Exploration<'_>,
     steps: &mut Steps<L>,
 ) -> Result<Beginning, NoMemory>
-    ensures begins { IfOk result (λ b. (x : rule.Exploration) → IsExplorationOf exploration.now x → Begins b x) }
-    // At most the steps of the deck.
-    ensures steps { steps.new ≤ steps.old + most_of_deck exploration.now.deck }
+    ensures { IfOk result (λ b. (x : rule.Exploration) → IsExplorationOf exploration.now x → Begins b x) }
 {
     let mut device = BranchNvm::new(alloc)?;
     let (budget, lead, live) = play_deck(alloc, &mut device, &exploration.deck, steps)?;

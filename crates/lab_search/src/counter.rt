@@ -8,18 +8,18 @@ ghost use Rattle.mc_deck.specs.Lines.{line_of, GoodLine};
 ghost use Rattle.mc_script.specs.Arming.{on_after_answer};
 ghost use Rattle.mc_script.specs.Counting.{count_after_rises, line_powers};
 ghost use Rattle.mc_script.specs.Players.{device_of};
-ghost use Rattle.mc_script.specs.Benches.{CountsLine, IsPlaying, LineDone};
+ghost use Rattle.mc_script.specs.Benches.{IsPlaying, LineDone};
 ghost use Rattle.mc_script.specs.Watching.{turn_alone};
 ghost use Rattle.lab_search.specs.Counters.{counts_no_turn, counts_on, AreCounted, CountsTurns};
 
 use lab_rules::{OnRule, count_turn, has_turns};
-use mc_base::{Steps, Stop};
 use mc_card::{BriefTurn, Card};
 use mc_deck::Line;
 use mc_machine::Outcome;
 use mc_nvm::{Bench, Nvm};
 use mc_script::{Answer, Player, Runner, Silent, Watcher, run_watched};
 use mc_trace::line_of_brief;
+use mc_words::{Steps, Stop};
 use std::sync::ledger::Ledger;
 
 /// Counts for each `on` line that applies to a move how many executed instructions its pattern fits.
@@ -106,7 +106,6 @@ fn play<N: Bench, L: Ledger>(
         ≡ count_after_rises (N.bench (device_of player.old)).powers (line_powers (line_of line.now)) }
     ensures power { (N.state (device_of player.new)).on
         ≡ on_after_answer (N.state (device_of player.old)).on (line_of line.now) result }
-    ensures steps { CountsLine N.Bench player.old (line_of line.now) result steps.old steps.new }
     ensures keeps_device { N.same (device_of player.old) (device_of player.new) }
 {
     player.line(line, counter, steps)
@@ -133,7 +132,6 @@ pub fn play_counted<N: Bench, L: Ledger>(
         ≡ count_after_rises (N.bench (device_of player.old)).powers (line_powers (line_of line.now)) }
     ensures power { (N.state (device_of player.new)).on
         ≡ on_after_answer (N.state (device_of player.old)).on (line_of line.now) result }
-    ensures steps { CountsLine N.Bench player.old (line_of line.now) result steps.old steps.new }
     ensures keeps_device { N.same (device_of player.old) (device_of player.new) }
 {
     if !has_turns(ons, applies) {

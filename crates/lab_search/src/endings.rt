@@ -23,9 +23,9 @@ use crate::rounds::{Halt, Search};
 use crate::tally::sum_of;
 use lab_branch::push;
 use lab_rules::{Exploration, Move};
-use mc_base::NoMemory;
 use mc_script::JobFault;
 use mc_streams::{Sink, WriteFault};
+use mc_words::NoMemory;
 use std::alloc::Global;
 
 /// How an exploration ended: no state is left and no rule is broken; no rule is broken in what it tried, which is not

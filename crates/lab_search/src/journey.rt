@@ -2,7 +2,7 @@
 ghost use Rattle.std.specs.Prelude.{◌≡◌, ◌+◌, ◌<◌, ◌≤◌, ◌^◌, IfOk, OnErr};
 ghost use Rattle.lab_search.specs.Reports.{fill_value};
 
-use mc_base::{NoMemory, Word};
+use mc_words::{NoMemory, Word};
 
 /// The word that opens the journal of layout 2.
 const OPENING: Word = *b"OPEN-2--";

@@ -1,5 +1,5 @@
 // A move made on a player that a state was put back on: whole, or cut and recovered.
-ghost use Rattle.std.specs.Prelude.{◌≡◌, ◌+◌, ◌≤◌, ℕ, true, None, option_map, IfOk};
+ghost use Rattle.std.specs.Prelude.{◌≡◌, ◌≤◌, ℕ, true, None, option_map, IfOk};
 ghost use Rattle.law_explore_text.specs.model_play.specs.DeckGrammar as line;
 ghost use Rattle.arrayvec.specs.ArrayVec.{array_vec_len};
 ghost use Rattle.law_explore_text.specs.model_play.specs.DeckGrammar.{DeckLine};
@@ -13,10 +13,9 @@ ghost use Rattle.law_explore_text.specs.law_explore.specs.Tries.{recovery, resul
 ghost use Rattle.lab_rules.specs.Moves.{move_deck};
 ghost use Rattle.lab_rules.specs.Meanings.{IsMove};
 ghost use Rattle.mc_script.specs.Players.{answer_value, device_of};
-ghost use Rattle.mc_script.specs.Benches.{CountsLine, IsPlayerAt, IsPlaying};
+ghost use Rattle.mc_script.specs.Benches.{IsPlayerAt, IsPlaying};
 ghost use Rattle.lab_search.specs.Playing.{FailsNot};
 ghost use Rattle.lab_search.specs.Benches.{CountsAs, IsLiveAfter, MadeAs, PlaysAs};
-ghost use Rattle.lab_search.specs.ExplorationSteps.{most_of_move};
 ghost use Rattle.lab_search.specs.Reports.{fill_value, manner_value};
 ghost use Rattle.lab_key.specs.Shown.{IsKeptBase, IsShown, ShowsSome};
 ghost use Rattle.lab_search.specs.Shown.{settled_play};
@@ -26,10 +25,10 @@ use crate::counter::play_counted;
 use crate::journey::{Fill, Manner};
 use crate::playing::{Budget, play};
 use lab_rules::{Move, OnRule};
-use mc_base::{NoMemory, Steps};
 use mc_deck::Line;
 use mc_nvm::Bench;
 use mc_script::{Answer, Live, Player, Text, add_result, was_cut};
+use mc_words::{NoMemory, Steps};
 use std::alloc::Global;
 use std::sync::ledger::Ledger;
 
@@ -55,7 +54,6 @@ pub fn restore<N: Bench, L: Ledger>(
     ensures at { (b : Base) (l : play.Live) → IsShown (N.state (device_of player.old)).words saved.now b l
         → IsPlayerAt N.Bench player.new (AfterPower (settled_play b l budget.now)) }
     ensures steady { (N.bench (device_of player.new)).steady ≡ true }
-    ensures steps { steps.new ≤ steps.old }
     ensures keeps_device { N.same (device_of player.old) (device_of player.new) }
 {
     let _set = play(player, &budget.line(), steps);
@@ -73,7 +71,6 @@ fn arm<N: Bench, L: Ledger>(player: &mut Player<N>, manner: Manner, steps: &mut 
     ensures steady { CountsWrite manner → (s : State) → IsPlayerAt N.Bench player.old s
         → (N.bench (device_of player.old)).steady ≡ true → FailsNot (armed_stop_in s)
         → (N.bench (device_of player.new)).steady ≡ true }
-    ensures steps { steps.new ≤ steps.old }
     ensures keeps_device { N.same (device_of player.old) (device_of player.new) }
 {
     match manner {
@@ -88,7 +85,6 @@ fn arm_cut<N: Bench, L: Ledger>(player: &mut Player<N>, k: u32, fill: Fill, step
     requires some { 1 ≤ k }
     ensures playing { IsPlaying N.Bench player.new }
     ensures plays { PlaysAs N.Bench player.old (line.Cut k (fill_value fill)) None player.new }
-    ensures steps { steps.new ≤ steps.old }
     ensures keeps_device { N.same (device_of player.old) (device_of player.new) }
 {
     let cut = Line::Cut {
@@ -105,7 +101,6 @@ fn recover<N: Bench, L: Ledger>(player: &mut Player<N>, manner: Manner, steps: &
     ensures at { (s : State) (n : ℕ) → IsPlayerAt N.Bench player.old s
         → (N.bench (device_of player.old)).steady ≡ true → FailsNot (armed_stop_in s)
         → IsPlayerAt N.Bench player.new (recovery n (manner_value manner) s) }
-    ensures steps { steps.new ≤ steps.old }
     ensures keeps_device { N.same (device_of player.old) (device_of player.new) }
 {
     match manner {
@@ -152,8 +147,6 @@ fn play_move<N: Bench, L: Ledger>(
     ensures counts { (l : DeckLine) → candidate.now.chosen.now.deck ≡ move_deck l
         → CountsAs N.Bench candidate.now.ons.now candidate.now.applies.now player.old l counts.old
         counts.new }
-    ensures steps { (l : DeckLine) → candidate.now.chosen.now.deck ≡ move_deck l
-        → CountsLine N.Bench player.old l result steps.old steps.new }
     ensures keeps_device { N.same (device_of player.old) (device_of player.new) }
 {
     let line = candidate.chosen.line();
@@ -184,9 +177,6 @@ fn make<N: Bench, L: Ledger>(
         → IsMove candidate.now.chosen.now m → is_card_line m.line ≡ true → CanCut c manner
         → MadeAs N.Bench c m manner candidate.now.ons.now candidate.now.applies.now counts.old counts.new
         text.new.items player.new result }
-    ensures steps { (c : model.CardState) (m : rule.Move) → IsPlayerAt N.Bench player.old (play_of c)
-        → (N.bench (device_of player.old)).steady ≡ true → IsMove candidate.now.chosen.now m → CanCut c manner
-        → steps.new ≤ steps.old + most_of_move c m }
     ensures short { array_vec_len text.new ≤ 8210 }
     ensures keeps_device { N.same (device_of player.old) (device_of player.new) }
 {
@@ -240,11 +230,6 @@ pub fn try_on<N: Bench, L: Ledger>(
         → c.budget ≡ budget.now → IsMove candidate.now.chosen.now m → is_card_line m.line ≡ true → CanCut c manner
         → TriedAs c m manner candidate.now.ons.now candidate.now.applies.now counts.old counts.new text.new.items
         (N.state (device_of player.new)).words result }
-    // At most the steps of the move, made once.
-    ensures steps { (c : model.CardState) (m : rule.Move)
-        → IsShown (N.state (device_of player.old)).words saved.now c.base c.live
-        → c.budget ≡ budget.now → IsMove candidate.now.chosen.now m → CanCut c manner
-        → steps.new ≤ steps.old + most_of_move c m }
     ensures short { array_vec_len text.new ≤ 8210 }
     ensures keeps_device { N.same (device_of player.old) (device_of player.new) }
 {

@@ -1,18 +1,17 @@
 // Lines of a play, one by one, and the budget of their commands.
-ghost use Rattle.std.specs.Prelude.{◌≡◌, ◌+◌, ◌≤◌, ℕ, true};
+ghost use Rattle.std.specs.Prelude.{◌≡◌, ◌≤◌, ℕ, true};
 ghost use Rattle.mc_deck.specs.Lines.{line_of, GoodLine};
 ghost use Rattle.law_explore_text.specs.model_play.specs.DeckGrammar as line;
 ghost use Rattle.law_explore_text.specs.model_play.specs.Play.{State};
 ghost use Rattle.mc_script.specs.Players.{device_of};
-ghost use Rattle.mc_script.specs.Benches.{CountsLine, IsPlayerAt, IsPlaying};
+ghost use Rattle.mc_script.specs.Benches.{IsPlayerAt, IsPlaying};
 ghost use Rattle.lab_search.specs.Playing.{state_after};
 ghost use Rattle.lab_search.specs.Benches.{PlaysAs};
-ghost use Rattle.lab_search.specs.ExplorationSteps.{most_of_lines};
 
-use mc_base::Steps;
 use mc_deck::{Deck, Line};
 use mc_nvm::Bench;
 use mc_script::{Answer, Player, Silent};
+use mc_words::Steps;
 use std::marker::Model;
 use std::sync::ledger::Ledger;
 
@@ -62,7 +61,6 @@ pub fn play<N: Bench, L: Ledger>(
     requires good { GoodLine (line_of line.now) }
     ensures playing { IsPlaying N.Bench player.new }
     ensures plays { PlaysAs N.Bench player.old (line_of line.now) result player.new }
-    ensures steps { CountsLine N.Bench player.old (line_of line.now) result steps.old steps.new }
     ensures keeps_device { N.same (device_of player.old) (device_of player.new) }
 {
     player.line(line, &mut Silent, steps)
@@ -76,8 +74,6 @@ pub fn play_all<N: Bench, L: Ledger>(player: &mut Player<N>, deck: &Deck, steps:
         → IsPlayerAt N.Bench player.new (state_after s deck.now) }
     ensures steady { (s : State) → IsPlayerAt N.Bench player.old s
         → (N.bench (device_of player.old)).steady ≡ true → (N.bench (device_of player.new)).steady ≡ true }
-    ensures steps { (s : State) → IsPlayerAt N.Bench player.old s → (N.bench (device_of player.old)).steady ≡ true
-        → steps.new ≤ steps.old + most_of_lines s deck.now }
     ensures keeps_device { N.same (device_of player.old) (device_of player.new) }
 {
     player.deck(deck, steps);

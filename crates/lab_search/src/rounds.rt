@@ -1,5 +1,5 @@
 // What was found so far, and the tries of a depth.
-ghost use Rattle.std.specs.Prelude.{◌≡◌, ◌+◌, ◌*◌, ◌<◌, ◌≤◌, ◌^◌, ℕ, true, List, [], ◌∷◌, drop, false, length, nat_lt, replicate, slice_get, IfOk};
+ghost use Rattle.std.specs.Prelude.{◌≡◌, ◌+◌, ◌<◌, ◌≤◌, ◌^◌, ℕ, true, List, [], ◌∷◌, drop, false, length, replicate, slice_get, IfOk};
 ghost use Rattle.law_explore_text.specs.model_play.specs.Family.{is_running};
 ghost use Rattle.law_explore_text.specs.law_explore.specs.Rules as rule;
 ghost use Rattle.law_explore_text.specs.law_explore.specs.States as model;
@@ -11,7 +11,6 @@ ghost use Rattle.lab_search.specs.Rounds.{cuts_at, known_in, round_in, tally_of,
 ghost use Rattle.lab_search.specs.Trying.{CanCut, IsMade, IsMissed};
 ghost use Rattle.lab_search.specs.Rounds.{CanCutMove, CanStep, CanTryMove, CanTryMoves, CanTryStates};
 ghost use Rattle.lab_search.specs.Rounds.{AreCandidates, Attempts, Comes, Depth, Holds, IsFrom, IsTry, TriesMove};
-ghost use Rattle.lab_search.specs.ExplorationSteps.{most_of_move, most_of_moves, most_of_nodes, most_of_tries, plays_of_cut, plays_of_cuts};
 
 use crate::journey::{Fill, Manner, Step, next_write};
 use crate::making::Candidate;
@@ -21,7 +20,7 @@ use indexmap::IndexSet;
 use lab_branch::push;
 use lab_key::{CardState, Rosters};
 use lab_rules::Exploration;
-use mc_base::{NoMemory, Steps};
+use mc_words::{NoMemory, Steps};
 use std::alloc::Global;
 use std::sync::ledger::Ledger;
 
@@ -122,13 +121,10 @@ impl Search {
         steps: &mut Steps<L>,
     ) -> Result<Attempt, NoMemory>
         requires { CanStep self.old candidate.now step }
-        ensures comes { IfOk result (λ a. (d : Depth) (ns : List Node) (n : Node) (m : rule.Move)
+        ensures { IfOk result (λ a. (d : Depth) (ns : List Node) (n : Node) (m : rule.Move)
             → TriesMove d self.old ns n m candidate.now step.before step.chosen → CanCut n.state step.manner
             → Attempts (IsMissed n.state m step.manner) (IsMade n.state m step.manner) d ns (round_in d (tally_of self.old) ns)
             (tries_from d n (try_value m step.manner ∷ []) (round_in d (tally_of self.old) ns)) a self.new) }
-        ensures steps { (d : Depth) (ns : List Node) (n : Node) (m : rule.Move)
-            → TriesMove d self.old ns n m candidate.now step.before step.chosen → CanCut n.state step.manner
-            → steps.new ≤ steps.old + most_of_move n.state m }
     {
         let Some(state) = self.states.get_index(step.before) else {
             unreachable!()
@@ -170,14 +166,11 @@ impl Search {
     ) -> Result<Attempt, NoMemory>
         requires can { CanCutMove self.old candidate.now before chosen }
         requires counted { made + 1 < 2 ^ 32 }
-        ensures comes { IfOk result (λ a. (d : Depth) (ns : List Node) (n : Node) (m : rule.Move)
+        ensures { IfOk result (λ a. (d : Depth) (ns : List Node) (n : Node) (m : rule.Move)
             → TriesMove d self.old ns n m candidate.now before chosen → is_running n.state.live ≡ true
             → Attempts (writes_of (play_of n.state) m ≤ made) (made < writes_of (play_of n.state) m) d ns
             (round_in d (tally_of self.old) ns)
             (tries_from d n (try_value m (Manner.Cut made fill) ∷ []) (round_in d (tally_of self.old) ns)) a self.new) }
-        ensures steps { (d : Depth) (ns : List Node) (n : Node) (m : rule.Move)
-            → TriesMove d self.old ns n m candidate.now before chosen → is_running n.state.live ≡ true
-            → steps.new ≤ steps.old + most_of_move n.state m }
     {
         let manner = Manner::Cut { made, fill };
         let step = Step {
@@ -200,16 +193,11 @@ impl Search {
     ) -> Result<Attempt, NoMemory>
         requires can { CanCutMove self.old candidate.now before chosen }
         requires counted { made + 1 < 2 ^ 32 }
-        ensures comes { IfOk result (λ a. (d : Depth) (ns : List Node) (n : Node) (m : rule.Move)
+        ensures { IfOk result (λ a. (d : Depth) (ns : List Node) (n : Node) (m : rule.Move)
             → TriesMove d self.old ns n m candidate.now before chosen → is_running n.state.live ≡ true
             → Attempts (writes_of (play_of n.state) m ≤ made) (made < writes_of (play_of n.state) m) d ns
             (round_in d (tally_of self.old) ns) (tries_from d n (cuts_at m (made + 1)) (round_in d (tally_of self.old) ns))
             a self.new) }
-        // One play with each fill, or the one that finds no write.
-        ensures steps { (d : Depth) (ns : List Node) (n : Node) (m : rule.Move)
-            → TriesMove d self.old ns n m candidate.now before chosen → is_running n.state.live ≡ true
-            → steps.new ≤ steps.old
-            + plays_of_cut (nat_lt made (writes_of (play_of n.state) m)) * most_of_move n.state m }
     {
         match self.cut_with(alloc, candidate, before, chosen, made, Fill::Zeros, steps)? {
             Attempt::GoesOn => {}
@@ -233,13 +221,10 @@ impl Search {
         steps: &mut Steps<L>,
     ) -> Result<Option<Halt>, NoMemory>
         requires { CanCutMove self.old candidate.now before chosen }
-        ensures comes { IfOk result (λ h. (d : Depth) (ns : List Node) (n : Node) (m : rule.Move)
+        ensures { IfOk result (λ h. (d : Depth) (ns : List Node) (n : Node) (m : rule.Move)
             → TriesMove d self.old ns n m candidate.now before chosen → is_running n.state.live ≡ true
             → Comes d ns (tries_from d n (tries_in m (cuts_from 1 (writes_of (play_of n.state) m)))
             (round_in d (tally_of self.old) ns)) h self.new) }
-        ensures steps { (d : Depth) (ns : List Node) (n : Node) (m : rule.Move)
-            → TriesMove d self.old ns n m candidate.now before chosen → is_running n.state.live ≡ true
-            → steps.new ≤ steps.old + plays_of_cuts (writes_of (play_of n.state) m) * most_of_move n.state m }
     {
         let mut made = 0;
         'writes: loop {
@@ -273,12 +258,9 @@ impl Search {
         steps: &mut Steps<L>,
     ) -> Result<Option<Halt>, NoMemory>
         requires { CanTryMove self.old candidate.now before chosen }
-        ensures comes { IfOk result (λ h. (d : Depth) (ns : List Node) (n : Node) (m : rule.Move)
+        ensures { IfOk result (λ h. (d : Depth) (ns : List Node) (n : Node) (m : rule.Move)
             → TriesMove d self.old ns n m candidate.now before chosen
             → Comes d ns (tries_from d n (tries_with n.state m) (round_in d (tally_of self.old) ns)) h self.new) }
-        ensures steps { (d : Depth) (ns : List Node) (n : Node) (m : rule.Move)
-            → TriesMove d self.old ns n m candidate.now before chosen
-            → steps.new ≤ steps.old + most_of_tries n.state m }
     {
         let step = Step {
             before,
@@ -305,12 +287,9 @@ impl Search {
         steps: &mut Steps<L>,
     ) -> Result<Option<Halt>, NoMemory>
         requires { CanTryMoves self.old exploration.now.rules applications.now before }
-        ensures comes { IfOk result (λ h. (d : Depth) (ns : List Node) (n : Node) → IsFrom d self.old ns n before
+        ensures { IfOk result (λ h. (d : Depth) (ns : List Node) (n : Node) → IsFrom d self.old ns n before
             → AreCandidates d.rules exploration.now.rules applications.now
             → Comes d ns (tries_from d n (tries_of d.rules.moves n.state) (round_in d (tally_of self.old) ns)) h self.new) }
-        ensures steps { (d : Depth) (ns : List Node) (n : Node) → IsFrom d self.old ns n before
-            → AreCandidates d.rules exploration.now.rules applications.now
-            → steps.new ≤ steps.old + most_of_moves d.rules.moves n.state }
     {
         let ons = exploration.rules.ons.as_slice();
         for (chosen, listed) in exploration.rules.moves.iter().enumerate() {
@@ -346,13 +325,9 @@ impl Search {
         steps: &mut Steps<L>,
     ) -> Result<Option<Halt>, NoMemory>
         requires { CanTryStates self.old exploration.now.rules applications.now from to }
-        ensures comes { IfOk result (λ h. (d : Depth) (ns : List Node) → Holds d self.old ns → from ≤ to
-            → to ≡ length ns → AreCandidates d.rules exploration.now.rules applications.now
-            → Comes d ns (round_of_states d.most d.rules (drop from ns) (round_in d (tally_of self.old) ns)) h self.new) }
-        // At most the steps of the tries from each of the states.
-        ensures steps { (d : Depth) (ns : List Node) → Holds d self.old ns → from ≤ to → to ≡ length ns
+        ensures { IfOk result (λ h. (d : Depth) (ns : List Node) → Holds d self.old ns → from ≤ to → to ≡ length ns
             → AreCandidates d.rules exploration.now.rules applications.now
-            → steps.new ≤ steps.old + most_of_nodes d.rules.moves (drop from ns) }
+            → Comes d ns (round_of_states d.most d.rules (drop from ns) (round_in d (tally_of self.old) ns)) h self.new) }
     {
         for before in from..to {
             let halt = self.try_moves(alloc, exploration, applications, before, steps)?;

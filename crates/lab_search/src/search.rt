@@ -1,5 +1,5 @@
 // The search through all states, breadth first.
-ghost use Rattle.std.specs.Prelude.{◌≡◌, ◌+◌, ◌≤◌, not, ◌&&◌, IfOk};
+ghost use Rattle.std.specs.Prelude.{◌≡◌, not, ◌&&◌, IfOk};
 ghost use Rattle.law_explore_text.specs.law_explore.specs.Rules as rule;
 ghost use Rattle.law_explore_text.specs.law_explore.specs.States.{play_of_deck};
 ghost use Rattle.law_explore_text.specs.law_explore.specs.Search.{most_states, search_of};
@@ -8,16 +8,15 @@ ghost use Rattle.law_explore_text.specs.Report.{explore_text};
 ghost use Rattle.mc_text.specs.Texts.{sunk};
 ghost use Rattle.lab_search.specs.Kept.{IsExplorationOf};
 ghost use Rattle.lab_search.specs.Endings.{IsExplored, Starts};
-ghost use Rattle.lab_search.specs.ExplorationSteps.{most_of_deck, most_of_exploration};
 
 use crate::beginning::{Beginning, begin};
 use crate::endings::{Explored, Start};
 use crate::report::put_depth;
 use crate::rounds::Search;
 use lab_rules::{Exploration, applications};
-use mc_base::{NoMemory, Steps};
 use mc_script::JobFault;
 use mc_streams::Sink;
+use mc_words::{NoMemory, Steps};
 use std::alloc::Global;
 use std::sync::ledger::Ledger;
 
@@ -38,9 +37,7 @@ fn start<L: Ledger>(
     limit: usize,
     steps: &mut Steps<L>,
 ) -> Result<(Search, Start), NoMemory>
-    ensures starts { IfOk result (λ r. (x : rule.Exploration) → IsExplorationOf exploration.now x
-        → Starts limit r.0 r.1 x) }
-    ensures steps { steps.new ≤ steps.old + most_of_deck exploration.now.deck }
+    ensures { IfOk result (λ r. (x : rule.Exploration) → IsExplorationOf exploration.now x → Starts limit r.0 r.1 x) }
 {
     let Beginning {
         laboratory,
@@ -70,12 +67,9 @@ pub fn explore_within<T: Sink, L: Ledger>(
     steps: &mut Steps<L>,
 ) -> Result<Explored, JobFault>
     requires read { (x : rule.Exploration) × IsExplorationOf exploration.now x }
-    ensures explored { (x : rule.Exploration) → IsExplorationOf exploration.now x
+    ensures { (x : rule.Exploration) → IsExplorationOf exploration.now x
         → IsExplored (sunk T.Sink out.old) (text_within limit depth x) (search_of limit depth x).ending result
         (sunk T.Sink out.new) }
-    // At most the steps of the deck, and of the tries from each state from which the definition's search tries moves.
-    ensures steps { (x : rule.Exploration) → IsExplorationOf exploration.now x
-        → steps.new ≤ steps.old + most_of_exploration limit depth x }
 {
     let rows = applications(alloc, &exploration.rules)?;
     let (mut search, start) = start(alloc, exploration, limit, steps)?;
@@ -119,12 +113,9 @@ pub fn explore<T: Sink, L: Ledger>(
     steps: &mut Steps<L>,
 ) -> Result<Explored, JobFault>
     requires read { (x : rule.Exploration) × IsExplorationOf exploration.now x }
-    ensures explored { (x : rule.Exploration) → IsExplorationOf exploration.now x
+    ensures { (x : rule.Exploration) → IsExplorationOf exploration.now x
         → IsExplored (sunk T.Sink out.old) (explore_text depth x) (search_of most_states depth x).ending result
         (sunk T.Sink out.new) }
-    // At most the steps of the deck, and of the tries from each state from which the definition's search tries moves.
-    ensures steps { (x : rule.Exploration) → IsExplorationOf exploration.now x
-        → steps.new ≤ steps.old + most_of_exploration most_states depth x }
 {
     explore_within(alloc, exploration, MOST_STATES, depth, out, steps)
 }

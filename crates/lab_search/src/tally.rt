@@ -2,7 +2,7 @@
 ghost use Rattle.std.specs.Prelude.{◌≡◌, ◌+◌, ◌^◌, ◌≤◌, false, replicate, IfOk, OnErr, OnOk};
 ghost use Rattle.lab_search.specs.Tallies.{heard_at, heard_from, tally_value};
 
-use mc_base::NoMemory;
+use mc_words::NoMemory;
 use std::alloc::Global;
 
 /// What tries came to so far: their number, and for each `on` line whether it applied to one of them.

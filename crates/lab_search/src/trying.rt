@@ -1,5 +1,5 @@
 // One try: a move from a state, whole or cut.
-ghost use Rattle.std.specs.Prelude.{◌≡◌, ◌+◌, ◌≤◌, ℕ, true, List, length, map, replicate, vec_len, IfOk, OnOk};
+ghost use Rattle.std.specs.Prelude.{◌≡◌, ◌≤◌, ℕ, true, List, length, map, replicate, vec_len, IfOk, OnOk};
 ghost use Rattle.arrayvec.specs.ArrayVec.{array_vec_len};
 ghost use Rattle.law_explore_text.specs.model_device.specs.Image.{image_with};
 ghost use Rattle.law_explore_text.specs.model_play.specs.Play.{is_card_line};
@@ -12,7 +12,7 @@ ghost use Rattle.lab_key.specs.Kept.{IsKeptCard, IsOfDevice};
 ghost use Rattle.lab_key.specs.Shown.{IsShown, ShowsSome};
 ghost use Rattle.law_explore_text.specs.model_play.specs.Play.{Step};
 ghost use Rattle.law_explore_text.specs.law_explore.specs.Rules.{AtResult};
-ghost use Rattle.law_explore_text.specs.law_explore.specs.Matching.{plain};
+ghost use Rattle.law_explore_text.specs.law_explore.specs.model_events.specs.Matching.{plain};
 ghost use Rattle.law_explore_text.specs.law_explore.specs.Tries.{allowances_after, times};
 ghost use Rattle.lab_rules.specs.Occasions.{capped, counts_after, AreSpent};
 ghost use Rattle.lab_branch.specs.Branches.{branch_bench, branch_state};
@@ -21,7 +21,6 @@ ghost use Rattle.mc_script.specs.Players.{device_of, IsPlayerAt, IsUnfused};
 ghost use Rattle.lab_search.specs.Kept.{CanBeTried, IsCandidate, Kept, KeepsKept, SpendsFrom, TryIs, root_of, runs_now, words_of};
 ghost use Rattle.lab_search.specs.Tallies.{CountsTry};
 ghost use Rattle.lab_search.specs.Trying.{CanCut, TriedAs};
-ghost use Rattle.lab_search.specs.ExplorationSteps.{most_of_move};
 
 use crate::journey::Manner;
 use crate::making::{Candidate, try_on};
@@ -29,8 +28,8 @@ use crate::playing::Budget;
 use lab_branch::BranchNvm;
 use lab_key::{CardState, Rosters, Saved};
 use lab_rules::{Occasion, apply_all, count, plain_into};
-use mc_base::{NoMemory, Steps, Word};
 use mc_script::{Live, Player, Text};
+use mc_words::{NoMemory, Steps, Word};
 use std::alloc::Global;
 use std::sync::ledger::Ledger;
 
@@ -167,10 +166,6 @@ impl Laboratory {
             → CanCut c manner → TriedAs c m manner candidate.now.ons.now candidate.now.applies.now
             (replicate (vec_len self.old.counts) 0) self.new.counts.items self.new.text.value.items
             (words_of self.new) result }
-        ensures steps { (c : model.CardState) (m : rule.Move)
-            → IsShown (image_with (root_of self.old) saved.entry.words.now) saved.entry.live.now c.base c.live
-            → c.budget ≡ self.old.budget → IsMove candidate.now.chosen.now m → CanCut c manner
-            → steps.new ≤ steps.old + most_of_move c m }
         ensures root { root_of self.new ≡ root_of self.old }
         ensures budget { self.new.budget ≡ self.old.budget }
         ensures short { array_vec_len self.new.text.value ≤ 8210 }
@@ -218,10 +213,6 @@ impl Laboratory {
             → Kept self.old rosters.old (map (λ a. a.0) held) state.now c → IsCandidate held ons m candidate.now
             → CanCut c manner
             → IfOk result (CountsTry self.new ons c m manner) }
-        // At most the steps of the move, made once.
-        ensures steps { (held : List (List ℕ × ℕ)) (ons : List rule.OnRule) (c : model.CardState) (m : rule.Move)
-            → Kept self.old rosters.old (map (λ a. a.0) held) state.now c → IsCandidate held ons m candidate.now
-            → CanCut c manner → steps.new ≤ steps.old + most_of_move c m }
     {
         let Some(saved) = rosters.saved(state.card) else {
             unreachable!()

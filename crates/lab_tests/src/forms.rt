@@ -4,7 +4,7 @@ use std::alloc::Global;
 use std::test::Fail;
 
 // The number that three bytes are, of which the middle one is public.
-fn three_bytes(alloc: Global, low: u8) -> Result<Option<Form>, mc_base::NoMemory> {
+fn three_bytes(alloc: Global, low: u8) -> Result<Option<Form>, model_device::NoMemory> {
     let bytes = [
         Origin::Constant(1),
         Origin::Public(3),

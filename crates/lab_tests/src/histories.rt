@@ -1,6 +1,6 @@
+use lab_app_rules::{Amount, Balance, Effect, Event, Load, Named, On, Rules, SignedSum};
 use lab_history::{Course, Deed, Extent, Happening, Standing, apply, is_durable};
-use mc_base::NoMemory;
-use prove_events::{Amount, Balance, Effect, Event, Load, Named, On, Rules, SignedSum};
+use model_device::NoMemory;
 use std::alloc::{AllocError, Global};
 use std::test::Fail;
 

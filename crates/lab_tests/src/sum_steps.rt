@@ -1,6 +1,6 @@
 // A table of sums beside tables without keys: what is left is what the totals are as the application is created.
-use mc_base::NoMemory;
-use prove_events::{Balance, Load, Named, Rules, SignedSum};
+use lab_app_rules::{Balance, Load, Named, Rules, SignedSum};
+use model_device::NoMemory;
 use prove_facts::push;
 use prove_keys::Tables;
 use prove_sum_steps::sums_are_closed;

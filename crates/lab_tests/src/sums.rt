@@ -1,7 +1,7 @@
 // No clause says that a comparison returns `true`.
+use lab_app_rules::Balance;
 use mc_arith::model_machine::Ins;
-use mc_base::NoMemory;
-use prove_events::Balance;
+use model_device::NoMemory;
 use prove_forms::{Form, Origin};
 use prove_scenes::{Act, Next, Shape, Work};
 use prove_sums::{Before, Sums, moved};

@@ -19,7 +19,7 @@ use Rattle.law_family.specs.model_machine.specs.Row.{RowEnd, row}
 use Rattle.law_family.specs.model_machine.specs.Chain.{Chain, Outcome, Abended, Follows, Ends, Acted, Ran, code_in, delegator_in, around, first_frame, chain_session, changed_app, map_changed, write_of, chain_after_effect, is_active, depth_of, called_app, chain_after_call, after_exit, reply_of, follows, row_turn, turn_of_fetch, turn_of_chain, frame_at, run_after_turn, run_of_chain, start_app, no_app}
 use Rattle.law_family.specs.law_rows.specs.Keeping.{Keeps, OnDone}
 use Rattle.law_family.specs.law_rows.proofs.Keeping.{row_keeps}
-use Rattle.mc_isa.proofs.PlaceLemmas.{decoded_stands}
+use Rattle.law_family.specs.law_rows.proofs.PlaceLemmas.{decoded_stands}
 use Rattle.law_bytes.specs.OfBytes.{ArePieces, IsChange, IsByteFrame, IsByteEffect, IsCaller}
 use Rattle.law_bytes.specs.OfChains.{IsName, IsByteApp, AreByteApps, IsNamedFrame, IsByteChain, IsByteCommand, OnGoing, AreByteWrites, IsByteTurn, IsByteRun, TurnBytesLaw, RunBytesLaw, StartBytesLaw}
 use Rattle.law_bytes.proofs.ByteLists.{taken, joined, spliced, laid, zero_bytes}

@@ -10,7 +10,7 @@ use Rattle.law_family.specs.model_machine.specs.Code.{Shaped}
 use Rattle.law_family.specs.model_machine.specs.Frame.{Frame, Effect, Place, where_is, dynamic_base, bytes_at, static_written, write_effect_at, write_effect, frame_after_pop, stack_bytes, top, protect, pending_change}
 use Rattle.law_family.specs.model_machine.specs.Primitives.{Around, Done, frame_effect, Primitive, LoadCcr, Lookup, MemoryCopy, DelegatorAid, Digest, CopyFixed, Encipher, Decipher, Sign, BitByte, ShiftLeft, ShiftRight, BitWord, primitive, block_len, key_len, encipherment, decipherment, number_below_top, count_at, masked_bytes}
 use Rattle.law_family.specs.model_machine.specs.Row.{causes, effect, first_cause, row, place_of, value_of, first_of, address_or_zero, indexed_address}
-use Rattle.law_family.specs.law_rows.specs.Shapes.{Act, Pushes, Replaces, Writes, with_status, with_length, act_effect, with_flags, Shape, meaning, delegator_shape, prim_shape, pair_shape, shape}
+use Rattle.law_family.specs.model_machine.specs.Shapes.{Act, Pushes, Replaces, Writes, with_status, with_length, act_effect, with_flags, Shape, meaning, delegator_shape, prim_shape, pair_shape, shape}
 use Rattle.law_family.specs.law_rows.proofs.RowShapes.{shapes}
 use Rattle.law_family.specs.law_rows.proofs.Keeping.{on_done}
 use Rattle.law_bytes.specs.OfBytes.{ArePieces, IsChange, IsByteFrame, IsByteEffect, IsCaller, RowBytesLaw}

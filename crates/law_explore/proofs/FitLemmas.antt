@@ -3,9 +3,9 @@ use Rattle.std.specs.Prelude.{◌≡◌, ℕ, ◌+◌, ◌≤◌, Bool, true, fa
 use Rattle.std.proofs.Common.{arith, ap, sym, ◌∙◌}
 use Rattle.std.proofs.lemmas.Bool.{leb-true, ne_eqb, and_parts}
 use Rattle.model_play.specs.model_text.specs.Text.{is_blank, is_empty, is_within}
-use Rattle.model_play.specs.Patterns.{is_star, is_any, without_blanks}
-use Rattle.model_play.specs.Patterns as shared
-use Rattle.law_explore.specs.Matching.{some_rest, first_and_rest, matches, small, plain, fits}
+use Rattle.model_events.specs.Patterns.{is_star, is_any, without_blanks}
+use Rattle.model_events.specs.Patterns as shared
+use Rattle.model_events.specs.Matching.{some_rest, first_and_rest, matches, small, plain, fits}
 use Rattle.law_explore.specs.Safety.{FitsLaw}
 
 -- ---- matches

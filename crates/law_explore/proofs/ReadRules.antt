@@ -10,7 +10,8 @@ use Rattle.model_play.specs.declared.deck.DeckCause.TheVariants.{BadLine}
 use Rattle.model_play.specs.DeckGrammar.{DeckLine, Context, Says, Word, PowerWord, SelectWord, DeleteWord, ApduWord, statement_of, aid_field, hex_field, deck_read}
 use Rattle.model_play.specs.DeckGrammar as line
 use Rattle.model_play.specs.Play.{is_card_line}
-use Rattle.law_explore.specs.Rules.{Move, Rules, no_rules, marked_lines, move_words, line_stated, move_line, parts_of, full_parts, occasion_words, effect_words, name_and_amount, RuleWord, MoveWord, AllowWord, OnWord, rule_word, with_rule, with_line, rules_from, rules_read, Exploration, exploration_read, line_fault, tested_rules}
+use Rattle.law_explore.specs.Rules.{Move, Rules, no_rules, move_words, line_stated, move_line, occasion_words, effect_words, RuleWord, MoveWord, AllowWord, OnWord, rule_word, with_rule, with_line, rules_from, rules_read, Exploration, exploration_read, line_fault, tested_rules}
+use Rattle.model_play.specs.RuleLines.{marked_lines, parts_of, full_parts, name_and_amount}
 use Rattle.law_explore.proofs.Searches.{IfGoesOn, goes_on}
 
 -- each move is a line to the card

@@ -5,8 +5,9 @@ use Rattle.model_play.specs.model_text.specs.Text.{◌>>=◌}
 use Rattle.model_play.specs.model_machine.specs.Chain.{Turn}
 use Rattle.model_play.specs.Play.{LineResult, Step}
 use Rattle.law_explore.specs.Rules.{Move, Occasion, AtResult, AtTurn, OnRule}
-use Rattle.law_explore.specs.Matching.{fits}
-use Rattle.law_explore.specs.Tries.{result_text, turn_text, occasions, times, effect_times, allowances_after}
+use Rattle.model_events.specs.Matching.{fits}
+use Rattle.law_explore.specs.Tries.{result_text, occasions, times, effect_times, allowances_after}
+use Rattle.model_events.specs.Amounts.{turn_text}
 use Rattle.law_explore.specs.Safety.{ShowsSame}
 
 -- two next steps that agree on each value agree after an answer

@@ -1,5 +1,4 @@
 pub mod Rules
-pub mod Matching
 pub mod States
 pub mod Tries
 pub mod Search
@@ -10,3 +9,4 @@ pub use Rattle.model_play.specs.model_machine as model_machine
 pub use Rattle.model_play.specs.model_text as model_text
 pub use Rattle.model_play.specs.model_card as model_card
 pub use Rattle.model_play as model_play
+pub use Rattle.model_events as model_events

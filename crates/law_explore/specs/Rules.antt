@@ -1,11 +1,13 @@
 -- The rules of a deck: its comments that begin with `#@`. They name the moves of a terminal, the allowances of an
 -- application, and what a move does to an allowance.
-use Rattle.std.specs.Prelude.{ℕ, Bool, true, false, not, cond, ◌&&◌, ◌==◌, List, [], ◌∷◌, ◌++◌, bytes_eq, codes, is_none, is_some, ok_or, Option, Some, None, Result, Ok, Err}
+use Rattle.std.specs.Prelude.{ℕ, Bool, true, false, not, cond, ◌&&◌, List, [], ◌∷◌, ◌++◌, bytes_eq, codes, is_none, is_some, ok_or, Option, Some, None, Result, Ok, Err}
 use Rattle.model_play.specs.model_device.specs.Bytes.{lookup}
-use Rattle.model_play.specs.model_text.specs.Text.{◌>>=◌, ok_as, err_as, only_if, is_blank, is_empty, begins, first_cut, trim, trim_front, lines, with_numbers, fields}
+use Rattle.model_play.specs.model_text.specs.Text.{◌>>=◌, ok_as, err_as, only_if, is_blank, first_cut, trim, trim_front, lines, with_numbers, fields}
 use Rattle.model_play.specs.declared.deck.DeckCause.{DeckCause}
 use Rattle.model_play.specs.declared.deck.DeckCause.TheVariants.{BadLine, NameTwice, UnknownName}
-use Rattle.model_play.specs.DeckGrammar.{DeckLine, Stated, Says, Opens, Word, PowerWord, SelectWord, DeleteWord, ApduWord, statement_of, name_field, number_field, is_end, deck_read}
+use Rattle.model_play.specs.DeckGrammar.{DeckLine, Stated, Says, Opens, Word, PowerWord, SelectWord, DeleteWord, ApduWord, statement_of, deck_read}
+use Rattle.model_play.specs.RuleLines.{full_parts, line_if, marked_lines, name_and_amount, parts_of}
+use Rattle.model_play.specs.model_text.specs.Text.{begins_with, stays_inside}
 
 -- ---- rules
 
@@ -48,42 +50,11 @@ no_rules = record { moves = []; allowances = []; ons = [] }
 
 -- ---- which lines they are
 
--- whether the first field of a line is this word
-abbrev pub begins_with : List ℕ → List (List ℕ) → Bool
-begins_with word [] = false
-begins_with word (f ∷ fs) = bytes_eq f word
-
--- whether the line after one with these fields is in a section, by whether this one is
-abbrev pub stays_inside : Bool → List (List ℕ) → Bool
-stays_inside false fs = begins_with (codes "app") fs
-stays_inside true fs = not (is_end fs)
-
--- a line that passes a test, before others
-abbrev pub line_if : Bool → ℕ × List ℕ → List (ℕ × List ℕ) → List (ℕ × List ℕ)
-line_if true l ls = l ∷ ls
-line_if false l ls = ls
-
 -- the lines outside of sections whose first field is `#@`; the first line of these is in a section or not
 unfoldable pub rule_lines : Bool → List (ℕ × List ℕ) → List (ℕ × List ℕ)
 rule_lines inside [] = []
 rule_lines inside (l ∷ ls) =
     line_if (not inside && begins_with (codes "#@") (fields l.1)) l (rule_lines (stays_inside inside (fields l.1)) ls)
-
--- whether a field begins with `#@`
-abbrev pub has_mark : List ℕ → Bool
-has_mark [] = false
-has_mark (c ∷ rest) = (c == 35) && begins 64 rest
-
--- whether the first field of a line begins with `#@`
-abbrev pub is_marked : List (List ℕ) → Bool
-is_marked [] = false
-is_marked (f ∷ fs) = has_mark f
-
--- the lines outside of sections whose first field begins with `#@`; the first line of these is in a section or not
-unfoldable pub marked_lines : Bool → List (ℕ × List ℕ) → List (ℕ × List ℕ)
-marked_lines inside [] = []
-marked_lines inside (l ∷ ls) =
-    line_if (not inside && is_marked (fields l.1)) l (marked_lines (stays_inside inside (fields l.1)) ls)
 
 -- ---- moves
 
@@ -116,30 +87,6 @@ move_line n (word ∷ rest) = do
 
 -- ---- parts of a line
 
--- fields up to the first that is one of some words, joined without blanks; that word, and the fields after it
-abbrev pub Parts : Type 0 → Type 0
-Parts W = List ℕ × W × List (List ℕ)
-
--- the parts with one more field at their front
-abbrev pub with_front : {W : Type 0} → List ℕ → Option (Parts W) → Option (Parts W)
-with_front f None = None
-with_front f (Some p) = Some (f ++ p.0, p.1, p.2)
-
--- the parts if this field is the word, else those of the rest with it at their front
-abbrev pub parts_at : {W : Type 0} → Option W → List ℕ → List (List ℕ) → Option (Parts W) → Option (Parts W)
-parts_at (Some w) f fs rest = Some ([], w, fs)
-parts_at None f fs rest = with_front f rest
-
--- fields by the first of some words among them; none if none is there
-abbrev pub parts_of : {W : Type 0} → List (List ℕ × W) → List (List ℕ) → Option (Parts W)
-parts_of words [] = None
-parts_of words (f ∷ fs) = parts_at (lookup words f) f fs (parts_of words fs)
-
--- parts with some field before the word, else BadLine
-abbrev pub full_parts : {W : Type 0} → Option (Parts W) → Result (Parts W) DeckCause
-full_parts None = Err BadLine
-full_parts (Some p) = only_if (not (is_empty p.0)) BadLine p
-
 -- the words before the pattern of an `on` line's occasions
 abbrev pub occasion_words : List (List ℕ × Occasion)
 occasion_words = (codes "gives", AtResult) ∷ (codes "turns", AtTurn) ∷ []
@@ -147,14 +94,6 @@ occasion_words = (codes "gives", AtResult) ∷ (codes "turns", AtTurn) ∷ []
 -- the words after it
 abbrev pub effect_words : List (List ℕ × Effect)
 effect_words = (codes "allow", Allows) ∷ (codes "spend", Spends) ∷ []
-
--- a name and a number up to 4,294,967,295
-abbrev pub name_and_amount : List (List ℕ) → Result (List ℕ × ℕ) DeckCause
-name_and_amount (name ∷ amount ∷ []) = do
-  name ← name_field name
-  amount ← number_field 0 4294967295 amount
-  Ok (name, amount)
-name_and_amount other = Err BadLine
 
 -- ---- line by line
 

@@ -11,8 +11,8 @@ use Rattle.model_play.specs.DeckGrammar as line
 use Rattle.model_play.specs.Play.{Armed, Unarmed, ArmedCut, ArmedFail, armed_stop_in, Live, Running, Unpowered, Muted, Warm, State, BeforePower, AfterPower, Step, is_card_line}
 use Rattle.model_play.specs.Family.{live_in, is_running}
 use Rattle.model_play.specs.TraceText.{shown_turns}
-use Rattle.model_play.specs.Patterns.{holds}
-use Rattle.law_explore.specs.Matching.{small, fits}
+use Rattle.model_events.specs.Patterns.{holds}
+use Rattle.model_events.specs.Matching.{small, fits}
 use Rattle.law_explore.specs.Rules.{Move, OnRule, Rules, Exploration, exploration_read}
 use Rattle.law_explore.specs.States.{state_in, play_of_deck, first_play}
 use Rattle.law_explore.specs.Tries.{Manner, Whole, CutAt, Try, allowances_after, writes_of, ones, next, step_of, recovery}

@@ -1,19 +1,18 @@
 -- What is tried in a state: each move whole, and cut in each of its device writes; and what a try does to the card and
 -- the allowances.
-use Rattle.std.specs.Prelude.{ℕ, zero, suc, ◌+◌, ◌-◌, Bool, true, false, cond, ◌||◌, nat_le, nat_lt, ◌==◌, List, [], ◌∷◌, length, drop, filter, map, flat_map, replicate, bytes_eq, unwrap_or, Option, Some, None, Result, Ok, Err}
-use Rattle.model_play.specs.model_device.specs.Bytes.{zeros, lookup}
+use Rattle.std.specs.Prelude.{ℕ, zero, suc, ◌+◌, ◌-◌, Bool, true, false, cond, ◌||◌, nat_le, nat_lt, List, [], ◌∷◌, length, filter, map, flat_map, replicate, Option, Some, None, Result, Ok, Err}
+use Rattle.model_play.specs.model_device.specs.Bytes.{zeros}
 use Rattle.model_play.specs.model_device.specs.Image.{Two, opening}
-use Rattle.model_play.specs.model_text.specs.Text.{◌>>=◌, ok_as, first_cut}
-use Rattle.model_play.specs.model_machine.specs.Chain.{Turn}
-use Rattle.model_play.specs.model_text.specs.TurnText.{turn_line}
+use Rattle.model_play.specs.model_text.specs.Text.{◌>>=◌, ok_as}
 use Rattle.model_play.specs.DeckGrammar.{DeckLine}
 use Rattle.model_play.specs.DeckGrammar as line
 use Rattle.model_play.specs.Play.{Live, Running, Unpowered, Muted, State, Step, LineResult, step, moves_of}
 use Rattle.model_play.specs.TraceText.{shown_turns}
 use Rattle.model_play.specs.Transcript.{text_of_result}
 use Rattle.law_explore.specs.Rules.{Move, Occasion, AtResult, AtTurn, Effect, Allows, Spends, OnRule}
-use Rattle.law_explore.specs.Matching.{fits}
+use Rattle.model_events.specs.Matching.{fits}
 use Rattle.law_explore.specs.States.{CardState, play_of, state_in}
+use Rattle.model_events.specs.Amounts.{amount_of, turn_text, with_amount}
 
 -- ---- allowances
 
@@ -21,10 +20,6 @@ use Rattle.law_explore.specs.States.{CardState, play_of, state_in}
 abbrev pub result_text : Option LineResult → List ℕ
 result_text None = []
 result_text (Some r) = text_of_result r
-
--- the line of an executed instruction without its `>`
-abbrev pub turn_text : Turn → List ℕ
-turn_text t = drop 1 (first_cut (λ c. c == 10) (turn_line t)).0
 
 -- on how many occasions of a move that was played a pattern matches
 abbrev pub occasions : Occasion → List ℕ → Step → ℕ
@@ -36,14 +31,6 @@ abbrev pub times : OnRule → Move → Step → ℕ
 times r m t =
     let n = occasions r.occasion r.pattern t in
     cond (fits r.move m.text) n 0
-
--- what is left of an allowance
-abbrev pub amount_of : List (List ℕ × ℕ) → List ℕ → ℕ
-amount_of a name = unwrap_or (lookup a name) 0
-
--- the allowances with another amount under a name
-abbrev pub with_amount : List ℕ → ℕ → List (List ℕ × ℕ) → List (List ℕ × ℕ)
-with_amount name k a = map (λ e. cond (bytes_eq e.0 name) (e.0, k) e) a
 
 -- an allowance reduced if it is enough, else its name: the rule is broken
 abbrev pub after_spending : Bool → List ℕ → ℕ → List (List ℕ × ℕ) → Result (List (List ℕ × ℕ)) (List ℕ)

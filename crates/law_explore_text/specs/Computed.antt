@@ -19,7 +19,7 @@ use Rattle.law_explore.specs.model_text.specs.TurnText.{turn_line}
 use Rattle.law_explore.specs.model_card.specs.Manager.{manage}
 use Rattle.law_explore.specs.model_card.specs.Commands.{command}
 use Rattle.law_explore.specs.model_play.specs.Play.{send, play_at_power, step, plays, moves_of, steady_failures}
-use Rattle.law_explore.specs.Matching.{fits}
+use Rattle.law_explore.specs.model_events.specs.Matching.{fits}
 use Rattle.law_explore.specs.Rules.{Exploration, ExplorationFault, exploration_read}
 use Rattle.law_explore.specs.model_play.specs.DeckGrammar.{DeckLine, deck_read}
 use Rattle.law_explore.specs.Search.{Statement, most_states}

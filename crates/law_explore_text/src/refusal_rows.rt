@@ -2,15 +2,7 @@
 
 // Worked rows: what is refused of rules, and in which order.
 ghost use Rattle.std.specs.Prelude.{◌≡◌, ◌++◌, [], codes, Ok, Err};
-ghost use Rattle.law_explore.specs.model_play.specs.declared.deck.DeckCause.TheVariants.{
-  BadHex,
-  BadLine,
-  BadName,
-  BadNumber,
-  NameTwice,
-  OutOfRange,
-  UnknownName,
-};
+ghost use Rattle.law_explore.specs.model_play.specs.declared.deck.DeckCause.TheVariants.{BadHex, BadLine, BadName, BadNumber, NameTwice, OutOfRange, UnknownName};
 ghost use Rattle.law_explore.specs.Rules.{LineFault, NoMove, NoRule};
 ghost use Rattle.law_explore_text.specs.Computed.{explored_deck};
 

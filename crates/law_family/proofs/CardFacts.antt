@@ -16,7 +16,7 @@ use Rattle.model_play.specs.model_machine.specs.Chain.{code_in, with_pieces, cha
 use Rattle.model_play.specs.model_card.specs.Items.{Change, Fixed, Created, Deleted, Item, Plain, Atomic, apps_after_change, apps_after_items, Stopped, at_stop, in_flight, with_item}
 use Rattle.model_play.specs.model_device.proofs.ImageLemmas.{all_append}
 use Rattle.model_play.specs.model_device.proofs.ImageBytes.{image_settled}
-use Rattle.mc_isa.proofs.PlaceLemmas.{decoded_stands}
+use Rattle.law_machine.specs.law_rows.proofs.PlaceLemmas.{decoded_stands}
 use Rattle.law_machine.specs.FewRuns.{AreCoded}
 use Rattle.law_machine.proofs.AppSizes.{Limited, are_limited}
 use Rattle.law_machine.proofs.FewHeaders.{insert_length, remove_length}

@@ -11,7 +11,8 @@ use Rattle.model_play.specs.model_device.specs.Bytes.{AreBytes, lookup}
 use Rattle.model_play.specs.model_text.specs.Text.{◌>>=◌, ok_as, err_as, begins, lines, with_numbers, fields, is_within, is_digit, hex_value, before_values, hex_values, bytes_of_digits, hex_bytes}
 use Rattle.model_play.specs.model_card.specs.Units.{UnitParts, unit_read}
 use Rattle.model_play.specs.model_text.specs.Assembly.{assembled_lines}
-use Rattle.model_play.specs.DeckGrammar.{DeckLine, hex_field, bytes_field, aid_field, fill_field, name_field, number_field, Context, Section, Stated, Says, Opens, Word, FormatWord, PowerWord, UnitWord, AppWord, LoadWord, SelectWord, DeleteWord, DumpWord, ApduWord, BudgetWord, CutWord, FailWord, PokeWord, deck_words, new_name, early, with_unit, statement_of, made_unit, unit_within, is_data, is_end, data_hex, data_of_line, section_data, section_program, section_unit, Mode, Between, Within, LineTurn, turn_of, between, within, turn_in, turn_at, lines_at_end, deck_lines, deck_read}
+use Rattle.model_play.specs.DeckGrammar.{DeckLine, hex_field, bytes_field, aid_field, fill_field, name_field, number_field, Context, Section, Stated, Says, Opens, Word, FormatWord, PowerWord, UnitWord, AppWord, LoadWord, SelectWord, DeleteWord, DumpWord, ApduWord, BudgetWord, CutWord, FailWord, PokeWord, deck_words, new_name, early, with_unit, statement_of, made_unit, unit_within, is_data, data_hex, data_of_line, section_data, section_program, section_unit, Mode, Between, Within, LineTurn, turn_of, between, within, turn_in, turn_at, lines_at_end, deck_lines, deck_read}
+use Rattle.model_play.specs.model_text.specs.Text.{is_end}
 use Rattle.model_play.specs.DeckGrammar as line
 use Rattle.model_play.specs.Play.{FailedWrite, State, step, plays, first_failure}
 use Rattle.model_play.specs.ReadyAgain.{IsLine, AreLines}

@@ -8,7 +8,8 @@ use Rattle.model_play.specs.model_text.specs.Text.{every}
 use Rattle.model_play.specs.model_text.specs.Listing.{hex_digit, hex_word, condition_names, condition_name, address_text, arguments_text, byte_line, word_line, words_line, target_line, address_line, operand_line, text_of, hex_text}
 use Rattle.model_play.specs.model_device.specs.Words.{cause_text}
 use Rattle.model_play.specs.model_machine.specs.Words.{abend_code}
-use Rattle.model_play.specs.Transcript.{outcome_text, static_text, text_of_result}
+use Rattle.model_play.specs.model_text.specs.TurnText.{outcome_text}
+use Rattle.model_play.specs.Transcript.{static_text, text_of_result}
 use Rattle.model_play.specs.model_text.specs.TurnText.{ins_text, bit_text}
 use Rattle.model_play.specs.model_machine.specs.Chain.{Outcome, Reply, Abended}
 use Rattle.model_play.specs.Play.{LineResult}

@@ -3,15 +3,16 @@
 use Rattle.std.specs.Prelude.{◌≡◌, ℕ, Bool, true, false, cond, List, [], ◌∷◌, ◌++◌, bytes_eq, codes, Option, Some, None, Result, Ok, Err, ⊤, refl}
 use Rattle.std.specs.List.{AllByRecursion}
 use Rattle.std.proofs.Common.{ap, subst}
-use Rattle.model_rules.specs.model_device.proofs.ImageLemmas.{all_append}
-use Rattle.model_rules.specs.model_text.specs.Text.{◌>>=◌, ok_as, err_as, only_if, lines, with_numbers, fields}
-use Rattle.model_rules.specs.model_play.specs.declared.deck.DeckCause.{DeckCause}
-use Rattle.model_rules.specs.model_play.specs.DeckGrammar.{DeckLine, deck_read}
-use Rattle.model_rules.specs.law_explore.specs.Rules.{Move, is_some_of, marked_lines, move_line, without_field}
-use Rattle.model_rules.specs.law_explore.proofs.ReadRules.{AreMoves, IsCardLine, any_goes, as_goes, err_goes, line_of_move, only_goes}
-use Rattle.model_rules.specs.law_explore.proofs.Searches.{IfGoesOn, goes_on}
-use Rattle.model_rules.specs.Rules.{AppRules, Target, no_app_rules}
-use Rattle.model_rules.specs.Reading.{Deck, LoadLine, app_line, load_names, loads_of}
+use Rattle.law_explore_text.specs.model_device.proofs.ImageLemmas.{all_append}
+use Rattle.law_explore_text.specs.model_text.specs.Text.{◌>>=◌, ok_as, err_as, only_if, lines, with_numbers, fields}
+use Rattle.law_explore_text.specs.model_play.specs.declared.deck.DeckCause.{DeckCause}
+use Rattle.law_explore_text.specs.model_play.specs.DeckGrammar.{DeckLine, deck_read}
+use Rattle.law_explore_text.specs.law_explore.specs.Rules.{Move, is_some_of, move_line, without_field}
+use Rattle.law_explore_text.specs.model_play.specs.RuleLines.{marked_lines}
+use Rattle.law_explore_text.specs.law_explore.proofs.ReadRules.{AreMoves, IsCardLine, any_goes, as_goes, err_goes, line_of_move, only_goes}
+use Rattle.law_explore_text.specs.law_explore.proofs.Searches.{IfGoesOn, goes_on}
+use Rattle.law_rules.specs.model_rules.specs.Rules.{AppRules, Target, no_app_rules}
+use Rattle.law_rules.specs.model_rule_text.specs.Reading.{Deck, LoadLine, app_line, load_names, loads_of}
 use Rattle.law_histories.specs.Histories.{AppExploration, AppFault, LineFault, NoMove, NoRule, app_exploration_read, can_break, line_fault, parts_from, tested, with_move_line}
 
 -- ---- results

@@ -1,22 +1,22 @@
 -- The text of the exploration of a deck's text, for rows that compute it.
 use Rattle.std.specs.Prelude.{◌++◌, codes, ℕ, List, Result, Ok, Err}
 use Rattle.std.specs.Fmt.{digits}
-use Rattle.model_rules.specs.model_card.specs.Units.{name_of}
-use Rattle.model_rules.specs.model_machine.specs.Apdu.{apdu_read}
-use Rattle.model_rules.specs.model_device.specs.Pieces.{touched_words}
-use Rattle.model_rules.specs.model_device.specs.Image.{targets_1, targets_2, pairs}
-use Rattle.model_rules.specs.model_device.specs.Card.{blocks_from, apps_of}
-use Rattle.model_rules.specs.model_device.specs.Layout.{layout, step_of, bad_block, bad_record}
-use Rattle.model_rules.specs.model_machine.specs.Frame.{bytes_at, write_effect, too_many}
-use Rattle.model_rules.specs.model_machine.specs.Primitives.{later_causes, prim_effect}
-use Rattle.model_rules.specs.model_machine.specs.Row.{causes, effect, row}
-use Rattle.model_rules.specs.model_machine.specs.Chain.{turn_of_chain, run_of_chain}
-use Rattle.model_rules.specs.model_text.specs.TurnText.{turn_line}
-use Rattle.model_rules.specs.model_card.specs.Manager.{manage}
-use Rattle.model_rules.specs.model_card.specs.Commands.{command}
-use Rattle.model_rules.specs.model_play.specs.Play.{send, play_at_power, step, plays, moves_of, steady_failures}
-use Rattle.model_rules.specs.law_promise.specs.History.{after_run}
-use Rattle.model_rules.specs.law_explore.specs.Matching.{fits}
+use Rattle.law_explore_text.specs.model_card.specs.Units.{name_of}
+use Rattle.law_explore_text.specs.model_machine.specs.Apdu.{apdu_read}
+use Rattle.law_explore_text.specs.model_device.specs.Pieces.{touched_words}
+use Rattle.law_explore_text.specs.model_device.specs.Image.{targets_1, targets_2, pairs}
+use Rattle.law_explore_text.specs.model_device.specs.Card.{blocks_from, apps_of}
+use Rattle.law_explore_text.specs.model_device.specs.Layout.{layout, step_of, bad_block, bad_record}
+use Rattle.law_explore_text.specs.model_machine.specs.Frame.{bytes_at, write_effect, too_many}
+use Rattle.law_explore_text.specs.model_machine.specs.Primitives.{later_causes, prim_effect}
+use Rattle.law_explore_text.specs.model_machine.specs.Row.{causes, effect, row}
+use Rattle.law_explore_text.specs.model_machine.specs.Chain.{turn_of_chain, run_of_chain}
+use Rattle.law_explore_text.specs.model_text.specs.TurnText.{turn_line}
+use Rattle.law_explore_text.specs.model_card.specs.Manager.{manage}
+use Rattle.law_explore_text.specs.model_card.specs.Commands.{command}
+use Rattle.law_explore_text.specs.model_play.specs.Play.{send, play_at_power, step, plays, moves_of, steady_failures}
+use Rattle.law_rules.specs.law_promise.specs.History.{after_run}
+use Rattle.law_explore_text.specs.law_explore.specs.model_events.specs.Matching.{fits}
 use Rattle.law_histories.specs.Histories.{AppExploration, AppFault, app_exploration_read}
 use Rattle.law_histories.specs.Searches.{app_text}
 

@@ -1,25 +1,27 @@
 -- What happens to one application along the deck and the tries of an exploration, and what it breaks: the rules of the
 -- application, counted event by event.
 use Rattle.std.specs.Prelude.{ℕ, ◌+◌, ◌-◌, Bool, true, false, cond, ◌&&◌, ◌||◌, nat_lt, ◌==◌, List, [], ◌∷◌, ◌++◌, bytes_eq, codes, decimal, not, is_some, Option, Some, None, Result, Ok, Err}
-use Rattle.model_rules.specs.model_device.specs.Bytes.{lookup}
-use Rattle.model_rules.specs.model_device.specs.Card.{App}
-use Rattle.model_rules.specs.model_text.specs.Text.{◌>>=◌, ok_as, err_as, only_if, lines, with_numbers, fields}
-use Rattle.model_rules.specs.model_text.specs.Listing.{hex_text}
-use Rattle.model_rules.specs.model_play.specs.DeckGrammar.{DeckLine, deck_read}
-use Rattle.model_rules.specs.model_play.specs.DeckGrammar as line
-use Rattle.model_rules.specs.model_play.specs.Given.{apps_in}
-use Rattle.model_rules.specs.model_play.specs.Play.{Live, Running, Warm, State, AfterPower, Step, start, plays, step, steady_failures}
-use Rattle.model_rules.specs.model_play.specs.Transcript.{outcome_text}
-use Rattle.model_rules.specs.model_device.specs.Device.{blank_words, device_words}
-use Rattle.model_rules.specs.law_promise.specs.History.{after_step}
-use Rattle.model_rules.specs.law_explore.specs.Rules.{Move, without_field, move_line, marked_lines, is_some_of, begins_with, stays_inside}
-use Rattle.model_rules.specs.law_explore.specs.Tries.{Manner, Whole, CutAt, step_of}
-use Rattle.model_rules.specs.law_explore.specs.States.{play_of_deck, warm_in}
-use Rattle.model_rules.specs.Rules.{OnLine, SumLine, Range, Total, Target, AppRules, no_app_rules}
-use Rattle.model_rules.specs.Reading.{RuleCause, Deck, NoApplication, LoadLine, load_names, loads_of, app_line, app_rule}
-use Rattle.model_rules.specs.Happenings.{Event, Did, Failed, Commanded, Answers, Session, History, rule_watch}
-use Rattle.model_rules.specs.Keeping.{Occasion, OnTurn, OnCommand, OnAnswer, OnSession, applies, line_of_deed, Standing, Break, ByLine, ByAbend, first_standing, after_event, is_in_range, is_total}
-use Rattle.model_rules.specs.law_explore.specs.Matching.{fits}
+use Rattle.law_explore_text.specs.model_device.specs.Bytes.{lookup}
+use Rattle.law_explore_text.specs.model_device.specs.Card.{App}
+use Rattle.law_explore_text.specs.model_text.specs.Text.{◌>>=◌, ok_as, err_as, only_if, lines, with_numbers, fields}
+use Rattle.law_explore_text.specs.model_text.specs.Listing.{hex_text}
+use Rattle.law_explore_text.specs.model_play.specs.DeckGrammar.{DeckLine, deck_read}
+use Rattle.law_explore_text.specs.model_play.specs.DeckGrammar as line
+use Rattle.law_explore_text.specs.model_play.specs.Given.{apps_in}
+use Rattle.law_explore_text.specs.model_play.specs.Play.{Live, Running, Warm, State, AfterPower, Step, start, plays, step, steady_failures}
+use Rattle.law_explore_text.specs.model_text.specs.TurnText.{outcome_text}
+use Rattle.law_explore_text.specs.model_device.specs.Device.{blank_words, device_words}
+use Rattle.law_rules.specs.law_promise.specs.History.{after_step}
+use Rattle.law_explore_text.specs.law_explore.specs.Rules.{Move, without_field, move_line, is_some_of}
+use Rattle.law_explore_text.specs.model_play.specs.RuleLines.{marked_lines}
+use Rattle.law_explore_text.specs.model_text.specs.Text.{begins_with, stays_inside}
+use Rattle.law_explore_text.specs.law_explore.specs.Tries.{Manner, Whole, CutAt, step_of}
+use Rattle.law_explore_text.specs.law_explore.specs.States.{play_of_deck, warm_in}
+use Rattle.law_rules.specs.model_rules.specs.Rules.{OnLine, SumLine, Range, Total, Target, AppRules, no_app_rules}
+use Rattle.law_rules.specs.model_rule_text.specs.Reading.{RuleCause, Deck, NoApplication, LoadLine, load_names, loads_of, app_line, app_rule}
+use Rattle.law_rules.specs.model_rules.specs.Happenings.{Event, Did, Failed, Commanded, Answers, Session, History, rule_watch}
+use Rattle.law_rules.specs.model_rules.specs.Keeping.{Occasion, OnTurn, OnCommand, OnAnswer, OnSession, applies, line_of_deed, Standing, Break, ByLine, ByAbend, first_standing, after_event, is_in_range, is_total}
+use Rattle.law_explore_text.specs.law_explore.specs.model_events.specs.Matching.{fits}
 
 -- ---- a deck with the rules of one application
 

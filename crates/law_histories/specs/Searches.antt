@@ -1,13 +1,13 @@
 -- The search through all states of a card with what the rules of one application count, breadth first, and its text.
 use Rattle.std.specs.Prelude.{ℕ, zero, suc, ◌+◌, Bool, true, false, nat_lt, List, [], ◌∷◌, ◌++◌, length, reverse, codes, decimal, Result, Ok, Err}
-use Rattle.model_rules.specs.model_text.specs.Text.{◌>>=◌, ok_as}
-use Rattle.model_rules.specs.model_play.specs.Play.{State}
-use Rattle.model_rules.specs.law_explore.specs.States.{CardState, play_of, play_of_deck, first_play, warm_state, state_in, is_known}
-use Rattle.model_rules.specs.law_explore.specs.Tries.{Try, step_of, recovery, tries_of}
-use Rattle.model_rules.specs.law_explore.specs.Search.{Ending, All, AtDepth, TooMany, Broken, Statement, statements_to, most_states}
+use Rattle.law_explore_text.specs.model_text.specs.Text.{◌>>=◌, ok_as}
+use Rattle.law_explore_text.specs.model_play.specs.Play.{State}
+use Rattle.law_explore_text.specs.law_explore.specs.States.{CardState, play_of, play_of_deck, first_play, warm_state, state_in, is_known}
+use Rattle.law_explore_text.specs.law_explore.specs.Tries.{Try, step_of, recovery, tries_of}
+use Rattle.law_explore_text.specs.law_explore.specs.Search.{Ending, All, AtDepth, TooMany, Broken, Statement, statements_to, most_states}
 use Rattle.law_explore_text.specs.Report.{depth_lines, broken_text, silent_lines, sums_text}
-use Rattle.model_rules.specs.Rules.{AppRules, Target}
-use Rattle.model_rules.specs.Keeping.{Standing}
+use Rattle.law_rules.specs.model_rules.specs.Rules.{AppRules, Target}
+use Rattle.law_rules.specs.model_rules.specs.Keeping.{Standing}
 use Rattle.law_histories.specs.Histories.{AppExploration, first_standing_of, standing_after_steps, steps_of_try, events_of, heard_lines, heard_too}
 
 -- A state that was found: a card with the amounts of the allowances; what stands there, with the sums, which are in no

@@ -14,7 +14,8 @@ use Rattle.law_histories.specs.model_card.specs.Items.{StopAt}
 use Rattle.law_histories.specs.model_card.specs.Manager.{Selected, SessionState, Route, Managed, Declines, Accepts, is_selected}
 use Rattle.law_histories.specs.model_play.specs.DeckGrammar.{DeckLine}
 use Rattle.law_histories.specs.model_play.specs.Play.{Live, Running, Unpowered, Muted, State, LineResult, Answered, Step}
-use Rattle.law_histories.specs.law_promise.specs.History.{Watch, CutAt, cut_after, with_event, turn_event, last_turn, cut_turn, after_writes, after_follows, after_run, selection_event, after_select, after_passed, after_route, with_answer, after_items, after_stop, after_command, after_taken, after_line, after_step}
+use Rattle.law_histories.specs.model_rules.specs.model_events.specs.Deeds.{Watch}
+use Rattle.law_histories.specs.law_promise.specs.History.{CutAt, cut_after, with_event, turn_event, last_turn, cut_turn, after_writes, after_follows, after_run, selection_event, after_select, after_passed, after_route, with_answer, after_items, after_stop, after_command, after_taken, after_line, after_step}
 use Rattle.law_histories.specs.model_rules.specs.Rules.{AppRules}
 use Rattle.law_histories.specs.model_rules.specs.Happenings.{History}
 use Rattle.law_histories.specs.model_rules.specs.Keeping.{Standing, Break, after_event, standing_after}

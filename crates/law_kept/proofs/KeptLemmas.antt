@@ -12,7 +12,7 @@ use Rattle.law_histories.specs.law_explore.specs.Tries.{Manner, Try, manners, wr
 use Rattle.law_histories.specs.law_explore.specs.Search.{Broken}
 use Rattle.law_histories.specs.model_rules.specs.Rules.{Target}
 use Rattle.law_histories.specs.model_rules.specs.Keeping.{Standing}
-use Rattle.law_histories.specs.model_rules.specs.Law.{AreKept}
+use Rattle.law_histories.specs.law_rules.specs.Law.{AreKept}
 use Rattle.law_histories.specs.Histories.{AppExploration, deck_steps, first_standing_of}
 use Rattle.law_histories.specs.Searches.{Node, Round, Halt, round_of_states, first_round, search_by, app_search}
 use Rattle.law_kept.specs.Kept.{leaves_none, deck_brings, try_brings, tries_bring, nodes_bring, after_brings, depths_bring, search_brings, exploration_brings, may_create, none_creates, brings_only_target, ExplorationLaw, OnlyTargetLaw}

@@ -31,7 +31,7 @@ use Rattle.law_histories.specs.law_explore.proofs.Starts.{first_law}
 use Rattle.law_histories.specs.model_rules.specs.Rules.{AppRules, Target}
 use Rattle.law_histories.specs.model_rules.specs.Happenings.{History, rule_watch}
 use Rattle.law_histories.specs.model_rules.specs.Keeping.{Standing, first_standing}
-use Rattle.law_histories.specs.model_rules.specs.Law.{KeptInAll}
+use Rattle.law_histories.specs.law_rules.specs.Law.{KeptInAll}
 use Rattle.law_histories.specs.Histories.{AppExploration, if_always, standing_if, standing_after_step, standing_after_steps, power_step, deck_steps, first_standing_of}
 use Rattle.law_kept.specs.Kept.{leaves_none}
 use Rattle.law_kept.proofs.Begins.{power_apps}

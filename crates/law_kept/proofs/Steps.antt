@@ -18,7 +18,7 @@ use Rattle.law_histories.specs.law_promise.proofs.Lines.{step_kept}
 use Rattle.law_histories.specs.model_rules.specs.Rules.{AppRules, Range, Total, Target}
 use Rattle.law_histories.specs.model_rules.specs.Happenings.{History, rule_watch}
 use Rattle.law_histories.specs.model_rules.specs.Keeping.{Standing, Break, first_standing, standing_after, is_broken, is_in_range, are_in_ranges, is_total, are_totals, are_kept, keeps_rules}
-use Rattle.law_histories.specs.model_rules.specs.Law.{StepKeeps, KeptAlong}
+use Rattle.law_histories.specs.law_rules.specs.Law.{StepKeeps, KeptAlong}
 use Rattle.law_histories.specs.Histories.{standing_from, break_name, range_name, total_name, broken_range, broken_total, if_always, standing_if, standing_after_step, standing_after_steps}
 use Rattle.law_kept.proofs.Adds.{standing_on}
 use Rattle.law_kept.proofs.AnyDomain.{any_domain, any_sound}

@@ -10,7 +10,8 @@ use Rattle.law_histories.specs.model_card.specs.Units.{unit_read}
 use Rattle.law_histories.specs.model_play.specs.declared.deck.DeckCause.{DeckCause}
 use Rattle.law_histories.specs.model_play.specs.declared.deck.DeckCause.TheVariants.{BadLine, BadNumber, OutOfRange, LateLine, UnknownName}
 use Rattle.law_histories.specs.model_play.specs.declared.deck.DeckCause.TheVariants as causes
-use Rattle.law_histories.specs.model_play.specs.DeckGrammar.{DeckLine, Context, Section, Stated, Says, Opens, Word, FormatWord, PowerWord, UnitWord, AppWord, LoadWord, SelectWord, DeleteWord, DumpWord, ApduWord, BudgetWord, CutWord, FailWord, PokeWord, statement_of, aid_field, hex_field, name_field, number_field, fill_field, new_name, with_unit, early, deck_words, Mode, Between, Within, LineTurn, turn_of, between, within, turn_at, lines_at_end, deck_lines, deck_read, is_end, section_unit}
+use Rattle.law_histories.specs.model_play.specs.DeckGrammar.{DeckLine, Context, Section, Stated, Says, Opens, Word, FormatWord, PowerWord, UnitWord, AppWord, LoadWord, SelectWord, DeleteWord, DumpWord, ApduWord, BudgetWord, CutWord, FailWord, PokeWord, statement_of, aid_field, hex_field, name_field, number_field, fill_field, new_name, with_unit, early, deck_words, Mode, Between, Within, LineTurn, turn_of, between, within, turn_at, lines_at_end, deck_lines, deck_read, section_unit}
+use Rattle.law_histories.specs.model_text.specs.Text.{is_end}
 use Rattle.law_histories.specs.model_play.specs.DeckGrammar as line
 use Rattle.law_histories.specs.law_family.proofs.AssembledBytes.{bind_ok, as_ok, err_ok, only_ok, cond_ok, any_ok}
 

@@ -16,7 +16,7 @@ use Rattle.law_histories.specs.model_card.specs.Manager.{manage}
 use Rattle.law_histories.specs.model_card.specs.Commands.{command}
 use Rattle.law_histories.specs.model_play.specs.Play.{send, play_at_power, step, plays, moves_of, steady_failures}
 use Rattle.law_histories.specs.law_promise.specs.History.{after_run}
-use Rattle.law_histories.specs.law_explore.specs.Matching.{fits}
+use Rattle.law_histories.specs.model_rules.specs.model_events.specs.Matching.{fits}
 use Rattle.law_histories.specs.Histories.{AppExploration, AppFault, app_exploration_read}
 use Rattle.law_kept.specs.Kept.{brings_only_target, exploration_brings}
 

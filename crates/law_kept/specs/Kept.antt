@@ -15,7 +15,7 @@ use Rattle.law_histories.specs.law_explore.specs.Tries.{Try, tries_of, step_of}
 use Rattle.law_histories.specs.law_explore.specs.Search.{Broken}
 use Rattle.law_histories.specs.model_rules.specs.Rules.{Target}
 use Rattle.law_histories.specs.model_rules.specs.Keeping.{Standing}
-use Rattle.law_histories.specs.model_rules.specs.Law.{AreKept}
+use Rattle.law_histories.specs.law_rules.specs.Law.{AreKept}
 use Rattle.law_histories.specs.Histories.{AppExploration, app_exploration_read, deck_steps, first_standing_of}
 use Rattle.law_histories.specs.Searches.{Node, Round, Halt, round_of_states, first_round, app_search}
 

@@ -11,3 +11,5 @@ pub use Rattle.law_histories.specs.law_family as law_family
 pub use Rattle.law_histories.specs.law_promise as law_promise
 pub use Rattle.law_histories.specs.law_explore as law_explore
 pub use Rattle.law_histories as law_histories
+pub use Rattle.law_histories.specs.law_rules as law_rules
+pub use Rattle.law_histories.specs.model_rule_text as model_rule_text

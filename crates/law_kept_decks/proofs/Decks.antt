@@ -1,8 +1,8 @@
 -- The law for the decks whose rules are kept, and a deck that needs its premise.
 use Rattle.std.proofs.Common.{◌≡◌, ◌≢◌, ℕ, true, List, Option, Some, None, Result, Ok, Err, refl, sym, subst, ◌∙◌}
 use Rattle.law_kept.specs.model_rules.specs.Rules.{AppRules, Target}
-use Rattle.law_kept.specs.model_rules.specs.Reading.{RuleCause}
-use Rattle.law_kept.specs.model_rules.specs.Law.{AreKeptBy, AreKept}
+use Rattle.law_prove_closed.specs.model_rule_text.specs.Reading.{RuleCause}
+use Rattle.law_prove_closed.specs.law_rules.specs.Law.{AreKeptBy, AreKept}
 use Rattle.law_kept.specs.law_explore.specs.Tries.{Try}
 use Rattle.law_kept.specs.law_explore.specs.Search.{Ending, All, AtDepth, TooMany, Broken}
 use Rattle.law_kept.specs.law_histories.specs.Histories.{AppExploration, AppFault, app_exploration_read}

@@ -5,9 +5,10 @@ use Rattle.law_kept.specs.model_text.specs.Text.{◌>>=◌, err_as, only_if, lin
 use Rattle.law_kept.specs.model_play.specs.declared.deck.DeckCause.{DeckCause}
 use Rattle.law_kept.specs.model_play.specs.DeckGrammar.{DeckLine, deck_read}
 use Rattle.law_kept.specs.law_family.proofs.AssembledBytes.{bind_ok, err_ok, only_ok, any_ok}
-use Rattle.law_kept.specs.law_explore.specs.Rules.{Move, is_some_of, marked_lines}
+use Rattle.law_kept.specs.law_explore.specs.Rules.{Move, is_some_of}
+use Rattle.law_prove_closed.specs.model_play.specs.RuleLines.{marked_lines}
 use Rattle.law_kept.specs.model_rules.specs.Rules.{AppRules, Target, no_app_rules}
-use Rattle.law_kept.specs.model_rules.specs.Reading.{RuleCause, Deck, NoApplication, LoadLine, load_names, loads_of, app_line, app_rules_from, app_rules_read, with_some_app}
+use Rattle.law_prove_closed.specs.model_rule_text.specs.Reading.{RuleCause, Deck, NoApplication, LoadLine, load_names, loads_of, app_line, app_rules_from, app_rules_read, with_some_app}
 use Rattle.law_kept.specs.law_histories.specs.Histories.{AppExploration, AppFault, LineFault, NoMove, NoRule, app_exploration_read, can_break, line_fault, parts_from, tested, with_move_line}
 
 itself : {A E : Type 0} (d : Result A E) → IfOk d (λ a. d ≡ Ok a)

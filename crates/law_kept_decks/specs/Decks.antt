@@ -17,10 +17,10 @@ use Rattle.law_kept.specs.model_card.specs.Manager.{manage}
 use Rattle.law_kept.specs.model_card.specs.Commands.{command}
 use Rattle.law_kept.specs.model_play.specs.Play.{send, play_at_power, step, plays, moves_of, steady_failures}
 use Rattle.law_kept.specs.law_promise.specs.History.{after_run}
-use Rattle.law_kept.specs.law_explore.specs.Matching.{fits}
+use Rattle.law_prove_closed.specs.model_rules.specs.model_events.specs.Matching.{fits}
 use Rattle.law_kept.specs.law_explore.specs.Tries.{Try}
 use Rattle.law_kept.specs.law_explore.specs.Search.{Ending, All, AtDepth, TooMany, Broken}
-use Rattle.law_kept.specs.model_rules.specs.Law.{AreKept}
+use Rattle.law_prove_closed.specs.law_rules.specs.Law.{AreKept}
 use Rattle.law_kept.specs.law_histories.specs.Histories.{AppExploration, AppFault, app_exploration_read}
 use Rattle.law_kept.specs.law_histories.specs.Searches.{app_search}
 use Rattle.law_prove_closed.specs.Decks.{DeckIsKept}

@@ -6,7 +6,7 @@ use Rattle.model_card.specs.model_device.specs.Bytes.{zeros}
 use Rattle.model_card.specs.model_device.specs.Pieces.{touched_words}
 use Rattle.model_card.specs.model_device.proofs.PieceLemmas.{none_touched}
 use Rattle.model_card.specs.model_machine.specs.Frame.{Frame, Effect, Place, Static, Dynamic, Public, where_is, dynamic_base, public_base, public_end, static_written, write_effect_at, write_effect, is_outside, passes_limit, too_many, protect, static_bytes, pending_change}
-use Rattle.law_rows.specs.Shapes.{Act, Jumps, Calls, Writes, Protects, Shape, act_effect, with_flags, meaning}
+use Rattle.model_card.specs.model_machine.specs.Shapes.{Act, Jumps, Calls, Writes, Protects, Shape, act_effect, with_flags, meaning}
 use Rattle.law_machine.specs.FewWords.{words_in}
 use Rattle.law_machine.proofs.TouchedWords.{one_piece, shorter_piece, empty_piece}
 

@@ -15,7 +15,7 @@ use Rattle.model_card.specs.model_machine.specs.Frame.{Frame, Effect, bytes_at, 
 use Rattle.model_card.specs.model_machine.specs.Primitives.{Around, Then, Done, Exits, Delegates, Cipher, block_len, key_len, Primitive, MemoryCopy, DelegateTo, DelegatorAid, Digest, CopyFixed, SetProtection, Encipher, Decipher, Sign, primitive, in_range, number_below_top, count_at, reported_causes, cipher_causes, later_causes, prim_causes, prim_effect, prim_done, encipherment, decipherment}
 use Rattle.model_card.specs.model_machine.specs.Row.{operand, address_or_zero, writes, immediate_writes, pair_writes, place_of, causes, effect, first_cause, row_end, row}
 use Rattle.model_card.specs.model_device.proofs.ListLemmas.{zeros_short}
-use Rattle.law_rows.specs.Shapes.{Shape, meaning, delegator_shape, prim_shape, pair_shape, shape}
+use Rattle.model_card.specs.model_machine.specs.Shapes.{Shape, meaning, delegator_shape, prim_shape, pair_shape, shape}
 use Rattle.law_rows.specs.Keeping.{PiecesWithin, Leaves, OnLeave}
 use Rattle.law_rows.proofs.RowShapes.{shapes}
 use Rattle.law_rows.proofs.Keeping.{effect_keeps, effect_leaves, fixed_length}

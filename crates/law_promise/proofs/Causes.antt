@@ -1,12 +1,12 @@
 -- No row abends with 09, which an exit alone has.
 use Rattle.std.proofs.Common.{ℕ, Bool, true, false, cond, List, [], ◌∷◌, Option, Some, None}
 use Rattle.std.specs.Prelude.{⊤}
-use Rattle.model_text.specs.model_machine.specs.declared.instruction.Ins.{Ins}
-use Rattle.model_text.specs.model_machine.specs.declared.instruction.Ins.TheVariants as ins
-use Rattle.model_text.specs.model_machine.specs.declared.machine.Abend.{Abend}
-use Rattle.model_text.specs.model_machine.specs.Frame.{Frame}
-use Rattle.model_text.specs.model_machine.specs.Primitives.{Around, Done, Primitive, CheckCase, LoadCcr, StoreCcr, Lookup, MemoryCompare, MemoryCopy, DelegateTo, DelegatorAid, Digest, CompareFixed, CopyFixed, SetProtection, Encipher, Decipher, Sign, BitByte, ShiftLeft, ShiftRight, BitWord, primitive, reported_causes, later_causes, prim_causes}
-use Rattle.model_text.specs.model_machine.specs.Row.{causes, effect, first_cause, RowEnd, Abends, Does, row_end, row}
+use Rattle.model_events.specs.model_machine.specs.declared.instruction.Ins.{Ins}
+use Rattle.model_events.specs.model_machine.specs.declared.instruction.Ins.TheVariants as ins
+use Rattle.model_events.specs.model_machine.specs.declared.machine.Abend.{Abend}
+use Rattle.model_events.specs.model_machine.specs.Frame.{Frame}
+use Rattle.model_events.specs.model_machine.specs.Primitives.{Around, Done, Primitive, CheckCase, LoadCcr, StoreCcr, Lookup, MemoryCompare, MemoryCopy, DelegateTo, DelegatorAid, Digest, CompareFixed, CopyFixed, SetProtection, Encipher, Decipher, Sign, BitByte, ShiftLeft, ShiftRight, BitWord, primitive, reported_causes, later_causes, prim_causes}
+use Rattle.model_events.specs.model_machine.specs.Row.{causes, effect, first_cause, RowEnd, Abends, Does, row_end, row}
 use Rattle.law_promise.specs.Domain.{IsRowCause}
 
 -- each cause of a list is one of a row

@@ -3,19 +3,19 @@
 use Rattle.std.proofs.Common.{◌≡◌, ℕ, ◌≤◌, Bool, true, false, List, [], ◌∷◌, length, Option, Some, None, sym, subst, arith}
 use Rattle.std.specs.Prelude.{⊤, bytes_eq}
 use Rattle.std.proofs.lemmas.Bool.{or_parts}
-use Rattle.model_text.specs.model_machine.specs.declared.machine.Abend.{Abend}
-use Rattle.model_text.specs.model_device.specs.Bytes.{lookup}
-use Rattle.model_text.specs.model_device.specs.Card.{App}
-use Rattle.model_text.specs.model_machine.specs.Apdu.{ApduParts}
-use Rattle.model_text.specs.model_machine.specs.Frame.{Frame, session_of}
-use Rattle.model_text.specs.model_machine.specs.Chain.{Outcome, Abended, Chain, map_changed, is_active, first_frame}
+use Rattle.model_events.specs.model_machine.specs.declared.machine.Abend.{Abend}
+use Rattle.model_events.specs.model_device.specs.Bytes.{lookup}
+use Rattle.model_events.specs.model_device.specs.Card.{App}
+use Rattle.model_events.specs.model_machine.specs.Apdu.{ApduParts}
+use Rattle.model_events.specs.model_machine.specs.Frame.{Frame, session_of}
+use Rattle.model_events.specs.model_machine.specs.Chain.{Outcome, Abended, Chain, map_changed, is_active, first_frame}
 use Rattle.law_bytes.specs.OfChains.{IsByteChain}
 use Rattle.law_promise.specs.History.{with_event}
 use Rattle.law_promise.specs.Outline.{Entry, BySelection, ByDelegation, public_size}
 use Rattle.law_promise.specs.Kept.{IsLike}
 use Rattle.law_promise.specs.Domain.{Domain, IsSegment, AnswerCovered, EndCovered, StopCovered, IsRowCause, IdleCovered}
 use Rattle.law_bytes.specs.law_rows.specs.Keeping.{after_change}
-use Rattle.model_text.specs.model_device.proofs.MapLemmas.{lookup_beside, lookup_inserted_lem}
+use Rattle.model_events.specs.model_device.proofs.MapLemmas.{lookup_beside, lookup_inserted_lem}
 
 -- ---- names
 

@@ -3,8 +3,8 @@
 use Rattle.std.proofs.Common.{◌≡◌, ℕ, List, [], ◌∷◌, sym, ap, ◌∙◌, arith}
 use Rattle.std.specs.Prelude.{◌≢◌, ◌==◌, true, false}
 use Rattle.std.proofs.lemmas.Bool.{eqb-true}
-use Rattle.model_text.specs.model_device.specs.Bytes.{num}
-use Rattle.model_text.specs.model_machine.specs.Blocks.{sub_blocks, is_zero}
+use Rattle.model_events.specs.model_device.specs.Bytes.{num}
+use Rattle.model_events.specs.model_machine.specs.Blocks.{sub_blocks, is_zero}
 use Rattle.law_promise.proofs.PublicBytes.{equal_is}
 
 -- ---- bytes of a command

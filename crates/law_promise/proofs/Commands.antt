@@ -2,11 +2,11 @@
 use Rattle.std.proofs.Common.{◌≡◌, ℕ, ◌≤◌, Bool, true, false, not, List, [], ◌∷◌, length, Option, Some, None, refl, sym, ap, subst, ◌∙◌, arith, inl, inr}
 use Rattle.std.specs.Prelude.{⊤, ◌⊎◌, ◌||◌, ◌==◌, bytes_eq, is_some, is_none, unwrap_or}
 use Rattle.std.proofs.lemmas.List.{length-append, length-replicate}
-use Rattle.model_text.specs.model_device.specs.Bytes.{zeros, lookup}
-use Rattle.model_text.specs.model_device.specs.Card.{App, Card}
-use Rattle.model_text.specs.model_machine.specs.Apdu.{ApduParts}
-use Rattle.model_text.specs.model_machine.specs.Frame.{Frame, new_frame, new_public}
-use Rattle.model_text.specs.model_machine.specs.Chain.{Outcome, Reply, Abended, start_app, start, no_app, run}
+use Rattle.model_events.specs.model_device.specs.Bytes.{zeros, lookup}
+use Rattle.model_events.specs.model_device.specs.Card.{App, Card}
+use Rattle.model_events.specs.model_machine.specs.Apdu.{ApduParts}
+use Rattle.model_events.specs.model_machine.specs.Frame.{Frame, new_frame, new_public}
+use Rattle.model_events.specs.model_machine.specs.Chain.{Outcome, Reply, Abended, start_app, start, no_app, run}
 use Rattle.law_bytes.specs.model_card.specs.Items.{Item, moves, apps_after_items, at_stop, write_items}
 use Rattle.law_bytes.specs.model_card.specs.Manager.{Selected, SessionState, Route, WrongLength, WrongClass, ToSelect, ToManager, ToApplication, route, answer_unless, first_status, is_empty, select_done, is_selected}
 use Rattle.law_bytes.specs.model_card.specs.Commands.{Command, manager_command, application_command, by_route}
@@ -27,7 +27,7 @@ use Rattle.law_promise.proofs.Chains.{Asked, Runs, others_run, own_runs, ThereKe
 use Rattle.law_promise.proofs.Runs.{RunKept, run_kept, cut_kept}
 use Rattle.law_promise.proofs.ItemLists.{AllAvoid, avoid_lookup, avoid_history, whole_avoids, writes_fixed, whole_fixed, fixed_history, items_kept}
 use Rattle.law_promise.proofs.SelectedStays.{manager_avoids}
-use Rattle.model_text.specs.model_device.proofs.MapLemmas.{same_name}
+use Rattle.model_events.specs.model_device.proofs.MapLemmas.{same_name}
 
 -- a running card of bytes, and a command of bytes
 pub record IsKnown (c : Card) (session_state : SessionState) (r : Route) : Type 0 where

@@ -2,12 +2,12 @@
 use Rattle.std.proofs.Common.{◌≡◌, ℕ, suc, ◌+◌, ◌*◌, ◌<◌, ◌≤◌, Bool, true, false, List, [], ◌∷◌, length, take, drop, refl, sym, ap, subst, ◌∙◌, arith}
 use Rattle.std.specs.Prelude.{⊤, ◌≢◌}
 use Rattle.std.proofs.lemmas.Bool.{cases_eq}
-use Rattle.model_text.specs.model_device.specs.Bytes.{bytes, num, splice}
-use Rattle.model_text.specs.model_machine.specs.Blocks.{sub_blocks}
-use Rattle.model_text.specs.model_machine.specs.Code.{instruction_at}
-use Rattle.model_text.specs.model_machine.specs.Frame.{Frame, bytes_at, write_effect, too_many, new_public, sw_of, with_la}
-use Rattle.model_text.specs.model_machine.specs.Primitives.{Around, Done}
-use Rattle.model_text.specs.model_machine.specs.Row.{causes, effect, row}
+use Rattle.model_events.specs.model_device.specs.Bytes.{bytes, num, splice}
+use Rattle.model_events.specs.model_machine.specs.Blocks.{sub_blocks}
+use Rattle.model_events.specs.model_machine.specs.Code.{instruction_at}
+use Rattle.model_events.specs.model_machine.specs.Frame.{Frame, bytes_at, write_effect, too_many, new_public, sw_of, with_la}
+use Rattle.model_events.specs.model_machine.specs.Primitives.{Around, Done}
+use Rattle.model_events.specs.model_machine.specs.Row.{causes, effect, row}
 use Rattle.law_promise.specs.Outline.{Entry, BySelection, ByDelegation, Outline, IsShown, FitsEntry, public_size, ExitShown, FetchShown, first_frame_of}
 use Rattle.law_promise.specs.Counter.{counter_name, counter_code, counter_app, counter_watch, newest_count, Rises, AnswersCount}
 use Rattle.law_promise.proofs.PublicBytes.{other_ins, status_set, status_beside_la, status_beside_two, status_new}

@@ -1,16 +1,16 @@
 -- A turn in a frame of another application, by what it cannot touch.
 use Rattle.std.proofs.Common.{◌≡◌, ℕ, ◌≤◌, Bool, true, false, cond, List, [], ◌∷◌, length, Option, Some, None, Result, Ok, Err, refl, sym, ap, subst, ◌∙◌, arith}
 use Rattle.std.specs.Prelude.{bytes_eq, nat_lt}
-use Rattle.model_text.specs.model_machine.specs.declared.instruction.Ins.{Ins}
-use Rattle.model_text.specs.model_machine.specs.declared.instruction.DecodeFault.{DecodeFault}
-use Rattle.model_text.specs.model_machine.specs.declared.instruction.DecodeFault.TheVariants.{Undefined, Past}
-use Rattle.model_text.specs.model_machine.specs.declared.machine.Abend.TheVariants.{A01, A02, A09}
-use Rattle.model_text.specs.model_device.specs.Bytes.{lookup}
-use Rattle.model_text.specs.model_device.specs.Card.{App}
-use Rattle.model_text.specs.model_machine.specs.Frame.{Frame, la_of}
-use Rattle.model_text.specs.model_machine.specs.Primitives.{Then, Goes, Exits, Delegates, Done}
-use Rattle.model_text.specs.model_machine.specs.Row.{RowEnd, Abends, Does, row}
-use Rattle.model_text.specs.model_machine.specs.Chain.{Outcome, Abended, Chain, Ends, write_of, chain_after_effect, reply_of, after_exit, follows, row_turn, turn_of_fetch, frame_at, around, first_frame, chain_session}
+use Rattle.model_events.specs.model_machine.specs.declared.instruction.Ins.{Ins}
+use Rattle.model_events.specs.model_machine.specs.declared.instruction.DecodeFault.{DecodeFault}
+use Rattle.model_events.specs.model_machine.specs.declared.instruction.DecodeFault.TheVariants.{Undefined, Past}
+use Rattle.model_events.specs.model_machine.specs.declared.machine.Abend.TheVariants.{A01, A02, A09}
+use Rattle.model_events.specs.model_device.specs.Bytes.{lookup}
+use Rattle.model_events.specs.model_device.specs.Card.{App}
+use Rattle.model_events.specs.model_machine.specs.Frame.{Frame, la_of}
+use Rattle.model_events.specs.model_machine.specs.Primitives.{Then, Goes, Exits, Delegates, Done}
+use Rattle.model_events.specs.model_machine.specs.Row.{RowEnd, Abends, Does, row}
+use Rattle.model_events.specs.model_machine.specs.Chain.{Outcome, Abended, Chain, Ends, write_of, chain_after_effect, reply_of, after_exit, follows, row_turn, turn_of_fetch, frame_at, around, first_frame, chain_session}
 use Rattle.law_bytes.specs.model_card.specs.Items.{apps_after_items, write_items}
 use Rattle.law_bytes.specs.OfChains.{IsByteChain, OnGoing}
 use Rattle.law_promise.specs.Outline.{public_size}

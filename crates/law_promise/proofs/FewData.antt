@@ -3,8 +3,8 @@ use Rattle.std.proofs.Common.{◌≡◌, ℕ, ◌+◌, ◌*◌, ◌<◌, ◌≤�
 use Rattle.std.specs.Prelude.{⊤, ◌==◌, ◌&&◌, nat_le, option_map}
 use Rattle.std.proofs.lemmas.Bool.{and_parts, leb-true, eqb-true}
 use Rattle.std.proofs.lemmas.List.{length-take}
-use Rattle.model_text.specs.model_device.specs.Bytes.{AreBytes}
-use Rattle.model_text.specs.model_machine.specs.Apdu.{ApduParts, Rest, short_rest, extended_body, extended_rest, rest_read, apdu_read}
+use Rattle.model_events.specs.model_device.specs.Bytes.{AreBytes}
+use Rattle.model_events.specs.model_machine.specs.Apdu.{ApduParts, Rest, short_rest, extended_body, extended_rest, rest_read, apdu_read}
 
 abbrev IsFew : Option Rest → Type 0
 IsFew None = ⊤

@@ -1,10 +1,10 @@
 -- A card that was formatted has none of a name, whatever stop hits its first power line.
 use Rattle.std.proofs.Common.{◌≡◌, ℕ, ◌≤◌, Bool, true, false, cond, List, [], length, Option, Some, None, refl, ap, ◌∙◌, arith}
 use Rattle.std.specs.Prelude.{nat_le}
-use Rattle.model_text.specs.model_device.specs.declared.cause.Cause.{Cause}
-use Rattle.model_text.specs.model_device.specs.Bytes.{lookup}
-use Rattle.model_text.specs.model_device.specs.Card.{App}
-use Rattle.model_text.specs.model_device.specs.PowerUp.{Base, base_after_migration, base_of}
+use Rattle.model_events.specs.model_device.specs.declared.cause.Cause.{Cause}
+use Rattle.model_events.specs.model_device.specs.Bytes.{lookup}
+use Rattle.model_events.specs.model_device.specs.Card.{App}
+use Rattle.model_events.specs.model_device.specs.PowerUp.{Base, base_after_migration, base_of}
 use Rattle.law_bytes.specs.model_card.specs.Items.{StopAt}
 use Rattle.law_bytes.specs.model_play.specs.Given.{apps_on, apps_in}
 use Rattle.law_bytes.specs.model_play.specs.Play.{Armed, Warm, AfterPower, hit_of, power_moves, stopped_power, power_after, play_at_power, formatted_image, step}

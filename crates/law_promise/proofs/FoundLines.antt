@@ -2,10 +2,10 @@
 use Rattle.std.proofs.Common.{◌≡◌, ℕ, ◌-◌, Bool, true, false, cond, List, [], ◌∷◌, drop, Option, Some, None, refl, sym, subst, arith}
 use Rattle.std.specs.Prelude.{◌⊎◌, nat_le}
 use Rattle.std.specs.List.{AllByRecursion}
-use Rattle.model_text.specs.model_device.specs.Bytes.{lookup}
-use Rattle.model_text.specs.model_device.specs.Image.{One}
-use Rattle.model_text.specs.model_device.specs.PowerUp.{Base, base_after_migration}
-use Rattle.model_text.specs.model_device.specs.Stopped.{stands}
+use Rattle.model_events.specs.model_device.specs.Bytes.{lookup}
+use Rattle.model_events.specs.model_device.specs.Image.{One}
+use Rattle.model_events.specs.model_device.specs.PowerUp.{Base, base_after_migration}
+use Rattle.model_events.specs.model_device.specs.Stopped.{stands}
 use Rattle.law_bytes.specs.model_card.specs.Items.{StopAt}
 use Rattle.law_bytes.specs.model_play.specs.DeckGrammar.{DeckLine}
 use Rattle.law_bytes.specs.model_play.specs.DeckGrammar as line

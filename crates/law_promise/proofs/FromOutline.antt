@@ -1,11 +1,12 @@
 -- From what an outline says along a play to what its application promises.
 use Rattle.std.proofs.Common.{◌≡◌, ℕ, List, [], ◌∷◌, Option, Some, None, refl, arith}
-use Rattle.model_text.specs.model_device.specs.Bytes.{lookup}
-use Rattle.model_text.specs.model_device.specs.Card.{App}
-use Rattle.model_text.specs.model_device.specs.PowerUp.{Base, OnCard, AtFault}
+use Rattle.model_events.specs.model_device.specs.Bytes.{lookup}
+use Rattle.model_events.specs.model_device.specs.Card.{App}
+use Rattle.model_events.specs.model_device.specs.PowerUp.{Base, OnCard, AtFault}
 use Rattle.law_bytes.specs.model_play.specs.DeckGrammar.{DeckLine}
 use Rattle.law_bytes.specs.model_play.specs.Play.{State, BeforePower, AfterPower, Warm, Live, Step}
-use Rattle.law_promise.specs.History.{Watch, after_step}
+use Rattle.model_events.specs.Deeds.{Watch}
+use Rattle.law_promise.specs.History.{after_step}
 use Rattle.law_promise.specs.Along.{stopped_step, Along, OnApp, OnFixed}
 use Rattle.law_promise.specs.Outline.{Outline}
 use Rattle.law_promise.specs.Kept.{KeptIn, BaseKept, StateKept}

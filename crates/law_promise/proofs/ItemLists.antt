@@ -3,18 +3,18 @@
 use Rattle.std.proofs.Common.{◌≡◌, ℕ, ◌-◌, Bool, true, false, cond, List, [], ◌∷◌, ◌++◌, Option, Some, None, refl, sym, ap, subst, ◌∙◌, arith}
 use Rattle.std.specs.Prelude.{⊤, ◌==◌, bytes_eq, nat_le}
 use Rattle.std.proofs.lemmas.Bool.{or_parts, false_from_ne_true}
-use Rattle.model_text.specs.model_device.specs.Bytes.{lookup, insert, remove, has_name}
-use Rattle.model_text.specs.model_device.specs.Image.{Two}
-use Rattle.model_text.specs.model_device.specs.Stopped.{cost, stands}
-use Rattle.model_text.specs.model_device.specs.Card.{App}
-use Rattle.model_text.specs.model_machine.specs.Chain.{Write, map_changed}
+use Rattle.model_events.specs.model_device.specs.Bytes.{lookup, insert, remove, has_name}
+use Rattle.model_events.specs.model_device.specs.Image.{Two}
+use Rattle.model_events.specs.model_device.specs.Stopped.{cost, stands}
+use Rattle.model_events.specs.model_device.specs.Card.{App}
+use Rattle.model_events.specs.model_machine.specs.Chain.{Write, map_changed}
 use Rattle.law_bytes.specs.model_card.specs.Items.{Change, Fixed, Created, Deleted, Item, Plain, Atomic, apps_after_items, Stopped, with_item, in_flight, at_stop, write_items}
 use Rattle.law_bytes.specs.law_family.proofs.Stops.{AreOthers}
 use Rattle.law_promise.specs.History.{unless_created, after_items}
 use Rattle.law_promise.specs.Along.{IsAppIf, CreatesOnly}
 use Rattle.law_promise.specs.Domain.{Domain, IsSound, IdleCovered}
 use Rattle.law_promise.proofs.Chains.{beside_changed}
-use Rattle.model_text.specs.model_device.proofs.MapLemmas.{lookup_beside, lookup_inserted_lem, lookup_left, lookup_removed_lem, name_is_itself, same_name}
+use Rattle.model_events.specs.model_device.proofs.MapLemmas.{lookup_beside, lookup_inserted_lem, lookup_left, lookup_removed_lem, name_is_itself, same_name}
 
 -- ---- items that do not touch a name
 

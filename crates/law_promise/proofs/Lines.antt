@@ -1,14 +1,14 @@
 -- A line of a play keeps what the domain covers, and so does every play.
 use Rattle.std.proofs.Common.{◌≡◌, ℕ, Bool, true, false, cond, List, [], ◌∷◌, drop, Option, Some, None, refl, sym, subst, arith}
 use Rattle.std.specs.Prelude.{◌⊎◌, nat_le, length}
-use Rattle.model_text.specs.model_device.specs.declared.device.Stop.{Stop}
-use Rattle.model_text.specs.model_device.specs.declared.device.Stop.TheVariants as stop
-use Rattle.model_text.specs.model_device.specs.Bytes.{lookup}
-use Rattle.model_text.specs.model_device.specs.Image.{Journal, One}
-use Rattle.model_text.specs.model_device.specs.Card.{App, Card}
-use Rattle.model_text.specs.model_device.specs.PowerUp.{Base, OnCard, AtFault, base_after_migration}
-use Rattle.model_text.specs.model_machine.specs.Apdu.{ApduParts}
-use Rattle.model_text.specs.model_machine.specs.Chain.{Outcome}
+use Rattle.model_events.specs.model_device.specs.declared.device.Stop.{Stop}
+use Rattle.model_events.specs.model_device.specs.declared.device.Stop.TheVariants as stop
+use Rattle.model_events.specs.model_device.specs.Bytes.{lookup}
+use Rattle.model_events.specs.model_device.specs.Image.{Journal, One}
+use Rattle.model_events.specs.model_device.specs.Card.{App, Card}
+use Rattle.model_events.specs.model_device.specs.PowerUp.{Base, OnCard, AtFault, base_after_migration}
+use Rattle.model_events.specs.model_machine.specs.Apdu.{ApduParts}
+use Rattle.model_events.specs.model_machine.specs.Chain.{Outcome}
 use Rattle.law_bytes.specs.model_card.specs.Items.{apps_after_items, moves, StopAt, at_stop}
 use Rattle.law_bytes.specs.model_card.specs.Manager.{SessionState, route, is_selected}
 use Rattle.law_bytes.specs.model_card.specs.Commands.{Command, command}
@@ -24,7 +24,8 @@ use Rattle.law_bytes.specs.model_play.specs.ReadyAgain.{IsLine}
 use Rattle.law_bytes.specs.OfPlays.{IsByteBase, IsByteState}
 use Rattle.law_bytes.proofs.CommandBytes.{route_bytes, managers_bytes, selects_bytes}
 use Rattle.law_bytes.proofs.PlayBytes.{step_bytes}
-use Rattle.law_promise.specs.History.{Watch, CutAt, cut_of, with_event, after_route, is_own_route, with_answer, after_items, after_stop, is_selected_on, after_step}
+use Rattle.model_events.specs.Deeds.{Watch}
+use Rattle.law_promise.specs.History.{CutAt, cut_of, with_event, after_route, is_own_route, with_answer, after_items, after_stop, is_selected_on, after_step}
 use Rattle.law_promise.specs.Along.{CreatesOnly, BringsOnly, stopped_step, parts_for, command_for, OnAnswer}
 use Rattle.law_promise.specs.Domain.{Domain, IsSound, IdleCovered, SelectedCovered, LiveCovered, BaseCovered, StateCovered, LineCovered, StopsInWrite, StopsAtWrite, AlongWrites, IsCovered}
 use Rattle.law_promise.proofs.ItemLists.{whole_avoids, items_kept}

@@ -2,23 +2,24 @@
 use Rattle.std.proofs.Common.{◌≡◌, ℕ, ◌≤◌, Bool, true, false, cond, List, [], ◌∷◌, length, Option, Some, None, Result, Ok, Err, refl, sym, subst, arith, inl}
 use Rattle.std.specs.Prelude.{⊤, bytes_eq, nat_lt}
 use Rattle.std.proofs.lemmas.List.{length-replicate}
-use Rattle.model_text.specs.model_machine.specs.declared.instruction.Ins.{Ins}
-use Rattle.model_text.specs.model_machine.specs.declared.instruction.DecodeFault.{DecodeFault}
-use Rattle.model_text.specs.model_machine.specs.declared.machine.Abend.{Abend}
-use Rattle.model_text.specs.model_machine.specs.declared.machine.Abend.TheVariants.{A09}
-use Rattle.model_text.specs.model_device.specs.Bytes.{zeros, lookup}
-use Rattle.model_text.specs.model_device.specs.Card.{App}
-use Rattle.model_text.specs.model_device.specs.PowerUp.{Base, OnCard, AtFault}
-use Rattle.model_text.specs.model_machine.specs.Apdu.{ApduParts}
-use Rattle.model_text.specs.model_machine.specs.Code.{instruction_at}
-use Rattle.model_text.specs.model_machine.specs.Frame.{Frame, session_of, la_of}
-use Rattle.model_text.specs.model_machine.specs.Primitives.{Around, Then, Goes, Exits, Delegates, Done}
-use Rattle.model_text.specs.model_machine.specs.Row.{RowEnd, Abends, Does, row}
-use Rattle.model_text.specs.model_machine.specs.Chain.{Outcome, Abended, frame_at}
+use Rattle.model_events.specs.model_machine.specs.declared.instruction.Ins.{Ins}
+use Rattle.model_events.specs.model_machine.specs.declared.instruction.DecodeFault.{DecodeFault}
+use Rattle.model_events.specs.model_machine.specs.declared.machine.Abend.{Abend}
+use Rattle.model_events.specs.model_machine.specs.declared.machine.Abend.TheVariants.{A09}
+use Rattle.model_events.specs.model_device.specs.Bytes.{zeros, lookup}
+use Rattle.model_events.specs.model_device.specs.Card.{App}
+use Rattle.model_events.specs.model_device.specs.PowerUp.{Base, OnCard, AtFault}
+use Rattle.model_events.specs.model_machine.specs.Apdu.{ApduParts}
+use Rattle.model_events.specs.model_machine.specs.Code.{instruction_at}
+use Rattle.model_events.specs.model_machine.specs.Frame.{Frame, session_of, la_of}
+use Rattle.model_events.specs.model_machine.specs.Primitives.{Around, Then, Goes, Exits, Delegates, Done}
+use Rattle.model_events.specs.model_machine.specs.Row.{RowEnd, Abends, Does, row}
+use Rattle.model_events.specs.model_machine.specs.Chain.{Outcome, Abended, frame_at}
 use Rattle.law_bytes.specs.model_card.specs.Manager.{Selected}
 use Rattle.law_bytes.specs.model_play.specs.DeckGrammar.{DeckLine}
 use Rattle.law_bytes.specs.model_play.specs.Play.{Live, State, BeforePower, AfterPower, Step, plays, start}
-use Rattle.law_promise.specs.History.{Deed, with_event, is_too_long, done_event, fetch_cause, after_step}
+use Rattle.model_events.specs.Deeds.{Deed}
+use Rattle.law_promise.specs.History.{with_event, is_too_long, done_event, fetch_cause, after_step}
 use Rattle.law_promise.specs.Along.{stopped_step, Along, BringsOnly, FindsNone}
 use Rattle.law_promise.specs.Outline.{Entry, BySelection, ByDelegation, Outline, is_direct, reply_to, public_size, NextShown, RowShown, FetchShown, IsShown}
 use Rattle.law_promise.specs.Kept.{KeptIn, SessionIf, SelectedKept, LiveKept, BaseKept, StateKept, LineKept, IsKept}

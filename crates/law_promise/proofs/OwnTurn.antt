@@ -2,23 +2,24 @@
 -- covers.
 use Rattle.std.proofs.Common.{◌≡◌, ℕ, ◌+◌, ◌≤◌, Bool, true, false, cond, List, [], ◌∷◌, length, Option, Some, None, Result, Ok, Err, refl, sym, ap, subst, ◌∙◌, arith}
 use Rattle.std.specs.Prelude.{bytes_eq}
-use Rattle.model_text.specs.model_machine.specs.declared.instruction.Ins.{Ins}
-use Rattle.model_text.specs.model_machine.specs.declared.instruction.DecodeFault.{DecodeFault}
-use Rattle.model_text.specs.model_machine.specs.declared.instruction.DecodeFault.TheVariants.{Undefined, Past}
-use Rattle.model_text.specs.model_machine.specs.declared.machine.Abend.TheVariants.{A01, A02, A09}
-use Rattle.model_text.specs.model_device.specs.Bytes.{lookup}
-use Rattle.model_text.specs.model_device.specs.Card.{App}
-use Rattle.model_text.specs.model_machine.specs.Apdu.{apdu_case}
-use Rattle.model_text.specs.model_machine.specs.Code.{instruction_at}
-use Rattle.model_text.specs.model_machine.specs.Frame.{Frame, session_of}
-use Rattle.model_text.specs.model_machine.specs.Primitives.{Then, Goes, Exits, Delegates, Done}
-use Rattle.model_text.specs.model_machine.specs.Row.{RowEnd, Abends, Does, row}
-use Rattle.model_text.specs.model_machine.specs.Chain.{Outcome, Abended, Chain, Ends, code_in, map_changed, write_of, chain_after_effect, depth_of, after_exit, follows, row_turn, turn_of_fetch, frame_at, around, turn_of_chain, delegator_in, first_frame, chain_session}
+use Rattle.model_events.specs.model_machine.specs.declared.instruction.Ins.{Ins}
+use Rattle.model_events.specs.model_machine.specs.declared.instruction.DecodeFault.{DecodeFault}
+use Rattle.model_events.specs.model_machine.specs.declared.instruction.DecodeFault.TheVariants.{Undefined, Past}
+use Rattle.model_events.specs.model_machine.specs.declared.machine.Abend.TheVariants.{A01, A02, A09}
+use Rattle.model_events.specs.model_device.specs.Bytes.{lookup}
+use Rattle.model_events.specs.model_device.specs.Card.{App}
+use Rattle.model_events.specs.model_machine.specs.Apdu.{apdu_case}
+use Rattle.model_events.specs.model_machine.specs.Code.{instruction_at}
+use Rattle.model_events.specs.model_machine.specs.Frame.{Frame, session_of}
+use Rattle.model_events.specs.model_machine.specs.Primitives.{Then, Goes, Exits, Delegates, Done}
+use Rattle.model_events.specs.model_machine.specs.Row.{RowEnd, Abends, Does, row}
+use Rattle.model_events.specs.model_machine.specs.Chain.{Outcome, Abended, Chain, Ends, code_in, map_changed, write_of, chain_after_effect, depth_of, after_exit, follows, row_turn, turn_of_fetch, frame_at, around, turn_of_chain, delegator_in, first_frame, chain_session}
 use Rattle.law_bytes.specs.model_card.specs.Items.{apps_after_items, write_items}
 use Rattle.std.specs.List.{AllByRecursion}
 use Rattle.law_bytes.specs.OfChains.{IsNamedFrame, IsByteChain, OnGoing}
 use Rattle.law_bytes.proofs.ChainBytes.{turn_bytes}
-use Rattle.law_promise.specs.History.{Deed, with_event, is_too_long, done_event, row_event, fetched_event, event_if, turn_event}
+use Rattle.model_events.specs.Deeds.{Deed}
+use Rattle.law_promise.specs.History.{with_event, is_too_long, done_event, row_event, fetched_event, event_if, turn_event}
 use Rattle.law_promise.specs.Outline.{FitsEntry, public_size}
 use Rattle.law_promise.specs.Domain.{Domain, IsSound, IsDelegator, AnswerCovered, EndCovered, StopCovered, ExitCovered, NextCovered, WriteCovered, DeedCovered, RowCovered, FetchCovered, FitsDepth}
 use Rattle.law_bytes.specs.law_rows.specs.Keeping.{after_change, Keeps, OnDone}
@@ -27,7 +28,7 @@ use Rattle.law_promise.specs.Kept.{IsLike}
 use Rattle.law_promise.proofs.Chains.{NoneOf, Asked, entry_of, entry_over, Runs, none_waits, own_runs, own_waits, own_run, ThereKept, FoundKept, ChainKept, StopIf, EndKept, with_change, own_changed}
 use Rattle.law_promise.proofs.Turns.{FollowsKept, WritesStop, TurnKept, BelowKept, FoundBelow, first_name, single_write, done_write, direct_is, stop_if, own_abended, exited_chain, called_chain}
 use Rattle.law_promise.proofs.EachTurn.{other_fetched}
-use Rattle.model_text.specs.model_device.proofs.MapLemmas.{same_name}
+use Rattle.model_events.specs.model_device.proofs.MapLemmas.{same_name}
 
 module _ {E : Type 0} (o : Domain E) (shown : IsSound o) (q : Asked E) where
   -- ---- an exit

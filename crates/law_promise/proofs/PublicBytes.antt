@@ -2,10 +2,10 @@
 use Rattle.std.proofs.Common.{◌≡◌, ℕ, ◌+◌, ◌-◌, ◌*◌, ◌<◌, ◌≤◌, List, [], ◌∷◌, ◌++◌, length, take, drop, get_or, sym, ap, ◌∙◌, arith}
 use Rattle.std.specs.Prelude.{◌≢◌, true, false, unwrap_or}
 use Rattle.std.proofs.lemmas.List.{append_assoc, length-append, length-replicate, length-take-le, drop-drop, drop_at, take_at, get_or-drop, get_or_append_left, get_or-append_right}
-use Rattle.model_text.specs.model_device.specs.Bytes.{bytes, bytes2, num, zeros, splice}
-use Rattle.model_text.specs.model_machine.specs.Apdu.{ApduParts}
-use Rattle.model_text.specs.model_machine.specs.Blocks.{sub_blocks, is_zero}
-use Rattle.model_text.specs.model_machine.specs.Frame.{new_public, with_la, sw_of}
+use Rattle.model_events.specs.model_device.specs.Bytes.{bytes, bytes2, num, zeros, splice}
+use Rattle.model_events.specs.model_machine.specs.Apdu.{ApduParts}
+use Rattle.model_events.specs.model_machine.specs.Blocks.{sub_blocks, is_zero}
+use Rattle.model_events.specs.model_machine.specs.Frame.{new_public, with_la, sw_of}
 
 -- ---- a command's public segment
 

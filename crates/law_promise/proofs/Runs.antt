@@ -2,13 +2,13 @@
 use Rattle.std.proofs.Common.{◌≡◌, ℕ, zero, suc, ◌+◌, ◌-◌, ◌<◌, ◌≤◌, Bool, true, false, cond, List, [], ◌∷◌, ◌++◌, Option, Some, None, refl, sym, ap, subst, ◌∙◌, arith, inl, inr}
 use Rattle.std.specs.Prelude.{◌⊎◌, bytes_eq, nat_le}
 use Rattle.std.proofs.lemmas.Bool.{leb-false}
-use Rattle.model_text.specs.model_device.specs.Bytes.{lookup}
-use Rattle.model_text.specs.model_device.specs.Image.{Two}
-use Rattle.model_text.specs.model_device.specs.Stopped.{cost, stands}
-use Rattle.model_text.specs.model_device.specs.Card.{App}
-use Rattle.model_text.specs.model_machine.specs.Chain.{Abended, Write, Chain, Ran, Acted, Follows, Continues, Ends, turn_of_chain, run_after_turn, run_of_chain, first_frame, chain_session}
+use Rattle.model_events.specs.model_device.specs.Bytes.{lookup}
+use Rattle.model_events.specs.model_device.specs.Image.{Two}
+use Rattle.model_events.specs.model_device.specs.Stopped.{cost, stands}
+use Rattle.model_events.specs.model_device.specs.Card.{App}
+use Rattle.model_events.specs.model_machine.specs.Chain.{Abended, Write, Chain, Ran, Acted, Follows, Continues, Ends, turn_of_chain, run_after_turn, run_of_chain, first_frame, chain_session}
 use Rattle.law_bytes.specs.model_card.specs.Items.{Fixed, Atomic, moves, apps_after_change, apps_after_items, with_item, in_flight, at_stop, write_items}
-use Rattle.model_text.specs.model_machine.specs.declared.machine.Abend.TheVariants.{A07}
+use Rattle.model_events.specs.model_machine.specs.declared.machine.Abend.TheVariants.{A07}
 use Rattle.law_promise.specs.History.{CutAt, with_event, cut_after, last_turn, cut_turn, after_writes, after_follows, turn_event, after_run}
 use Rattle.law_promise.specs.Domain.{Domain, IsSound}
 use Rattle.law_promise.proofs.Chains.{Asked, ChainKept, StopIf, EndKept}

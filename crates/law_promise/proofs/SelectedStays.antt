@@ -2,9 +2,9 @@
 use Rattle.std.proofs.Common.{◌≡◌, ℕ, Bool, true, false, List, [], ◌∷◌, Option, None, sym, ap, ◌∙◌, arith}
 use Rattle.std.specs.Prelude.{bytes_eq, is_some}
 use Rattle.std.proofs.lemmas.Bool.{false_from_ne_true}
-use Rattle.model_text.specs.model_device.specs.Bytes.{lookup}
-use Rattle.model_text.specs.model_machine.specs.Apdu.{ApduParts}
-use Rattle.model_text.specs.model_device.specs.Card.{App, Card}
+use Rattle.model_events.specs.model_device.specs.Bytes.{lookup}
+use Rattle.model_events.specs.model_machine.specs.Apdu.{ApduParts}
+use Rattle.model_events.specs.model_device.specs.Card.{App, Card}
 use Rattle.law_bytes.specs.model_card.specs.Items.{Item, card_done}
 use Rattle.law_bytes.specs.model_card.specs.Manager.{Selected, SessionState, Route, WrongLength, WrongClass, ToSelect, ToManager, ToApplication, route, is_selected, manage, room_on}
 use Rattle.law_bytes.specs.model_card.specs.Commands.{Command, manager_command, by_route, command}
@@ -15,7 +15,7 @@ use Rattle.law_bytes.specs.law_manager.proofs.OnCard.{command_made}
 use Rattle.law_bytes.specs.law_manager.proofs.Plains.{plains_are}
 use Rattle.law_bytes.specs.law_family.proofs.OtherCommand.{IsManagers, AreManagers, Aside, command_aside}
 use Rattle.law_promise.proofs.ItemLists.{AllAvoid, avoid_append, avoid_lookup}
-use Rattle.model_text.specs.model_device.proofs.MapLemmas.{same_name}
+use Rattle.model_events.specs.model_device.proofs.MapLemmas.{same_name}
 
 module _ (c : Card) (session_state : SessionState) (n : List ℕ) (there : is_some (lookup c.apps n) ≡ true) (selected : is_selected session_state.selected n ≡ true) where
   plain_avoids : (k : ℕ) (is : List Item) → AllAvoid n is → AllAvoid n (plains k is)

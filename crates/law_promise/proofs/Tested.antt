@@ -2,16 +2,17 @@
 use Rattle.std.proofs.Common.{◌≡◌, ℕ, Bool, true, false, not, List, [], ◌∷◌, Option, Some, None, refl, sym, ◌∙◌, arith}
 use Rattle.std.specs.Prelude.{◌&&◌, ◌||◌, bytes_eq, is_none}
 use Rattle.std.proofs.lemmas.Bool.{and_parts, and_from, eqb-true}
-use Rattle.model_text.specs.model_device.specs.Bytes.{lookup}
-use Rattle.model_text.specs.model_device.specs.Card.{App}
+use Rattle.model_events.specs.model_device.specs.Bytes.{lookup}
+use Rattle.model_events.specs.model_device.specs.Card.{App}
 use Rattle.law_bytes.specs.model_card.specs.Items.{Fixed, Created, Deleted, Item, Plain, Atomic}
 use Rattle.law_bytes.specs.model_play.specs.DeckGrammar.{DeckLine}
 use Rattle.law_bytes.specs.model_play.specs.Given.{apps_in}
 use Rattle.law_bytes.specs.model_play.specs.Play.{State, Step}
-use Rattle.law_promise.specs.History.{Watch, after_step}
+use Rattle.model_events.specs.Deeds.{Watch}
+use Rattle.law_promise.specs.History.{after_step}
 use Rattle.law_promise.specs.Along.{IsApp, IsAppIf, CreatesOnly, FindsNone, BringsOnly, Along}
 use Rattle.law_promise.specs.Computed.{on_app, tests_along, is_app, creates_only, finds_none, all_bring_only}
-use Rattle.model_text.specs.model_device.proofs.MapLemmas.{same_name}
+use Rattle.model_events.specs.model_device.proofs.MapLemmas.{same_name}
 
 -- ---- the premise
 

@@ -3,14 +3,14 @@
 use Rattle.std.proofs.Common.{◌≡◌, ℕ, ◌≤◌, Bool, true, false, List, [], ◌∷◌, length, Option, Some, None, refl, sym, subst, ◌∙◌, arith}
 use Rattle.std.specs.Prelude.{⊤, ◌||◌, bytes_eq, nat_le}
 use Rattle.std.proofs.lemmas.Bool.{or_parts, leb-false}
-use Rattle.model_text.specs.model_machine.specs.declared.instruction.Ins.{Ins}
-use Rattle.model_text.specs.model_machine.specs.declared.machine.Abend.{Abend}
-use Rattle.model_text.specs.model_machine.specs.declared.machine.Abend.TheVariants.{A07}
-use Rattle.model_text.specs.model_device.specs.Bytes.{lookup, zeros, bytes2}
-use Rattle.model_text.specs.model_device.specs.Card.{App}
-use Rattle.model_text.specs.model_device.proofs.ListLemmas.{splice_longer}
-use Rattle.model_text.specs.model_machine.specs.Frame.{Frame, new_frame, session_of, with_sw}
-use Rattle.model_text.specs.model_machine.specs.Chain.{Outcome, Abended, Write, Chain, Acted, Follows, Continues, Ends, map_changed, write_of, is_active, depth_of, called_app, chain_after_call, abends_at, first_frame, chain_session}
+use Rattle.model_events.specs.model_machine.specs.declared.instruction.Ins.{Ins}
+use Rattle.model_events.specs.model_machine.specs.declared.machine.Abend.{Abend}
+use Rattle.model_events.specs.model_machine.specs.declared.machine.Abend.TheVariants.{A07}
+use Rattle.model_events.specs.model_device.specs.Bytes.{lookup, zeros, bytes2}
+use Rattle.model_events.specs.model_device.specs.Card.{App}
+use Rattle.model_events.specs.model_device.proofs.ListLemmas.{splice_longer}
+use Rattle.model_events.specs.model_machine.specs.Frame.{Frame, new_frame, session_of, with_sw}
+use Rattle.model_events.specs.model_machine.specs.Chain.{Outcome, Abended, Write, Chain, Acted, Follows, Continues, Ends, map_changed, write_of, is_active, depth_of, called_app, chain_after_call, abends_at, first_frame, chain_session}
 use Rattle.law_bytes.specs.model_card.specs.Items.{apps_after_items, write_items}
 use Rattle.law_bytes.specs.OfChains.{IsByteChain}
 use Rattle.law_promise.specs.History.{with_event, is_first}
@@ -18,7 +18,7 @@ use Rattle.law_promise.specs.Outline.{ByDelegation, is_direct, public_size}
 use Rattle.law_promise.specs.Domain.{Domain, IsSegment, IsSound, EndCovered, StopCovered, IsRowCause, AbendCovered, first_frame_in}
 use Rattle.law_promise.specs.Kept.{IsLike}
 use Rattle.law_promise.proofs.Chains.{NoneOf, inactive, first_none, Asked, entry_over, WaitsIf, AllWait, RunsIf, none_idle, resumed, others_run, own_runs, others_wait, ThereKept, FoundKept, ChainKept, EndIf, AnswerIf, StopIf, EndKept}
-use Rattle.model_text.specs.model_device.proofs.MapLemmas.{same_name}
+use Rattle.model_events.specs.model_device.proofs.MapLemmas.{same_name}
 
 -- ---- what a turn leads to
 

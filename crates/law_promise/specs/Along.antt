@@ -1,18 +1,19 @@
 -- What holds of one application along a play: after each line, and after each device write at which the line could be
 -- stopped.
 use Rattle.std.specs.Prelude.{◌≡◌, ℕ, ◌≤◌, Bool, true, false, List, [], ◌∷◌, length, bytes_eq, Option, Some, None, ⊤}
-use Rattle.model_text.specs.model_device.specs.Bytes.{lookup}
-use Rattle.model_text.specs.model_device.specs.Card.{App}
-use Rattle.model_text.specs.model_device.specs.PowerUp.{Base, OnCard, AtFault}
-use Rattle.model_text.specs.model_machine.specs.Apdu.{ApduParts}
-use Rattle.model_text.specs.model_machine.specs.Chain.{Reply}
+use Rattle.model_events.specs.model_device.specs.Bytes.{lookup}
+use Rattle.model_events.specs.model_device.specs.Card.{App}
+use Rattle.model_events.specs.model_device.specs.PowerUp.{Base, OnCard, AtFault}
+use Rattle.model_events.specs.model_machine.specs.Apdu.{ApduParts}
+use Rattle.model_events.specs.model_machine.specs.Chain.{Reply}
 use Rattle.law_bytes.specs.model_card.specs.Items.{Fixed, Created, Deleted, Item, Plain, Atomic}
 use Rattle.law_bytes.specs.model_card.specs.Manager.{Selected, Route, WrongLength, WrongClass, ToSelect, ToManager, ToApplication, route}
 use Rattle.law_bytes.specs.model_play.specs.DeckGrammar.{DeckLine}
 use Rattle.law_bytes.specs.model_play.specs.DeckGrammar as line
 use Rattle.law_bytes.specs.model_play.specs.Play.{Armed, Live, Running, Unpowered, Muted, State, BeforePower, AfterPower, LineResult, Answered, FailedWrite, Step, formatted_image, step}
 use Rattle.law_bytes.specs.model_play.specs.Given.{apps_in}
-use Rattle.law_promise.specs.History.{Watch, after_step}
+use Rattle.model_events.specs.Deeds.{Watch}
+use Rattle.law_promise.specs.History.{after_step}
 
 -- ---- the premise: each application that is created under the name is this one
 

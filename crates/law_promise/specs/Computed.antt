@@ -1,17 +1,17 @@
 -- Computed plays: for each line of a deck whether a test of an application holds after it.
 use Rattle.std.specs.Prelude.{ℕ, zero, suc, ◌+◌, ◌-◌, Bool, true, cond, not, ◌&&◌, ◌||◌, ◌==◌, List, [], ◌∷◌, ◌++◌, length, take, drop, slice_set, bytes_eq, is_none, replicate, Option, Some, None, Result, Ok, Err}
 use Rattle.law_bytes.specs.model_play.specs.declared.deck.DeckCause.{DeckCause}
-use Rattle.model_text.specs.model_device.specs.Bytes.{up, zeros, bytes2, lookup}
-use Rattle.model_text.specs.model_device.specs.Card.{App, blocks_from, apps_of, heap_start}
-use Rattle.model_text.specs.model_device.specs.Pieces.{touched_words}
-use Rattle.model_text.specs.model_device.specs.Image.{targets_1, targets_2, pairs}
-use Rattle.model_text.specs.model_device.specs.Layout.{layout, step_of, bad_block, bad_record, hole_header, root, used_header}
+use Rattle.model_events.specs.model_device.specs.Bytes.{up, zeros, bytes2, lookup}
+use Rattle.model_events.specs.model_device.specs.Card.{App, blocks_from, apps_of, heap_start}
+use Rattle.model_events.specs.model_device.specs.Pieces.{touched_words}
+use Rattle.model_events.specs.model_device.specs.Image.{targets_1, targets_2, pairs}
+use Rattle.model_events.specs.model_device.specs.Layout.{layout, step_of, bad_block, bad_record, hole_header, root, used_header}
 use Rattle.law_bytes.specs.model_card.specs.Units.{name_of}
-use Rattle.model_text.specs.model_machine.specs.Apdu.{apdu_read}
-use Rattle.model_text.specs.model_machine.specs.Frame.{bytes_at, write_effect, too_many}
-use Rattle.model_text.specs.model_machine.specs.Primitives.{later_causes, prim_effect}
-use Rattle.model_text.specs.model_machine.specs.Row.{causes, effect, row}
-use Rattle.model_text.specs.model_machine.specs.Chain.{turn_of_chain, run_of_chain}
+use Rattle.model_events.specs.model_machine.specs.Apdu.{apdu_read}
+use Rattle.model_events.specs.model_machine.specs.Frame.{bytes_at, write_effect, too_many}
+use Rattle.model_events.specs.model_machine.specs.Primitives.{later_causes, prim_effect}
+use Rattle.model_events.specs.model_machine.specs.Row.{causes, effect, row}
+use Rattle.model_events.specs.model_machine.specs.Chain.{turn_of_chain, run_of_chain}
 use Rattle.law_bytes.specs.model_card.specs.Items.{Fixed, Created, Deleted, Item, Plain, Atomic}
 use Rattle.law_bytes.specs.model_card.specs.Manager.{manage}
 use Rattle.law_bytes.specs.model_card.specs.Commands.{command}
@@ -20,7 +20,8 @@ use Rattle.law_bytes.specs.model_play.specs.DeckGrammar as line
 use Rattle.law_bytes.specs.model_play.specs.Given.{apps_in}
 use Rattle.law_bytes.specs.model_play.specs.Play.{State, BeforePower, AfterPower, Step, formatted_image, start, send, play_at_power, step, plays, moves_of, steady_failures}
 use Rattle.law_promise.specs.Along.{Along}
-use Rattle.law_promise.specs.History.{Watch, after_run, after_step, after_steps}
+use Rattle.model_events.specs.Deeds.{Watch}
+use Rattle.law_promise.specs.History.{after_run, after_step, after_steps}
 
 -- the words of a small device
 abbrev pub blank : List (List ℕ)

@@ -1,12 +1,12 @@
 -- A counter that never falls, as an example of the rule: its text, its code, what is counted of it, and what it
 -- promises.
 use Rattle.std.specs.Prelude.{◌≡◌, ◌≢◌, ℕ, suc, ◌+◌, ◌<◌, ◌≤◌, Bool, true, ◌&&◌, ◌==◌, List, [], ◌∷◌, ◌++◌, length, codes, Option, Some, None, ⊤}
-use Rattle.model_text.specs.model_device.specs.Bytes.{num}
-use Rattle.model_text.specs.model_device.specs.Card.{App}
-use Rattle.model_text.specs.model_machine.specs.Apdu.{ApduParts}
+use Rattle.model_events.specs.model_device.specs.Bytes.{num}
+use Rattle.model_events.specs.model_device.specs.Card.{App}
+use Rattle.model_events.specs.model_machine.specs.Apdu.{ApduParts}
 use Rattle.law_bytes.specs.model_play.specs.DeckGrammar.{DeckLine}
 use Rattle.law_bytes.specs.model_play.specs.Play.{FailedWrite, plays, start}
-use Rattle.law_promise.specs.History.{Deed, Watch}
+use Rattle.model_events.specs.Deeds.{Deed, Watch}
 use Rattle.law_promise.specs.Along.{Along, OnFixed, OnAnswer, command_for}
 use Rattle.law_promise.specs.Found.{AlongFrom}
 

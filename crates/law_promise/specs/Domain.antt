@@ -3,28 +3,29 @@
 -- tables have (Cousot and Cousot, POPL 1977). A proof outline is a domain whose moments all say the same.
 use Rattle.std.specs.Prelude.{◌≡◌, ◌⊎◌, ℕ, ◌≤◌, Bool, true, false, cond, nat_lt, List, [], ◌∷◌, length, None, Some, Option, Result, Ok, Err, bytes_eq, ⊤}
 use Rattle.std.specs.List.{AllByRecursion}
-use Rattle.model_text.specs.model_machine.specs.declared.instruction.Ins.{Ins}
-use Rattle.model_text.specs.model_machine.specs.declared.instruction.DecodeFault.{DecodeFault}
-use Rattle.model_text.specs.model_machine.specs.declared.machine.Abend.{Abend}
-use Rattle.model_text.specs.model_machine.specs.declared.machine.Abend.TheVariants.{A07, A09}
-use Rattle.model_text.specs.model_device.specs.Bytes.{AreBytes, zeros, lookup}
-use Rattle.model_text.specs.model_device.specs.Card.{App}
-use Rattle.model_text.specs.model_device.specs.PowerUp.{Base, OnCard, AtFault}
-use Rattle.model_text.specs.model_machine.specs.Apdu.{ApduParts}
-use Rattle.model_text.specs.model_machine.specs.Code.{instruction_at}
-use Rattle.model_text.specs.model_machine.specs.Frame.{Frame, new_frame, new_public, session_of, la_of}
-use Rattle.model_text.specs.model_machine.specs.Primitives.{Around, Then, Goes, Exits, Delegates, Done}
-use Rattle.model_text.specs.model_machine.specs.Row.{RowEnd, Abends, Does, row}
-use Rattle.model_text.specs.model_machine.specs.Chain.{Outcome, Reply, Abended, frame_at}
+use Rattle.model_events.specs.model_machine.specs.declared.instruction.Ins.{Ins}
+use Rattle.model_events.specs.model_machine.specs.declared.instruction.DecodeFault.{DecodeFault}
+use Rattle.model_events.specs.model_machine.specs.declared.machine.Abend.{Abend}
+use Rattle.model_events.specs.model_machine.specs.declared.machine.Abend.TheVariants.{A07, A09}
+use Rattle.model_events.specs.model_device.specs.Bytes.{AreBytes, zeros, lookup}
+use Rattle.model_events.specs.model_device.specs.Card.{App}
+use Rattle.model_events.specs.model_device.specs.PowerUp.{Base, OnCard, AtFault}
+use Rattle.model_events.specs.model_machine.specs.Apdu.{ApduParts}
+use Rattle.model_events.specs.model_machine.specs.Code.{instruction_at}
+use Rattle.model_events.specs.model_machine.specs.Frame.{Frame, new_frame, new_public, session_of, la_of}
+use Rattle.model_events.specs.model_machine.specs.Primitives.{Around, Then, Goes, Exits, Delegates, Done}
+use Rattle.model_events.specs.model_machine.specs.Row.{RowEnd, Abends, Does, row}
+use Rattle.model_events.specs.model_machine.specs.Chain.{Outcome, Reply, Abended, frame_at}
 use Rattle.law_bytes.specs.model_card.specs.Items.{Item, moves, StopAt}
 use Rattle.law_bytes.specs.model_card.specs.Manager.{Selected, ToApplication, route}
 use Rattle.law_bytes.specs.model_play.specs.DeckGrammar.{DeckLine}
 use Rattle.law_bytes.specs.model_play.specs.DeckGrammar as line
 use Rattle.law_bytes.specs.model_play.specs.Play.{Live, Running, Unpowered, Muted, State, BeforePower, AfterPower, FailedWrite, Step, plays, start}
-use Rattle.model_text.specs.model_device.specs.Device.{IsImage}
+use Rattle.model_events.specs.model_device.specs.Device.{IsImage}
 use Rattle.law_bytes.specs.model_play.specs.ReadyAgain.{IsLine}
 use Rattle.law_bytes.specs.OfChains.{IsName, IsByteCommand}
-use Rattle.law_promise.specs.History.{Watch, Deed, with_event, is_too_long, done_event, fetch_cause, after_step}
+use Rattle.model_events.specs.Deeds.{Watch, Deed}
+use Rattle.law_promise.specs.History.{with_event, is_too_long, done_event, fetch_cause, after_step}
 use Rattle.law_promise.specs.Along.{BringsOnly, stopped_step, OnAnswer, command_for}
 use Rattle.law_promise.specs.Outline.{Entry, BySelection, ByDelegation, is_direct, FitsEntry, reply_to, public_size}
 use Rattle.law_promise.specs.Kept.{IsLike}

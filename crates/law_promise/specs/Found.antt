@@ -2,15 +2,16 @@
 -- begin with, what is said goes on from there.
 use Rattle.std.specs.Prelude.{◌⊎◌, ℕ, List, [], ◌∷◌, Option, Some, None, ⊤}
 use Rattle.std.specs.List.{AllByRecursion}
-use Rattle.model_text.specs.model_device.specs.Bytes.{lookup}
-use Rattle.model_text.specs.model_device.specs.Device.{IsImage}
-use Rattle.model_text.specs.model_device.specs.Card.{App}
+use Rattle.model_events.specs.model_device.specs.Bytes.{lookup}
+use Rattle.model_events.specs.model_device.specs.Device.{IsImage}
+use Rattle.model_events.specs.model_device.specs.Card.{App}
 use Rattle.law_bytes.specs.model_play.specs.DeckGrammar.{DeckLine}
 use Rattle.law_bytes.specs.model_play.specs.DeckGrammar as line
 use Rattle.law_bytes.specs.model_play.specs.Given.{apps_in}
 use Rattle.law_bytes.specs.model_play.specs.Play.{State, BeforePower, AfterPower, FailedWrite, Step, plays, start}
 use Rattle.law_bytes.specs.model_play.specs.ReadyAgain.{IsLine}
-use Rattle.law_promise.specs.History.{Watch, after_step}
+use Rattle.model_events.specs.Deeds.{Watch}
+use Rattle.law_promise.specs.History.{after_step}
 use Rattle.law_promise.specs.Along.{stopped_step, CreatesOnly, OnAnswer, command_for}
 use Rattle.law_promise.specs.Outline.{Outline}
 use Rattle.law_promise.specs.Kept.{IsLike, LineKept}

@@ -1,53 +1,30 @@
 -- What happened to one application in a play, as its writer counts it: the events of its turns, of commands to it and
 -- their answers, of selections and of the ends of sessions, since its creation. A history has the newest event first.
 use Rattle.std.specs.Prelude.{ℕ, zero, suc, ◌-◌, Bool, true, false, cond, nat_lt, nat_le, List, [], ◌∷◌, bytes_eq, Option, Some, None, Result, Ok, Err}
-use Rattle.model_text.specs.model_machine.specs.declared.instruction.Ins.{Ins}
-use Rattle.model_text.specs.model_machine.specs.declared.instruction.DecodeFault.{DecodeFault}
-use Rattle.model_text.specs.model_machine.specs.declared.instruction.DecodeFault.TheVariants.{Undefined, Past}
-use Rattle.model_text.specs.model_machine.specs.declared.machine.Abend.{Abend}
-use Rattle.model_text.specs.model_machine.specs.declared.machine.Abend.TheVariants.{A01, A02, A09}
-use Rattle.model_text.specs.model_device.specs.Bytes.{lookup}
-use Rattle.model_text.specs.model_device.specs.Image.{Two}
-use Rattle.model_text.specs.model_device.specs.Stopped.{cost, stands}
-use Rattle.model_text.specs.model_device.specs.Card.{Card}
-use Rattle.model_text.specs.model_device.specs.PowerUp.{Base, OnCard}
-use Rattle.model_text.specs.model_machine.specs.Apdu.{ApduParts}
-use Rattle.model_text.specs.model_machine.specs.Code.{instruction_at}
-use Rattle.model_text.specs.model_machine.specs.Frame.{Frame, Effect, la_of}
-use Rattle.model_text.specs.model_machine.specs.Primitives.{Then, Goes, Exits, Delegates}
-use Rattle.model_text.specs.model_machine.specs.Row.{RowEnd, Abends, Does, row}
-use Rattle.model_text.specs.model_machine.specs.Chain.{Chain, Outcome, Write, Follows, Continues, Ends, code_in, frame_at, around, turn_of_chain, depth_of, start}
+use Rattle.model_events.specs.model_machine.specs.declared.instruction.Ins.{Ins}
+use Rattle.model_events.specs.model_machine.specs.declared.instruction.DecodeFault.{DecodeFault}
+use Rattle.model_events.specs.model_machine.specs.declared.instruction.DecodeFault.TheVariants.{Undefined, Past}
+use Rattle.model_events.specs.model_machine.specs.declared.machine.Abend.{Abend}
+use Rattle.model_events.specs.model_machine.specs.declared.machine.Abend.TheVariants.{A01, A02, A09}
+use Rattle.model_events.specs.model_device.specs.Bytes.{lookup}
+use Rattle.model_events.specs.model_device.specs.Image.{Two}
+use Rattle.model_events.specs.model_device.specs.Stopped.{cost, stands}
+use Rattle.model_events.specs.model_device.specs.Card.{Card}
+use Rattle.model_events.specs.model_device.specs.PowerUp.{Base, OnCard}
+use Rattle.model_events.specs.model_machine.specs.Apdu.{ApduParts}
+use Rattle.model_events.specs.model_machine.specs.Code.{instruction_at}
+use Rattle.model_events.specs.model_machine.specs.Frame.{Frame, la_of}
+use Rattle.model_events.specs.model_machine.specs.Primitives.{Then, Goes, Exits, Delegates}
+use Rattle.model_events.specs.model_machine.specs.Row.{RowEnd, Abends, Does, row}
+use Rattle.model_events.specs.model_machine.specs.Chain.{Chain, Write, Follows, Continues, Ends, code_in, frame_at, around, turn_of_chain, depth_of, start}
 use Rattle.law_bytes.specs.model_card.specs.Items.{Fixed, Created, Deleted, Item, Plain, Atomic, StopAt}
 use Rattle.law_bytes.specs.model_card.specs.Manager.{Selected, SessionState, Route, WrongLength, WrongClass, ToSelect, ToManager, ToApplication, route, Managed, Declines, Accepts, select, is_selected}
 use Rattle.law_bytes.specs.model_play.specs.DeckGrammar.{DeckLine}
 use Rattle.law_bytes.specs.model_play.specs.DeckGrammar as line
 use Rattle.law_bytes.specs.model_play.specs.Play.{Live, Running, Unpowered, Muted, State, BeforePower, AfterPower, LineResult, Answered, Step, select_bytes, delete_bytes}
+use Rattle.model_events.specs.Deeds.{Deed, Watch}
 
 -- ---- events
-
--- An instruction that was done in a frame of the application: the frame before it (its code address is the
--- instruction's place), the public segment before it, whether a selection began the frame (else a delegation), the
--- number of frames, the instruction, and what it changed.
-pub record Deed : Type 0 where
-  pub frame : Frame
-  pub public : List ℕ
-  pub direct : Bool
-  pub depth : ℕ
-  pub ins : Ins
-  pub effect : Effect
-
--- What the writer of an application counts, each if it is an event: an instruction that was done; one at a place that
--- ended with an abend; a command that reaches the application as the selected one, by its bytes and parts; the answer to
--- it; a selection of it; and the end of a session, or a power line, or another's selection. Of the last two the event may
--- depend on whether the application was selected before.
-pub record Watch (E : Type 0) : Type 0 where
-  pub name : List ℕ
-  pub of_deed : Deed → Option E
-  pub of_abend : ℕ → Abend → Option E
-  pub of_command : List ℕ → ApduParts → Option E
-  pub of_answer : List ℕ → Outcome → Option E
-  pub of_selection : Bool → Option E
-  pub of_end : Bool → Option E
 
 -- a history with an event more, if there is one
 abbrev pub with_event : {E : Type 0} → Option E → List E → List E

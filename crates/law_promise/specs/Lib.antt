@@ -14,3 +14,4 @@ pub use Rattle.law_bytes.specs.law_machine as law_machine
 pub use Rattle.law_bytes.specs.law_manager as law_manager
 pub use Rattle.law_bytes.specs.law_family as law_family
 pub use Rattle.law_bytes as law_bytes
+pub use Rattle.model_events as model_events

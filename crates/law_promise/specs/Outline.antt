@@ -1,18 +1,19 @@
 -- Proof outlines: what an application's writer says of its static bytes, of its sessions and of each place of its code,
 -- and what is to be shown of it, one instruction at a time.
 use Rattle.std.specs.Prelude.{◌≡◌, ℕ, ◌≤◌, Bool, true, false, min, List, [], length, take, unwrap_or, is_some, None, Result, Ok, Err, ⊤}
-use Rattle.model_text.specs.model_machine.specs.declared.instruction.Ins.{Ins}
-use Rattle.model_text.specs.model_machine.specs.declared.instruction.DecodeFault.{DecodeFault}
-use Rattle.model_text.specs.model_machine.specs.declared.machine.Abend.{Abend}
-use Rattle.model_text.specs.model_device.specs.Bytes.{zeros}
-use Rattle.model_text.specs.model_device.specs.Card.{App}
-use Rattle.model_text.specs.model_machine.specs.Apdu.{ApduParts, apdu_case}
-use Rattle.model_text.specs.model_machine.specs.Code.{instruction_at}
-use Rattle.model_text.specs.model_machine.specs.Frame.{Frame, new_frame, new_public, session_of, sw_of, la_of}
-use Rattle.model_text.specs.model_machine.specs.Primitives.{Around, Then, Goes, Exits, Delegates, Done}
-use Rattle.model_text.specs.model_machine.specs.Row.{RowEnd, Abends, Does, row}
-use Rattle.model_text.specs.model_machine.specs.Chain.{Outcome, Reply, frame_at}
-use Rattle.law_promise.specs.History.{Watch, with_event}
+use Rattle.model_events.specs.model_machine.specs.declared.instruction.Ins.{Ins}
+use Rattle.model_events.specs.model_machine.specs.declared.instruction.DecodeFault.{DecodeFault}
+use Rattle.model_events.specs.model_machine.specs.declared.machine.Abend.{Abend}
+use Rattle.model_events.specs.model_device.specs.Bytes.{zeros}
+use Rattle.model_events.specs.model_device.specs.Card.{App}
+use Rattle.model_events.specs.model_machine.specs.Apdu.{ApduParts, apdu_case}
+use Rattle.model_events.specs.model_machine.specs.Code.{instruction_at}
+use Rattle.model_events.specs.model_machine.specs.Frame.{Frame, new_frame, new_public, session_of, sw_of, la_of}
+use Rattle.model_events.specs.model_machine.specs.Primitives.{Around, Then, Goes, Exits, Delegates, Done}
+use Rattle.model_events.specs.model_machine.specs.Row.{RowEnd, Abends, Does, row}
+use Rattle.model_events.specs.model_machine.specs.Chain.{Outcome, Reply, frame_at}
+use Rattle.model_events.specs.Deeds.{Watch}
+use Rattle.law_promise.specs.History.{with_event}
 
 -- how a frame began: by a command to the selected application, its bytes and parts, with the history before it; or by a
 -- delegation

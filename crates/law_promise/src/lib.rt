@@ -7,9 +7,9 @@ mod examples;
 mod rule;
 
 ghost use Rattle.std.specs.Prelude.{◌≡◌, ◌<◌, ◌≤◌, ℕ, List, length, Ok, Some};
-ghost use Rattle.model_text.specs.model_device.specs.Bytes.{AreBytes};
-ghost use Rattle.model_text.specs.model_machine.specs.Apdu.{ApduParts, apdu_read};
-ghost use Rattle.model_text.specs.Assembly.{assembly_of};
+ghost use Rattle.model_events.specs.model_device.specs.Bytes.{AreBytes};
+ghost use Rattle.model_events.specs.model_machine.specs.Apdu.{ApduParts, apdu_read};
+ghost use Rattle.model_events.specs.model_text.specs.Assembly.{assembly_of};
 ghost use Rattle.law_promise.specs.Along.{FormattedLaw};
 ghost use Rattle.law_promise.specs.Counter.{CounterFromLaw, CounterLaw, counter_code, counter_text};
 

@@ -9,10 +9,10 @@ use Rattle.model_prove.specs.model_device.specs.Pieces.{laid_pieces}
 use Rattle.model_prove.specs.model_device.proofs.ImageLemmas.{all_append}
 use Rattle.model_prove.specs.model_device.proofs.ListLemmas.{length_splice, splice_longer}
 use Rattle.model_prove.specs.model_machine.specs.Frame.{Frame, Effect, Place, Static, Dynamic, Public, where_is, dynamic_base, dynamic_end, public_base, public_end, static_written, write_effect_at, write_effect}
-use Rattle.model_prove.specs.law_rows.specs.Keeping.{PiecesWithin}
-use Rattle.model_prove.specs.law_rows.specs.Shapes as shapes
-use Rattle.model_prove.specs.law_rows.specs.Shapes.{Stays, Answers, Jumps, Calls, Pushes, Replaces, Writes, act_effect, with_status, with_length}
-use Rattle.model_prove.specs.law_rows.proofs.Keeping.{length_laid}
+use Rattle.law_rules.specs.law_bytes.specs.law_rows.specs.Keeping.{PiecesWithin}
+use Rattle.model_prove.specs.model_machine.specs.Shapes as shapes
+use Rattle.model_prove.specs.model_machine.specs.Shapes.{Stays, Answers, Jumps, Calls, Pushes, Replaces, Writes, act_effect, with_status, with_length}
+use Rattle.law_rules.specs.law_bytes.specs.law_rows.proofs.Keeping.{length_laid}
 use Rattle.model_prove.specs.model_rules.specs.Keeping.{Amounts}
 use Rattle.model_prove.specs.Sets.{Set, is_in}
 use Rattle.model_prove.specs.Facts.{Facts, Memory, Holds}

@@ -10,10 +10,10 @@ use Rattle.model_prove.specs.model_device.proofs.ListLemmas.{length_splice}
 use Rattle.model_prove.specs.model_device.proofs.ImageLemmas.{all_append}
 use Rattle.model_prove.specs.model_machine.specs.Frame.{Frame, Place, Static, Dynamic, Public, where_is, register, moved_address, dynamic_base, dynamic_end, public_base, public_end, static_bytes, bytes_in, bytes_at, no_access, too_many, passes_limit, top}
 use Rattle.model_prove.specs.model_machine.specs.Row.{operand}
-use Rattle.model_prove.specs.law_rows.specs.Keeping.{PiecesWithin}
-use Rattle.model_prove.specs.law_rows.specs.Shapes.{Writes}
-use Rattle.model_prove.specs.law_rows.proofs.Keeping.{length_laid}
-use Rattle.model_prove.specs.law_machine.proofs.TouchedWords.{one_piece}
+use Rattle.law_rules.specs.law_bytes.specs.law_rows.specs.Keeping.{PiecesWithin}
+use Rattle.model_prove.specs.model_machine.specs.Shapes.{Writes}
+use Rattle.law_rules.specs.law_bytes.specs.law_rows.proofs.Keeping.{length_laid}
+use Rattle.law_rules.specs.law_machine.proofs.TouchedWords.{one_piece}
 use Rattle.model_prove.specs.Facts.{Memory}
 use Rattle.model_prove.specs.Compares.{bytes_from}
 use Rattle.model_prove.specs.Keys.{Call}

@@ -11,8 +11,8 @@ use Rattle.model_prove.specs.model_machine.specs.Frame.{Frame, where_is, dynamic
 use Rattle.model_prove.specs.model_machine.specs.Primitives.{Around}
 use Rattle.model_prove.specs.model_machine.specs.Row.{causes, operand, address_or_zero, on_stack}
 use Rattle.model_prove.specs.model_machine.specs.Chain.{frame_at}
-use Rattle.model_prove.specs.law_rows.specs.Shapes.{Stays, Writes, shape}
-use Rattle.mc_arith.proofs.BlockLemmas.{num_below}
+use Rattle.model_prove.specs.model_machine.specs.Shapes.{Stays, Writes, shape}
+use Rattle.law_rules.specs.law_bytes.specs.law_rows.proofs.BlockLemmas.{num_below}
 use Rattle.model_prove.specs.Facts.{Memory}
 use Rattle.model_prove.specs.Compares.{Compare, bytes_from, has_order, IsSo, orders_of}
 use Rattle.model_prove.specs.Digits.{Operation, Minus, carried}

@@ -8,10 +8,10 @@ use Rattle.model_prove.specs.model_machine.specs.Frame.{Frame, Effect, Place, wh
 use Rattle.model_prove.specs.model_machine.specs.Primitives.{Goes, Done, effect_and_next}
 use Rattle.model_prove.specs.model_machine.specs.Row.{causes, effect, row, row_end, first_cause, Does}
 use Rattle.model_prove.specs.model_machine.specs.Chain.{frame_at}
-use Rattle.model_prove.specs.law_rows.specs.Shapes.{Act, Stays, Replaces, Writes, Shape, act_effect, shape_effect, meaning, shape}
-use Rattle.model_prove.specs.law_rows.specs.Shapes as shapes
-use Rattle.model_prove.specs.law_rows.proofs.RowShapes.{shapes}
-use Rattle.model_prove.specs.law_bytes.specs.OfBytes.{IsByteEffect}
+use Rattle.model_prove.specs.model_machine.specs.Shapes.{Act, Stays, Replaces, Writes, Shape, act_effect, shape_effect, meaning, shape}
+use Rattle.model_prove.specs.model_machine.specs.Shapes as shapes
+use Rattle.law_rules.specs.law_bytes.specs.law_rows.proofs.RowShapes.{shapes}
+use Rattle.law_rules.specs.law_bytes.specs.OfBytes.{IsByteEffect}
 use Rattle.model_prove.specs.model_rules.specs.Rules.{Target}
 use Rattle.model_prove.specs.model_rules.specs.Keeping.{Amounts}
 use Rattle.model_prove.specs.Facts.{Facts, Memory, values_from, narrow_all}
@@ -23,7 +23,8 @@ use Rattle.model_prove.specs.Work.{Operand, Digitwise, Work, Works, work}
 use Rattle.model_prove.specs.Arrivals.{Setting, Arrival, fails}
 use Rattle.model_prove.specs.Steps.{Spot, written, lowered, flagged, final_flags, works_to, worked_at, narrowed_operands, operand_sets, operand_narrowed, pairs_of, allows, compare_after, settled_spot, makes_write, may_wait_too_long, follows, row_arrivals, is_return, no_calls}
 use Rattle.model_prove.specs.Steps as steps
-use Rattle.model_prove.specs.Tables.{IsLoadable, includes_all}
+use Rattle.model_prove.specs.model_rules.specs.Loadable.{IsLoadable}
+use Rattle.model_prove.specs.Tables.{includes_all}
 use Rattle.law_prove.specs.Coverings.{frame_memory}
 use Rattle.law_prove.specs.Laws.{LeadsInto}
 use Rattle.law_prove.proofs.Closed.{included_first, included_second}

@@ -14,8 +14,8 @@ use Rattle.model_prove.specs.model_machine.specs.Frame.{Frame, dynamic_base, top
 use Rattle.model_prove.specs.model_machine.specs.Primitives.{Around, masked_bytes, later_causes}
 use Rattle.model_prove.specs.model_machine.specs.Row.{causes}
 use Rattle.model_prove.specs.model_machine.specs.Chain.{frame_at}
-use Rattle.model_prove.specs.law_rows.specs.Shapes.{Stays, Replaces, Shape, shape, prim_shape}
-use Rattle.model_prove.specs.law_bytes.proofs.ByteLists.{inverted, taken}
+use Rattle.model_prove.specs.model_machine.specs.Shapes.{Stays, Replaces, Shape, shape, prim_shape}
+use Rattle.law_rules.specs.law_bytes.proofs.ByteLists.{inverted, taken}
 use Rattle.model_prove.specs.model_rules.specs.Rules.{Target}
 use Rattle.model_prove.specs.Facts.{Memory}
 use Rattle.model_prove.specs.Compares.{bytes_from}
@@ -24,7 +24,8 @@ use Rattle.model_prove.specs.Keys.{Tables}
 use Rattle.model_prove.specs.Work.{These, Works, work, mask_work}
 use Rattle.model_prove.specs.Arrivals.{Setting}
 use Rattle.model_prove.specs.Steps.{row_arrivals, allows, is_or}
-use Rattle.model_prove.specs.Tables.{IsLoadable, includes_all}
+use Rattle.model_prove.specs.model_rules.specs.Loadable.{IsLoadable}
+use Rattle.model_prove.specs.Tables.{includes_all}
 use Rattle.law_prove.specs.Coverings.{frame_memory}
 use Rattle.law_prove.specs.Laws.{LeadsInto, MaskLaw}
 use Rattle.law_prove.proofs.Spots.{place_key}

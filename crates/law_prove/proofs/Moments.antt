@@ -14,14 +14,15 @@ use Rattle.model_prove.specs.Keys.{Tables}
 use Rattle.model_prove.specs.Laws.{AreIn, HoldsBytes}
 use Rattle.model_prove.specs.Arrivals.{Setting, AtMoment, static_size, idle, after_session, arrive}
 use Rattle.model_prove.specs.Between.{classes, selected, continued, commanded, static_facts, with_zero_session, values_between, keeps_range}
-use Rattle.model_prove.specs.Tables.{keeps_ranges, IsLoadable, is_closed}
+use Rattle.model_prove.specs.Tables.{keeps_ranges, is_closed}
+use Rattle.model_prove.specs.model_rules.specs.Loadable.{IsLoadable}
 use Rattle.model_prove.proofs.ChangeLemmas.{written_holds}
 use Rattle.model_prove.proofs.FactLemmas.{value_holds}
 use Rattle.model_prove.proofs.SetLemmas.{is_first, in_larger}
 use Rattle.law_prove.specs.Coverings.{moment_memory, IsMoment, IsUnbroken}
 use Rattle.law_prove.specs.Laws.{MomentsCovered, MomentLaw}
 use Rattle.law_prove.proofs.Closed.{included_first, included_second, Arrives, arrives, HasMoment, moment_included, moment_closed, created_included}
-use Rattle.model_prove.specs.law_bytes.proofs.ByteLists.{indexed, zero_bytes}
+use Rattle.law_rules.specs.law_bytes.proofs.ByteLists.{indexed, zero_bytes}
 
 -- ---- bytes
 

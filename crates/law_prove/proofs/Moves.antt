@@ -10,7 +10,7 @@ use Rattle.model_prove.specs.model_machine.specs.Frame.{Frame, Place, where_is, 
 use Rattle.model_prove.specs.model_machine.specs.Primitives.{Around}
 use Rattle.model_prove.specs.model_machine.specs.Row.{causes, operand, address_or_zero, on_stack}
 use Rattle.model_prove.specs.model_machine.specs.Chain.{frame_at}
-use Rattle.model_prove.specs.law_rows.specs.Shapes.{Pushes, Writes, shape}
+use Rattle.model_prove.specs.model_machine.specs.Shapes.{Pushes, Writes, shape}
 use Rattle.model_prove.specs.Sets.{Set}
 use Rattle.model_prove.specs.Facts.{Facts, Memory, values_from}
 use Rattle.model_prove.specs.Compares.{bytes_from}
@@ -18,7 +18,7 @@ use Rattle.model_prove.specs.Splits.{stand_in_stack}
 use Rattle.model_prove.specs.Work.{Copies, AsShaped, work}
 use Rattle.model_prove.specs.Steps.{sets}
 use Rattle.model_prove.specs.Arrivals.{Setting}
-use Rattle.model_prove.specs.Tables.{IsLoadable}
+use Rattle.model_prove.specs.model_rules.specs.Loadable.{IsLoadable}
 use Rattle.model_prove.specs.Keys.{Tables}
 use Rattle.law_prove.specs.Coverings.{frame_memory}
 use Rattle.law_prove.specs.Laws.{MoveLaw}

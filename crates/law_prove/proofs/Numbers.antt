@@ -13,11 +13,11 @@ use Rattle.model_prove.specs.model_machine.specs.declared.machine.Abend.{Abend}
 use Rattle.model_prove.specs.model_machine.specs.Blocks.{Worked, add_blocks, sub_blocks, inc_block, dec_block, is_zero, and_blocks, or_blocks, xor_blocks, not_block}
 use Rattle.model_prove.specs.model_machine.specs.Primitives.{in_range}
 use Rattle.model_prove.specs.model_machine.specs.Row.{causes}
-use Rattle.model_prove.specs.law_rows.specs.Shapes.{shape}
-use Rattle.mc_arith.specs.Carry.{carry_of}
-use Rattle.mc_arith.proofs.BlockLemmas.{pow_more, pow_positive, num_bytes}
-use Rattle.mc_arith.proofs.ResultLemmas.{sum_is, difference_is, inc_is, dec_is}
-use Rattle.model_prove.specs.law_bytes.proofs.ByteLists.{zero_bytes, number_bytes}
+use Rattle.model_prove.specs.model_machine.specs.Shapes.{shape}
+use Rattle.law_rules.specs.law_bytes.specs.law_rows.specs.Carry.{carry_of}
+use Rattle.law_rules.specs.law_bytes.specs.law_rows.proofs.BlockLemmas.{pow_more, pow_positive, num_bytes}
+use Rattle.law_rules.specs.law_bytes.specs.law_rows.proofs.ResultLemmas.{sum_is, difference_is, inc_is, dec_is}
+use Rattle.law_rules.specs.law_bytes.proofs.ByteLists.{zero_bytes, number_bytes}
 use Rattle.model_prove.specs.Digits.{Operation, Plus, Minus, And, Or, Xor, carried}
 use Rattle.law_prove.specs.Laws.{CompareLaw, SumLaw, BitLaw}
 use Rattle.law_prove.proofs.Turns.{NoCause}

@@ -3,7 +3,7 @@ use Rattle.std.proofs.Common.{◌≡◌, ℕ, List, [], ◌∷◌, Result, Ok, E
 use Rattle.std.specs.Prelude.{◌&&◌, map}
 use Rattle.model_prove.specs.model_text.specs.Text.{◌>>=◌}
 use Rattle.model_prove.specs.model_text.specs.Listing.{hex_text}
-use Rattle.model_prove.specs.law_explore.specs.Matching.{fits}
+use Rattle.model_prove.specs.model_events.specs.Matching.{fits}
 use Rattle.model_prove.specs.model_rules.specs.Rules.{Trigger, AtTurn, AtCommand, AtAnswer, AtSession, Action, OnLine}
 use Rattle.model_prove.specs.model_rules.specs.Keeping.{Amounts, Break, OnCommand, OnAnswer, applies, after_line, after_lines}
 use Rattle.model_prove.specs.Arrivals.{command_picks, answer_picks, answered_picks, after_pick, after_picks, result_patterns}

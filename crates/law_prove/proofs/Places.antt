@@ -14,15 +14,15 @@ use Rattle.model_prove.specs.model_machine.specs.declared.instruction.DecodeFaul
 use Rattle.model_prove.specs.model_machine.specs.Frame.{Frame, dynamic_base, session_of, new_frame}
 use Rattle.model_prove.specs.model_machine.specs.Chain.{Outcome, Abended}
 use Rattle.model_prove.specs.model_machine.specs.Code.{instruction_at}
-use Rattle.model_prove.specs.model_play.specs.Transcript.{outcome_text}
-use Rattle.model_prove.specs.law_promise.specs.History.{fetch_cause}
-use Rattle.model_prove.specs.law_promise.specs.Outline.{Entry, BySelection, ByDelegation}
-use Rattle.model_prove.specs.law_promise.specs.Domain.{AbendCovered, EndCovered}
-use Rattle.model_prove.specs.law_explore.specs.Matching.{fits}
+use Rattle.model_prove.specs.model_text.specs.TurnText.{outcome_text}
+use Rattle.law_rules.specs.law_promise.specs.History.{fetch_cause}
+use Rattle.law_rules.specs.law_promise.specs.Outline.{Entry, BySelection, ByDelegation}
+use Rattle.law_rules.specs.law_promise.specs.Domain.{AbendCovered, EndCovered}
+use Rattle.model_prove.specs.model_events.specs.Matching.{fits}
 use Rattle.model_prove.specs.model_rules.specs.Rules.{Target}
 use Rattle.model_prove.specs.model_rules.specs.Happenings.{Event, History, Failed, Answers}
 use Rattle.model_prove.specs.model_rules.specs.Keeping.{Amounts, Break, Standing, after_occasion, OnAnswer, with_allowances, after_abend, after_event, standing_after}
-use Rattle.model_prove.specs.model_rules.specs.Law.{domain_of_rules}
+use Rattle.law_rules.specs.Law.{domain_of_rules}
 use Rattle.model_prove.specs.Facts.{Facts, Memory, Holds, follow}
 use Rattle.model_prove.specs.Compares.{Compare, NoCompare, IsSo}
 use Rattle.model_prove.specs.Keys.{Start, Delegated, OfClass, PlaceKey, Known, Tables, same_places, compare_follows, known_follows}
@@ -30,7 +30,8 @@ use Rattle.model_prove.specs.Laws.{HoldsBytes}
 use Rattle.model_prove.specs.Arrivals.{Setting, AtPlace, static_size, session_facts, in_session, abended, fails_unless, after_answer, result_patterns}
 use Rattle.model_prove.specs.Steps.{Spot, place_arrivals, fetched}
 use Rattle.model_prove.specs.Between.{classes, selected, continued, created, static_facts, with_zero_session, first_place}
-use Rattle.model_prove.specs.Tables.{place_at, has_known, includes, includes_all, moments_closed, places_closed, IsLoadable, is_closed}
+use Rattle.model_prove.specs.Tables.{place_at, has_known, includes, includes_all, moments_closed, places_closed, is_closed}
+use Rattle.model_prove.specs.model_rules.specs.Loadable.{IsLoadable}
 use Rattle.model_prove.proofs.FactLemmas.{follow_holds}
 use Rattle.model_prove.proofs.ChangeLemmas.{written_holds}
 use Rattle.law_prove.specs.Coverings.{moment_memory, IsMoment, frame_memory, class_of, StartsAs, IsFrameOf, IsPlace, key_of, covering_of}
@@ -40,7 +41,7 @@ use Rattle.law_prove.proofs.Closed.{included_first, included_second, Arrives, ar
 use Rattle.law_prove.proofs.Moments.{cond_small, memory_bytes, within_holds, zero_at, bytes_in, from_memory}
 use Rattle.law_prove.proofs.Parts.{memory_static, memory_dynamic}
 use Rattle.law_prove.proofs.Picks.{answered_is}
-use Rattle.model_prove.specs.law_bytes.proofs.ByteLists.{indexed, zero_bytes}
+use Rattle.law_rules.specs.law_bytes.proofs.ByteLists.{indexed, zero_bytes}
 
 -- ---- places of the tables
 

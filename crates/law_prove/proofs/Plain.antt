@@ -12,11 +12,12 @@ use Rattle.model_prove.specs.model_machine.specs.declared.machine.Abend.TheVaria
 use Rattle.model_prove.specs.model_machine.specs.Frame.{Frame, moved_address, dynamic_base, dynamic_end, floor, is_under, is_over, frame_after_pop, top}
 use Rattle.model_prove.specs.model_machine.specs.Row.{causes, holds, no_place, operand, address_or_zero}
 use Rattle.model_prove.specs.model_machine.specs.Chain.{frame_at}
-use Rattle.model_prove.specs.law_rows.specs.Shapes.{Stays, Answers, Jumps, Calls, Pushes, shape}
+use Rattle.model_prove.specs.model_machine.specs.Shapes.{Stays, Answers, Jumps, Calls, Pushes, shape}
 use Rattle.model_prove.specs.Splits.{stand_in_stack, Scene, few_combinations, top_places}
 use Rattle.model_prove.specs.Steps.{Spot, sets, inside, by_choices}
 use Rattle.model_prove.specs.Arrivals.{Setting}
-use Rattle.model_prove.specs.Tables.{IsLoadable, includes_all}
+use Rattle.model_prove.specs.model_rules.specs.Loadable.{IsLoadable}
+use Rattle.model_prove.specs.Tables.{includes_all}
 use Rattle.model_prove.specs.Keys.{Tables}
 use Rattle.model_prove.specs.model_rules.specs.Rules.{Target}
 use Rattle.law_prove.specs.Laws.{LeadsInto, LeadLaw, PopLaw, StatusLaw, JumpLaw, PushLaw}

@@ -10,8 +10,8 @@ use Rattle.model_prove.specs.model_machine.specs.declared.machine.Abend.TheVaria
 use Rattle.model_prove.specs.model_machine.specs.Frame.{Frame, Effect, dynamic_base, dynamic_end, public_base, static_bytes, pending_change}
 use Rattle.model_prove.specs.model_machine.specs.Primitives.{Around, Primitive, SetProtection, is_denied, later_causes}
 use Rattle.model_prove.specs.model_machine.specs.Row.{causes}
-use Rattle.model_prove.specs.law_rows.specs.Shapes.{Pushes, Protects, prim_shape, shape}
-use Rattle.model_prove.specs.law_rows.proofs.Keeping.{length_laid}
+use Rattle.model_prove.specs.model_machine.specs.Shapes.{Pushes, Protects, prim_shape, shape}
+use Rattle.law_rules.specs.law_bytes.specs.law_rows.proofs.Keeping.{length_laid}
 use Rattle.model_prove.specs.model_rules.specs.Keeping.{Amounts}
 use Rattle.model_prove.specs.Facts.{Memory, Holds, within}
 use Rattle.model_prove.specs.Compares.{IsSo, touched}
@@ -32,7 +32,7 @@ use Rattle.law_prove.proofs.Acts.{spot_of, Framed, WritesIf, Led, kept_holds}
 use Rattle.law_prove.proofs.Turns.{blank}
 use Rattle.law_prove.proofs.Single.{RowCase, IsFetchedOnce, law_of, shaped_row, led_pushes, low_frame, low_calls, low_known, low_seen, same_framed}
 use Rattle.law_prove.proofs.Plain.{over_is}
-use Rattle.model_prove.specs.law_bytes.proofs.ByteLists.{indexed}
+use Rattle.law_rules.specs.law_bytes.proofs.ByteLists.{indexed}
 
 -- ---- who delegated does not matter
 

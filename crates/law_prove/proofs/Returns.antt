@@ -14,7 +14,7 @@ use Rattle.model_prove.specs.model_machine.specs.Frame.{Frame, dynamic_base, dyn
 use Rattle.model_prove.specs.model_machine.specs.Primitives.{Around, Done}
 use Rattle.model_prove.specs.model_machine.specs.Row.{causes, no_place, RowEnd, row, row_end, first_cause, effect}
 use Rattle.model_prove.specs.model_machine.specs.Chain.{frame_at}
-use Rattle.model_prove.specs.law_rows.specs.Shapes.{Returns, Shape, shape, act_effect, meaning}
+use Rattle.model_prove.specs.model_machine.specs.Shapes.{Returns, Shape, shape, act_effect, meaning}
 use Rattle.model_prove.specs.model_rules.specs.Rules.{Target}
 use Rattle.model_prove.specs.model_rules.specs.Keeping.{Amounts}
 use Rattle.model_prove.specs.Sets.{Set}
@@ -25,7 +25,8 @@ use Rattle.model_prove.specs.Splits.{stand_in_stack}
 use Rattle.model_prove.specs.Work.{AsShaped, work}
 use Rattle.model_prove.specs.Arrivals.{Setting, static_size}
 use Rattle.model_prove.specs.Steps.{Spot, acted, written, makes_write, caused, row_arrivals, no_calls}
-use Rattle.model_prove.specs.Tables.{IsLoadable, includes_all}
+use Rattle.model_prove.specs.model_rules.specs.Loadable.{IsLoadable}
+use Rattle.model_prove.specs.Tables.{includes_all}
 use Rattle.law_prove.specs.Coverings.{frame_memory, AreOpen}
 use Rattle.law_prove.specs.Laws.{LeadsInto, ReturnLaw}
 use Rattle.law_prove.proofs.Windows.{window, taken_is}

@@ -10,12 +10,12 @@ use Rattle.model_prove.specs.model_machine.specs.Frame.{Frame, where_is, dynamic
 use Rattle.model_prove.specs.model_machine.specs.Primitives.{Around, Done, Goes}
 use Rattle.model_prove.specs.model_machine.specs.Row.{causes, effect, row, first_cause, RowEnd, row_end}
 use Rattle.model_prove.specs.model_machine.specs.Chain.{frame_at}
-use Rattle.model_prove.specs.law_rows.specs.Shapes.{Act, Stays, Answers, Jumps, Calls, Pushes, Writes, Shape, act_effect, shape_effect, meaning, shape}
-use Rattle.model_prove.specs.law_rows.proofs.RowShapes.{shapes}
-use Rattle.model_prove.specs.law_bytes.specs.OfBytes.{IsByteEffect}
-use Rattle.model_prove.specs.law_promise.specs.Outline.{Entry, FitsEntry}
-use Rattle.model_prove.specs.law_promise.specs.Domain.{RowCovered, FitsDepth, IsDelegator}
-use Rattle.model_prove.specs.model_rules.specs.Law.{domain_of_rules}
+use Rattle.model_prove.specs.model_machine.specs.Shapes.{Act, Stays, Answers, Jumps, Calls, Pushes, Writes, Shape, act_effect, shape_effect, meaning, shape}
+use Rattle.law_rules.specs.law_bytes.specs.law_rows.proofs.RowShapes.{shapes}
+use Rattle.law_rules.specs.law_bytes.specs.OfBytes.{IsByteEffect}
+use Rattle.law_rules.specs.law_promise.specs.Outline.{Entry, FitsEntry}
+use Rattle.law_rules.specs.law_promise.specs.Domain.{RowCovered, FitsDepth, IsDelegator}
+use Rattle.law_rules.specs.Law.{domain_of_rules}
 use Rattle.model_prove.specs.model_rules.specs.Rules.{Target}
 use Rattle.model_prove.specs.model_rules.specs.Happenings.{Event, History}
 use Rattle.model_prove.specs.Sets.{Set}
@@ -25,7 +25,8 @@ use Rattle.model_prove.specs.Splits.{stand_in, stand_in_stack}
 use Rattle.model_prove.specs.Work.{Work, AsShaped, Copies, work}
 use Rattle.model_prove.specs.Arrivals.{Setting}
 use Rattle.model_prove.specs.Steps.{Spot, lowered, acted, with_flags, settled_spot, makes_write, may_wait_too_long, follows, row_arrivals, caused, fetched, is_return, no_calls, returned_sets, shaped_bytes}
-use Rattle.model_prove.specs.Tables.{IsLoadable, includes_all}
+use Rattle.model_prove.specs.model_rules.specs.Loadable.{IsLoadable}
+use Rattle.model_prove.specs.Tables.{includes_all}
 use Rattle.law_prove.specs.Coverings.{IsPlace, covering_of}
 use Rattle.law_prove.specs.Laws.{LeadsInto, LeadLaw}
 use Rattle.law_prove.proofs.Closed.{included_first, included_second}

@@ -7,9 +7,9 @@ use Rattle.model_prove.specs.model_device.specs.Bytes.{AreBytes}
 use Rattle.model_prove.specs.model_text.specs.Text.{◌>>=◌}
 use Rattle.model_prove.specs.model_machine.specs.declared.instruction.Ins.{Ins}
 use Rattle.model_prove.specs.model_machine.specs.Frame.{Frame, dynamic_base}
-use Rattle.model_prove.specs.law_promise.specs.History.{Deed}
-use Rattle.model_prove.specs.law_promise.specs.Outline.{Entry}
-use Rattle.model_prove.specs.law_promise.specs.Domain.{FitsDepth}
+use Rattle.model_prove.specs.model_events.specs.Deeds.{Deed}
+use Rattle.law_rules.specs.law_promise.specs.Outline.{Entry}
+use Rattle.law_rules.specs.law_promise.specs.Domain.{FitsDepth}
 use Rattle.model_prove.specs.model_rules.specs.Happenings.{Event, History, Did}
 use Rattle.model_prove.specs.model_rules.specs.Keeping.{Amounts, Break, Standing, after_occasion, OnTurn, line_of, line_of_deed, after_deed, with_allowances, after_event, standing_after}
 use Rattle.model_prove.specs.Facts.{Memory, Holds, follow}

@@ -4,7 +4,7 @@ use Rattle.std.specs.Prelude.{◌==◌, nat_lt, ⊤}
 use Rattle.std.proofs.lemmas.Bool.{eqb-false, ltb-true, ltb-false}
 use Rattle.model_prove.specs.model_device.specs.Bytes.{down}
 use Rattle.model_prove.specs.model_device.specs.Pieces.{with_number, with_words, with_touched, touched_words}
-use Rattle.model_prove.specs.law_rows.specs.Keeping.{PiecesWithin}
+use Rattle.law_rules.specs.law_bytes.specs.law_rows.specs.Keeping.{PiecesWithin}
 
 -- numbers from the least on, below the most, each above the one before
 abbrev pub Between : ℕ → ℕ → List ℕ → Type 0

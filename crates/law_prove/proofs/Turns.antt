@@ -15,15 +15,15 @@ use Rattle.model_prove.specs.model_machine.specs.Frame.{Frame, Effect, public_ba
 use Rattle.model_prove.specs.model_machine.specs.Primitives.{Around, Done, Goes, effect_and_next}
 use Rattle.model_prove.specs.model_machine.specs.Row.{effect, first_cause, Does, row_end}
 use Rattle.model_prove.specs.model_machine.specs.Chain.{frame_at}
-use Rattle.model_prove.specs.law_rows.specs.Shapes.{Shape, act_effect, shape_effect}
-use Rattle.mc_isa.proofs.PlaceLemmas.{decoded_stands}
-use Rattle.model_prove.specs.law_bytes.specs.OfBytes.{IsByteFrame, IsByteEffect, IsCaller}
-use Rattle.model_prove.specs.law_bytes.proofs.ByteLists.{laid, indexed}
-use Rattle.model_prove.specs.law_bytes.proofs.RowBytes.{effect_bytes}
-use Rattle.model_prove.specs.law_promise.specs.History.{Deed}
-use Rattle.model_prove.specs.law_promise.specs.Outline.{Entry, BySelection, ByDelegation, is_direct}
-use Rattle.model_prove.specs.law_promise.specs.Domain.{RowCovered, WriteCovered, StopCovered, FitsDepth, IsDelegator}
-use Rattle.model_prove.specs.model_rules.specs.Law.{domain_of_rules}
+use Rattle.model_prove.specs.model_machine.specs.Shapes.{Shape, act_effect, shape_effect}
+use Rattle.law_rules.specs.law_bytes.specs.law_rows.proofs.PlaceLemmas.{decoded_stands}
+use Rattle.law_rules.specs.law_bytes.specs.OfBytes.{IsByteFrame, IsByteEffect, IsCaller}
+use Rattle.law_rules.specs.law_bytes.proofs.ByteLists.{laid, indexed}
+use Rattle.law_rules.specs.law_bytes.proofs.RowBytes.{effect_bytes}
+use Rattle.model_prove.specs.model_events.specs.Deeds.{Deed}
+use Rattle.law_rules.specs.law_promise.specs.Outline.{Entry, BySelection, ByDelegation, is_direct}
+use Rattle.law_rules.specs.law_promise.specs.Domain.{RowCovered, WriteCovered, StopCovered, FitsDepth, IsDelegator}
+use Rattle.law_rules.specs.Law.{domain_of_rules}
 use Rattle.model_prove.specs.model_rules.specs.Rules.{Target}
 use Rattle.model_prove.specs.model_rules.specs.Happenings.{Event, History, Did, Session}
 use Rattle.model_prove.specs.model_rules.specs.Keeping.{Amounts, Standing, after_occasion, OnTurn, line_of, line_of_deed, after_deed, standing_after}
@@ -35,7 +35,8 @@ use Rattle.model_prove.specs.Laws.{HoldsBytes}
 use Rattle.model_prove.specs.Work.{Work}
 use Rattle.model_prove.specs.Arrivals.{Setting, Arrival, static_size, idle, stopped, fails, after_session, after_turn}
 use Rattle.model_prove.specs.Steps.{Spot, lowered, acted, with_flags, settled_spot, makes_write, may_wait_too_long, stops, stop_before, arrived, follows, row_arrivals, caused, instruction, arounds, fetched, is_return, no_calls, spots}
-use Rattle.model_prove.specs.Tables.{IsLoadable, includes, includes_all}
+use Rattle.model_prove.specs.model_rules.specs.Loadable.{IsLoadable}
+use Rattle.model_prove.specs.Tables.{includes, includes_all}
 use Rattle.law_prove.specs.Coverings.{moment_memory, frame_memory, StartsAs, IsFrameOf, IsPlace, covering_of}
 use Rattle.law_prove.specs.Laws.{LeadsInto}
 use Rattle.law_prove.proofs.Closed.{included_first, included_second, Arrives, arrives, moment_included}

@@ -7,8 +7,8 @@ use Rattle.std.proofs.lemmas.List.{map-append, reverse-append, reverse-reverse, 
 use Rattle.model_prove.specs.model_device.specs.Bytes.{AreBytes, num}
 use Rattle.model_prove.specs.model_device.proofs.ListLemmas.{length_map}
 use Rattle.model_prove.specs.model_machine.specs.Blocks.{is_zero, and_blocks, or_blocks, xor_blocks}
-use Rattle.model_prove.specs.law_bytes.proofs.ByteLists.{anded, ored, xored}
-use Rattle.mc_arith.proofs.BlockLemmas.{pow_more, pow_positive, times_at_most}
+use Rattle.law_rules.specs.law_bytes.proofs.ByteLists.{anded, ored, xored}
+use Rattle.law_rules.specs.law_bytes.specs.law_rows.proofs.BlockLemmas.{pow_more, pow_positive, times_at_most}
 use Rattle.model_prove.specs.Sets.{Set, is_in}
 use Rattle.model_prove.specs.Digits.{Operation, Plus, Minus, And, Or, Xor, Flags, carried, digit, flags_after, first_flags, Digits, Arc, arcs, Way, join_digits, with_way, arc_before, ways_along, ways, way_from, digits_to, run, AreOf, LieOn, same_flags}
 use Rattle.model_prove.specs.Steps.{pairs_of}

@@ -5,14 +5,14 @@ use Rattle.model_prove.specs.model_device.specs.Bytes.{AreBytes, bytes2}
 use Rattle.model_prove.specs.model_device.specs.Card.{App}
 use Rattle.model_prove.specs.model_text.specs.Listing.{hex_text}
 use Rattle.model_prove.specs.model_machine.specs.Frame.{Frame, dynamic_base, dynamic_end, public_base, static_bytes}
-use Rattle.model_prove.specs.law_rows.specs.Keeping.{PiecesWithin}
-use Rattle.model_prove.specs.law_bytes.specs.OfBytes.{ArePieces}
-use Rattle.model_prove.specs.law_promise.specs.Outline.{Entry, BySelection, ByDelegation}
-use Rattle.model_prove.specs.law_explore.specs.Matching.{fits}
+use Rattle.law_rules.specs.law_bytes.specs.law_rows.specs.Keeping.{PiecesWithin}
+use Rattle.law_rules.specs.law_bytes.specs.OfBytes.{ArePieces}
+use Rattle.law_rules.specs.law_promise.specs.Outline.{Entry, BySelection, ByDelegation}
+use Rattle.model_prove.specs.model_events.specs.Matching.{fits}
 use Rattle.model_prove.specs.model_rules.specs.Rules.{OnLine, AppRules}
 use Rattle.model_prove.specs.model_rules.specs.Happenings.{Event, History}
 use Rattle.model_prove.specs.model_rules.specs.Keeping.{Standing, standing_after, is_broken}
-use Rattle.model_prove.specs.model_rules.specs.Law.{Covering}
+use Rattle.law_rules.specs.Law.{Covering}
 use Rattle.model_prove.specs.Facts.{Facts, Memory, Holds}
 use Rattle.model_prove.specs.Compares.{IsSo}
 use Rattle.model_prove.specs.Keys.{Start, Delegated, OfClass, Call, PlaceKey, Known, Tables}

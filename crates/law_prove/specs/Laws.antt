@@ -10,17 +10,18 @@ use Rattle.model_prove.specs.model_machine.specs.declared.instruction.Ins.TheVar
 use Rattle.model_prove.specs.model_machine.specs.Primitives.{Around}
 use Rattle.model_prove.specs.model_machine.specs.Row.{row}
 use Rattle.model_prove.specs.model_machine.specs.Chain.{Abended, frame_at}
-use Rattle.model_prove.specs.law_promise.specs.History.{fetch_cause}
-use Rattle.model_prove.specs.law_promise.specs.Outline.{Entry, ByDelegation, FitsEntry}
-use Rattle.model_prove.specs.law_promise.specs.Domain.{IsSegment, IsDelegator, AbendCovered, EndCovered, RowCovered, FitsDepth, first_frame_in}
+use Rattle.law_rules.specs.law_promise.specs.History.{fetch_cause}
+use Rattle.law_rules.specs.law_promise.specs.Outline.{Entry, ByDelegation, FitsEntry}
+use Rattle.law_rules.specs.law_promise.specs.Domain.{IsSegment, IsDelegator, AbendCovered, EndCovered, RowCovered, FitsDepth, first_frame_in}
 use Rattle.model_prove.specs.model_rules.specs.Rules.{Target, AppRules}
 use Rattle.model_prove.specs.model_rules.specs.Happenings.{Event, History, Failed, Session}
 use Rattle.model_prove.specs.model_rules.specs.Keeping.{keeps_rules}
-use Rattle.model_prove.specs.model_rules.specs.Law.{domain_of_rules}
+use Rattle.law_rules.specs.Law.{domain_of_rules}
 use Rattle.model_prove.specs.Keys.{PlaceKey, Known, Tables}
 use Rattle.model_prove.specs.Arrivals.{Setting}
 use Rattle.model_prove.specs.Steps.{place_arrivals}
-use Rattle.model_prove.specs.Tables.{place_at, includes_all, IsLoadable, is_closed}
+use Rattle.model_prove.specs.Tables.{place_at, includes_all, is_closed}
+use Rattle.model_prove.specs.model_rules.specs.Loadable.{IsLoadable}
 use Rattle.law_prove.specs.Coverings.{IsMoment, IsUnbroken, IsPlace, covering_of}
 
 -- What closed tables have between commands: the moment of a creation; after each moment the selection of the

@@ -1,6 +1,6 @@
 -- The tables of the counter are closed, by computation.
 use Rattle.std.proofs.Common.{◌≡◌, true, refl}
-use Rattle.law_prove_commands.specs.model_prove.specs.Computed.{counter_deck}
+use Rattle.law_prove_closed.specs.Computed.{counter_deck}
 use Rattle.law_prove_closed.specs.Decks.{proves_deck, DeckIsKept}
 use Rattle.law_prove_closed.proofs.Decks.{deck_law}
 

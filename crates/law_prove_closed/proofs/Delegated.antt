@@ -10,20 +10,21 @@ use Rattle.law_prove_commands.specs.model_machine.specs.Frame.{Frame, dynamic_ba
 use Rattle.law_prove_commands.specs.model_machine.specs.Primitives.{Delegates, frame_effect}
 use Rattle.law_prove_commands.specs.model_machine.specs.Row.{Does}
 use Rattle.law_prove_commands.specs.law_bytes.specs.OfBytes.{IsByteFrame}
-use Rattle.law_prove_commands.specs.law_promise.specs.History.{Deed}
+use Rattle.law_prove_commands.specs.model_rules.specs.model_events.specs.Deeds.{Deed}
 use Rattle.law_prove_commands.specs.law_promise.specs.Outline.{Entry, is_direct}
 use Rattle.law_prove_commands.specs.law_promise.specs.Domain.{RowCovered, FitsDepth, IsRowCause}
 use Rattle.law_prove_commands.specs.model_rules.specs.Rules.{Target}
 use Rattle.law_prove_commands.specs.model_rules.specs.Happenings.{Event, History, Did}
 use Rattle.law_prove_commands.specs.model_rules.specs.Keeping.{Amounts, Standing, after_occasion, OnTurn, line_of, line_of_deed, after_deed, standing_after}
-use Rattle.law_prove_commands.specs.model_rules.specs.Law.{domain_of_rules}
+use Rattle.law_prove_commands.specs.law_rules.specs.Law.{domain_of_rules}
 use Rattle.law_prove_commands.specs.model_prove.specs.Facts.{Memory}
 use Rattle.law_prove_commands.specs.model_prove.specs.Compares.{Compare, NoCompare, Bounds, Ordered, bytes_from, compare_below, has_order, IsSo}
 use Rattle.law_prove_commands.specs.model_prove.specs.Keys.{Start, PlaceKey, Tables}
 use Rattle.law_prove_commands.specs.model_prove.specs.Laws.{Among}
 use Rattle.law_prove_commands.specs.model_prove.specs.Arrivals.{Setting, Arrival, stopped, abended}
 use Rattle.law_prove_commands.specs.model_prove.specs.Steps.{Spot, after_delegation, arrived, delegate_abends, follows}
-use Rattle.law_prove_commands.specs.model_prove.specs.Tables.{IsLoadable, includes, includes_all}
+use Rattle.law_prove_commands.specs.model_rules.specs.Loadable.{IsLoadable}
+use Rattle.law_prove_commands.specs.model_prove.specs.Tables.{includes, includes_all}
 use Rattle.law_prove_commands.specs.law_prove.specs.Coverings.{frame_memory, IsFrameOf, IsPlace, StartsAs, covering_of}
 use Rattle.law_prove_commands.specs.law_prove.specs.Laws.{LeadsInto}
 use Rattle.law_prove_commands.specs.law_prove.proofs.Closed.{included_first, included_second, Arrives}

@@ -15,7 +15,7 @@ use Rattle.law_prove_commands.specs.model_machine.specs.Frame.{Frame, Place, Sta
 use Rattle.law_prove_commands.specs.model_machine.specs.Primitives.{Around, Delegates, DelegateTo, in_range, has_bit, number_below_top, count_at, later_causes}
 use Rattle.law_prove_commands.specs.model_machine.specs.Row.{causes, row, first_cause, row_end, Does}
 use Rattle.law_prove_commands.specs.model_machine.specs.Chain.{frame_at}
-use Rattle.law_prove_commands.specs.law_rows.specs.Shapes.{Stays, Shape, act_effect, shape_effect, meaning, prim_shape, shape}
+use Rattle.law_prove_commands.specs.model_machine.specs.Shapes.{Stays, Shape, act_effect, shape_effect, meaning, prim_shape, shape}
 use Rattle.law_prove_commands.specs.law_bytes.specs.OfBytes.{IsByteEffect}
 use Rattle.law_prove_commands.specs.model_rules.specs.Rules.{Target}
 use Rattle.law_prove_commands.specs.model_prove.specs.Facts.{Memory}
@@ -27,7 +27,8 @@ use Rattle.law_prove_commands.specs.model_prove.specs.Work.{AsShaped}
 use Rattle.law_prove_commands.specs.model_prove.specs.Arrivals.{Setting, Arrival, fails}
 use Rattle.law_prove_commands.specs.model_prove.specs.Steps.{Spot, lowered, settled_spot, follows, caused, instruction, arounds, chosen, with_first_choice, with_choice, inside, by_choices, coarse_around, coarse_for, coarse_done, coarse_arrivals}
 use Rattle.law_prove_commands.specs.model_prove.specs.Reach.{Coarse, Leads, may_miss, known_causes}
-use Rattle.law_prove_commands.specs.model_prove.specs.Tables.{IsLoadable, includes_all}
+use Rattle.law_prove_commands.specs.model_rules.specs.Loadable.{IsLoadable}
+use Rattle.law_prove_commands.specs.model_prove.specs.Tables.{includes_all}
 use Rattle.law_prove_commands.specs.model_prove.proofs.ChangeLemmas.{choice_is_there}
 use Rattle.law_prove_commands.specs.law_prove.specs.Coverings.{frame_memory, IsFrameOf}
 use Rattle.law_prove_commands.specs.law_prove.specs.Laws.{LeadsInto, LeadLaw}

@@ -4,7 +4,7 @@ use Rattle.std.specs.Prelude.{◌==◌, ⊤}
 use Rattle.std.proofs.lemmas.Bool.{eqb-true}
 use Rattle.law_prove_commands.specs.model_machine.specs.declared.instruction.Ins.TheVariants as ins
 use Rattle.law_prove_commands.specs.model_machine.specs.Primitives.{Primitive, entry_of_number, primitives}
-use Rattle.law_prove_commands.specs.model_prove.specs.Tables.{ClosedLaw}
+use Rattle.law_prove_closed.specs.ClosedLaw.{ClosedLaw}
 use Rattle.law_prove_commands.specs.law_prove.specs.Laws.{LeadLaw}
 use Rattle.law_prove_commands.specs.law_prove.proofs.Places.{of_closed}
 use Rattle.law_prove_commands.specs.law_prove.proofs.Plain.{nop_law, pop_laws, status_laws, jump_laws, push_laws}

@@ -9,11 +9,13 @@ use Rattle.law_prove_commands.specs.law_promise.specs.Outline.{Entry, FitsEntry}
 use Rattle.law_prove_commands.specs.law_promise.specs.Domain.{Domain, IsSegment, IsDelegator, FitsDepth, FetchCovered, IsSound}
 use Rattle.law_prove_commands.specs.model_rules.specs.Rules.{AppRules, Target}
 use Rattle.law_prove_commands.specs.model_rules.specs.Happenings.{Event, History}
-use Rattle.law_prove_commands.specs.model_rules.specs.Law.{Covering, CoversRules, domain_of_rules}
-use Rattle.law_prove_commands.specs.model_rules.proofs.Covered.{covered_rules}
+use Rattle.law_prove_commands.specs.law_rules.specs.Law.{Covering, CoversRules, domain_of_rules}
+use Rattle.law_prove_commands.specs.law_rules.proofs.Covered.{covered_rules}
 use Rattle.law_prove_commands.specs.model_prove.specs.Keys.{Tables}
 use Rattle.law_prove_commands.specs.model_prove.specs.Arrivals.{Setting}
-use Rattle.law_prove_commands.specs.model_prove.specs.Tables.{IsLoadable, is_closed, ClosedLaw}
+use Rattle.law_prove_commands.specs.model_rules.specs.Loadable.{IsLoadable}
+use Rattle.law_prove_commands.specs.model_prove.specs.Tables.{is_closed}
+use Rattle.law_prove_closed.specs.ClosedLaw.{ClosedLaw}
 use Rattle.law_prove_commands.specs.law_prove.specs.Coverings.{IsPlace, covering_of}
 use Rattle.law_prove_commands.specs.law_prove.specs.Laws.{MomentsCovered, PlacesCovered}
 use Rattle.law_prove_commands.specs.law_prove.proofs.Moments.{moment_law}

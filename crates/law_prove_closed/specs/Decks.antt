@@ -10,14 +10,15 @@ use Rattle.law_prove_commands.specs.model_machine.specs.Row.{causes}
 use Rattle.law_prove_commands.specs.model_card.specs.Units.{name_of}
 use Rattle.law_prove_commands.specs.model_text.specs.TurnText.{turn_line}
 use Rattle.law_prove_commands.specs.model_play.specs.DeckGrammar.{deck_read}
-use Rattle.law_prove_commands.specs.law_rows.specs.Shapes.{shape, prim_shape}
-use Rattle.law_prove_commands.specs.law_explore.specs.Matching.{fits}
+use Rattle.law_prove_commands.specs.model_machine.specs.Shapes.{shape, prim_shape}
+use Rattle.law_prove_commands.specs.model_rules.specs.model_events.specs.Matching.{fits}
 use Rattle.law_prove_commands.specs.model_rules.specs.Rules.{Target, Total, AppRules}
-use Rattle.law_prove_commands.specs.model_rules.specs.Reading.{RuleCause, app_rules_read}
-use Rattle.law_prove_commands.specs.model_rules.specs.Law.{KeptInAll}
+use Rattle.law_prove_commands.specs.model_rule_text.specs.Reading.{RuleCause, app_rules_read}
+use Rattle.law_prove_commands.specs.law_rules.specs.Law.{KeptInAll}
 use Rattle.law_prove_commands.specs.model_prove.specs.Keys.{Tables}
 use Rattle.law_prove_commands.specs.model_prove.specs.Arrivals.{Setting}
-use Rattle.law_prove_commands.specs.model_prove.specs.Tables.{is_closed, tables_after}
+use Rattle.law_prove_commands.specs.model_prove.specs.Tables.{is_closed}
+use Rattle.law_prove_closed.specs.Search.{tables_after}
 
 -- whether numbers are bytes
 abbrev pub are_bytes : List ℕ → Bool

@@ -1,6 +1,9 @@
 pub mod Laws
 pub mod Outcomes
 pub mod Decks
+pub mod ClosedLaw
+pub mod Search
+pub mod Computed
 -- the libraries below that those above cite through this one
 pub use Rattle.law_prove_commands.specs.model_device as model_device
 pub use Rattle.law_prove_commands.specs.model_machine as model_machine
@@ -12,6 +15,7 @@ pub use Rattle.law_prove_commands.specs.model_prove as model_prove
 pub use Rattle.law_prove_commands.specs.law_rows as law_rows
 pub use Rattle.law_prove_commands.specs.law_bytes as law_bytes
 pub use Rattle.law_prove_commands.specs.law_promise as law_promise
-pub use Rattle.law_prove_commands.specs.law_explore as law_explore
 pub use Rattle.law_prove_commands.specs.law_prove as law_prove
 pub use Rattle.law_prove_commands as law_prove_commands
+pub use Rattle.law_prove_commands.specs.law_rules as law_rules
+pub use Rattle.law_prove_commands.specs.model_rule_text as model_rule_text

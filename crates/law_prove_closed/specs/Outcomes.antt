@@ -14,11 +14,12 @@ use Rattle.law_prove_commands.specs.law_promise.specs.Outline.{Entry, FitsEntry}
 use Rattle.law_prove_commands.specs.law_promise.specs.Domain.{IsSegment, IsDelegator, EndCovered, AbendCovered, RowCovered, FitsDepth}
 use Rattle.law_prove_commands.specs.model_rules.specs.Rules.{Target, AppRules}
 use Rattle.law_prove_commands.specs.model_rules.specs.Happenings.{Event, History, Failed}
-use Rattle.law_prove_commands.specs.model_rules.specs.Law.{domain_of_rules}
+use Rattle.law_prove_commands.specs.law_rules.specs.Law.{domain_of_rules}
 use Rattle.law_prove_commands.specs.model_prove.specs.Keys.{PlaceKey, MomentKey, Known, Tables, same_places, same_moments}
 use Rattle.law_prove_commands.specs.model_prove.specs.Arrivals.{Setting, Arrival, AtPlace, AtMoment, Breaks, Lost}
 use Rattle.law_prove_commands.specs.model_prove.specs.Steps.{place_arrivals}
-use Rattle.law_prove_commands.specs.model_prove.specs.Tables.{includes_all, IsLoadable, is_closed}
+use Rattle.law_prove_commands.specs.model_prove.specs.Tables.{includes_all, is_closed}
+use Rattle.law_prove_commands.specs.model_rules.specs.Loadable.{IsLoadable}
 use Rattle.law_prove_commands.specs.law_prove.specs.Coverings.{IsMoment, IsPlace, key_of, IsKnown, covering_of}
 
 -- whether one of some outcomes passes a test

@@ -2,13 +2,15 @@
 
 //! What closed tables of abstract states mean: their rules are kept in every play.
 
+mod rows;
+
 ghost use Rattle.std.specs.Prelude.{◌≡◌, [], ◌∷◌};
 ghost use Rattle.law_prove_commands.specs.model_prove.specs.Compares.{NoCompare, Bounds};
-ghost use Rattle.law_prove_commands.specs.model_prove.specs.Computed.{counter_deck};
+ghost use Rattle.law_prove_closed.specs.Computed.{counter_deck};
 ghost use Rattle.law_prove_commands.specs.model_prove.specs.Facts.{Facts};
 ghost use Rattle.law_prove_commands.specs.model_prove.specs.Keys.{PlaceKey};
 ghost use Rattle.law_prove_commands.specs.model_prove.specs.Steps.{after_delegation};
-ghost use Rattle.law_prove_commands.specs.model_prove.specs.Tables.{ClosedLaw};
+ghost use Rattle.law_prove_closed.specs.ClosedLaw.{ClosedLaw};
 ghost use Rattle.law_prove_closed.specs.Laws.{DelegateLaw, AllRowsLaw, AllLeadsLaw};
 ghost use Rattle.law_prove_closed.specs.Outcomes.{LeftLaw, NextLaw, NextEndLaw, ClosedNextLaw};
 ghost use Rattle.law_prove_closed.specs.Decks.{DeckLaw, DeckIsKept};

@@ -23,7 +23,8 @@ use Rattle.law_prove.specs.model_prove.specs.Laws.{AreIn, HoldsBytes}
 use Rattle.law_prove.specs.model_prove.specs.Arrivals.{Setting, Arrival, static_size, arrive, idle, after_command, after_session}
 use Rattle.law_prove.specs.model_prove.specs.Between.{Class, classes, selected, continued, commanded, begun, first_place, header_at, public_facts, static_facts, own_facts}
 use Rattle.law_prove.specs.model_prove.specs.Steps.{Spot}
-use Rattle.law_prove.specs.model_prove.specs.Tables.{IsLoadable, includes_all, is_closed}
+use Rattle.law_prove.specs.model_rules.specs.Loadable.{IsLoadable}
+use Rattle.law_prove.specs.model_prove.specs.Tables.{includes_all, is_closed}
 use Rattle.law_prove.specs.model_prove.proofs.ChangeLemmas.{written_holds}
 use Rattle.law_prove.specs.model_prove.proofs.SetLemmas.{is_between}
 use Rattle.law_prove.specs.Coverings.{moment_memory, IsMoment, frame_memory, class_of, IsFrameOf, IsPlace}

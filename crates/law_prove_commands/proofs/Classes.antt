@@ -3,7 +3,7 @@ use Rattle.std.proofs.Common.{◌≡◌, ◌⊎◌, inl, inr, ℕ, zero, suc, �
 use Rattle.std.specs.Prelude.{⊤, not, ◌&&◌, ◌==◌, map, flat_map}
 use Rattle.std.proofs.lemmas.Bool.{or_cases, eqb-true, eq-eqb}
 use Rattle.law_prove.specs.model_text.specs.Listing.{hex_text}
-use Rattle.law_prove.specs.law_explore.specs.Matching.{fits}
+use Rattle.law_prove.specs.model_rules.specs.model_events.specs.Matching.{fits}
 use Rattle.law_prove.specs.model_prove.specs.Sets.{Set, is_in, all_bytes, with_value}
 use Rattle.law_prove.specs.model_prove.specs.Digits.{same}
 use Rattle.law_prove.specs.model_prove.specs.Keys.{same_lists}

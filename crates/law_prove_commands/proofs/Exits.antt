@@ -13,18 +13,19 @@ use Rattle.law_prove.specs.model_machine.specs.Primitives.{Around, Exits}
 use Rattle.law_prove.specs.model_machine.specs.Row.{causes, first_cause, Does}
 use Rattle.law_prove.specs.model_machine.specs.Chain.{Outcome, Abended, frame_at}
 use Rattle.law_prove.specs.model_text.specs.Listing.{hex_text}
-use Rattle.law_prove.specs.model_play.specs.Transcript.{outcome_text}
-use Rattle.law_prove.specs.law_rows.specs.Shapes.{Answers, Shape, act_effect, shape_effect, with_status, with_length, shape}
+use Rattle.law_prove.specs.model_text.specs.TurnText.{outcome_text}
+use Rattle.law_prove.specs.model_machine.specs.Shapes.{Answers, Shape, act_effect, shape_effect, with_status, with_length, shape}
 use Rattle.law_prove.specs.law_bytes.specs.OfBytes.{IsByteEffect}
 use Rattle.law_prove.specs.law_bytes.proofs.ByteLists.{indexed, taken}
-use Rattle.law_prove.specs.law_promise.specs.History.{Deed, with_event, done_event}
+use Rattle.law_prove.specs.model_rules.specs.model_events.specs.Deeds.{Deed}
+use Rattle.law_prove.specs.law_promise.specs.History.{with_event, done_event}
 use Rattle.law_prove.specs.law_promise.specs.Outline.{Entry, BySelection, ByDelegation, is_direct, reply_to}
 use Rattle.law_prove.specs.law_promise.specs.Domain.{AnswerCovered, EndCovered, StopCovered, AbendCovered, RowCovered, FitsDepth}
-use Rattle.law_prove.specs.law_explore.specs.Matching.{fits}
+use Rattle.law_prove.specs.model_rules.specs.model_events.specs.Matching.{fits}
 use Rattle.law_prove.specs.model_rules.specs.Rules.{Target}
 use Rattle.law_prove.specs.model_rules.specs.Happenings.{Event, History, Did, Failed, Answers as Answered}
 use Rattle.law_prove.specs.model_rules.specs.Keeping.{Amounts, Standing, after_occasion, OnTurn, line_of, line_of_deed, after_deed, standing_after}
-use Rattle.law_prove.specs.model_rules.specs.Law.{domain_of_rules}
+use Rattle.law_prove.specs.law_rules.specs.Law.{domain_of_rules}
 use Rattle.law_prove.specs.model_prove.specs.Sets.{is_in}
 use Rattle.law_prove.specs.model_prove.specs.Facts.{Memory, Holds, values_at}
 use Rattle.law_prove.specs.model_prove.specs.Keys.{Start, Delegated, OfClass, PlaceKey, Tables}
@@ -32,7 +33,8 @@ use Rattle.law_prove.specs.model_prove.specs.Laws.{Among, HoldsBytes}
 use Rattle.law_prove.specs.model_prove.specs.Work.{AsShaped, work}
 use Rattle.law_prove.specs.model_prove.specs.Arrivals.{Setting, Arrival, Lengths, lengths_of, la_at, session_facts, in_session, fails, after_turn, after_answer, result_patterns, replies, exited, arrive}
 use Rattle.law_prove.specs.model_prove.specs.Steps.{Spot, lowered, acted, settled_spot, caused, exits_from}
-use Rattle.law_prove.specs.model_prove.specs.Tables.{IsLoadable, includes_all}
+use Rattle.law_prove.specs.model_rules.specs.Loadable.{IsLoadable}
+use Rattle.law_prove.specs.model_prove.specs.Tables.{includes_all}
 use Rattle.law_prove.specs.model_prove.proofs.FactLemmas.{value_holds}
 use Rattle.law_prove.specs.Coverings.{moment_memory, IsMoment, frame_memory, class_of, StartsAs, IsFrameOf, IsPlace, covering_of}
 use Rattle.law_prove.specs.Laws.{LeadsInto}

@@ -5,8 +5,8 @@ use Rattle.std.proofs.lemmas.Bool.{and_parts, or_cases, eqb-true}
 use Rattle.law_prove.specs.model_device.proofs.MapLemmas.{same_name}
 use Rattle.law_prove.specs.model_text.specs.Text.{is_blank}
 use Rattle.law_prove.specs.model_text.specs.Listing.{hex_digit, hex_text}
-use Rattle.law_prove.specs.model_play.specs.Patterns.{without_blanks}
-use Rattle.law_prove.specs.law_explore.specs.Matching.{small, plain, fits}
+use Rattle.law_prove.specs.model_rules.specs.model_events.specs.Patterns.{without_blanks}
+use Rattle.law_prove.specs.model_rules.specs.model_events.specs.Matching.{small, plain, fits}
 use Rattle.law_prove.specs.model_prove.specs.Sets.{is_in, numbers_from}
 use Rattle.law_prove.specs.model_prove.specs.Keys.{same_lists}
 use Rattle.law_prove.specs.model_prove.specs.Texts.{Open, Opens, opened, after_character, after_text, all_after, same_opens, is_among, with_opens, both_opens, hex_digits, after_each, after_digit, any_unless, after_any, matches_of}

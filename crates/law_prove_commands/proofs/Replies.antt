@@ -3,7 +3,7 @@ use Rattle.std.proofs.Common.{◌≡◌, ◌⊎◌, inl, inr, ℕ, ◌+◌, ◌*
 use Rattle.std.specs.Prelude.{◌==◌, map, flat_map}
 use Rattle.std.proofs.lemmas.Bool.{or_cases, or_left, or_right, and_from, eqb-true, lt-ltb, ltb-false}
 use Rattle.law_prove.specs.model_text.specs.Listing.{hex_digit, hex_text}
-use Rattle.law_prove.specs.law_explore.specs.Matching.{fits}
+use Rattle.law_prove.specs.model_rules.specs.model_events.specs.Matching.{fits}
 use Rattle.law_prove.specs.model_prove.specs.Sets.{Set, is_in}
 use Rattle.law_prove.specs.model_prove.specs.Facts.{values_at}
 use Rattle.law_prove.specs.model_prove.specs.Digits.{same}

@@ -4,8 +4,8 @@ use Rattle.std.specs.Prelude.{not, ◌&&◌, ◌||◌, flat_map, bytes_eq}
 use Rattle.std.proofs.lemmas.Slice.Eq.{bytes_eq-Decides}
 use Rattle.law_prove.specs.model_device.specs.Bytes.{has_name}
 use Rattle.law_prove.specs.model_text.specs.Text.{is_empty}
-use Rattle.law_prove.specs.model_play.specs.Patterns.{is_star}
-use Rattle.law_prove.specs.law_explore.specs.Matching.{some_rest, first_and_rest, matches, plain, fits}
+use Rattle.law_prove.specs.model_rules.specs.model_events.specs.Patterns.{is_star}
+use Rattle.law_prove.specs.model_rules.specs.model_events.specs.Matching.{some_rest, first_and_rest, matches, plain, fits}
 use Rattle.law_prove_commands.specs.Laws.{PatternLaw}
 use Rattle.law_prove.specs.model_prove.specs.Texts.{Open, with_way, both_ways, openings, way_after, all_openings, after_text, is_none_left, openings_unless, opened, is_match}
 

@@ -7,15 +7,16 @@ use Rattle.law_prove.specs.model_card.specs.Manager.{ToApplication, route}
 use Rattle.law_prove.specs.law_bytes.specs.OfChains.{IsByteCommand}
 use Rattle.law_prove.specs.law_promise.specs.Outline.{BySelection}
 use Rattle.law_prove.specs.law_promise.specs.Domain.{first_frame_in}
-use Rattle.law_prove.specs.law_explore.specs.Matching.{plain, fits}
+use Rattle.law_prove.specs.model_rules.specs.model_events.specs.Matching.{plain, fits}
 use Rattle.law_prove.specs.model_rules.specs.Rules.{Target, AppRules}
 use Rattle.law_prove.specs.model_rules.specs.Happenings.{History, Commanded}
-use Rattle.law_prove.specs.model_rules.specs.Law.{domain_of_rules}
+use Rattle.law_prove.specs.law_rules.specs.Law.{domain_of_rules}
 use Rattle.law_prove.specs.model_prove.specs.Keys.{Tables}
 use Rattle.law_prove.specs.model_prove.specs.Texts.{opened, after_text, is_match}
 use Rattle.law_prove.specs.model_prove.specs.Arrivals.{Setting}
 use Rattle.law_prove.specs.model_prove.specs.Between.{Class, classes}
-use Rattle.law_prove.specs.model_prove.specs.Tables.{IsLoadable, is_closed}
+use Rattle.law_prove.specs.model_rules.specs.Loadable.{IsLoadable}
+use Rattle.law_prove.specs.model_prove.specs.Tables.{is_closed}
 use Rattle.law_prove.specs.Coverings.{IsMoment, class_of, IsPlace, covering_of}
 use Rattle.law_prove.specs.Laws.{LeadLaw}
 use Rattle.law_prove.proofs.Seen.{FitSets}

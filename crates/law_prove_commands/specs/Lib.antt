@@ -10,5 +10,6 @@ pub use Rattle.law_prove.specs.model_prove as model_prove
 pub use Rattle.law_prove.specs.law_rows as law_rows
 pub use Rattle.law_prove.specs.law_bytes as law_bytes
 pub use Rattle.law_prove.specs.law_promise as law_promise
-pub use Rattle.law_prove.specs.law_explore as law_explore
 pub use Rattle.law_prove as law_prove
+pub use Rattle.law_prove.specs.law_rules as law_rules
+pub use Rattle.law_prove.specs.model_rule_text as model_rule_text

@@ -11,7 +11,7 @@ use Rattle.law_prove.specs.model_prove.specs.Facts.{Memory}
 use Rattle.law_prove.specs.model_prove.specs.Compares.{bytes_from}
 use Rattle.law_prove.specs.model_prove.specs.Keys.{Tables}
 use Rattle.law_prove.specs.model_prove.specs.Arrivals.{Setting}
-use Rattle.law_prove.specs.model_prove.specs.Tables.{IsLoadable}
+use Rattle.law_prove.specs.model_rules.specs.Loadable.{IsLoadable}
 use Rattle.law_prove.specs.Laws.{LeadsInto}
 use Rattle.law_prove.proofs.Alike.{Sized, from_length, read_is}
 use Rattle.law_prove.proofs.Moves.{turn_sized}

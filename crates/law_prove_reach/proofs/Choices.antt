@@ -19,7 +19,8 @@ use Rattle.law_prove.specs.model_prove.specs.Splits.{Scene, Choice, stand_in_sta
 use Rattle.law_prove.specs.model_prove.specs.Reach.{takes_target}
 use Rattle.law_prove.specs.model_prove.specs.Arrivals.{Setting, Arrival}
 use Rattle.law_prove.specs.model_prove.specs.Steps.{Spot, with_facts, instruction, arounds, primitive_of, chosen, with_choice, inside, with_first_choice, by_choices, coarse_arrivals, coarse_around, fetched}
-use Rattle.law_prove.specs.model_prove.specs.Tables.{IsLoadable, includes_all}
+use Rattle.law_prove.specs.model_rules.specs.Loadable.{IsLoadable}
+use Rattle.law_prove.specs.model_prove.specs.Tables.{includes_all}
 use Rattle.law_prove.specs.model_prove.proofs.ChangeLemmas.{written_holds, choice_is_there}
 use Rattle.law_prove.specs.model_prove.proofs.SetLemmas.{is_first}
 use Rattle.law_prove.specs.Coverings.{parts_memory, frame_memory, IsFrameOf}

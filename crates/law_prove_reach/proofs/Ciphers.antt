@@ -10,7 +10,7 @@ use Rattle.law_prove.specs.model_machine.specs.Modes.{ecb}
 use Rattle.law_prove.specs.model_machine.specs.Frame.{Frame, where_is, is_outside, bytes_at, frame_after_pop}
 use Rattle.law_prove.specs.model_machine.specs.Primitives.{Cipher, Primitive, Encipher, Decipher, primitive, block_len, key_len, is_message, encipherment, decipherment, has_bit, number_below_top, later_causes, prim_causes}
 use Rattle.law_prove.specs.model_machine.specs.Row.{causes, first_cause}
-use Rattle.law_prove.specs.law_rows.specs.Shapes.{shape, prim_shape, pair_shape}
+use Rattle.law_prove.specs.model_machine.specs.Shapes.{shape, prim_shape, pair_shape}
 use Rattle.law_prove.specs.law_bytes.proofs.CipherBytes.{message_bytes, enciphered, deciphered}
 use Rattle.law_prove.specs.law_bytes.proofs.ByteLists.{read_bytes}
 use Rattle.law_prove.specs.model_prove.specs.Keys.{Start, Delegated, OfClass}

@@ -9,7 +9,7 @@ use Rattle.law_prove.specs.model_machine.specs.declared.machine.Abend.{Abend}
 use Rattle.law_prove.specs.model_machine.specs.Frame.{Frame, where_is, is_outside, bytes_at, frame_after_pop}
 use Rattle.law_prove.specs.model_machine.specs.Primitives.{MemoryCopy, in_range, number_below_top, later_causes}
 use Rattle.law_prove.specs.model_machine.specs.Row.{causes, row}
-use Rattle.law_prove.specs.law_rows.specs.Shapes.{shape, prim_shape}
+use Rattle.law_prove.specs.model_machine.specs.Shapes.{shape, prim_shape}
 use Rattle.law_prove.specs.model_rules.specs.Rules.{Target}
 use Rattle.law_prove.specs.model_prove.specs.Sets.{Set, is_in}
 use Rattle.law_prove.specs.model_prove.specs.Facts.{Facts, Memory, values_at}
@@ -21,7 +21,7 @@ use Rattle.law_prove.specs.model_prove.specs.Work.{Copies}
 use Rattle.law_prove.specs.model_prove.specs.Reach.{lengths_at}
 use Rattle.law_prove.specs.model_prove.specs.Arrivals.{Setting}
 use Rattle.law_prove.specs.model_prove.specs.Steps.{arounds}
-use Rattle.law_prove.specs.model_prove.specs.Tables.{IsLoadable}
+use Rattle.law_prove.specs.model_rules.specs.Loadable.{IsLoadable}
 use Rattle.law_prove.specs.model_prove.proofs.FactLemmas.{value_holds}
 use Rattle.law_prove.specs.model_prove.proofs.SetLemmas.{is_kept}
 use Rattle.law_prove.specs.Laws.{LeadsInto, LeadLaw}

@@ -10,7 +10,7 @@ use Rattle.law_prove.specs.model_machine.specs.declared.machine.Abend.TheVariant
 use Rattle.law_prove.specs.model_machine.specs.Frame.{Frame, is_outside, is_under, too_many, dynamic_end, frame_after_pop}
 use Rattle.law_prove.specs.model_machine.specs.Primitives.{Around, Goes, DelegatorAid, has_bit, number_below_top, reported_causes, later_causes}
 use Rattle.law_prove.specs.model_machine.specs.Row.{causes, first_cause, row}
-use Rattle.law_prove.specs.law_rows.specs.Shapes.{Stays, Writes, Shape, act_effect, delegator_shape, meaning, shape, prim_shape}
+use Rattle.law_prove.specs.model_machine.specs.Shapes.{Stays, Writes, Shape, act_effect, delegator_shape, meaning, shape, prim_shape}
 use Rattle.law_prove.specs.law_promise.specs.Outline.{Entry, FitsEntry}
 use Rattle.law_prove.specs.law_promise.specs.Domain.{IsDelegator}
 use Rattle.law_prove.specs.model_rules.specs.Rules.{Target, AppRules}
@@ -23,7 +23,8 @@ use Rattle.law_prove.specs.model_prove.specs.Work.{Counted}
 use Rattle.law_prove.specs.model_prove.specs.Reach.{Leads, known_causes}
 use Rattle.law_prove.specs.model_prove.specs.Arrivals.{Setting, Arrival}
 use Rattle.law_prove.specs.model_prove.specs.Steps.{Spot, lowered, counted_sets, acted, with_flags, settled_spot, follows, caused, arounds, coarse_done, coarse_arrivals, coarse_around}
-use Rattle.law_prove.specs.model_prove.specs.Tables.{IsLoadable, includes_all}
+use Rattle.law_prove.specs.model_rules.specs.Loadable.{IsLoadable}
+use Rattle.law_prove.specs.model_prove.specs.Tables.{includes_all}
 use Rattle.law_prove.specs.model_prove.proofs.SetLemmas.{is_first, is_between}
 use Rattle.law_prove.specs.Coverings.{StartsAs}
 use Rattle.law_prove.specs.Laws.{LeadsInto}

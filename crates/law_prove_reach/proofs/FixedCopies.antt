@@ -8,7 +8,7 @@ use Rattle.law_prove.specs.model_machine.specs.declared.machine.Abend.{Abend}
 use Rattle.law_prove.specs.model_machine.specs.Frame.{Frame, where_is, is_outside, bytes_at, frame_after_pop}
 use Rattle.law_prove.specs.model_machine.specs.Primitives.{CopyFixed, number_below_top, later_causes}
 use Rattle.law_prove.specs.model_machine.specs.Row.{causes, row}
-use Rattle.law_prove.specs.law_rows.specs.Shapes.{shape, prim_shape}
+use Rattle.law_prove.specs.model_machine.specs.Shapes.{shape, prim_shape}
 use Rattle.law_prove.specs.model_rules.specs.Rules.{Target}
 use Rattle.law_prove.specs.model_prove.specs.Facts.{Memory}
 use Rattle.law_prove.specs.model_prove.specs.Compares.{bytes_from}
@@ -18,7 +18,7 @@ use Rattle.law_prove.specs.model_prove.specs.Splits.{top_places}
 use Rattle.law_prove.specs.model_prove.specs.Work.{Copies}
 use Rattle.law_prove.specs.model_prove.specs.Arrivals.{Setting}
 use Rattle.law_prove.specs.model_prove.specs.Steps.{arounds}
-use Rattle.law_prove.specs.model_prove.specs.Tables.{IsLoadable}
+use Rattle.law_prove.specs.model_rules.specs.Loadable.{IsLoadable}
 use Rattle.law_prove.specs.Laws.{LeadsInto}
 use Rattle.law_prove.specs.model_prove.proofs.SetLemmas.{is_first}
 use Rattle.law_prove.specs.law_bytes.proofs.ByteLists.{indexed}

@@ -5,7 +5,7 @@ use Rattle.std.specs.Prelude.{◌&&◌, ◌||◌, ◌==◌, not, is_none, nat_lt
 use Rattle.std.proofs.lemmas.Bool.{and_from, and_parts, or_left, or_right, or_parts, or_cases, eqb-true, eqb-false, le-leb, ltb-true, ltb-false, false_from_ne_true}
 use Rattle.law_prove.specs.model_device.specs.Bytes.{AreBytes}
 use Rattle.law_prove.specs.model_machine.specs.Frame.{Frame, Effect, where_is, is_outside, dynamic_base}
-use Rattle.law_prove.specs.law_rows.specs.Shapes.{Writes, act_effect}
+use Rattle.law_prove.specs.model_machine.specs.Shapes.{Writes, act_effect}
 use Rattle.law_prove.specs.model_rules.specs.Keeping.{Amounts}
 use Rattle.law_prove.specs.model_prove.specs.Sets.{Set, is_in}
 use Rattle.law_prove.specs.model_prove.specs.Facts.{Facts, Memory, Holds, know_all}

@@ -9,7 +9,7 @@ use Rattle.law_prove.specs.model_machine.specs.declared.machine.Abend.{Abend}
 use Rattle.law_prove.specs.model_machine.specs.Frame.{Frame, is_outside, bytes_at, frame_after_pop}
 use Rattle.law_prove.specs.model_machine.specs.Primitives.{Digest, in_range, number_below_top, later_causes}
 use Rattle.law_prove.specs.model_machine.specs.Row.{causes, row}
-use Rattle.law_prove.specs.law_rows.specs.Shapes.{shape, prim_shape}
+use Rattle.law_prove.specs.model_machine.specs.Shapes.{shape, prim_shape}
 use Rattle.law_prove.specs.law_machine.proofs.BlockLengths.{length_sha1}
 use Rattle.law_prove.specs.law_bytes.proofs.CipherBytes.{digested}
 use Rattle.law_prove.specs.model_rules.specs.Rules.{Target}
@@ -19,7 +19,7 @@ use Rattle.law_prove.specs.model_prove.specs.Splits.{deciders, later_deciders, t
 use Rattle.law_prove.specs.model_prove.specs.Work.{NoFact}
 use Rattle.law_prove.specs.model_prove.specs.Arrivals.{Setting}
 use Rattle.law_prove.specs.model_prove.specs.Steps.{arounds, primitive_of}
-use Rattle.law_prove.specs.model_prove.specs.Tables.{IsLoadable}
+use Rattle.law_prove.specs.model_rules.specs.Loadable.{IsLoadable}
 use Rattle.law_prove.specs.model_prove.proofs.SetLemmas.{is_first}
 use Rattle.law_prove.specs.Laws.{LeadsInto, LeadLaw}
 use Rattle.law_prove.proofs.Turns.{NoCause, nobody}

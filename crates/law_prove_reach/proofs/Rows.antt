@@ -9,7 +9,7 @@ use Rattle.law_prove.specs.model_machine.specs.declared.machine.Abend.TheVariant
 use Rattle.law_prove.specs.model_machine.specs.Frame.{Frame, Effect, where_is, too_many, dynamic_base, dynamic_end}
 use Rattle.law_prove.specs.model_machine.specs.Primitives.{Goes}
 use Rattle.law_prove.specs.model_machine.specs.Row.{causes, row, first_cause, Abends, Does, row_end}
-use Rattle.law_prove.specs.law_rows.specs.Shapes.{Act, Writes, act_effect, shape_effect, meaning, shape}
+use Rattle.law_prove.specs.model_machine.specs.Shapes.{Act, Writes, act_effect, shape_effect, meaning, shape}
 use Rattle.law_prove.specs.law_bytes.specs.OfBytes.{IsByteEffect}
 use Rattle.law_prove.specs.model_rules.specs.Rules.{Target}
 use Rattle.law_prove.specs.model_prove.specs.Sets.{Set}
@@ -21,7 +21,8 @@ use Rattle.law_prove.specs.model_prove.specs.Work.{Work, Copies}
 use Rattle.law_prove.specs.model_prove.specs.Reach.{Reach, WritesWithin, some_reached, calls_hit}
 use Rattle.law_prove.specs.model_prove.specs.Arrivals.{Setting, Arrival, static_size, fails}
 use Rattle.law_prove.specs.model_prove.specs.Steps.{Spot, lowered, acted, with_flags, settled_spot, makes_write, may_wait_too_long, follows, spots, row_arrivals, caused, reached_spot, coarse_done}
-use Rattle.law_prove.specs.model_prove.specs.Tables.{IsLoadable, includes_all}
+use Rattle.law_prove.specs.model_rules.specs.Loadable.{IsLoadable}
+use Rattle.law_prove.specs.model_prove.specs.Tables.{includes_all}
 use Rattle.law_prove.specs.Laws.{LeadsInto}
 use Rattle.law_prove.proofs.Alike.{from_length, many_wait}
 use Rattle.law_prove.proofs.Closed.{included_first, included_second}

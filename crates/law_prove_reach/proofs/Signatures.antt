@@ -9,7 +9,7 @@ use Rattle.law_prove.specs.model_machine.specs.declared.machine.Abend.{Abend}
 use Rattle.law_prove.specs.model_machine.specs.Frame.{Frame, where_is, is_outside, bytes_at, frame_after_pop}
 use Rattle.law_prove.specs.model_machine.specs.Primitives.{Cipher, Des, TripleDes, Aes, Primitive, Sign, primitive, block_len, key_len, is_message, signature, has_bit, number_below_top, later_causes, prim_causes}
 use Rattle.law_prove.specs.model_machine.specs.Row.{causes, first_cause}
-use Rattle.law_prove.specs.law_rows.specs.Shapes.{shape, prim_shape, pair_shape}
+use Rattle.law_prove.specs.model_machine.specs.Shapes.{shape, prim_shape, pair_shape}
 use Rattle.law_prove.specs.law_bytes.proofs.CipherBytes.{signed}
 use Rattle.law_prove.specs.law_bytes.proofs.ByteLists.{read_bytes}
 use Rattle.law_prove.specs.model_prove.specs.Keys.{Start, Delegated, OfClass}

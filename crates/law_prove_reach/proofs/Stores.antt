@@ -9,7 +9,7 @@ use Rattle.law_prove.specs.model_machine.specs.declared.machine.Abend.{Abend}
 use Rattle.law_prove.specs.model_machine.specs.declared.machine.Abend.TheVariants.{A03, A04, A06, A08}
 use Rattle.law_prove.specs.model_machine.specs.Frame.{Frame, where_is, is_outside, no_access, too_many, is_under, address_at, top, dynamic_base, dynamic_end, frame_after_pop}
 use Rattle.law_prove.specs.model_machine.specs.Row.{causes, operand, address_or_zero, on_stack, first_cause, row}
-use Rattle.law_prove.specs.law_rows.specs.Shapes.{Writes, shape}
+use Rattle.law_prove.specs.model_machine.specs.Shapes.{Writes, shape}
 use Rattle.law_prove.specs.model_rules.specs.Rules.{Target}
 use Rattle.law_prove.specs.model_prove.specs.Facts.{Memory}
 use Rattle.law_prove.specs.model_prove.specs.Compares.{bytes_from}
@@ -20,7 +20,8 @@ use Rattle.law_prove.specs.model_prove.specs.Work.{Copies}
 use Rattle.law_prove.specs.model_prove.specs.Reach.{Reach, reach_at}
 use Rattle.law_prove.specs.model_prove.specs.Arrivals.{Setting}
 use Rattle.law_prove.specs.model_prove.specs.Steps.{Spot, arounds, caused}
-use Rattle.law_prove.specs.model_prove.specs.Tables.{IsLoadable, includes_all}
+use Rattle.law_prove.specs.model_rules.specs.Loadable.{IsLoadable}
+use Rattle.law_prove.specs.model_prove.specs.Tables.{includes_all}
 use Rattle.law_prove.specs.model_prove.proofs.FactLemmas.{value_holds}
 use Rattle.law_prove.specs.model_prove.proofs.SetLemmas.{is_first}
 use Rattle.law_prove.specs.Coverings.{parts_memory, frame_memory}

@@ -10,7 +10,7 @@ use Rattle.law_prove.specs.model_machine.specs.declared.machine.Abend.TheVariant
 use Rattle.law_prove.specs.model_machine.specs.Frame.{Frame, where_is, too_many, is_under, dynamic_base, dynamic_end, frame_after_pop}
 use Rattle.law_prove.specs.model_machine.specs.Primitives.{Around, number_below_top}
 use Rattle.law_prove.specs.model_machine.specs.Row.{causes, first_cause, row}
-use Rattle.law_prove.specs.law_rows.specs.Shapes.{Act, Writes, Shape, shape}
+use Rattle.law_prove.specs.model_machine.specs.Shapes.{Act, Writes, Shape, shape}
 use Rattle.law_prove.specs.model_rules.specs.Rules.{Target}
 use Rattle.law_prove.specs.model_prove.specs.Sets.{Set, is_in, numbers_from}
 use Rattle.law_prove.specs.model_prove.specs.Facts.{Facts, Memory, values_from}
@@ -22,7 +22,8 @@ use Rattle.law_prove.specs.model_prove.specs.Work.{Work, Copies, Counted, NoFact
 use Rattle.law_prove.specs.model_prove.specs.Reach.{Reach, Coarse, WritesWithin, reach_at, coarse, may_have_bad_length, may_miss, known_causes}
 use Rattle.law_prove.specs.model_prove.specs.Arrivals.{Setting, Arrival, fails}
 use Rattle.law_prove.specs.model_prove.specs.Steps.{Spot, lowered, any_bytes, counted_sets, acted, with_flags, spots, caused, primitive_of, coarse_for, coarse_done, coarse_around}
-use Rattle.law_prove.specs.model_prove.specs.Tables.{IsLoadable, includes_all}
+use Rattle.law_prove.specs.model_rules.specs.Loadable.{IsLoadable}
+use Rattle.law_prove.specs.model_prove.specs.Tables.{includes_all}
 use Rattle.law_prove.specs.model_prove.proofs.FactLemmas.{value_holds}
 use Rattle.law_prove.specs.Coverings.{parts_memory, frame_memory}
 use Rattle.law_prove.specs.Laws.{LeadsInto}

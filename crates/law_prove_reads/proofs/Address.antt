@@ -11,7 +11,7 @@ use Rattle.law_prove.specs.model_machine.specs.Frame.{Frame, Place, dynamic_base
 use Rattle.law_prove.specs.model_machine.specs.Primitives.{Goes}
 use Rattle.law_prove.specs.model_machine.specs.Row.{causes, row, first_cause, operand, address_or_zero, on_stack, indexed_address}
 use Rattle.law_prove.specs.model_machine.specs.Chain.{frame_at}
-use Rattle.law_prove.specs.law_rows.specs.Shapes.{Pushes, Shape, shape}
+use Rattle.law_prove.specs.model_machine.specs.Shapes.{Pushes, Shape, shape}
 use Rattle.law_prove.specs.model_rules.specs.Rules.{Target}
 use Rattle.law_prove.specs.model_prove.specs.Sets.{Set, numbers_from}
 use Rattle.law_prove.specs.model_prove.specs.Facts.{Memory, values_from}
@@ -23,7 +23,8 @@ use Rattle.law_prove.specs.model_prove.specs.Reach.{PushesAny}
 use Rattle.law_prove.specs.model_prove.specs.Work.{AsShaped, Copies}
 use Rattle.law_prove.specs.model_prove.specs.Arrivals.{Setting, Arrival, fails}
 use Rattle.law_prove.specs.model_prove.specs.Steps.{Spot, sets, any_bytes, lowered, pushed, settled_spot, follows, row_arrivals, coarse_done}
-use Rattle.law_prove.specs.model_prove.specs.Tables.{IsLoadable, includes_all}
+use Rattle.law_prove.specs.model_rules.specs.Loadable.{IsLoadable}
+use Rattle.law_prove.specs.model_prove.specs.Tables.{includes_all}
 use Rattle.law_prove.specs.Laws.{LeadsInto, LeadLaw}
 use Rattle.law_prove.proofs.Closed.{included_first, included_second}
 use Rattle.law_prove.proofs.Seen.{FitSets, fit_sets, fit_values, fit_any}

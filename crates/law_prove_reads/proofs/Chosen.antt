@@ -11,7 +11,7 @@ use Rattle.law_prove.specs.model_machine.specs.Frame.{Frame, Effect, is_outside,
 use Rattle.law_prove.specs.model_machine.specs.Primitives.{Around, Primitive, Done, effect_and_next}
 use Rattle.law_prove.specs.model_machine.specs.Row.{causes, effect, row, first_cause, row_end, Does}
 use Rattle.law_prove.specs.model_machine.specs.Chain.{frame_at}
-use Rattle.law_prove.specs.law_rows.specs.Shapes.{Act, Stays, Pushes, Replaces, Shape, act_effect, shape_effect, shape}
+use Rattle.law_prove.specs.model_machine.specs.Shapes.{Act, Stays, Pushes, Replaces, Shape, act_effect, shape_effect, shape}
 use Rattle.law_prove.specs.law_rows.proofs.RowShapes.{shapes}
 use Rattle.law_prove.specs.law_bytes.specs.OfBytes.{IsByteEffect}
 use Rattle.law_prove.specs.model_rules.specs.Rules.{Target}
@@ -24,7 +24,8 @@ use Rattle.law_prove.specs.model_prove.specs.Reach.{Coarse, coarse, is_known_cau
 use Rattle.law_prove.specs.model_prove.specs.Work.{Work, work}
 use Rattle.law_prove.specs.model_prove.specs.Arrivals.{Setting, Arrival, fails}
 use Rattle.law_prove.specs.model_prove.specs.Steps.{Spot, lowered, acted, inside, chosen, settled_spot, makes_write, row_arrivals, caused, instruction, arounds, primitive_of, with_choice, with_first_choice, coarse_for, coarse_done, coarse_arrivals, coarse_around, by_choices, fetched, is_return, no_calls}
-use Rattle.law_prove.specs.model_prove.specs.Tables.{IsLoadable, includes_all}
+use Rattle.law_prove.specs.model_rules.specs.Loadable.{IsLoadable}
+use Rattle.law_prove.specs.model_prove.specs.Tables.{includes_all}
 use Rattle.law_prove.specs.model_prove.proofs.ChangeLemmas.{choice_is_there}
 use Rattle.law_prove.specs.Coverings.{frame_memory}
 use Rattle.law_prove.specs.Laws.{LeadsInto, LeadLaw}

@@ -13,9 +13,9 @@ use Rattle.law_prove.specs.model_machine.specs.Frame.{Frame, dynamic_base, dynam
 use Rattle.law_prove.specs.model_machine.specs.Primitives.{Around, Goes, in_range, number_below_top, later_causes}
 use Rattle.law_prove.specs.model_machine.specs.Row.{causes, row, first_cause}
 use Rattle.law_prove.specs.model_machine.specs.Chain.{frame_at}
-use Rattle.law_prove.specs.law_rows.specs.Shapes.{Stays, Shape, act_effect, shape, prim_shape}
-use Rattle.mc_arith.proofs.BlockLemmas.{num_below}
-use Rattle.mc_arith.proofs.ResultLemmas.{difference_is}
+use Rattle.law_prove.specs.model_machine.specs.Shapes.{Stays, Shape, act_effect, shape, prim_shape}
+use Rattle.law_prove.specs.law_rows.proofs.BlockLemmas.{num_below}
+use Rattle.law_prove.specs.law_rows.proofs.ResultLemmas.{difference_is}
 use Rattle.law_prove.specs.model_rules.specs.Rules.{Target}
 use Rattle.law_prove.specs.model_prove.specs.Sets.{numbers_from}
 use Rattle.law_prove.specs.model_prove.specs.Facts.{Facts, Memory, Holds, values_from, narrow_all}
@@ -29,7 +29,8 @@ use Rattle.law_prove.specs.model_prove.specs.Work.{AtAddress, Digitwise, Work, W
 use Rattle.law_prove.specs.model_prove.specs.Arrivals.{Setting, Arrival, fails}
 use Rattle.law_prove.specs.model_prove.specs.Steps.{Spot, lowered, flagged, final_flags, works_to, worked_at, narrowed_operands, operand_narrowed, pairs_of, allows, compare_after, uncompared, order_flags, settled_spot, follows, row_arrivals, primitive_of, is_return, no_calls, coarse_for, coarse_done}
 use Rattle.law_prove.specs.model_prove.specs.Steps as steps
-use Rattle.law_prove.specs.model_prove.specs.Tables.{IsLoadable, includes_all}
+use Rattle.law_prove.specs.model_rules.specs.Loadable.{IsLoadable}
+use Rattle.law_prove.specs.model_prove.specs.Tables.{includes_all}
 use Rattle.law_prove.specs.Laws.{LeadsInto, LeadLaw}
 use Rattle.law_prove.proofs.Closed.{included_first, included_second}
 use Rattle.law_prove.proofs.Seen.{fit_values, Seen}

@@ -11,7 +11,7 @@ use Rattle.law_prove.specs.model_prove.specs.Keys.{Delegated, Tables}
 use Rattle.law_prove.specs.model_prove.specs.Splits.{few_combinations}
 use Rattle.law_prove.specs.model_prove.specs.Arrivals.{Setting}
 use Rattle.law_prove.specs.model_prove.specs.Steps.{arounds}
-use Rattle.law_prove.specs.model_prove.specs.Tables.{IsLoadable}
+use Rattle.law_prove.specs.model_rules.specs.Loadable.{IsLoadable}
 use Rattle.law_prove.specs.Laws.{LeadsInto}
 use Rattle.law_prove.proofs.Turns.{NoCause, nobody}
 use Rattle.law_prove.proofs.Single.{Turn, IsRowCovered}

@@ -12,7 +12,7 @@ use Rattle.law_prove.specs.model_machine.specs.Frame.{Frame, dynamic_base, dynam
 use Rattle.law_prove.specs.model_machine.specs.Primitives.{Goes, number_below_top, count_at, later_causes}
 use Rattle.law_prove.specs.model_machine.specs.Row.{causes, row, first_cause}
 use Rattle.law_prove.specs.model_machine.specs.Chain.{frame_at}
-use Rattle.law_prove.specs.law_rows.specs.Shapes.{Pushes, Shape, act_effect, shape, prim_shape}
+use Rattle.law_prove.specs.model_machine.specs.Shapes.{Pushes, Shape, act_effect, shape, prim_shape}
 use Rattle.law_prove.specs.law_bytes.specs.OfBytes.{IsByteFrame}
 use Rattle.law_prove.specs.law_bytes.proofs.ByteLists.{read_bytes, short_read, small_number, found_low}
 use Rattle.law_prove.specs.model_rules.specs.Rules.{Target}
@@ -26,7 +26,8 @@ use Rattle.law_prove.specs.model_prove.specs.Splits.{Scene}
 use Rattle.law_prove.specs.model_prove.specs.Reach as reach
 use Rattle.law_prove.specs.model_prove.specs.Arrivals.{Setting, Arrival, fails, some_value}
 use Rattle.law_prove.specs.model_prove.specs.Steps.{Spot, sets, any_bytes, lowered, pushed, flagged, final_flags, settled_spot, follows, is_only, may_pass, found_at, found, each_index, searched, coarse_done}
-use Rattle.law_prove.specs.model_prove.specs.Tables.{IsLoadable, includes_all}
+use Rattle.law_prove.specs.model_rules.specs.Loadable.{IsLoadable}
+use Rattle.law_prove.specs.model_prove.specs.Tables.{includes_all}
 use Rattle.law_prove.specs.Laws.{LeadsInto}
 use Rattle.law_prove.specs.model_prove.proofs.FactLemmas.{value_holds}
 use Rattle.law_prove.specs.model_prove.proofs.SetLemmas.{in_first, in_second, is_byte}

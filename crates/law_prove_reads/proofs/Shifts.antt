@@ -13,7 +13,7 @@ use Rattle.law_prove.specs.model_machine.specs.Frame.{Frame, dynamic_base, is_un
 use Rattle.law_prove.specs.model_machine.specs.Primitives.{Around, Goes, in_range, later_causes}
 use Rattle.law_prove.specs.model_machine.specs.Row.{causes, row, first_cause}
 use Rattle.law_prove.specs.model_machine.specs.Chain.{frame_at}
-use Rattle.law_prove.specs.law_rows.specs.Shapes.{Replaces, Shape, act_effect, shape, prim_shape}
+use Rattle.law_prove.specs.model_machine.specs.Shapes.{Replaces, Shape, act_effect, shape, prim_shape}
 use Rattle.law_prove.specs.law_bytes.proofs.ByteLists.{number_bytes}
 use Rattle.law_prove.specs.model_rules.specs.Rules.{Target}
 use Rattle.law_prove.specs.model_prove.specs.Sets.{Set, numbers_from, all_bytes}
@@ -26,7 +26,8 @@ use Rattle.law_prove.specs.model_prove.specs.Reach.{Shifts, coarse, may_have_bad
 use Rattle.law_prove.specs.model_prove.specs.Work.{Work, AsShaped, work}
 use Rattle.law_prove.specs.model_prove.specs.Arrivals.{Setting}
 use Rattle.law_prove.specs.model_prove.specs.Steps.{Spot, sets, any_bytes, lowered, written, flagged, final_flags, settled_spot, follows, row_arrivals, arounds, primitive_of, is_return, no_calls}
-use Rattle.law_prove.specs.model_prove.specs.Tables.{IsLoadable, includes_all}
+use Rattle.law_prove.specs.model_rules.specs.Loadable.{IsLoadable}
+use Rattle.law_prove.specs.model_prove.specs.Tables.{includes_all}
 use Rattle.law_prove.specs.Coverings.{frame_memory}
 use Rattle.law_prove.specs.Laws.{LeadsInto, LeadLaw}
 use Rattle.law_prove.proofs.Seen.{FitSets, fit_sets, fit_any}

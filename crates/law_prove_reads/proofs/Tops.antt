@@ -10,7 +10,7 @@ use Rattle.law_prove.specs.model_machine.specs.Frame.{Frame, dynamic_base, dynam
 use Rattle.law_prove.specs.model_machine.specs.Primitives.{Goes, has_bit, in_range, later_causes}
 use Rattle.law_prove.specs.model_machine.specs.Row.{causes, row, first_cause}
 use Rattle.law_prove.specs.model_machine.specs.Chain.{frame_at}
-use Rattle.law_prove.specs.law_rows.specs.Shapes.{Stays, act_effect, shape, prim_shape}
+use Rattle.law_prove.specs.model_machine.specs.Shapes.{Stays, act_effect, shape, prim_shape}
 use Rattle.law_prove.specs.model_rules.specs.Rules.{Target}
 use Rattle.law_prove.specs.model_prove.specs.Sets.{numbers_from}
 use Rattle.law_prove.specs.model_prove.specs.Facts.{Facts, Memory, values_at}
@@ -21,7 +21,8 @@ use Rattle.law_prove.specs.model_prove.specs.Splits.{Choice, combinations, count
 use Rattle.law_prove.specs.model_prove.specs.Work.{AsShaped}
 use Rattle.law_prove.specs.model_prove.specs.Arrivals.{Setting, Arrival}
 use Rattle.law_prove.specs.model_prove.specs.Steps.{Spot, lowered, flagged, settled_spot, follows, row_arrivals}
-use Rattle.law_prove.specs.model_prove.specs.Tables.{IsLoadable, includes_all}
+use Rattle.law_prove.specs.model_rules.specs.Loadable.{IsLoadable}
+use Rattle.law_prove.specs.model_prove.specs.Tables.{includes_all}
 use Rattle.law_prove.specs.Laws.{LeadsInto, LeadLaw}
 use Rattle.law_prove.proofs.Acts.{flags_led}
 use Rattle.law_prove.proofs.Single.{going, Turn, IsRowCovered, one_shaped}

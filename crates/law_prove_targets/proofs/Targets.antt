@@ -12,7 +12,7 @@ use Rattle.law_prove.specs.model_machine.specs.Frame.{Frame, Effect, dynamic_bas
 use Rattle.law_prove.specs.model_machine.specs.Primitives.{Around}
 use Rattle.law_prove.specs.model_machine.specs.Row.{causes, row, first_cause, Does}
 use Rattle.law_prove.specs.model_machine.specs.Chain.{frame_at}
-use Rattle.law_prove.specs.law_rows.specs.Shapes.{Act, Jumps, Calls, Shape, act_effect, shape_effect, meaning, shape}
+use Rattle.law_prove.specs.model_machine.specs.Shapes.{Act, Jumps, Calls, Shape, act_effect, shape_effect, meaning, shape}
 use Rattle.law_prove.specs.law_bytes.specs.OfBytes.{IsByteEffect}
 use Rattle.law_prove.specs.model_rules.specs.Rules.{Target}
 use Rattle.law_prove.specs.model_rules.specs.Keeping.{Amounts}
@@ -25,7 +25,8 @@ use Rattle.law_prove.specs.model_prove.specs.Reach.{target_choices, greatest_val
 use Rattle.law_prove.specs.model_prove.specs.Work.{Work, AsShaped, work}
 use Rattle.law_prove.specs.model_prove.specs.Arrivals.{Setting, Arrival, static_size, fails}
 use Rattle.law_prove.specs.model_prove.specs.Steps.{Spot, lowered, acted, settled_spot, makes_write, row_arrivals, caused, instruction, arounds, chosen, inside, by_choices, is_return, no_calls, returned_sets}
-use Rattle.law_prove.specs.model_prove.specs.Tables.{IsLoadable, includes_all}
+use Rattle.law_prove.specs.model_rules.specs.Loadable.{IsLoadable}
+use Rattle.law_prove.specs.model_prove.specs.Tables.{includes_all}
 use Rattle.law_prove.specs.model_prove.proofs.ChangeLemmas.{written_holds, choice_is_there}
 use Rattle.law_prove.specs.model_prove.proofs.FactLemmas.{value_holds}
 use Rattle.law_prove.specs.model_prove.proofs.SetLemmas.{is_first}

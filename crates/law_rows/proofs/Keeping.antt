@@ -12,7 +12,7 @@ use Rattle.model_machine.specs.model_device.proofs.ListLemmas.{length_splice, sp
 use Rattle.model_machine.specs.Frame.{Frame, Effect, Place, Static, Dynamic, Public, where_is, dynamic_base, static_written, write_effect_at, write_effect, top, protect, static_bytes, pending_change}
 use Rattle.model_machine.specs.Primitives.{Around, Done, Primitive, DelegateTo, DelegatorAid, primitive, frame_effect}
 use Rattle.model_machine.specs.Row.{effect, row_end, causes, first_cause, row, frame_after_call}
-use Rattle.law_rows.specs.Shapes.{Act, Stays, Answers, Jumps, Calls, Returns, Pushes, Replaces, Writes, Protects, Shape, with_status, with_length, act_effect, with_flags, meaning, prim_shape, pair_shape, shape, delegator_shape, exits}
+use Rattle.model_machine.specs.Shapes.{Act, Stays, Answers, Jumps, Calls, Returns, Pushes, Replaces, Writes, Protects, Shape, with_status, with_length, act_effect, with_flags, meaning, prim_shape, pair_shape, shape, delegator_shape, exits}
 use Rattle.law_rows.specs.Keeping.{PiecesWithin, ChangeWithin, after_change, Keeps, Leaves, OnLeave, OnDone, KeepingLaw, LeavingLaw}
 use Rattle.law_rows.proofs.RowShapes.{shapes}
 

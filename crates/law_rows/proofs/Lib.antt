@@ -1,3 +1,10 @@
 pub mod RowShapes
 pub mod Keeping
 pub mod RowNames
+pub mod BlockLemmas
+pub mod StepLemmas
+pub mod ResultLemmas
+pub mod ReadingLemmas
+pub mod RowLemmas
+pub mod SpellingLemmas
+pub mod PlaceLemmas

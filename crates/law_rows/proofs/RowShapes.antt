@@ -6,7 +6,8 @@ use Rattle.model_machine.specs.model_device.specs.Bytes.{num}
 use Rattle.model_machine.specs.Frame.{Frame, bytes_at, stack_bytes, frame_after_pop}
 use Rattle.model_machine.specs.Primitives.{Around, effect_and_next, frame_effect, Primitive, Lookup, DelegatorAid, primitive, lookup_effect, delegator_reported, number_below_top, count_at, prim_effect, prim_done}
 use Rattle.model_machine.specs.Row.{effect, holds, frame_after_jump, frame_after_call, target}
-use Rattle.law_rows.specs.Shapes.{meaning, prim_shape, pair_shape, shape, flagged, Pushes, ShapeLaw, delegator_shape}
+use Rattle.model_machine.specs.Shapes.{meaning, prim_shape, pair_shape, shape, flagged, Pushes, delegator_shape}
+use Rattle.law_rows.specs.ShapeLaw.{ShapeLaw}
 
 -- ---- primitives
 

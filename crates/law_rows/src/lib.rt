@@ -4,7 +4,7 @@
 //! do is proved over these.
 
 ghost use Rattle.law_rows.specs.Keeping.{KeepingLaw, LeavingLaw};
-ghost use Rattle.law_rows.specs.Shapes.{ShapeLaw};
+ghost use Rattle.law_rows.specs.ShapeLaw.{ShapeLaw};
 
 /// What each instruction does is the meaning of its shape.
 pub fn rows_have_shapes()
@@ -21,3 +21,5 @@ pub fn rows_keep_their_frame()
 pub fn leaving_changes_nothing()
     ensures leaves { LeavingLaw }
 {}
+
+pub use model_machine;

@@ -15,7 +15,7 @@ use Rattle.law_family.specs.model_machine.specs.Frame.{Frame, Effect, dynamic_ba
 use Rattle.law_family.specs.model_machine.specs.Primitives.{Around, Delegates, Done, Exits, Goes, Then, Primitive, DelegateTo, DelegatorAid, primitive}
 use Rattle.law_family.specs.model_machine.specs.Row.{RowEnd, Abends, Does, causes, effect, first_cause, row}
 use Rattle.law_family.specs.model_machine.specs.Chain.{Chain, Follows, Continues, Ends, Reply, Abended, after_exit, around, called_app, chain_after_call, chain_after_effect, code_in, depth_of, end_of, follows, frame_at, is_active, row_turn, turn_of, turn_of_chain, turn_of_fetch, write_of}
-use Rattle.law_family.specs.law_rows.specs.Shapes.{delegator_shape, meaning, pair_shape, prim_shape, shape}
+use Rattle.law_family.specs.model_machine.specs.Shapes.{delegator_shape, meaning, pair_shape, prim_shape, shape}
 use Rattle.law_family.specs.law_rows.specs.Keeping.{Keeps, Leaves, OnDone, OnLeave}
 use Rattle.law_family.specs.law_rows.proofs.Keeping.{on_done, row_keeps, row_leaves}
 use Rattle.law_family.specs.law_rows.proofs.RowShapes.{shapes}

@@ -15,7 +15,7 @@ use Rattle.law_family.specs.model_machine.specs.Frame.{Frame, Effect, la_of}
 use Rattle.law_family.specs.model_machine.specs.Primitives.{Around, Delegates, Done, Exits, Goes, Then}
 use Rattle.law_family.specs.model_machine.specs.Row.{RowEnd, Abends, Does, causes, effect, first_cause, row}
 use Rattle.law_family.specs.model_machine.specs.Chain.{Chain, Continues, Ends, Abended, after_exit, around, called_app, chain_after_call, chain_after_effect, code_in, depth_of, follows, frame_at, is_active, reply_of, reported_frame, row_turn, turn_of_chain, turn_of_fetch}
-use Rattle.law_family.specs.law_rows.specs.Shapes.{meaning, shape}
+use Rattle.law_family.specs.model_machine.specs.Shapes.{meaning, shape}
 use Rattle.law_family.specs.law_rows.specs.Keeping.{Keeps, OnDone}
 use Rattle.law_family.specs.law_rows.proofs.Keeping.{on_done, row_keeps}
 use Rattle.law_family.specs.law_rows.proofs.RowShapes.{shapes}

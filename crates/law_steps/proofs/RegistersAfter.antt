@@ -14,7 +14,7 @@ use Rattle.law_family.specs.model_machine.specs.Frame.{Frame, Effect, Place, Sta
 use Rattle.law_family.specs.model_machine.specs.Primitives.{Around, Delegates, Done, Exits, Goes, Then, Primitive, DelegateTo, DelegatorAid, primitive}
 use Rattle.law_family.specs.model_machine.specs.Row.{RowEnd, Abends, Does, causes, effect, first_cause, row}
 use Rattle.law_family.specs.model_machine.specs.Chain.{Chain, Follows, Continues, Ends, Reply, Abended, around, called_app, chain_after_call, chain_after_effect, code_in, depth_of, end_of, follows, frame_at, is_active, reported_frame, row_turn, turn_of, turn_of_chain, turn_of_fetch}
-use Rattle.law_family.specs.law_rows.specs.Shapes.{Act, Stays, Answers, Jumps, Calls, Returns, Pushes, Replaces, Writes, Protects, act_effect, delegator_shape, meaning, pair_shape, prim_shape, shape, with_flags}
+use Rattle.law_family.specs.model_machine.specs.Shapes.{Act, Stays, Answers, Jumps, Calls, Returns, Pushes, Replaces, Writes, Protects, act_effect, delegator_shape, meaning, pair_shape, prim_shape, shape, with_flags}
 use Rattle.law_family.specs.law_rows.specs.Keeping.{Keeps, OnDone, OnLeave}
 use Rattle.law_family.specs.law_rows.proofs.Keeping.{on_done, row_keeps}
 use Rattle.law_family.specs.law_rows.proofs.RowShapes.{shapes}

@@ -14,7 +14,7 @@ use Rattle.law_family.specs.model_machine.specs.Frame.{Frame, Effect, dynamic_ba
 use Rattle.law_family.specs.model_machine.specs.Primitives.{Then, Goes, Exits, Delegates}
 use Rattle.law_family.specs.model_machine.specs.Row.{RowEnd, Abends, Does, row}
 use Rattle.law_family.specs.model_machine.specs.Chain.{Chain, Follows, Continues, Ends, Abended, after_exit, around, called_app, chain_after_call, chain_after_effect, code_in, depth_of, follows, frame_at, is_active, reply_of, row_turn, turn_of, turn_of_chain, turn_of_fetch}
-use Rattle.desk_json.specs.Json.{changes}
+use Rattle.law_steps.specs.Runs.{changes}
 use Rattle.law_steps.specs.Readings.{Reading, reading_of, reading_after, row_reading, fetch_reading, done_reading, exit_reading, no_reading, sets_between, first_sets}
 use Rattle.law_steps.specs.Replays.{BeginsFrame, RunsTurn, Memory, HoldsFrame, HoldsFrames, HoldsPublic, HoldsChain, HoldsOn, HoldsAlong, TurnFits, FrameFits, ChainFits, FitsAlong, OnNext, bytes_with, below_top, called_lines, frame_line, memory_after, memory_of, no_memory, turn_line}
 use Rattle.law_steps.specs.Laws.{ReplayLaw}

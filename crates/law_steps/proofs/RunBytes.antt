@@ -5,7 +5,7 @@ use Rattle.std.specs.Prelude.{nat_le, slice_get}
 use Rattle.std.specs.List.{AllByRecursion}
 use Rattle.law_family.specs.model_device.specs.Bytes.{or_else}
 use Rattle.law_family.specs.model_device.specs.Pieces.{covering_byte}
-use Rattle.desk_json.specs.Json.{before_if, before_runs, changes}
+use Rattle.law_steps.specs.Runs.{before_if, before_runs, changes}
 use Rattle.law_steps.specs.Laws.{AreApart, ExactSetsLaw, LongestRunsLaw}
 
 -- the address of a run of bytes, and the bytes

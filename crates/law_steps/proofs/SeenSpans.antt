@@ -9,7 +9,7 @@ use Rattle.law_family.specs.model_machine.specs.Frame.{Frame, Place, Static, Dyn
 use Rattle.law_family.specs.model_device.specs.Bytes.{num}
 use Rattle.law_family.specs.model_machine.specs.Primitives.{Around, Primitive, CopyFixed, Decipher, DelegatorAid, Digest, Encipher, MemoryCopy, Sign, block_len, later_causes, number_below_top, prim_causes, primitive, reported_causes}
 use Rattle.law_family.specs.model_machine.specs.Row.{address_or_zero, causes, immediate_writes, operand, pair_writes, place_of}
-use Rattle.law_family.specs.law_rows.specs.Shapes.{Act, Writes, delegator_shape, pair_shape, prim_shape, shape}
+use Rattle.law_family.specs.model_machine.specs.Shapes.{Act, Writes, delegator_shape, pair_shape, prim_shape, shape}
 use Rattle.law_family.specs.law_machine.proofs.RowWords.{NoneHolds}
 use Rattle.law_steps.specs.Spans.{Look, Looks, SeesName, below_top, look_resolve, pair_target, placed, pointed, pointer, prim_target, static_only, target}
 use Rattle.law_steps.specs.Writes.{IsRoomy, act_span, ins_span}

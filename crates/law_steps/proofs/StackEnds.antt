@@ -12,7 +12,7 @@ use Rattle.law_family.specs.model_device.proofs.ListLemmas.{splice_longer, zeros
 use Rattle.law_family.specs.model_machine.specs.Frame.{Frame, Effect, Place, Static, Dynamic, Public, dynamic_base, dynamic_end, floor, frame_after_pop, is_over, no_return, protect, pending_change, static_bytes, static_written, where_is, write_effect, write_effect_at}
 use Rattle.law_family.specs.model_machine.specs.Primitives.{Around, Done, Primitive, DelegatorAid, LoadCcr, Lookup, later_causes, prim_causes, primitive}
 use Rattle.law_family.specs.model_machine.specs.Row.{causes, effect, first_cause, holds, row, row_end}
-use Rattle.law_family.specs.law_rows.specs.Shapes.{Act, Stays, Answers, Jumps, Calls, Returns, Pushes, Replaces, Writes, Protects, Shape, act_effect, delegator_shape, meaning, pair_shape, prim_shape, shape, with_flags}
+use Rattle.law_family.specs.model_machine.specs.Shapes.{Act, Stays, Answers, Jumps, Calls, Returns, Pushes, Replaces, Writes, Protects, Shape, act_effect, delegator_shape, meaning, pair_shape, prim_shape, shape, with_flags}
 use Rattle.law_family.specs.law_rows.specs.Keeping.{OnDone}
 use Rattle.law_family.specs.law_rows.proofs.RowShapes.{shapes}
 use Rattle.law_family.specs.law_machine.proofs.BlockLengths.{at_short}

@@ -20,7 +20,7 @@ use Rattle.law_family.specs.model_machine.specs.Primitives.{Around, Done, Primit
 use Rattle.law_family.specs.model_machine.specs.Row.{RowEnd, Abends, Does, causes, effect, first_cause, row, row_end}
 use Rattle.law_family.specs.model_machine.specs.Chain.{Abended, Chain, Follows, Continues, Ends, Reply, Write, around, chain_after_effect, code_in, end_of, follows, frame_at, row_turn, turn_of, turn_of_chain, turn_of_fetch, write_of}
 use Rattle.law_family.specs.law_rows.specs.Keeping.{OnDone}
-use Rattle.law_family.specs.law_rows.specs.Shapes.{Act, Stays, Answers, Jumps, Calls, Returns, Pushes, Replaces, Writes, Protects, act_effect, delegator_shape, meaning, pair_shape, prim_shape, shape, with_flags}
+use Rattle.law_family.specs.model_machine.specs.Shapes.{Act, Stays, Answers, Jumps, Calls, Returns, Pushes, Replaces, Writes, Protects, act_effect, delegator_shape, meaning, pair_shape, prim_shape, shape, with_flags}
 use Rattle.law_family.specs.law_rows.proofs.RowShapes.{shapes}
 use Rattle.law_family.specs.law_machine.proofs.RowWords.{none_holds}
 use Rattle.law_steps.specs.Registers.{mode_of, pair_mode, primitive_mode}

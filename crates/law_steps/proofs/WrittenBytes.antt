@@ -14,7 +14,7 @@ use Rattle.law_family.specs.model_machine.specs.Modes.{ecb}
 use Rattle.law_family.specs.model_machine.specs.Frame.{Frame, Place, Static, Dynamic, Public, bytes_at, bytes_in, dynamic_base, floor, frame_after_pop, is_outside, is_under, no_access, public_base, public_end, static_bytes, too_many, top, where_is}
 use Rattle.law_family.specs.model_machine.specs.Primitives.{Around, Cipher, Des, TripleDes, Aes, Primitive, CopyFixed, Decipher, DelegatorAid, Digest, Encipher, MemoryCopy, Sign, block_len, cipher_causes, decipherment, encipherment, has_bad_argument, in_range, is_message, key_len, later_causes, number_below_top, prim_causes, primitive, reported_causes, signature}
 use Rattle.law_family.specs.model_machine.specs.Row.{address_or_zero, causes, immediate_writes, on_stack, operand, pair_writes, place_of}
-use Rattle.law_family.specs.law_rows.specs.Shapes.{Act, Shape, Writes, delegator_shape, pair_shape, prim_shape, shape}
+use Rattle.law_family.specs.model_machine.specs.Shapes.{Act, Shape, Writes, delegator_shape, pair_shape, prim_shape, shape}
 use Rattle.law_family.specs.law_machine.proofs.RowWords.{NoneHolds}
 use Rattle.law_steps.specs.Writes.{IsRoomy}
 use Rattle.law_family.specs.law_machine.proofs.BlockSizes.{deciphered_length, digest_length, enciphered_length, signature_length}

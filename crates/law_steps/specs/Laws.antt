@@ -12,7 +12,7 @@ use Rattle.law_family.specs.model_play.specs.DeckGrammar.{DeckLine}
 use Rattle.law_family.specs.model_play.specs.Play.{FailedWrite, plays, start}
 use Rattle.law_family.specs.law_machine.specs.Limited.{AreLimited, session_in}
 use Rattle.law_family.specs.Begins.{OnEachRun}
-use Rattle.desk_json.specs.Json.{changes}
+use Rattle.law_steps.specs.Runs.{changes}
 use Rattle.law_steps.specs.Readings.{last_reading, reading_after, reading_of}
 use Rattle.law_steps.specs.Shown.{EndsFrame, exit_public, is_exit_of, shown_reading}
 use Rattle.law_steps.specs.Replays.{FitsAlong, HoldsAlong, frame_line, memory_after, no_memory}

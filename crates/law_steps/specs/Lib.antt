@@ -6,6 +6,7 @@ pub mod Replays
 pub mod Laws
 pub mod Writes
 pub mod Spans
+pub mod Runs
 -- the libraries below that those above cite through this one
 pub use Rattle.law_family.specs.model_device as model_device
 pub use Rattle.law_family.specs.model_machine as model_machine

@@ -8,7 +8,7 @@ use Rattle.law_family.specs.model_machine.specs.Frame.{Frame, Effect, dynamic_ba
 use Rattle.law_family.specs.model_machine.specs.Primitives.{Then, Goes, Exits, Delegates}
 use Rattle.law_family.specs.model_machine.specs.Row.{RowEnd, Abends, Does, row}
 use Rattle.law_family.specs.model_machine.specs.Chain.{Chain, Follows, Continues, Ends, Reply, Abended, around, chain_after_effect, code_in, follows, frame_at}
-use Rattle.desk_json.specs.Json.{changes}
+use Rattle.law_steps.specs.Runs.{changes}
 
 -- ---- readings
 

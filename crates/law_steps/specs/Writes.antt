@@ -10,7 +10,7 @@ use Rattle.law_family.specs.model_machine.specs.declared.instruction.Ins.{Ins}
 use Rattle.law_family.specs.model_machine.specs.Frame.{Frame, dynamic_end}
 use Rattle.law_family.specs.model_machine.specs.Primitives.{Around}
 use Rattle.law_family.specs.model_machine.specs.Chain.{Abended, Chain, Follows, Continues, Ends, Outcome, Reply, around, depth_of, turn_of}
-use Rattle.law_family.specs.law_rows.specs.Shapes.{Act, Writes, shape}
+use Rattle.law_family.specs.model_machine.specs.Shapes.{Act, Writes, shape}
 use Rattle.law_steps.specs.Nexts.{OpensOf}
 use Rattle.law_steps.specs.Registers.{mode_of}
 

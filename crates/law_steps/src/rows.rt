@@ -3,7 +3,7 @@
 
 ghost use Rattle.std.specs.Prelude.{◌≡◌, [], ◌∷◌, true, false, Some, None};
 ghost use Rattle.law_steps.specs.Readings.{no_reading, sets_between};
-ghost use Rattle.law_family.specs.law_rows.specs.Shapes.{Writes};
+ghost use Rattle.law_family.specs.model_machine.specs.Shapes.{Writes};
 ghost use Rattle.law_steps.specs.Replays.{BeginsFrame, RunsTurn, memory_of, no_memory};
 ghost use Rattle.law_steps.specs.Writes.{act_span, now_by, span_now, span_waits, waits_by, with_waits, words_under, writes_of_words};
 

@@ -3,11 +3,12 @@ use Rattle.std.specs.Prelude.{◌≡◌, ℕ, true, ◌&&◌, Option, Some, None
 use Rattle.std.proofs.Common.{subst}
 use Rattle.std.proofs.lemmas.Bool.{and_parts}
 use Rattle.law_sum_plays.specs.model_rules.specs.Rules.{Target, AppRules}
-use Rattle.law_sum_plays.specs.model_rules.specs.Reading.{RuleCause, app_rules_read}
-use Rattle.law_sum_plays.specs.model_rules.specs.Law.{AreKeptBy}
+use Rattle.law_sum_plays.specs.model_rule_text.specs.Reading.{RuleCause, app_rules_read}
+use Rattle.law_sum_plays.specs.law_rules.specs.Law.{AreKeptBy}
 use Rattle.law_sum_plays.specs.model_prove.specs.Keys.{Tables}
 use Rattle.law_sum_plays.specs.model_prove.specs.Arrivals.{Setting}
-use Rattle.law_sum_plays.specs.model_prove.specs.Tables.{is_closed, tables_after}
+use Rattle.law_sum_plays.specs.model_prove.specs.Tables.{is_closed}
+use Rattle.law_sum_plays.specs.law_prove_closed.specs.Search.{tables_after}
 use Rattle.law_sum_plays.specs.law_prove_closed.specs.Decks.{is_loadable, TargetIsKept, AreKeptAsRead, DeckIsKept}
 use Rattle.law_sum_plays.specs.law_prove_closed.proofs.Decks.{loadable_is}
 use Rattle.law_sum_plays.specs.model_sums.specs.Sums.{SumsTable}

@@ -9,18 +9,19 @@ use Rattle.law_sum_plays.specs.model_machine.specs.Row.{causes}
 use Rattle.law_sum_plays.specs.model_card.specs.Units.{name_of}
 use Rattle.law_sum_plays.specs.model_text.specs.TurnText.{turn_line}
 use Rattle.law_sum_plays.specs.model_play.specs.DeckGrammar.{deck_read}
-use Rattle.law_sum_plays.specs.law_rows.specs.Shapes.{shape, prim_shape}
-use Rattle.law_sum_plays.specs.law_explore.specs.Matching.{fits}
+use Rattle.law_sum_plays.specs.model_machine.specs.Shapes.{shape, prim_shape}
+use Rattle.law_sum_plays.specs.model_rules.specs.model_events.specs.Matching.{fits}
 use Rattle.law_sum_plays.specs.model_rules.specs.Rules.{Target, AppRules}
-use Rattle.law_sum_plays.specs.model_rules.specs.Reading.{RuleCause, app_rules_read}
-use Rattle.law_sum_plays.specs.model_prove.specs.Computed.{deck_of}
+use Rattle.law_sum_plays.specs.model_rule_text.specs.Reading.{RuleCause, app_rules_read}
+use Rattle.law_sum_plays.specs.law_prove_closed.specs.Computed.{deck_of}
 use Rattle.law_sum_plays.specs.model_prove.specs.Keys.{Tables}
 use Rattle.law_sum_plays.specs.model_prove.specs.Arrivals.{Setting}
-use Rattle.law_sum_plays.specs.model_prove.specs.Tables.{is_closed, tables_after}
+use Rattle.law_sum_plays.specs.model_prove.specs.Tables.{is_closed}
+use Rattle.law_sum_plays.specs.law_prove_closed.specs.Search.{tables_after}
 use Rattle.law_sum_plays.specs.law_prove_closed.specs.Decks.{is_loadable, DeckIsKept}
 use Rattle.law_sum_plays.specs.model_sums.specs.Sums.{SumsTable}
 use Rattle.law_sum_plays.specs.model_sums.specs.Closed.{sums_closed}
-use Rattle.law_sum_plays.specs.model_sums.specs.Computed.{all_even, but_at, guessed, with_off}
+use Rattle.law_sum_decks.specs.Computed.{all_even, but_at, guessed, with_off}
 
 -- a table of sums for tables of facts
 abbrev pub SumsOf : Type 0

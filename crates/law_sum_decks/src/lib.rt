@@ -2,6 +2,8 @@
 
 //! The rules of a deck, with their sums, are kept in every play if one check that is computed says so.
 
+mod table_rows;
+
 ghost use Rattle.std.specs.Prelude.{◌≡◌, codes, false};
 ghost use Rattle.law_sum_plays.specs.law_prove_closed.specs.Decks.{DeckIsKept};
 ghost use Rattle.law_sum_decks.specs.Decks.{DeckSumsLaw, proves_sums, transaction_deck, transaction_sums};

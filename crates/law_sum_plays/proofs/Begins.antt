@@ -14,12 +14,13 @@ use Rattle.law_prove_closed.specs.law_promise.specs.Domain.{first_frame_in}
 use Rattle.law_prove_closed.specs.model_rules.specs.Rules.{AppRules, Target}
 use Rattle.law_prove_closed.specs.model_rules.specs.Happenings.{Event, Commanded, History}
 use Rattle.law_prove_closed.specs.model_rules.specs.Keeping.{Amounts, Break, Standing, OnCommand, after_occasion, are_totals}
-use Rattle.law_prove_closed.specs.model_rules.specs.Law.{domain_of_rules}
+use Rattle.law_prove_closed.specs.law_rules.specs.Law.{domain_of_rules}
 use Rattle.law_prove_closed.specs.model_prove.specs.Facts.{Facts, Memory}
 use Rattle.law_prove_closed.specs.model_prove.specs.Keys.{Start, Delegated, OfClass, Call, PlaceKey, Tables}
 use Rattle.law_prove_closed.specs.model_prove.specs.Arrivals.{Setting, Arrival, static_size, arrive, idle, after_command, after_session}
 use Rattle.law_prove_closed.specs.model_prove.specs.Between.{Class, classes, selected, continued, commanded, begun, first_place, public_facts, own_facts, static_facts, moment_arrivals}
-use Rattle.law_prove_closed.specs.model_prove.specs.Tables.{IsLoadable, is_closed}
+use Rattle.law_prove_closed.specs.model_rules.specs.Loadable.{IsLoadable}
+use Rattle.law_prove_closed.specs.model_prove.specs.Tables.{is_closed}
 use Rattle.law_prove_closed.specs.law_prove.specs.Coverings.{frame_memory, class_of, StartsAs, AreOpen, IsPlace, key_of, covering_of}
 use Rattle.law_prove_closed.specs.law_prove.specs.Laws.{PlacesCovered}
 use Rattle.law_prove_closed.specs.law_prove.proofs.Parts.{memory_public}

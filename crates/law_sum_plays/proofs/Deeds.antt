@@ -7,7 +7,7 @@ use Rattle.std.proofs.lemmas.Bool.{and_parts}
 use Rattle.law_prove_closed.specs.model_machine.specs.declared.instruction.Ins.{Ins}
 use Rattle.law_prove_closed.specs.model_machine.specs.Frame.{Frame, Effect, dynamic_base, public_base, static_bytes}
 use Rattle.law_prove_closed.specs.model_machine.specs.Primitives.{Then}
-use Rattle.law_prove_closed.specs.law_promise.specs.History.{Deed}
+use Rattle.law_prove_closed.specs.model_rules.specs.model_events.specs.Deeds.{Deed}
 use Rattle.law_prove_closed.specs.law_promise.specs.Outline.{Entry, is_direct}
 use Rattle.law_prove_closed.specs.law_promise.specs.Domain.{FitsDepth}
 use Rattle.law_prove_closed.specs.model_rules.specs.Rules.{SumLine, Total, AppRules, Target}
@@ -17,7 +17,7 @@ use Rattle.law_prove_closed.specs.model_prove.specs.Facts.{Memory}
 use Rattle.law_prove_closed.specs.model_prove.specs.Keys.{Tables}
 use Rattle.law_prove_closed.specs.model_prove.specs.Splits.{Scene}
 use Rattle.law_prove_closed.specs.model_prove.specs.Arrivals.{Setting, Arrival, static_size}
-use Rattle.law_prove_closed.specs.model_prove.specs.Tables.{IsLoadable}
+use Rattle.law_prove_closed.specs.model_rules.specs.Loadable.{IsLoadable}
 use Rattle.law_prove_closed.specs.law_prove.specs.Coverings.{frame_memory, IsPlace, key_of}
 use Rattle.law_prove_closed.specs.law_prove.proofs.Parts.{memory_public}
 use Rattle.law_prove_closed.specs.Outcomes.{some_outcome, leads_to}

@@ -8,13 +8,14 @@ use Rattle.law_prove_closed.specs.model_machine.specs.declared.machine.Abend.The
 use Rattle.law_prove_closed.specs.model_machine.specs.Frame.{Frame, Effect, session_of, la_of}
 use Rattle.law_prove_closed.specs.model_machine.specs.Primitives.{Exits, Done}
 use Rattle.law_prove_closed.specs.model_machine.specs.Chain.{Outcome, Abended}
-use Rattle.law_prove_closed.specs.law_promise.specs.History.{Deed, with_event, is_too_long, done_event}
+use Rattle.law_prove_closed.specs.model_rules.specs.model_events.specs.Deeds.{Deed}
+use Rattle.law_prove_closed.specs.law_promise.specs.History.{with_event, is_too_long, done_event}
 use Rattle.law_prove_closed.specs.law_promise.specs.Outline.{Entry, BySelection, ByDelegation, is_direct}
 use Rattle.law_prove_closed.specs.law_promise.specs.Domain.{EndCovered, StopCovered, WriteCovered, DeedCovered, AbendCovered, exit_outcome}
 use Rattle.law_prove_closed.specs.model_rules.specs.Rules.{AppRules, Target}
 use Rattle.law_prove_closed.specs.model_rules.specs.Happenings.{Event, Did, Failed, Session, History, rule_watch}
 use Rattle.law_prove_closed.specs.model_rules.specs.Keeping.{Break, Standing, are_totals, after_event, standing_after}
-use Rattle.law_prove_closed.specs.model_rules.specs.Law.{domain_of_rules}
+use Rattle.law_prove_closed.specs.law_rules.specs.Law.{domain_of_rules}
 use Rattle.law_prove_closed.specs.model_prove.specs.Keys.{Tables}
 use Rattle.law_prove_closed.specs.model_prove.specs.Arrivals.{Setting}
 use Rattle.law_prove_closed.specs.law_prove.specs.Coverings.{IsMoment, covering_of}

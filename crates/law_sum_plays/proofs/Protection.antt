@@ -7,7 +7,7 @@ use Rattle.law_prove_closed.specs.model_machine.specs.Frame.{Frame, Effect, Plac
 use Rattle.law_prove_closed.specs.model_machine.specs.Primitives.{Around, Done, Primitive, DelegatorAid, primitive}
 use Rattle.law_prove_closed.specs.model_machine.specs.Row.{effect, causes, first_cause, row}
 use Rattle.law_prove_closed.specs.model_machine.specs.Chain.{frame_at}
-use Rattle.law_prove_closed.specs.law_rows.specs.Shapes.{Act, Stays, Answers, Jumps, Calls, Returns, Pushes, Replaces, Writes, Protects, Shape, act_effect, with_flags, meaning, prim_shape, pair_shape, shape, delegator_shape}
+use Rattle.law_prove_closed.specs.model_machine.specs.Shapes.{Act, Stays, Answers, Jumps, Calls, Returns, Pushes, Replaces, Writes, Protects, Shape, act_effect, with_flags, meaning, prim_shape, pair_shape, shape, delegator_shape}
 use Rattle.law_prove_closed.specs.law_rows.proofs.RowShapes.{shapes}
 use Rattle.law_prove_closed.specs.law_rows.proofs.Keeping.{on_done}
 use Rattle.law_prove_closed.specs.model_rules.specs.Keeping.{mode_of_primitive, mode_of}

@@ -11,11 +11,12 @@ use Rattle.law_prove_closed.specs.law_promise.specs.Domain.{Domain, IsSound}
 use Rattle.law_prove_closed.specs.model_rules.specs.Rules.{AppRules, Target}
 use Rattle.law_prove_closed.specs.model_rules.specs.Happenings.{Event, Session, History}
 use Rattle.law_prove_closed.specs.model_rules.specs.Keeping.{Break, Standing, standing_after, are_in_ranges, are_totals, are_kept, keeps_rules, first_standing}
-use Rattle.law_prove_closed.specs.model_rules.specs.Law.{Covering, CoversRules, domain_of_rules}
-use Rattle.law_prove_closed.specs.model_rules.proofs.Covered.{covered_rules}
+use Rattle.law_prove_closed.specs.law_rules.specs.Law.{Covering, CoversRules, domain_of_rules}
+use Rattle.law_prove_closed.specs.law_rules.proofs.Covered.{covered_rules}
 use Rattle.law_prove_closed.specs.model_prove.specs.Keys.{Tables}
 use Rattle.law_prove_closed.specs.model_prove.specs.Arrivals.{Setting}
-use Rattle.law_prove_closed.specs.model_prove.specs.Tables.{IsLoadable, is_closed}
+use Rattle.law_prove_closed.specs.model_rules.specs.Loadable.{IsLoadable}
+use Rattle.law_prove_closed.specs.model_prove.specs.Tables.{is_closed}
 use Rattle.law_prove_closed.specs.law_prove.specs.Coverings.{IsMoment, covering_of}
 use Rattle.law_prove_closed.specs.law_prove.proofs.Moments.{idle_ranges}
 use Rattle.law_prove_closed.proofs.Rows.{all_rows}

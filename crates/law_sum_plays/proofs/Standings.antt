@@ -5,9 +5,9 @@ use Rattle.std.proofs.Common.{arith, ap, sym, subst, ◌∙◌}
 use Rattle.std.proofs.lemmas.Bool.{and_parts}
 use Rattle.law_prove_closed.specs.model_text.specs.Text.{◌>>=◌}
 use Rattle.law_prove_closed.specs.model_text.specs.Listing.{hex_text}
-use Rattle.law_prove_closed.specs.model_play.specs.Transcript.{outcome_text}
-use Rattle.law_prove_closed.specs.law_promise.specs.History.{Deed}
-use Rattle.law_prove_closed.specs.law_explore.specs.Matching.{fits}
+use Rattle.law_prove_closed.specs.model_text.specs.TurnText.{outcome_text}
+use Rattle.law_prove_closed.specs.model_rules.specs.model_events.specs.Deeds.{Deed}
+use Rattle.law_prove_closed.specs.model_rules.specs.model_events.specs.Matching.{fits}
 use Rattle.law_prove_closed.specs.model_rules.specs.Rules.{SumLine, AppRules}
 use Rattle.law_prove_closed.specs.model_rules.specs.Happenings.{Event, Did, Failed, Commanded, Answers, Session, History}
 use Rattle.law_prove_closed.specs.model_rules.specs.Keeping.{Amounts, Break, Sum, Standing, OnTurn, OnCommand, OnAnswer, OnSession, after_occasion, line_of_deed, moved_sum, after_sum_line, after_moves, mode_of, first_sums, first_standing, protected_sums, after_deed, with_allowances, after_abend, after_event, standing_after}

@@ -17,12 +17,13 @@ use Rattle.law_prove_closed.specs.law_promise.specs.Domain.{IsSegment, IsDelegat
 use Rattle.law_prove_closed.specs.model_rules.specs.Rules.{AppRules, Target}
 use Rattle.law_prove_closed.specs.model_rules.specs.Happenings.{Event, Did, Failed, History}
 use Rattle.law_prove_closed.specs.model_rules.specs.Keeping.{mode_of}
-use Rattle.law_prove_closed.specs.model_rules.specs.Law.{domain_of_rules}
+use Rattle.law_prove_closed.specs.law_rules.specs.Law.{domain_of_rules}
 use Rattle.law_prove_closed.specs.model_prove.specs.Keys.{PlaceKey, Tables}
 use Rattle.law_prove_closed.specs.model_prove.specs.Splits.{Scene}
 use Rattle.law_prove_closed.specs.model_prove.specs.Arrivals.{Setting, Arrival, static_size}
 use Rattle.law_prove_closed.specs.model_prove.specs.Steps.{place_arrivals}
-use Rattle.law_prove_closed.specs.model_prove.specs.Tables.{IsLoadable, is_closed}
+use Rattle.law_prove_closed.specs.model_rules.specs.Loadable.{IsLoadable}
+use Rattle.law_prove_closed.specs.model_prove.specs.Tables.{is_closed}
 use Rattle.law_prove_closed.specs.law_prove.specs.Coverings.{IsPlace, key_of, covering_of}
 use Rattle.law_prove_closed.specs.law_prove.specs.Laws.{PlacesCovered}
 use Rattle.law_prove_closed.specs.law_prove.proofs.Places.{place_law}

@@ -6,7 +6,7 @@ use Rattle.law_prove_closed.specs.model_machine.specs.Frame.{Frame}
 use Rattle.law_prove_closed.specs.law_promise.specs.Outline.{Entry}
 use Rattle.law_prove_closed.specs.model_rules.specs.Happenings.{Event, History}
 use Rattle.law_prove_closed.specs.model_rules.specs.Keeping.{are_totals}
-use Rattle.law_prove_closed.specs.model_rules.specs.Law.{Covering}
+use Rattle.law_prove_closed.specs.law_rules.specs.Law.{Covering}
 use Rattle.law_prove_closed.specs.model_prove.specs.Keys.{Tables}
 use Rattle.law_prove_closed.specs.model_prove.specs.Arrivals.{Setting}
 use Rattle.law_prove_closed.specs.law_prove.specs.Coverings.{IsMoment, IsUnbroken, frame_memory, IsPlace, key_of}

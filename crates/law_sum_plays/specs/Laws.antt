@@ -16,10 +16,11 @@ use Rattle.law_prove_closed.specs.law_promise.specs.Domain.{IsSegment, IsDelegat
 use Rattle.law_prove_closed.specs.model_rules.specs.Rules.{Target, AppRules}
 use Rattle.law_prove_closed.specs.model_rules.specs.Happenings.{Event, Did, Failed, Commanded, Answers, Session, History}
 use Rattle.law_prove_closed.specs.model_rules.specs.Keeping.{Sum, Standing, mode_of, standing_after}
-use Rattle.law_prove_closed.specs.model_rules.specs.Law.{AreKept, CoversRules, domain_of_rules}
+use Rattle.law_prove_closed.specs.law_rules.specs.Law.{AreKept, CoversRules, domain_of_rules}
 use Rattle.law_prove_closed.specs.model_prove.specs.Keys.{Tables}
 use Rattle.law_prove_closed.specs.model_prove.specs.Arrivals.{Setting}
-use Rattle.law_prove_closed.specs.model_prove.specs.Tables.{IsLoadable, is_closed}
+use Rattle.law_prove_closed.specs.model_rules.specs.Loadable.{IsLoadable}
+use Rattle.law_prove_closed.specs.model_prove.specs.Tables.{is_closed}
 use Rattle.law_sum_rows.specs.model_sums.specs.Sums.{SumsTable}
 use Rattle.law_sum_rows.specs.model_sums.specs.Events.{asks}
 use Rattle.law_sum_rows.specs.model_sums.specs.Closed.{is_sum, sums_closed}

@@ -10,5 +10,6 @@ pub use Rattle.law_prove_closed.specs.model_rules as model_rules
 pub use Rattle.law_prove_closed.specs.model_prove as model_prove
 pub use Rattle.law_sum_rows.specs.model_sums as model_sums
 pub use Rattle.law_prove_closed.specs.law_rows as law_rows
-pub use Rattle.law_prove_closed.specs.law_explore as law_explore
 pub use Rattle.law_prove_closed as law_prove_closed
+pub use Rattle.law_prove_closed.specs.law_rules as law_rules
+pub use Rattle.law_prove_closed.specs.model_rule_text as model_rule_text

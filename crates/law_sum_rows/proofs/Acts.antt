@@ -6,7 +6,7 @@ use Rattle.law_sums.specs.model_device.specs.Bytes.{bytes2, splice}
 use Rattle.law_sums.specs.model_device.proofs.ListLemmas.{splice_longer}
 use Rattle.law_sums.specs.model_machine.specs.Frame.{Frame, Effect, where_is, dynamic_base, dynamic_end, static_bytes, top, pending_change}
 use Rattle.law_sums.specs.model_machine.specs.Chain.{frame_at}
-use Rattle.law_sums.specs.law_rows.specs.Shapes.{Act, Stays, Answers, Jumps, Calls, Returns, Pushes, Replaces, Writes, Protects, with_status, with_length, act_effect}
+use Rattle.law_sums.specs.model_machine.specs.Shapes.{Act, Stays, Answers, Jumps, Calls, Returns, Pushes, Replaces, Writes, Protects, with_status, with_length, act_effect}
 use Rattle.law_sums.specs.law_rows.proofs.Keeping.{length_laid}
 use Rattle.law_sums.specs.model_rules.specs.Rules.{Total}
 use Rattle.law_sums.specs.model_rules.specs.Keeping.{Amounts, Sum}

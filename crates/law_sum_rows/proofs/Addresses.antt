@@ -8,7 +8,7 @@ use Rattle.law_sums.specs.model_machine.specs.declared.instruction.Ins.TheVarian
 use Rattle.law_sums.specs.model_machine.specs.Frame.{Frame, where_is, is_outside, no_access, bytes_at, address_at, top, is_under, dynamic_base, dynamic_end, frame_after_pop}
 use Rattle.law_sums.specs.model_machine.specs.Primitives.{Around, Goes, number_below_top}
 use Rattle.law_sums.specs.model_machine.specs.Row.{causes, operand, address_or_zero, on_stack, indexed_address}
-use Rattle.law_sums.specs.law_rows.specs.Shapes.{Act, Pushes, Writes, shape}
+use Rattle.law_sums.specs.model_machine.specs.Shapes.{Act, Pushes, Writes, shape}
 use Rattle.law_sums.specs.model_prove.specs.Sets.{is_in}
 use Rattle.law_sums.specs.model_prove.specs.Facts.{Memory, values_at}
 use Rattle.law_sums.specs.model_prove.specs.Compares.{bytes_from}

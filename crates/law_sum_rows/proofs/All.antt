@@ -7,7 +7,7 @@ use Rattle.law_sums.specs.model_machine.specs.declared.instruction.Ins.TheVarian
 use Rattle.law_sums.specs.model_machine.specs.Frame.{Frame}
 use Rattle.law_sums.specs.model_machine.specs.Primitives.{Goes, Des, TripleDes, Aes, Primitive, entry_of_number, primitives, primitive, prim_causes}
 use Rattle.law_sums.specs.model_machine.specs.Row.{causes}
-use Rattle.law_sums.specs.law_rows.specs.Shapes.{Stays, shape, pair_shape}
+use Rattle.law_sums.specs.model_machine.specs.Shapes.{Stays, shape, pair_shape}
 use Rattle.law_sums.specs.model_rules.specs.Keeping.{mode_of_primitive}
 use Rattle.law_prove_reach.specs.law_prove.proofs.Turns.{NoCause}
 use Rattle.law_sums.specs.TurnLaws.{row_sums}

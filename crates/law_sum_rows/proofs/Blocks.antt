@@ -9,7 +9,7 @@ use Rattle.law_sums.specs.model_machine.specs.Modes.{ecb}
 use Rattle.law_sums.specs.model_machine.specs.Frame.{Frame, where_is, is_outside, bytes_at, is_under, dynamic_base, dynamic_end, frame_after_pop}
 use Rattle.law_sums.specs.model_machine.specs.Primitives.{Around, Cipher, MemoryCopy, CopyFixed, Digest, later_causes, number_below_top, in_range, is_message, block_len, key_len, signature}
 use Rattle.law_sums.specs.model_machine.specs.Row.{causes}
-use Rattle.law_sums.specs.law_rows.specs.Shapes.{shape, prim_shape}
+use Rattle.law_sums.specs.model_machine.specs.Shapes.{shape, prim_shape}
 use Rattle.law_sums.specs.law_machine.proofs.BlockLengths.{length_sha1}
 use Rattle.law_sums.specs.model_prove.specs.Sets.{is_in}
 use Rattle.law_sums.specs.model_prove.specs.Facts.{Facts, Memory, values_at}

@@ -4,7 +4,7 @@ use Rattle.std.specs.Prelude.{slice_index}
 use Rattle.law_sums.specs.model_machine.specs.declared.instruction.Ins.TheVariants as ins
 use Rattle.law_sums.specs.model_machine.specs.Primitives.{Cipher, Primitive, Encipher, Decipher, Sign, primitive, later_causes, prim_causes, encipherment, decipherment}
 use Rattle.law_sums.specs.model_machine.specs.Row.{causes}
-use Rattle.law_sums.specs.law_rows.specs.Shapes.{shape, prim_shape, pair_shape}
+use Rattle.law_sums.specs.model_machine.specs.Shapes.{shape, prim_shape, pair_shape}
 use Rattle.law_sums.specs.model_rules.specs.Keeping.{mode_of_primitive}
 use Rattle.law_sums.specs.model_prove.specs.Keys.{Start}
 use Rattle.law_sums.specs.model_prove.specs.Laws.{Among}

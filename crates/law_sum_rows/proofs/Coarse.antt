@@ -5,7 +5,7 @@ use Rattle.std.specs.List.{AllByRecursion}
 use Rattle.std.proofs.lemmas.Bool.{and_parts, eqb-true}
 use Rattle.law_sums.specs.model_device.specs.Bytes.{num}
 use Rattle.law_sums.specs.model_machine.specs.Frame.{Frame, where_is, dynamic_base, dynamic_end}
-use Rattle.law_sums.specs.law_rows.specs.Shapes.{Act, Stays, Pushes, Replaces, Writes}
+use Rattle.law_sums.specs.model_machine.specs.Shapes.{Act, Stays, Pushes, Replaces, Writes}
 use Rattle.law_sums.specs.model_rules.specs.Rules.{Total}
 use Rattle.law_sums.specs.model_rules.specs.Keeping.{Amounts, Sum, added_by, taken_by, is_total, are_totals}
 use Rattle.law_sums.specs.model_prove.specs.Facts.{Memory}

@@ -7,7 +7,7 @@ use Rattle.law_sums.specs.model_machine.specs.declared.instruction.Ins.TheVarian
 use Rattle.law_sums.specs.model_machine.specs.Frame.{Frame, Place, Static, Dynamic, Public, where_is, bytes_at, top, dynamic_base, dynamic_end, no_access, frame_after_pop}
 use Rattle.law_sums.specs.model_machine.specs.Primitives.{Around, Goes, Primitive}
 use Rattle.law_sums.specs.model_machine.specs.Row.{causes, operand, address_or_zero, place_of, value_of}
-use Rattle.law_sums.specs.law_rows.specs.Shapes.{Pushes, Writes, Shape, shape}
+use Rattle.law_sums.specs.model_machine.specs.Shapes.{Pushes, Writes, Shape, shape}
 use Rattle.law_sums.specs.model_prove.specs.Facts.{Memory}
 use Rattle.law_sums.specs.model_prove.specs.Compares.{bytes_from}
 use Rattle.law_sums.specs.model_prove.specs.Keys.{Tables}

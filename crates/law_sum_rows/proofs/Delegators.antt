@@ -10,7 +10,7 @@ use Rattle.law_sums.specs.model_machine.specs.Frame.{Frame, where_is, is_under, 
 use Rattle.law_sums.specs.model_machine.specs.Primitives.{Around, Goes, DelegatorAid, later_causes, reported_causes, number_below_top, has_bit}
 use Rattle.law_sums.specs.model_machine.specs.Row.{causes, row}
 use Rattle.law_sums.specs.law_rows.specs.Keeping.{OnDone}
-use Rattle.law_sums.specs.law_rows.specs.Shapes.{Act, Stays, Writes, Shape, shape, prim_shape, delegator_shape}
+use Rattle.law_sums.specs.model_machine.specs.Shapes.{Act, Stays, Writes, Shape, shape, prim_shape, delegator_shape}
 use Rattle.law_sums.specs.law_bytes.specs.OfChains.{IsName}
 use Rattle.law_sums.specs.law_promise.specs.Outline.{Entry, BySelection, ByDelegation, FitsEntry}
 use Rattle.law_sums.specs.law_promise.specs.Domain.{IsDelegator}

@@ -8,7 +8,7 @@ use Rattle.law_sums.specs.model_machine.specs.Blocks.{and_blocks, or_blocks, xor
 use Rattle.law_sums.specs.model_machine.specs.Frame.{Frame, top, is_under, dynamic_base, dynamic_end}
 use Rattle.law_sums.specs.model_machine.specs.Primitives.{Around, Goes, BitByte, BitWord, later_causes, masked_bytes}
 use Rattle.law_sums.specs.model_machine.specs.Row.{causes}
-use Rattle.law_sums.specs.law_rows.specs.Shapes.{Act, Replaces, Shape, shape, prim_shape}
+use Rattle.law_sums.specs.model_machine.specs.Shapes.{Act, Replaces, Shape, shape, prim_shape}
 use Rattle.law_sums.specs.law_machine.proofs.BlockLengths.{each_short}
 use Rattle.law_sums.specs.model_rules.specs.Keeping.{mode_of}
 use Rattle.law_sums.specs.model_prove.specs.Facts.{Memory}

@@ -5,7 +5,7 @@ use Rattle.law_sums.specs.model_device.specs.Bytes.{num}
 use Rattle.law_sums.specs.model_machine.specs.declared.instruction.Ins.{Ins}
 use Rattle.law_sums.specs.model_machine.specs.Frame.{Frame, where_is, dynamic_base, dynamic_end, top}
 use Rattle.law_sums.specs.model_machine.specs.Primitives.{Then}
-use Rattle.law_sums.specs.law_rows.specs.Shapes.{Act, Stays, Answers, Jumps, Calls, Returns, Pushes, Replaces, Writes, Protects, Shape}
+use Rattle.law_sums.specs.model_machine.specs.Shapes.{Act, Stays, Answers, Jumps, Calls, Returns, Pushes, Replaces, Writes, Protects, Shape}
 use Rattle.law_sums.specs.model_rules.specs.Rules.{Total}
 use Rattle.law_sums.specs.model_rules.specs.Keeping.{Amounts, Sum}
 use Rattle.law_sums.specs.model_prove.specs.Facts.{Memory}

@@ -4,13 +4,13 @@ use Rattle.std.proofs.Common.{◌≡◌, inl, inr, ℕ, zero, suc, ◌+◌, ◌-
 use Rattle.std.specs.Prelude.{◌==◌, not, is_none}
 use Rattle.std.proofs.Math.Nat.{mod-eq_of_lt}
 use Rattle.law_sums.specs.model_device.specs.Bytes.{AreBytes, num, bytes}
-use Rattle.mc_arith.proofs.BlockLemmas.{pow_positive, pow_more, num_below, num_bytes}
+use Rattle.law_sums.specs.law_rows.proofs.BlockLemmas.{pow_positive, pow_more, num_below, num_bytes}
 use Rattle.law_sums.specs.model_machine.specs.declared.instruction.Ins.{Ins}
 use Rattle.law_sums.specs.model_machine.specs.Blocks.{add_blocks, sub_blocks}
 use Rattle.law_sums.specs.model_machine.specs.Frame.{Frame, where_is, bytes_at, no_access}
 use Rattle.law_sums.specs.model_machine.specs.Primitives.{Around, Goes, Primitive, in_range}
 use Rattle.law_sums.specs.model_machine.specs.Row.{causes, operand, address_or_zero, place_of}
-use Rattle.law_sums.specs.law_rows.specs.Shapes.{Act, Writes, Shape, shape}
+use Rattle.law_sums.specs.model_machine.specs.Shapes.{Act, Writes, Shape, shape}
 use Rattle.law_sums.specs.model_rules.specs.Keeping.{mode_of}
 use Rattle.law_sums.specs.model_prove.specs.Facts.{Memory}
 use Rattle.law_sums.specs.model_prove.specs.Compares.{bytes_from}

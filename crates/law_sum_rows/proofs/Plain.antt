@@ -10,7 +10,7 @@ use Rattle.law_sums.specs.model_machine.specs.Frame.{Frame, dynamic_base, dynami
 use Rattle.law_sums.specs.model_machine.specs.Primitives.{Around, Then, Goes, Exits, Primitive}
 use Rattle.law_sums.specs.model_machine.specs.Row.{causes, row, holds, address_or_zero, on_stack, target, without_target, place_of}
 use Rattle.law_sums.specs.law_rows.specs.Keeping.{OnDone}
-use Rattle.law_sums.specs.law_rows.specs.Shapes.{Act, Stays, Answers, Jumps, Calls, Returns, Pushes, Shape, shape}
+use Rattle.law_sums.specs.model_machine.specs.Shapes.{Act, Stays, Answers, Jumps, Calls, Returns, Pushes, Shape, shape}
 use Rattle.law_sums.specs.model_rules.specs.Keeping.{mode_of}
 use Rattle.law_sums.specs.model_prove.specs.Keys.{Start, Tables}
 use Rattle.law_sums.specs.model_prove.specs.Laws.{Among}

@@ -9,7 +9,7 @@ use Rattle.law_sums.specs.model_machine.specs.Blocks.{Worked, sub_blocks, shift_
 use Rattle.law_sums.specs.model_machine.specs.Frame.{Frame, Effect, bytes_at, top, stack_bytes, is_under, dynamic_base, dynamic_end, frame_after_pop}
 use Rattle.law_sums.specs.model_machine.specs.Primitives.{Around, Then, Goes, Delegates, Primitive, CheckCase, LoadCcr, StoreCcr, Lookup, MemoryCompare, DelegateTo, CompareFixed, SetProtection, ShiftLeft, ShiftRight, DelegatorAid, later_causes, number_below_top, count_at, has_bit}
 use Rattle.law_sums.specs.model_machine.specs.Row.{causes}
-use Rattle.law_sums.specs.law_rows.specs.Shapes.{Stays, Pushes, Replaces, Protects, Shape, shape, shape_effect, prim_shape}
+use Rattle.law_sums.specs.model_machine.specs.Shapes.{Stays, Pushes, Replaces, Protects, Shape, shape, shape_effect, prim_shape}
 use Rattle.law_sums.specs.model_rules.specs.Keeping.{Standing, mode_of}
 use Rattle.law_sums.specs.model_prove.specs.Facts.{Facts}
 use Rattle.law_sums.specs.model_prove.specs.Keys.{Start, Delegated, OfClass, Tables}

@@ -9,9 +9,9 @@ use Rattle.law_sums.specs.model_machine.specs.Frame.{Frame, Effect, dynamic_base
 use Rattle.law_sums.specs.model_machine.specs.Primitives.{Around, Then, Done}
 use Rattle.law_sums.specs.model_machine.specs.Row.{causes, effect, row, first_cause, row_end}
 use Rattle.law_sums.specs.law_rows.specs.Keeping.{OnDone}
-use Rattle.law_sums.specs.law_rows.specs.Shapes.{Act, Shape, act_effect, with_flags, shape_effect, meaning, shape}
+use Rattle.law_sums.specs.model_machine.specs.Shapes.{Act, Shape, act_effect, with_flags, shape_effect, meaning, shape}
 use Rattle.law_sums.specs.law_rows.proofs.RowShapes.{shapes}
-use Rattle.mc_isa.proofs.PlaceLemmas.{decoded_stands}
+use Rattle.law_sums.specs.law_rows.proofs.PlaceLemmas.{decoded_stands}
 use Rattle.law_sums.specs.model_rules.specs.Rules.{Total}
 use Rattle.law_sums.specs.model_rules.specs.Keeping.{Amounts, Sum, Standing, mode_of}
 use Rattle.law_sums.specs.model_prove.specs.Facts.{Memory}

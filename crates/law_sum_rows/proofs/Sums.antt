@@ -10,7 +10,7 @@ use Rattle.law_sums.specs.model_machine.specs.Blocks.{Worked, add_blocks, sub_bl
 use Rattle.law_sums.specs.model_machine.specs.Frame.{Frame, top, dynamic_base, is_under}
 use Rattle.law_sums.specs.model_machine.specs.Primitives.{Around, Goes, Primitive}
 use Rattle.law_sums.specs.model_machine.specs.Row.{causes, place_of, value_of, first_of}
-use Rattle.law_sums.specs.law_rows.specs.Shapes.{Stays, Shape, shape}
+use Rattle.law_sums.specs.model_machine.specs.Shapes.{Stays, Shape, shape}
 use Rattle.law_sums.specs.law_machine.proofs.BlockLengths.{each_short, map_short}
 use Rattle.law_sums.specs.law_bytes.proofs.ByteLists.{number_bytes}
 use Rattle.law_sums.specs.model_rules.specs.Keeping.{mode_of}

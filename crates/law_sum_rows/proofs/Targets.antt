@@ -8,7 +8,7 @@ use Rattle.law_sums.specs.model_machine.specs.declared.instruction.Ins.TheVarian
 use Rattle.law_sums.specs.model_machine.specs.Frame.{Frame, top, is_under, dynamic_end}
 use Rattle.law_sums.specs.model_machine.specs.Primitives.{Goes, Primitive}
 use Rattle.law_sums.specs.model_machine.specs.Row.{causes, target}
-use Rattle.law_sums.specs.law_rows.specs.Shapes.{Jumps, Calls, shape}
+use Rattle.law_sums.specs.model_machine.specs.Shapes.{Jumps, Calls, shape}
 use Rattle.law_sums.specs.model_prove.specs.Facts.{Memory}
 use Rattle.law_sums.specs.model_prove.specs.Keys.{Tables}
 use Rattle.law_sums.specs.model_prove.specs.Laws.{Among}

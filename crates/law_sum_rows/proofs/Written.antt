@@ -5,7 +5,7 @@ use Rattle.law_sums.specs.model_machine.specs.declared.instruction.Ins.{Ins}
 use Rattle.law_sums.specs.model_machine.specs.Frame.{Frame, where_is, is_outside, dynamic_base, dynamic_end, frame_after_pop}
 use Rattle.law_sums.specs.model_machine.specs.Primitives.{Around, Goes, number_below_top}
 use Rattle.law_sums.specs.model_machine.specs.Row.{causes}
-use Rattle.law_sums.specs.law_rows.specs.Shapes.{Act, Writes, Shape, shape}
+use Rattle.law_sums.specs.model_machine.specs.Shapes.{Act, Writes, Shape, shape}
 use Rattle.law_sums.specs.model_rules.specs.Keeping.{mode_of}
 use Rattle.law_sums.specs.model_prove.specs.Sets.{is_in}
 use Rattle.law_sums.specs.model_prove.specs.Facts.{Facts, Memory}

@@ -8,7 +8,7 @@ use Rattle.law_sums.specs.model_machine.specs.Frame.{Frame, Effect}
 use Rattle.law_sums.specs.model_machine.specs.Primitives.{Around, Then, Goes, Exits, Delegates, Done}
 use Rattle.law_sums.specs.model_machine.specs.Row.{row}
 use Rattle.law_sums.specs.model_machine.specs.Chain.{frame_at}
-use Rattle.law_sums.specs.law_rows.specs.Shapes.{Shape}
+use Rattle.law_sums.specs.model_machine.specs.Shapes.{Shape}
 use Rattle.law_sums.specs.law_rows.specs.Keeping.{OnDone}
 use Rattle.law_sums.specs.law_promise.specs.Outline.{Entry, FitsEntry}
 use Rattle.law_sums.specs.law_promise.specs.Domain.{IsDelegator}
@@ -19,7 +19,7 @@ use Rattle.law_sums.specs.model_prove.specs.Keys.{Tables}
 use Rattle.law_sums.specs.model_prove.specs.Splits.{Scene}
 use Rattle.law_sums.specs.model_prove.specs.Arrivals.{Setting, static_size}
 use Rattle.law_sums.specs.model_prove.specs.Steps.{Spot, place_arrivals}
-use Rattle.law_sums.specs.model_prove.specs.Tables.{IsLoadable}
+use Rattle.law_sums.specs.model_rules.specs.Loadable.{IsLoadable}
 use Rattle.law_prove_reach.specs.law_prove.specs.Coverings.{frame_memory, IsPlace, key_of}
 use Rattle.law_sums.specs.model_sums.specs.Sums.{Sums, SumsTable}
 use Rattle.law_sums.specs.model_sums.specs.Says.{Holds, SumsHold}

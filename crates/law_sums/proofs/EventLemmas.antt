@@ -7,7 +7,7 @@ use Rattle.std.proofs.lemmas.Bool.{leb-true}
 use Rattle.model_sums.specs.model_device.specs.Bytes.{num}
 use Rattle.model_sums.specs.model_device.proofs.MapLemmas.{same_name, name_is_itself}
 use Rattle.model_sums.specs.model_machine.specs.Frame.{public_base}
-use Rattle.model_sums.specs.law_explore.specs.Matching.{fits}
+use Rattle.model_sums.specs.model_events.specs.Matching.{fits}
 use Rattle.model_sums.specs.model_rules.specs.Rules.{Total, Amount, Constant, PublicBytes, SumLine}
 use Rattle.model_sums.specs.model_rules.specs.Keeping.{Sum, amount_in, moved_sum, after_sum_line, after_moves, added_to, taken_from, added_by, taken_by}
 use Rattle.model_sums.specs.model_prove.specs.Facts.{Memory}

@@ -2,7 +2,7 @@
 use Rattle.std.specs.Prelude.{◌≡◌, ℕ, ◌≤◌, Bool, true, false, cond, not, List, length, Option, Some, None, refl}
 use Rattle.std.specs.List.{AllByRecursion}
 use Rattle.std.proofs.Common.{subst, arith}
-use Rattle.model_sums.specs.law_promise.specs.History.{Deed}
+use Rattle.model_sums.specs.model_events.specs.Deeds.{Deed}
 use Rattle.model_sums.specs.model_rules.specs.Rules.{AppRules}
 use Rattle.model_sums.specs.model_rules.specs.Keeping.{Sum, Standing, line_of_deed, mode_of, protected_sums, after_moves, after_deed}
 use Rattle.model_sums.specs.model_prove.specs.Facts.{Memory}

@@ -12,7 +12,7 @@ pub use Rattle.model_sums.specs.model_machine as model_machine
 pub use Rattle.model_sums.specs.model_rules as model_rules
 pub use Rattle.model_sums.specs.model_prove as model_prove
 pub use Rattle.model_sums as model_sums
-pub use Rattle.model_sums.specs.law_rows as law_rows
-pub use Rattle.model_sums.specs.law_machine as law_machine
-pub use Rattle.model_sums.specs.law_bytes as law_bytes
-pub use Rattle.model_sums.specs.law_promise as law_promise
+pub use Rattle.law_rules.specs.law_bytes.specs.law_rows as law_rows
+pub use Rattle.law_rules.specs.law_machine as law_machine
+pub use Rattle.law_rules.specs.law_bytes as law_bytes
+pub use Rattle.law_rules.specs.law_promise as law_promise

@@ -2,7 +2,7 @@
 -- asked and are not off, each holds of the sums as power would leave them.
 use Rattle.std.specs.Prelude.{◌≡◌, ℕ, ◌≤◌, Bool, true, false, cond, List, length, Option, Some, None, ⊤}
 use Rattle.std.specs.List.{AllByRecursion}
-use Rattle.model_sums.specs.law_promise.specs.History.{Deed}
+use Rattle.model_sums.specs.model_events.specs.Deeds.{Deed}
 use Rattle.model_sums.specs.model_rules.specs.Rules.{AppRules}
 use Rattle.model_sums.specs.model_rules.specs.Keeping.{Sum, Standing, line_of_deed, mode_of, after_deed}
 use Rattle.model_sums.specs.model_prove.specs.Facts.{Memory}

@@ -7,7 +7,7 @@ use Rattle.law_family.specs.model_machine.specs.Frame.{Frame, Effect, Place, sta
 use Rattle.law_family.specs.model_machine.specs.Primitives.{Around, Done, Primitive, SetProtection, primitive}
 use Rattle.law_family.specs.model_machine.specs.Row.{effect}
 use Rattle.law_family.specs.law_machine.specs.FewWords.{most_of, most_words}
-use Rattle.law_family.specs.law_rows.specs.Shapes.{Act, Writes, Shape, act_effect, with_flags, meaning, prim_shape, pair_shape, shape}
+use Rattle.law_family.specs.model_machine.specs.Shapes.{Act, Writes, Shape, act_effect, with_flags, meaning, prim_shape, pair_shape, shape}
 use Rattle.law_family.specs.law_rows.proofs.RowShapes.{shapes}
 
 -- A row leaves the pending pieces, and may write at most 33 words at once; or it writes nothing; or it commits: none

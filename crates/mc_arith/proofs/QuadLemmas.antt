@@ -1,6 +1,6 @@
 -- Blocks of four bytes, whose bytes are read and set one by one.
 use Rattle.std.proofs.Common.{◌≡◌, ◌+◌, ◌*◌, ◌^◌, ℕ, List, [], ◌∷◌, length, slice_index_or, slice_set, refl, sym, subst}
-use Rattle.model_machine.specs.model_device.specs.Bytes.{num}
+use Rattle.law_rows.specs.model_device.specs.Bytes.{num}
 
 -- a block of four bytes, byte by byte
 abbrev bytes_of_four : List ℕ → List ℕ

@@ -4,10 +4,10 @@ use Rattle.std.specs.Prelude.{nat_eq}
 use Rattle.std.proofs.lemmas.Nat.{pow_pos}
 use Rattle.std.proofs.Math.Arith.{digits_div, digits_mod}
 use Rattle.std.proofs.Math.Nat.{pow-succ', div-div-eq-div-mul, mul-div_cancel_left}
-use Rattle.model_machine.specs.model_device.specs.Bytes.{num, AreBytes}
-use Rattle.model_machine.specs.Blocks.{Worked, result_with_flags, is_zero, bit, shift_left_block, shift_right_block}
-use Rattle.mc_arith.specs.Carry.{carry_of}
-use Rattle.mc_arith.proofs.BlockLemmas.{pow_more, pow_positive, worked_is}
+use Rattle.law_rows.specs.model_device.specs.Bytes.{num, AreBytes}
+use Rattle.law_rows.specs.model_machine.specs.Blocks.{Worked, result_with_flags, is_zero, bit, shift_left_block, shift_right_block}
+use Rattle.law_rows.specs.Carry.{carry_of}
+use Rattle.law_rows.proofs.BlockLemmas.{pow_more, pow_positive, worked_is}
 
 -- a byte has eight bits
 bits_of : (n : ℕ) → 256 ^ n ≡ 2 ^ (8 * n)

@@ -1,8 +1,8 @@
 // Addition, from the last byte to the first.
 ghost use Rattle.std.specs.Prelude.{◌≡◌, ◌+◌, ◌*◌, ◌^◌, ◌≤◌, length};
-ghost use Rattle.model_machine.specs.model_device.specs.Bytes.{num};
-ghost use Rattle.model_machine.specs.Blocks.{add_blocks, inc_block};
-ghost use Rattle.mc_arith.specs.Carry.{carry_of};
+ghost use Rattle.law_rows.specs.model_device.specs.Bytes.{num};
+ghost use Rattle.law_rows.specs.model_machine.specs.Blocks.{add_blocks, inc_block};
+ghost use Rattle.law_rows.specs.Carry.{carry_of};
 
 use crate::flags::{Flags, zero};
 use crate::words::{sum_of_four, sum_of_two};

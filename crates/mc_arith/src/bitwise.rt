@@ -1,6 +1,6 @@
 // Operations bit by bit.
 ghost use Rattle.std.specs.Prelude.{◌≡◌, ◌≤◌, length};
-ghost use Rattle.model_machine.specs.Blocks.{and_blocks, is_zero, not_block, or_blocks, xor_blocks};
+ghost use Rattle.law_rows.specs.model_machine.specs.Blocks.{and_blocks, is_zero, not_block, or_blocks, xor_blocks};
 
 use crate::flags::zero;
 

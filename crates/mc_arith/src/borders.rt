@@ -1,7 +1,7 @@
 // The definitions' results at the borders. The expected results were computed independently, on whole
 // numbers.
 ghost use Rattle.std.specs.Prelude.{◌≡◌, [], ◌∷◌, true, false};
-ghost use Rattle.model_machine.specs.Blocks.{add_blocks, sub_blocks, inc_block, dec_block, shift_left_block, shift_right_block, and_blocks, or_blocks, xor_blocks, not_block};
+ghost use Rattle.law_rows.specs.model_machine.specs.Blocks.{add_blocks, sub_blocks, inc_block, dec_block, shift_left_block, shift_right_block, and_blocks, or_blocks, xor_blocks, not_block};
 
 /// Sums at the borders, with the carry and the zero flag.
 pub fn sums()

@@ -1,5 +1,5 @@
 ghost use Rattle.std.specs.Prelude.{◌≡◌};
-ghost use Rattle.model_machine.specs.Blocks.{is_zero};
+ghost use Rattle.law_rows.specs.model_machine.specs.Blocks.{is_zero};
 
 /// The flags that an instruction sets: C is the carry, the borrow, or the bit shifted out last, and Z is set
 /// if the result is zero.

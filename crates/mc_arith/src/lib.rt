@@ -16,7 +16,7 @@ pub use borders::{
     bits_of_blocks, differences, one_less, one_more, shifts_to_the_left, shifts_to_the_right, sums,
 };
 pub use flags::Flags;
-pub use model_machine;
+pub use law_rows::model_machine;
 pub use shifts::{shift_left, shift_right};
 pub use subtraction::{compare, dec, sub};
 

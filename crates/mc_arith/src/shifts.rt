@@ -1,8 +1,8 @@
 // Shifts, one bit at a time.
 ghost use Rattle.std.specs.Prelude.{◌≡◌, ◌+◌, ◌*◌, ◌<◌, ◌^◌, ◌≤◌, length};
-ghost use Rattle.model_machine.specs.model_device.specs.Bytes.{num};
-ghost use Rattle.model_machine.specs.Blocks.{shift_left_block, shift_right_block};
-ghost use Rattle.mc_arith.specs.Carry.{carry_of};
+ghost use Rattle.law_rows.specs.model_device.specs.Bytes.{num};
+ghost use Rattle.law_rows.specs.model_machine.specs.Blocks.{shift_left_block, shift_right_block};
+ghost use Rattle.law_rows.specs.Carry.{carry_of};
 
 use crate::flags::{Flags, zero};
 

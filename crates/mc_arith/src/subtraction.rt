@@ -1,8 +1,8 @@
 // Subtraction, from the last byte to the first, and comparison.
 ghost use Rattle.std.specs.Prelude.{◌≡◌, ◌+◌, ◌*◌, ◌^◌, ◌≤◌, length};
-ghost use Rattle.model_machine.specs.model_device.specs.Bytes.{num};
-ghost use Rattle.model_machine.specs.Blocks.{dec_block, sub_blocks};
-ghost use Rattle.mc_arith.specs.Carry.{carry_of};
+ghost use Rattle.law_rows.specs.model_device.specs.Bytes.{num};
+ghost use Rattle.law_rows.specs.model_machine.specs.Blocks.{dec_block, sub_blocks};
+ghost use Rattle.law_rows.specs.Carry.{carry_of};
 
 use crate::flags::{Flags, zero};
 use crate::words::{difference_of_four, difference_of_two};

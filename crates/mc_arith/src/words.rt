@@ -1,7 +1,7 @@
 // Blocks of two and of four bytes, as most numbers of applications have, each as one number of the processor.
 ghost use Rattle.std.specs.Prelude.{◌≡◌, ◌+◌, ◌*◌, ◌^◌};
-ghost use Rattle.model_machine.specs.model_device.specs.Bytes.{num};
-ghost use Rattle.mc_arith.specs.Carry.{carry_of};
+ghost use Rattle.law_rows.specs.model_device.specs.Bytes.{num};
+ghost use Rattle.law_rows.specs.Carry.{carry_of};
 
 /// Returns the sum of two blocks of two bytes, and the carry.
 #[inline(always)]

@@ -10,7 +10,7 @@ use Rattle.model_text.specs.model_machine.specs.Code.{Shaped, DecodesTo, spell, 
 use Rattle.model_text.specs.Listing.{text_of, line_before, listing_with, length_of, listing_from, listing_of_code}
 use Rattle.model_text.specs.Assembly.{assembly_of, line_laid}
 use Rattle.model_text.specs.model_device.specs.Bytes.{AreBytes}
-use Rattle.mc_isa.proofs.PlaceLemmas.{decoded_stands}
+use Rattle.mc_isa.specs.law_rows.proofs.PlaceLemmas.{decoded_stands}
 use Rattle.mc_text.specs.Reading.{next_line, without_return}
 use Rattle.mc_asm.specs.Passes.{places, code_of_lines, label_and_end, code_and_end}
 use Rattle.mc_asm.proofs.PassLemmas.{two_passes, numbered_some, places_more, places_end, coded_more, coded_end}

@@ -11,7 +11,7 @@ use Rattle.model_card.specs.model_device.specs.Pieces.{laid_pieces, word_pieces}
 use Rattle.model_card.specs.model_device.specs.Card.{App}
 use Rattle.model_card.specs.Items.{Site, BankItem, Blank, Note, Commit, Enter, Remove}
 use Rattle.model_card.specs.Manager.{word_parts}
-use Rattle.mc_base.specs.Name.{IsName}
+use Rattle.mc_words.specs.Name.{IsName}
 use Rattle.mc_bank.specs.declared.bank.Facts.{Facts}
 use Rattle.mc_bank.specs.declared.entries.Entry.{Entry}
 use Rattle.mc_bank.specs.Bank.{name_or, app_of, sizes_of, FitsLimits, CanCommit, IsGoodSite}

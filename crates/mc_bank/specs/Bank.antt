@@ -15,7 +15,7 @@ use Rattle.model_card.specs.model_device.specs.Bytes.{AscendByName, zeros, looku
 use Rattle.model_card.specs.model_device.specs.Pieces.{laid_words, ArePending}
 use Rattle.model_card.specs.model_device.specs.Card.{App}
 use Rattle.model_card.specs.Items.{Site, BankItem, Piece, Blank, Note, Commit, Enter, Remove}
-use Rattle.mc_base.specs.Name.{IsName}
+use Rattle.mc_words.specs.Name.{IsName}
 
 -- the state of a bank: the applications by their names, the counts of cuts and failed writes below it, whether it is
 -- stopped, and the greatest number of ticks of `open`

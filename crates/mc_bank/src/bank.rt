@@ -10,7 +10,7 @@ ghost use Rattle.mc_bank.specs.Bank.{BankState, app_of, name_or, sizes_of, FitsL
 ghost use Rattle.mc_bank.specs.Bank.{IsGoodSite, HasParts, StayGood, BytesStay, CanCommit, apps_after_commit, app_of_site};
 ghost use Rattle.mc_bank.specs.Bank.{item_done, Spares, Changes};
 
-use mc_base::{Aid, Steps, Stop, Word};
+use mc_words::{Aid, Steps, Stop, Word};
 use model_card::{OpenRefusal, Part, Sizes};
 use std::marker::Model;
 use std::sync::ledger::Ledger;

@@ -1,6 +1,6 @@
 ghost use Rattle.std.specs.Prelude.{◌≡◌, ◌+◌, ◌≤◌, length, vec_len, IsSome, None};
 ghost use Rattle.model_card.specs.model_device.specs.Bytes.{lookup};
-ghost use Rattle.mc_base.specs.Name.{IsName};
+ghost use Rattle.mc_words.specs.Name.{IsName};
 ghost use Rattle.mc_bank.specs.Bank.{CanCommit, IsGoodSite, part_len};
 ghost use Rattle.mc_bank.specs.Memory.{memory_named, apps_from, memory_room, IsMemory};
 ghost use Rattle.mc_bank.specs.Shown.{app_at};
@@ -8,7 +8,7 @@ ghost use Rattle.mc_bank.specs.Left.{CommitLeft, FillLeft, CreateLeft, DeleteLef
 
 use crate::bank::{Site, Slot};
 use crate::entries::{Entry, put_app, put_piece, put_words};
-use mc_base::{Aid, Word};
+use mc_words::{Aid, Word};
 use model_card::Part;
 
 /// Sets words of an application.

@@ -6,7 +6,7 @@ ghost use Rattle.mc_bank.specs.Memory.{facts_in, name_of_entry, memory_named, fi
 ghost use Rattle.mc_bank.specs.Shown.{EntryShows};
 
 use crate::bank::{Facts, Slot};
-use mc_base::{Aid, Word};
+use mc_words::{Aid, Word};
 use model_card::{Part, Sizes};
 
 /// The memory of one application, and its facts while it is there.

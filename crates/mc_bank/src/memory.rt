@@ -4,7 +4,7 @@ ghost use Rattle.mc_bank.specs.Memory.{apps_from};
 use crate::bank::{Bank, Facts, Site, Slot};
 use crate::changes;
 use crate::entries::{Entry, count_used, entry_of, free_entry, read, slot_of, used_entry};
-use mc_base::{Aid, NoMemory, Steps, Stop, Word};
+use mc_words::{Aid, NoMemory, Steps, Stop, Word};
 use model_card::{OpenRefusal, Part, Sizes};
 use std::alloc::Global;
 use std::marker::Model;

@@ -1,3 +1,3 @@
-pub mod Name
 -- the libraries below that those above cite through this one
-pub use Rattle.model_device as model_device
+pub use Rattle.mc_words as mc_words
+pub use Rattle.mc_streams as mc_streams

@@ -1,20 +1,9 @@
 #![tactic(auto)]
 
-//! Words, numbers in two bytes, and the names, limits and counts that every other crate uses.
+//! Names, words, numbers and steps, and bytes in and out: what users of the card's calls need beside the calls themselves.
 
-mod aid;
-mod ledger;
-mod limits;
-mod numbers;
-mod refusals;
-
-pub use aid::Aid;
-pub use ledger::Steps;
-pub use limits::{MOST_CODE, limits_code};
-pub use model_device;
-pub use model_device::Stop;
-pub use numbers::{bytes_of, number_of};
-pub use refusals::NoMemory;
-
-/// A word of a device: eight bytes, all numbers big endian.
-pub type Word = [u8; 8];
+pub use mc_streams::{
+    Failed, MemSink, MemSource, ReadAll, Sink, Source, StdSink, StdSource, WriteFault, put_all,
+    read_all,
+};
+pub use mc_words::{Aid, MOST_CODE, NoMemory, Steps, Stop, Word, bytes_of, number_of};

@@ -3,18 +3,18 @@ use Rattle.std.proofs.Common.{◌≡◌, ◌≢◌, ℕ, ◌+◌, ◌<◌, ◌�
 use Rattle.std.specs.Prelude.{◌==◌, bytes_eq}
 use Rattle.std.proofs.lemmas.Bool.{eq-eqb, ne_eqb, or_right, or_left}
 use Rattle.std.proofs.lemmas.Slice.Eq.{bytes_eq-Decides}
-use Rattle.mc_base.specs.model_device.specs.Bytes.{insert, lookup, name_before, has_name}
-use Rattle.mc_base.specs.model_device.specs.Image.{Closed, look}
-use Rattle.mc_base.specs.model_device.specs.Device.{IsSized}
-use Rattle.mc_base.specs.model_device.specs.Card.{App, Card, Block, means, blocks, name_at, app_at, apps_of}
-use Rattle.mc_base.specs.model_device.specs.Layout.{spans, bad_record, IsWellLaid}
+use Rattle.mc_words.specs.model_device.specs.Bytes.{insert, lookup, name_before, has_name}
+use Rattle.mc_words.specs.model_device.specs.Image.{Closed, look}
+use Rattle.mc_words.specs.model_device.specs.Device.{IsSized}
+use Rattle.mc_words.specs.model_device.specs.Card.{App, Card, Block, means, blocks, name_at, app_at, apps_of}
+use Rattle.mc_words.specs.model_device.specs.Layout.{spans, bad_record, IsWellLaid}
 use Rattle.mc_blocks.specs.Blocks.{used_spans, is_admissible}
 use Rattle.mc_blocks.specs.Plans.{has_span}
 use Rattle.mc_blocks.proofs.Tiles.{Tiled}
 use Rattle.mc_blocks.proofs.Maps.{Free, OneAt, one_insert, has_self}
 use Rattle.mc_blocks.proofs.Bridge.{WellLaid, well_laid, no_apps, AreNamed, named, free_all, Faultless, faultless, passed, admitted}
-use Rattle.mc_base.specs.model_device.proofs.MapLemmas.{same_name}
-use Rattle.mc_base.specs.model_device.proofs.LayoutLemmas.{closed_fault, closed_means}
+use Rattle.mc_words.specs.model_device.proofs.MapLemmas.{same_name}
+use Rattle.mc_words.specs.model_device.proofs.LayoutLemmas.{closed_fault, closed_means}
 
 -- ---- at most 32
 

@@ -2,11 +2,11 @@
 use Rattle.std.proofs.Common.{◌≡◌, ℕ, ◌+◌, ◌<◌, ◌≤◌, Bool, true, false, List, [], ◌∷◌, length, Option, Some, None, refl, sym, ◌∙◌, ap, subst, arith, cond, not}
 use Rattle.std.specs.Prelude.{MatchBool}
 use Rattle.std.proofs.lemmas.Bool.{and_parts, eqb-true, not-true, ltb-true}
-use Rattle.mc_base.specs.model_device.specs.Bytes.{has_name, insert}
-use Rattle.mc_base.specs.model_device.specs.Image.{Closed, look}
-use Rattle.mc_base.specs.model_device.specs.Device.{IsSized}
-use Rattle.mc_base.specs.model_device.specs.Card.{App, Block, blocks, record_at, name_at, app_at, apps_of, card_of, words_of_app, heap_start}
-use Rattle.mc_base.specs.model_device.specs.Layout.{spans, spans_of, gaps, gaps_from, put_at, no_root, is_record, bad_block, bad_record, bad_chain, words_fault, IsWellLaid}
+use Rattle.mc_words.specs.model_device.specs.Bytes.{has_name, insert}
+use Rattle.mc_words.specs.model_device.specs.Image.{Closed, look}
+use Rattle.mc_words.specs.model_device.specs.Device.{IsSized}
+use Rattle.mc_words.specs.model_device.specs.Card.{App, Block, blocks, record_at, name_at, app_at, apps_of, card_of, words_of_app, heap_start}
+use Rattle.mc_words.specs.model_device.specs.Layout.{spans, spans_of, gaps, gaps_from, put_at, no_root, is_record, bad_block, bad_record, bad_chain, words_fault, IsWellLaid}
 use Rattle.mc_blocks.specs.Chains.{SpansAbove}
 use Rattle.mc_blocks.specs.Blocks.{used_spans, hole_spans, is_admissible}
 use Rattle.mc_blocks.proofs.Sections.{length_section}
@@ -14,8 +14,8 @@ use Rattle.mc_blocks.proofs.Steps.{blocks_all}
 use Rattle.mc_blocks.proofs.Headers.{bad_all}
 use Rattle.mc_blocks.proofs.Tiles.{Tiled, HeadersRead, BlocksWalked, all_walked, gaps_are_holes}
 use Rattle.mc_blocks.proofs.Maps.{put_front, above_weaker, Free, spans_insert, free_insert, names_apart, has_self, has_more}
-use Rattle.mc_base.specs.model_device.proofs.BoolLemmas.{or_else_none}
-use Rattle.mc_base.specs.model_device.proofs.LayoutLemmas.{cause_none, closed_fault, length_spans}
+use Rattle.mc_words.specs.model_device.proofs.BoolLemmas.{or_else_none}
+use Rattle.mc_words.specs.model_device.proofs.LayoutLemmas.{cause_none, closed_fault, length_spans}
 
 -- ---- the parts of a fault
 

@@ -4,11 +4,11 @@ use Rattle.std.proofs.Common.{◌≡◌, ℕ, ◌+◌, ◌<◌, ◌≤◌, Bool,
 use Rattle.std.specs.Prelude.{◌==◌, slice_index}
 use Rattle.std.proofs.lemmas.Bool.{le-ltb, lt-ltb, le-leb, eq-eqb, and_from}
 use Rattle.std.proofs.lemmas.List.{get_or_past}
-use Rattle.mc_base.specs.model_device.specs.Bytes.{be2, or_else, has_name}
-use Rattle.mc_base.specs.model_device.specs.Device.{IsSized}
-use Rattle.mc_base.specs.model_device.specs.Card.{App, Block, word, header, blocks, heap_start, record_at, name_at, apps_of, card_of}
-use Rattle.mc_base.specs.model_device.specs.Layout.{no_root, is_record, bad_header, bad_block, bad_record, bad_link, bad_chain, first_hole, by_cause, words_fault}
-use Rattle.mc_base.specs.model_device.specs.declared.cause.Cause.TheVariants.{NoRoot, BadBlock, BadRecord, BadChain}
+use Rattle.mc_words.specs.model_device.specs.Bytes.{be2, or_else, has_name}
+use Rattle.mc_words.specs.model_device.specs.Device.{IsSized}
+use Rattle.mc_words.specs.model_device.specs.Card.{App, Block, word, header, blocks, heap_start, record_at, name_at, apps_of, card_of}
+use Rattle.mc_words.specs.model_device.specs.Layout.{no_root, is_record, bad_header, bad_block, bad_record, bad_link, bad_chain, first_hole, by_cause, words_fault}
+use Rattle.mc_words.specs.model_device.specs.declared.cause.Cause.TheVariants.{NoRoot, BadBlock, BadRecord, BadChain}
 use Rattle.mc_blocks.specs.Blocks.{block_within, blocks_at, bad_from, is_admissible, used_spans, is_root_word, FollowsBlock, WordsAgree}
 use Rattle.mc_blocks.proofs.Steps.{blocks_step, blocks_stop, blocks_all}
 use Rattle.mc_blocks.proofs.Headers.{bad_all, bad_behind, bad_end}

@@ -3,9 +3,9 @@ use Rattle.std.proofs.Common.{◌≡◌, ◌≢◌, ◌⊎◌, ℕ, ◌+◌, ◌
 use Rattle.std.specs.Prelude.{nat_lt, ◌==◌, bytes_eq}
 use Rattle.std.specs.List.{AllByRecursion, list_any}
 use Rattle.std.proofs.lemmas.Bool.{or_left, or_right, or_parts, or_cases, eqb-true}
-use Rattle.mc_base.specs.model_device.specs.Bytes.{insert, lookup, has_name}
-use Rattle.mc_base.specs.model_device.specs.Card.{App, Block, record_at, name_at, app_at, apps_of}
-use Rattle.mc_base.specs.model_device.specs.Layout.{first_hole, hole_header, used_header, same_pair, is_record}
+use Rattle.mc_words.specs.model_device.specs.Bytes.{insert, lookup, has_name}
+use Rattle.mc_words.specs.model_device.specs.Card.{App, Block, record_at, name_at, app_at, apps_of}
+use Rattle.mc_words.specs.model_device.specs.Layout.{first_hole, hole_header, used_header, same_pair, is_record}
 use Rattle.mc_blocks.specs.Blocks.{used_spans, hole_spans}
 use Rattle.mc_blocks.specs.Plans.{changes, has_room, has_span}
 use Rattle.mc_blocks.specs.Chains.{SpansAbove}
@@ -18,8 +18,8 @@ use Rattle.mc_blocks.proofs.Taking.{free_block, rest_of, take_in, RoomAt, room_a
 use Rattle.mc_blocks.proofs.Maps.{names_apart, has_self, has_more}
 use Rattle.mc_blocks.proofs.Freeing.{with_hole, free_in, SpanAt, span_at, freed_here, freed_touching, freed_later}
 use Rattle.mc_blocks.proofs.Written.{relink, from_apart, changes_from}
-use Rattle.mc_base.specs.model_device.proofs.MapLemmas.{other_way as turned}
-use Rattle.mc_base.specs.model_device.proofs.BoolLemmas.{or_swap}
+use Rattle.mc_words.specs.model_device.proofs.MapLemmas.{other_way as turned}
+use Rattle.mc_words.specs.model_device.proofs.BoolLemmas.{or_swap}
 use Rattle.mc_blocks.proofs.Same.{same_named, ApplicationInserted, inserted_kind, SameUsed, Deleted, SameApplications, deleted_kind}
 
 -- ---- the words that a plan does not change

@@ -2,9 +2,9 @@
 use Rattle.std.proofs.Common.{◌≡◌, ◌≢◌, ℕ, ◌+◌, Bool, true, false, List, length, Some, None, ◌∙◌, ap, arith, cond}
 use Rattle.std.specs.Prelude.{◌==◌}
 use Rattle.std.proofs.lemmas.Bool.{eq-eqb, ne_eqb}
-use Rattle.mc_base.specs.model_device.specs.Bytes.{or_else, be2}
-use Rattle.mc_base.specs.model_device.specs.Card.{Block, word, header, blocks}
-use Rattle.mc_base.specs.model_device.specs.Layout.{first_hole, bad_link, bad_chain}
+use Rattle.mc_words.specs.model_device.specs.Bytes.{or_else, be2}
+use Rattle.mc_words.specs.model_device.specs.Card.{Block, word, header, blocks}
+use Rattle.mc_words.specs.model_device.specs.Layout.{first_hole, bad_link, bad_chain}
 use Rattle.mc_blocks.specs.Blocks.{block_within, blocks_at, used_spans, hole_spans}
 use Rattle.mc_blocks.proofs.Steps.{blocks_step, blocks_all}
 

@@ -5,7 +5,7 @@ use Rattle.std.specs.List.{list_any}
 use Rattle.std.proofs.lemmas.Bool.{eq-eqb, ne_eqb, and_from, and_right, false_from_ne_true}
 use Rattle.std.proofs.lemmas.List.Elements.{filter-append}
 use Rattle.std.proofs.lemmas.Slice.Eq.{bytes_eq-Decides}
-use Rattle.mc_base.specs.model_device.specs.Layout.{same_pair, hole_header, root}
+use Rattle.mc_words.specs.model_device.specs.Layout.{same_pair, hole_header, root}
 use Rattle.mc_blocks.specs.Plans.{changes, link_word}
 use Rattle.std.proofs.lemmas.List.Folds.{list_any-append}
 

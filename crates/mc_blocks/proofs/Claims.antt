@@ -2,8 +2,8 @@
 use Rattle.std.proofs.Common.{◌≡◌, ◌≢◌, ℕ, ◌+◌, ◌<◌, ◌≤◌, Bool, true, false, List, ◌∷◌, refl, sym, ◌∙◌, ap, arith, cond}
 use Rattle.std.specs.Prelude.{nat_lt}
 use Rattle.std.proofs.lemmas.Bool.{lt-ltb, le-ltb, ne_eqb}
-use Rattle.mc_base.specs.model_device.specs.Card.{Block}
-use Rattle.mc_base.specs.model_device.specs.Layout.{first_hole, hole_header, used_header, root}
+use Rattle.mc_words.specs.model_device.specs.Card.{Block}
+use Rattle.mc_words.specs.model_device.specs.Layout.{first_hole, hole_header, used_header, root}
 use Rattle.mc_blocks.specs.Blocks.{hole_spans}
 use Rattle.mc_blocks.specs.Plans.{changes, link_word, gap_before, gaps_behind}
 use Rattle.mc_blocks.proofs.Tiles.{Tiled}

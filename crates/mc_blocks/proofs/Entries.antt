@@ -3,12 +3,12 @@ use Rattle.std.proofs.Common.{◌≡◌, ℕ, ◌+◌, ◌<◌, ◌≤◌, Bool,
 use Rattle.std.specs.Prelude.{bytes_eq, MatchBool}
 use Rattle.std.proofs.lemmas.Bool.{and_parts, leb-true, eqb-true, false_from_ne_true}
 use Rattle.std.proofs.lemmas.List.{map-append}
-use Rattle.mc_base.specs.model_device.specs.Bytes.{has_name}
-use Rattle.mc_base.specs.model_device.specs.Card.{Block, word, header, blocks, record_at, name_in}
-use Rattle.mc_base.specs.model_device.specs.Layout.{is_record, bad_record}
+use Rattle.mc_words.specs.model_device.specs.Bytes.{has_name}
+use Rattle.mc_words.specs.model_device.specs.Card.{Block, word, header, blocks, record_at, name_in}
+use Rattle.mc_words.specs.model_device.specs.Layout.{is_record, bad_record}
 use Rattle.mc_blocks.specs.Blocks.{block_within, blocks_at, is_admissible, Admits}
 use Rattle.mc_blocks.proofs.Steps.{blocks_step, blocks_stop, blocks_all}
-use Rattle.mc_base.specs.model_device.proofs.BoolLemmas.{or_swap as swapped}
+use Rattle.mc_words.specs.model_device.proofs.BoolLemmas.{or_swap as swapped}
 
 -- a block of fewer than six words has no record
 pub long_enough : (r : List ℕ) (w : ℕ) → is_record r w ≡ true → 6 ≤ w

@@ -2,8 +2,8 @@
 use Rattle.std.proofs.Common.{◌≡◌, ◌≢◌, ◌⊎◌, ℕ, ◌+◌, ◌<◌, ◌≤◌, Bool, true, false, ◌&&◌, ◌||◌, List, [], ◌∷◌, refl, sym, ◌∙◌, ap, subst, inl, inr, arith, cond, not}
 use Rattle.std.specs.Prelude.{◌==◌}
 use Rattle.std.proofs.lemmas.Bool.{lt-ltb, le-ltb, eq-eqb, ne_eqb, eqb-true, eqb-false, or_cases, and_from, and_right, not-false, not-true, cases_eq, false_from_ne_true}
-use Rattle.mc_base.specs.model_device.specs.Card.{Block, heap_start}
-use Rattle.mc_base.specs.model_device.specs.Layout.{first_hole, first_place, hole_header, used_header}
+use Rattle.mc_words.specs.model_device.specs.Card.{Block, heap_start}
+use Rattle.mc_words.specs.model_device.specs.Layout.{first_hole, first_place, hole_header, used_header}
 use Rattle.mc_blocks.specs.Chains.{SpansAbove}
 use Rattle.mc_blocks.specs.Blocks.{used_spans, hole_spans}
 use Rattle.mc_blocks.specs.Plans.{changes, layout_of, link_word, has_span, without, gap_before, gaps_behind, joined_words, joined_next, touches, free_list}
@@ -15,7 +15,7 @@ use Rattle.mc_blocks.proofs.Changes.{From, from_weaker, under_same, under_other,
 use Rattle.mc_blocks.proofs.Heads.{heads, heads_from, heads_behind, heads_same, layout_is}
 use Rattle.mc_blocks.proofs.Claims.{Claim, later_either}
 use Rattle.mc_blocks.proofs.Taking.{free_block, tiled_end, first_range}
-use Rattle.mc_base.specs.model_device.proofs.BoolLemmas.{and_false}
+use Rattle.mc_words.specs.model_device.proofs.BoolLemmas.{and_false}
 
 -- a hole of k words at q and the blocks after it, of which the first joins it if it is a hole
 abbrev pub with_hole : ℕ → ℕ → List Block → List Block

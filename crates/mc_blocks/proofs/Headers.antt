@@ -2,8 +2,8 @@
 use Rattle.std.proofs.Common.{◌≡◌, ◌≢◌, ℕ, zero, suc, ◌+◌, ◌-◌, ◌<◌, ◌≤◌, Bool, true, false, ◌&&◌, ◌||◌, List, length, Option, Some, None, refl, sym, ◌∙◌, ap, subst, arith, cond, not}
 use Rattle.std.specs.Prelude.{nat_le, nat_lt, ◌==◌}
 use Rattle.std.proofs.lemmas.Bool.{eq-eqb, ne_eqb, le-ltb, lt-ltb, leb-false, ltb-false, or_parts, or_right}
-use Rattle.mc_base.specs.model_device.specs.Card.{Block, word, header}
-use Rattle.mc_base.specs.model_device.specs.Layout.{bad_header, next_block, is_hole, bad_block}
+use Rattle.mc_words.specs.model_device.specs.Card.{Block, word, header}
+use Rattle.mc_words.specs.model_device.specs.Layout.{bad_header, next_block, is_hole, bad_block}
 use Rattle.mc_blocks.specs.Blocks.{block_within, bad_from, FollowsBlock}
 use Rattle.mc_blocks.proofs.Steps.{HeaderIs, header_is, BlockFits, fits}
 

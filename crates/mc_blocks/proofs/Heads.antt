@@ -1,8 +1,8 @@
 -- The headers of adjacent blocks are the layout of their spans.
 use Rattle.std.proofs.Common.{◌≡◌, ℕ, ◌+◌, ◌≤◌, Bool, true, false, List, [], ◌∷◌, refl, sym, ◌∙◌, ap, arith, cond, not}
 use Rattle.std.proofs.lemmas.Bool.{lt-ltb, le-ltb}
-use Rattle.mc_base.specs.model_device.specs.Card.{Card, Block, heap_start}
-use Rattle.mc_base.specs.model_device.specs.Layout.{first_hole, first_place, hole_header, used_header, root, gap_headers, with_used, put_at, spans, layout}
+use Rattle.mc_words.specs.model_device.specs.Card.{Card, Block, heap_start}
+use Rattle.mc_words.specs.model_device.specs.Layout.{first_hole, first_place, hole_header, used_header, root, gap_headers, with_used, put_at, spans, layout}
 use Rattle.mc_blocks.specs.Chains.{SpansAbove}
 use Rattle.mc_blocks.specs.Blocks.{used_spans, hole_spans}
 use Rattle.mc_blocks.specs.Plans.{changes, layout_of, link_word}

@@ -4,18 +4,18 @@ use Rattle.std.specs.Prelude.{nat_le, nat_lt, ◌==◌, slice_index}
 use Rattle.std.specs.List.{AllByRecursion}
 use Rattle.std.proofs.lemmas.Bool.{and_parts, eqb-true}
 use Rattle.std.proofs.lemmas.Slice.Eq.{bytes_eq-Decides}
-use Rattle.mc_base.specs.model_device.specs.Bytes.{AreBytes, be2, bytes2}
-use Rattle.mc_base.specs.model_device.specs.Device.{IsImage, sized}
-use Rattle.mc_base.specs.model_device.specs.Image.{look, after}
-use Rattle.mc_base.specs.model_device.specs.Card.{Block, used_tag, hole_tag, word, is_header, header, blocks, card_of, words_after, means}
-use Rattle.mc_base.specs.model_device.specs.Layout.{put_at, spans, gaps, first_place, first_hole, used_header, root, gap_headers, with_used, layout, no_root, bad_link, words_fault, IsWellLaid}
-use Rattle.mc_base.specs.model_device.proofs.LookLemmas.{IsFull}
-use Rattle.mc_base.specs.model_device.proofs.ImageBytes.{image_settled}
+use Rattle.mc_words.specs.model_device.specs.Bytes.{AreBytes, be2, bytes2}
+use Rattle.mc_words.specs.model_device.specs.Device.{IsImage, sized}
+use Rattle.mc_words.specs.model_device.specs.Image.{look, after}
+use Rattle.mc_words.specs.model_device.specs.Card.{Block, used_tag, hole_tag, word, is_header, header, blocks, card_of, words_after, means}
+use Rattle.mc_words.specs.model_device.specs.Layout.{put_at, spans, gaps, first_place, first_hole, used_header, root, gap_headers, with_used, layout, no_root, bad_link, words_fault, IsWellLaid}
+use Rattle.mc_words.specs.model_device.proofs.LookLemmas.{IsFull}
+use Rattle.mc_words.specs.model_device.proofs.ImageBytes.{image_settled}
 use Rattle.mc_blocks.specs.Blocks.{used_spans, hole_spans}
 use Rattle.mc_blocks.proofs.Steps.{header_is}
 use Rattle.mc_blocks.proofs.Tiles.{HeadersRead, first_is}
 use Rattle.mc_blocks.proofs.Bridge.{WellLaid, laid}
-use Rattle.mc_base.specs.model_device.proofs.LayoutLemmas.{sound_after}
+use Rattle.mc_words.specs.model_device.proofs.LayoutLemmas.{sound_after}
 use Rattle.mc_blocks.proofs.Search.{link_none, chain_parts}
 
 -- ---- words of eight bytes

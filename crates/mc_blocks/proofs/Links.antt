@@ -2,11 +2,11 @@
 use Rattle.std.proofs.Common.{◌≡◌, ◌≢◌, ◌⊎◌, ℕ, ◌+◌, ◌<◌, ◌≤◌, Bool, true, false, ◌&&◌, List, [], ◌∷◌, length, refl, sym, ◌∙◌, ap, subst, inl, inr, arith, cond}
 use Rattle.std.specs.Prelude.{nat_lt, nat_le, ◌==◌}
 use Rattle.std.proofs.lemmas.Bool.{lt-ltb, le-ltb, ltb-true, eq-eqb, ne_eqb, eqb-true, and_parts, leb-true, or_cases, not-true, eqb-false}
-use Rattle.mc_base.specs.model_device.specs.Bytes.{be2}
-use Rattle.mc_base.specs.model_device.specs.Image.{Closed, look}
-use Rattle.mc_base.specs.model_device.specs.Device.{IsSized}
-use Rattle.mc_base.specs.model_device.specs.Card.{means, word, blocks}
-use Rattle.mc_base.specs.model_device.specs.Layout.{first_place, gaps, IsWellLaid}
+use Rattle.mc_words.specs.model_device.specs.Bytes.{be2}
+use Rattle.mc_words.specs.model_device.specs.Image.{Closed, look}
+use Rattle.mc_words.specs.model_device.specs.Device.{IsSized}
+use Rattle.mc_words.specs.model_device.specs.Card.{means, word, blocks}
+use Rattle.mc_words.specs.model_device.specs.Layout.{first_place, gaps, IsWellLaid}
 use Rattle.mc_blocks.specs.Chains.{SpansAbove, IsChain}
 use Rattle.mc_blocks.specs.Blocks.{hole_spans}
 use Rattle.mc_blocks.specs.Plans.{names_before, gap_before, gaps_behind, joined_words, joined_next, has_room}

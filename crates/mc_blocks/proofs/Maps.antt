@@ -4,13 +4,13 @@ use Rattle.std.specs.Prelude.{nat_lt, ◌==◌, bytes_eq}
 use Rattle.std.proofs.lemmas.Bool.{lt-ltb, le-ltb, ltb-true, ltb-false, eq-eqb, eqb-true, eqb-false, cases_lt, or_cases, or_parts, cases_Bool, false_from_ne_true}
 use Rattle.std.proofs.lemmas.Bool.Decides.{nat_tests}
 use Rattle.std.proofs.lemmas.Slice.Eq.{bytes_eq-Decides}
-use Rattle.mc_base.specs.model_device.specs.Bytes.{insert, remove, lookup, name_before, has_name}
-use Rattle.mc_base.specs.model_device.specs.Card.{App, words_of_app}
-use Rattle.mc_base.specs.model_device.specs.Layout.{put_at, spans_of}
+use Rattle.mc_words.specs.model_device.specs.Bytes.{insert, remove, lookup, name_before, has_name}
+use Rattle.mc_words.specs.model_device.specs.Card.{App, words_of_app}
+use Rattle.mc_words.specs.model_device.specs.Layout.{put_at, spans_of}
 use Rattle.mc_blocks.specs.Chains.{SpansAbove}
 use Rattle.mc_blocks.specs.Plans.{has_span, without}
-use Rattle.mc_base.specs.model_device.proofs.BoolLemmas.{or_swap}
-use Rattle.mc_base.specs.model_device.proofs.MapLemmas.{name_is_itself}
+use Rattle.mc_words.specs.model_device.proofs.BoolLemmas.{or_swap}
+use Rattle.mc_words.specs.model_device.proofs.MapLemmas.{name_is_itself}
 
 -- ---- spans put in order
 

@@ -4,13 +4,13 @@ use Rattle.std.proofs.Common.{◌≡◌, ◌≢◌, ℕ, ◌+◌, ◌<◌, ◌�
 use Rattle.std.specs.Prelude.{nat_lt, ◌==◌, slice_index}
 use Rattle.std.specs.List.{AllByRecursion, list_any}
 use Rattle.std.proofs.lemmas.Bool.{eqb-true}
-use Rattle.mc_base.specs.model_device.specs.Bytes.{be2, insert, lookup, remove}
-use Rattle.mc_base.specs.model_device.specs.Image.{Closed, look, Two}
-use Rattle.mc_base.specs.model_device.specs.Device.{IsSized}
-use Rattle.mc_base.specs.model_device.specs.Card.{App, Card, Block, word, blocks, means, record_at, name_at, app_at, apps_of}
-use Rattle.mc_base.specs.model_device.specs.Layout.{first_hole, gaps, spans, put_at, root, same_pair, is_record, IsWellLaid}
-use Rattle.mc_base.specs.model_device.specs.Stopped.{LaidWhole as WrittenBy}
-use Rattle.mc_base.specs.model_device.proofs.ImageLemmas.{HoldsWords, all_append, laid_other, length_laid}
+use Rattle.mc_words.specs.model_device.specs.Bytes.{be2, insert, lookup, remove}
+use Rattle.mc_words.specs.model_device.specs.Image.{Closed, look, Two}
+use Rattle.mc_words.specs.model_device.specs.Device.{IsSized}
+use Rattle.mc_words.specs.model_device.specs.Card.{App, Card, Block, word, blocks, means, record_at, name_at, app_at, apps_of}
+use Rattle.mc_words.specs.model_device.specs.Layout.{first_hole, gaps, spans, put_at, root, same_pair, is_record, IsWellLaid}
+use Rattle.mc_words.specs.model_device.specs.Stopped.{LaidWhole as WrittenBy}
+use Rattle.mc_words.specs.model_device.proofs.ImageLemmas.{HoldsWords, all_append, laid_other, length_laid}
 use Rattle.mc_blocks.specs.Blocks.{used_spans, hole_spans}
 use Rattle.mc_blocks.specs.Outcomes.{OthersKept, Planned, HoldsApplications}
 use Rattle.mc_blocks.specs.Plans.{changes, layout_of, plan, link_word, without, has_room, has_span}
@@ -25,9 +25,9 @@ use Rattle.mc_blocks.proofs.Freeing.{free_in, free_tiled, free_spans}
 use Rattle.mc_blocks.proofs.Built.{HoldsBlocks, built, card_parts, root_of}
 use Rattle.mc_blocks.proofs.Written.{relink, relink_used, Relaid, written, root_apart}
 use Rattle.mc_blocks.proofs.Cards.{In, in_above, in_old, changes_apart, NotNamed, not_named, relink_named, relink_apps, created, deleted}
-use Rattle.mc_base.specs.model_device.proofs.MapLemmas.{remove_inserted}
-use Rattle.mc_base.specs.model_device.proofs.LookLemmas.{outside_two}
-use Rattle.mc_base.specs.model_device.proofs.LayoutLemmas.{closed_fault, closed_means, length_put}
+use Rattle.mc_words.specs.model_device.proofs.MapLemmas.{remove_inserted}
+use Rattle.mc_words.specs.model_device.proofs.LookLemmas.{outside_two}
+use Rattle.mc_words.specs.model_device.proofs.LayoutLemmas.{closed_fault, closed_means, length_put}
 use Rattle.mc_blocks.proofs.Search.{chain_parts}
 use Rattle.mc_blocks.proofs.Same.{same_block, SameUsed, ApplicationInserted, Deleted}
 

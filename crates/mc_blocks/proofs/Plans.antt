@@ -2,12 +2,12 @@
 use Rattle.std.proofs.Common.{◌≡◌, ◌≢◌, ◌⊎◌, ℕ, ◌+◌, ◌-◌, ◌<◌, ◌≤◌, Bool, true, false, ◌&&◌, List, [], ◌∷◌, length, not, Some, refl, sym, ◌∙◌, ap, subst, inl, inr, arith, cond}
 use Rattle.std.specs.Prelude.{nat_lt, nat_le, ◌==◌, slice_index}
 use Rattle.std.proofs.lemmas.Bool.{lt-ltb, le-leb, ltb-true, eq-eqb, ne_eqb, eqb-true, or_cases, and_from, or_left, or_right}
-use Rattle.mc_base.specs.model_device.specs.Bytes.{be2}
-use Rattle.mc_base.specs.model_device.specs.Image.{Closed, look, within, ascend}
-use Rattle.mc_base.specs.model_device.specs.Device.{IsSized}
-use Rattle.mc_base.specs.model_device.specs.Stopped.{IsAtomic}
-use Rattle.mc_base.specs.model_device.specs.Card.{Card, Block, means, word, blocks}
-use Rattle.mc_base.specs.model_device.specs.Layout.{first_fitting, layout, step_of, gaps, spans, put_at, hole_header, used_header, IsWellLaid}
+use Rattle.mc_words.specs.model_device.specs.Bytes.{be2}
+use Rattle.mc_words.specs.model_device.specs.Image.{Closed, look, within, ascend}
+use Rattle.mc_words.specs.model_device.specs.Device.{IsSized}
+use Rattle.mc_words.specs.model_device.specs.Stopped.{IsAtomic}
+use Rattle.mc_words.specs.model_device.specs.Card.{Card, Block, means, word, blocks}
+use Rattle.mc_words.specs.model_device.specs.Layout.{first_fitting, layout, step_of, gaps, spans, put_at, hole_header, used_header, IsWellLaid}
 use Rattle.mc_blocks.specs.Chains.{SpansAbove}
 use Rattle.mc_blocks.specs.Blocks.{used_spans, hole_spans}
 use Rattle.mc_blocks.specs.Plans.{changes, layout_of, plan, without, has_room, has_span, link_word, gap_before, gaps_behind, touches, take_front, take_list, joined_words, joined_next, put_hole, free_list}
@@ -17,7 +17,7 @@ use Rattle.mc_blocks.proofs.Bridge.{WellLaid, well_laid, used_above}
 use Rattle.mc_blocks.proofs.Search.{holes_above}
 use Rattle.mc_blocks.proofs.Heads.{layout_spans}
 use Rattle.mc_blocks.proofs.Links.{chain_behind, gaps_chain, joined_within, HoleAt, hole_at, BeforeAt, before_at, before_cases}
-use Rattle.mc_base.specs.model_device.proofs.LayoutLemmas.{closed_means}
+use Rattle.mc_words.specs.model_device.proofs.LayoutLemmas.{closed_means}
 use Rattle.mc_blocks.proofs.Taking as taking
 use Rattle.mc_blocks.proofs.Freeing as freeing
 

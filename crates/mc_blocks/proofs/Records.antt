@@ -1,9 +1,9 @@
 -- The words of a record.
 use Rattle.std.proofs.Common.{◌≡◌, ℕ, ◌+◌, ◌≤◌, List, [], ◌∷◌, length, take, drop, refl, sym, ◌∙◌, ap, arith, subst, length-drop, Bool, true, false, ◌&&◌}
 use Rattle.std.specs.Prelude.{nat_le, ◌==◌, slice_index, bytes_eq}
-use Rattle.mc_base.specs.model_device.specs.Bytes.{be2, zeros}
-use Rattle.mc_base.specs.model_device.specs.Card.{words_of_lengths, word, record_at}
-use Rattle.mc_base.specs.model_device.specs.Layout.{is_record}
+use Rattle.mc_words.specs.model_device.specs.Bytes.{be2, zeros}
+use Rattle.mc_words.specs.model_device.specs.Card.{words_of_lengths, word, record_at}
+use Rattle.mc_words.specs.model_device.specs.Layout.{is_record}
 use Rattle.mc_blocks.specs.Records.{has_valid_name, has_valid_lengths, has_valid_access}
 use Rattle.std.specs.List.{flat_map}
 use Rattle.std.proofs.lemmas.List.{drop_more, take_all}

@@ -1,11 +1,11 @@
 -- Used blocks that hold the same in the words of two images.
 use Rattle.std.proofs.Common.{◌≡◌, ℕ, [], true, false, Bool, ap, arith, List, cond, length, refl, subst, None, sym, Some, ◌+◌, ◌∷◌, ◌∙◌, ◌<◌, ◌≤◌, ◌≢◌}
-use Rattle.mc_base.specs.model_device.specs.Layout.{is_record}
-use Rattle.mc_base.specs.model_device.specs.Bytes.{up, insert, be2, has_name, lookup}
-use Rattle.mc_base.specs.model_device.specs.Card.{section, app_of, App, Block, record_at, name_in, words_of_lengths, name_at, app_at, apps_of, word, header}
+use Rattle.mc_words.specs.model_device.specs.Layout.{is_record}
+use Rattle.mc_words.specs.model_device.specs.Bytes.{up, insert, be2, has_name, lookup}
+use Rattle.mc_words.specs.model_device.specs.Card.{section, app_of, App, Block, record_at, name_in, words_of_lengths, name_at, app_at, apps_of, word, header}
 use Rattle.mc_blocks.proofs.Tiles.{Tiled, HeadersRead}
 use Rattle.std.proofs.lemmas.Bool.{eqb-true, and_parts}
-use Rattle.mc_base.specs.model_device.proofs.MapLemmas.{insert_swap, other_way}
+use Rattle.mc_words.specs.model_device.proofs.MapLemmas.{insert_swap, other_way}
 use Rattle.mc_blocks.proofs.Sections.{same_section, same_cells}
 use Rattle.mc_blocks.proofs.Bridge.{no_apps, AreNamed, AreRecorded}
 use Rattle.mc_blocks.proofs.Applications.{lookup_insert}

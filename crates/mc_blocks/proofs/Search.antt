@@ -2,18 +2,18 @@
 use Rattle.std.proofs.Common.{◌≡◌, ◌≢◌, ℕ, suc, ◌+◌, ◌-◌, ◌<◌, ◌≤◌, Bool, true, false, List, [], ◌∷◌, length, Option, Some, None, refl, sym, ◌∙◌, ap, subst, arith, cond, not}
 use Rattle.std.specs.Prelude.{nat_le, ◌==◌}
 use Rattle.std.proofs.lemmas.Bool.{leb-true, leb-false, le-leb, lt-leb, ne_eqb, eqb-true}
-use Rattle.mc_base.specs.model_device.specs.Bytes.{be2, or_else}
-use Rattle.mc_base.specs.model_device.specs.Image.{Closed, look}
-use Rattle.mc_base.specs.model_device.specs.Device.{IsSized}
-use Rattle.mc_base.specs.model_device.specs.Card.{Card, Block, word, blocks, means}
-use Rattle.mc_base.specs.model_device.specs.Layout.{first_hole, first_place, first_fitting, gaps, bad_link, IsWellLaid}
+use Rattle.mc_words.specs.model_device.specs.Bytes.{be2, or_else}
+use Rattle.mc_words.specs.model_device.specs.Image.{Closed, look}
+use Rattle.mc_words.specs.model_device.specs.Device.{IsSized}
+use Rattle.mc_words.specs.model_device.specs.Card.{Card, Block, word, blocks, means}
+use Rattle.mc_words.specs.model_device.specs.Layout.{first_hole, first_place, first_fitting, gaps, bad_link, IsWellLaid}
 use Rattle.mc_blocks.specs.Chains.{SpansAbove, IsChain, count_of_searched_gaps}
 use Rattle.mc_blocks.specs.Blocks.{hole_spans}
 use Rattle.mc_blocks.proofs.Steps.{HeaderIs, header_is}
 use Rattle.mc_blocks.proofs.Tiles.{Tiled, HeadersRead, first_is}
 use Rattle.mc_blocks.proofs.Maps.{above_weaker}
 use Rattle.mc_blocks.proofs.Bridge.{WellLaid, well_laid}
-use Rattle.mc_base.specs.model_device.proofs.LayoutLemmas.{closed_means}
+use Rattle.mc_words.specs.model_device.proofs.LayoutLemmas.{closed_means}
 
 -- ---- the chain of a well laid image
 

@@ -2,9 +2,9 @@
 use Rattle.std.proofs.Common.{◌≡◌, ℕ, zero, suc, ◌+◌, ◌-◌, ◌*◌, ◌<◌, ◌≤◌, min, List, [], ◌++◌, length, take, drop, refl, sym, ◌∙◌, ap, arith, length-append, length-take, append_assoc}
 use Rattle.std.specs.List.{concat}
 use Rattle.std.proofs.lemmas.List.{drop_more, take-append-drop, take-append-le, take-take}
-use Rattle.mc_base.specs.model_device.specs.Bytes.{up}
-use Rattle.mc_base.specs.model_device.specs.Device.{IsSized}
-use Rattle.mc_base.specs.model_device.specs.Card.{word, cells, section}
+use Rattle.mc_words.specs.model_device.specs.Bytes.{up}
+use Rattle.mc_words.specs.model_device.specs.Device.{IsSized}
+use Rattle.mc_words.specs.model_device.specs.Card.{word, cells, section}
 
 pub cells_more : (m : List (List ℕ)) (p k : ℕ) → p < length m → cells m p (suc k) ≡ word m p ++ cells m (p + 1) k
 cells_more m p k h = ap (λ (l : List (List ℕ)). concat (take (suc k) l)) (drop_more m p [] h)

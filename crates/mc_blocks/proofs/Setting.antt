@@ -2,11 +2,11 @@
 use Rattle.std.proofs.Common.{◌≡◌, ◌≢◌, ℕ, ◌+◌, ◌<◌, ◌≤◌, Bool, true, false, ◌||◌, List, [], ◌∷◌, length, None, refl, sym, ◌∙◌, ap, subst, inl, inr, arith, cond, not}
 use Rattle.std.specs.Prelude.{slice_index}
 use Rattle.std.proofs.lemmas.Bool.{cases_eq, ne_eqb}
-use Rattle.mc_base.specs.model_device.specs.Bytes.{be2, insert, has_name}
-use Rattle.mc_base.specs.model_device.specs.Image.{Closed, look}
-use Rattle.mc_base.specs.model_device.specs.Device.{IsSized}
-use Rattle.mc_base.specs.model_device.specs.Card.{App, Card, Block, word, blocks, means, record_at, name_in, name_at, app_at, apps_of, card_of}
-use Rattle.mc_base.specs.model_device.specs.Layout.{spans, IsWellLaid, words_fault}
+use Rattle.mc_words.specs.model_device.specs.Bytes.{be2, insert, has_name}
+use Rattle.mc_words.specs.model_device.specs.Image.{Closed, look}
+use Rattle.mc_words.specs.model_device.specs.Device.{IsSized}
+use Rattle.mc_words.specs.model_device.specs.Card.{App, Card, Block, word, blocks, means, record_at, name_in, name_at, app_at, apps_of, card_of}
+use Rattle.mc_words.specs.model_device.specs.Layout.{spans, IsWellLaid, words_fault}
 use Rattle.mc_blocks.specs.Blocks.{used_spans}
 use Rattle.mc_blocks.specs.Outcomes.{HoldsApplications, AgreeBut}
 use Rattle.mc_blocks.specs.Plans.{has_span}
@@ -17,8 +17,8 @@ use Rattle.mc_blocks.proofs.Plans.{spans_are}
 use Rattle.mc_blocks.proofs.Freeing.{span_from}
 use Rattle.mc_blocks.proofs.Built.{HoldsBlocks, root_kept, card_parts, kept_blocks}
 use Rattle.mc_blocks.proofs.Cards.{name_behind, first_name}
-use Rattle.mc_base.specs.model_device.proofs.MapLemmas.{other_way, insert_twice}
-use Rattle.mc_base.specs.model_device.proofs.LayoutLemmas.{closed_fault, closed_means}
+use Rattle.mc_words.specs.model_device.proofs.MapLemmas.{other_way, insert_twice}
+use Rattle.mc_words.specs.model_device.proofs.LayoutLemmas.{closed_fault, closed_means}
 use Rattle.mc_blocks.proofs.Same.{SameUsed, SameApplications, same_named, ApplicationInserted, inserted_kind, named_as, agree_read, agree_used}
 
 -- the block whose words are set

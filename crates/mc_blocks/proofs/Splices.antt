@@ -4,12 +4,12 @@ use Rattle.std.specs.Prelude.{slice_set}
 use Rattle.std.specs.List.{AllByRecursion}
 use Rattle.std.proofs.lemmas.List.{take_at, drop_at, get_or-set_same, get_or-set_other, length-set, take-take}
 use Rattle.std.proofs.lemmas.Bool.Decides.{eqb_tells}
-use Rattle.mc_base.specs.model_device.specs.Bytes.{up, splice}
-use Rattle.mc_base.specs.model_device.specs.Pieces.{laid_pieces, word_pieces, laid_words}
-use Rattle.mc_base.specs.model_device.specs.Device.{IsSized}
-use Rattle.mc_base.specs.model_device.specs.Image.{image_with}
-use Rattle.mc_base.specs.model_device.specs.Card.{word, cells, section}
-use Rattle.mc_base.specs.model_device.proofs.ListLemmas.{splice_longer}
+use Rattle.mc_words.specs.model_device.specs.Bytes.{up, splice}
+use Rattle.mc_words.specs.model_device.specs.Pieces.{laid_pieces, word_pieces, laid_words}
+use Rattle.mc_words.specs.model_device.specs.Device.{IsSized}
+use Rattle.mc_words.specs.model_device.specs.Image.{image_with}
+use Rattle.mc_words.specs.model_device.specs.Card.{word, cells, section}
+use Rattle.mc_words.specs.model_device.proofs.ListLemmas.{splice_longer}
 use Rattle.mc_blocks.proofs.Sections.{cells_more, cells_append, length_cells, same_cells}
 
 -- ---- words of eight bytes

@@ -3,10 +3,10 @@
 use Rattle.std.proofs.Common.{◌≡◌, ◌⊎◌, ℕ, ◌+◌, ◌<◌, ◌≤◌, Bool, true, false, ◌&&◌, ◌||◌, List, [], ◌∷◌, length, Some, None, not, refl, sym, ◌∙◌, ap, subst, inl, inr, arith}
 use Rattle.std.specs.Prelude.{◌==◌, nat_le, slice_index}
 use Rattle.std.proofs.lemmas.Bool.{eqb-true, leb-true, and_parts, or_cases, cases_eq}
-use Rattle.mc_base.specs.model_device.specs.Bytes.{up, be2, lookup, insert}
-use Rattle.mc_base.specs.model_device.specs.Device.{IsSized}
-use Rattle.mc_base.specs.model_device.specs.Card.{App, Block, word, blocks, section, record_at, name_at, app_of, app_at, card_of, words_of_lengths}
-use Rattle.mc_base.specs.model_device.specs.Layout.{is_record, words_fault}
+use Rattle.mc_words.specs.model_device.specs.Bytes.{up, be2, lookup, insert}
+use Rattle.mc_words.specs.model_device.specs.Device.{IsSized}
+use Rattle.mc_words.specs.model_device.specs.Card.{App, Block, word, blocks, section, record_at, name_at, app_of, app_at, card_of, words_of_lengths}
+use Rattle.mc_words.specs.model_device.specs.Layout.{is_record, words_fault}
 use Rattle.mc_blocks.specs.Blocks.{hole_spans, used_spans}
 use Rattle.mc_blocks.specs.Plans.{has_room, has_span}
 use Rattle.mc_blocks.proofs.Search.{holes_above}

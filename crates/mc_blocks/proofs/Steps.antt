@@ -3,8 +3,8 @@ use Rattle.std.proofs.Common.{◌≡◌, ℕ, zero, suc, ◌+◌, ◌-◌, ◌<�
 use Rattle.std.specs.Prelude.{nat_le, ◌==◌, slice_index}
 use Rattle.std.proofs.lemmas.Bool.{and_parts, leb-true}
 use Rattle.std.proofs.lemmas.List.{get_or_past}
-use Rattle.mc_base.specs.model_device.specs.Bytes.{be2}
-use Rattle.mc_base.specs.model_device.specs.Card.{Block, used_tag, hole_tag, word, is_header, header, block_and, blocks_from}
+use Rattle.mc_words.specs.model_device.specs.Bytes.{be2}
+use Rattle.mc_words.specs.model_device.specs.Card.{Block, used_tag, hole_tag, word, is_header, header, block_and, blocks_from}
 use Rattle.mc_blocks.specs.Blocks.{block_within, blocks_at}
 
 -- the facts of a block whose header was read

@@ -2,8 +2,8 @@
 use Rattle.std.proofs.Common.{◌≡◌, ◌≢◌, ◌⊎◌, ℕ, ◌+◌, ◌-◌, ◌<◌, ◌≤◌, Bool, true, false, ◌&&◌, List, [], ◌∷◌, refl, sym, ◌∙◌, ap, subst, inl, inr, arith, cond, not}
 use Rattle.std.specs.Prelude.{nat_lt, nat_le, ◌==◌}
 use Rattle.std.proofs.lemmas.Bool.{le-ltb, ltb-true, ltb-false, eq-eqb, ne_eqb, eqb-true, and_parts, leb-true, or_cases}
-use Rattle.mc_base.specs.model_device.specs.Card.{Block, heap_start}
-use Rattle.mc_base.specs.model_device.specs.Layout.{first_hole, first_place, hole_header, used_header, put_at}
+use Rattle.mc_words.specs.model_device.specs.Card.{Block, heap_start}
+use Rattle.mc_words.specs.model_device.specs.Layout.{first_hole, first_place, hole_header, used_header, put_at}
 use Rattle.mc_blocks.specs.Chains.{SpansAbove}
 use Rattle.mc_blocks.specs.Blocks.{used_spans, hole_spans}
 use Rattle.mc_blocks.specs.Plans.{changes, layout_of, link_word, has_room, gap_before, gaps_behind, take_list}
@@ -14,7 +14,7 @@ use Rattle.mc_blocks.proofs.Search.{holes_above}
 use Rattle.mc_blocks.proofs.Changes.{From, from_weaker, under_other, links_differ, none_from}
 use Rattle.mc_blocks.proofs.Heads.{heads, heads_from, heads_same, layout_is}
 use Rattle.mc_blocks.proofs.Claims.{Claim, not_before, later_either}
-use Rattle.mc_base.specs.model_device.proofs.BoolLemmas.{and_false}
+use Rattle.mc_words.specs.model_device.proofs.BoolLemmas.{and_false}
 
 -- the used block at p with n words
 abbrev pub used_block : ℕ → ℕ → Block

@@ -3,8 +3,8 @@ use Rattle.std.proofs.Common.{◌≡◌, ℕ, zero, suc, ◌+◌, ◌-◌, ◌<�
 use Rattle.std.specs.Prelude.{nat_lt}
 use Rattle.std.proofs.lemmas.Bool.{lt-ltb, le-ltb, le-leb, cases_lt, or_parts}
 use Rattle.std.proofs.lemmas.List.{get_or_past}
-use Rattle.mc_base.specs.model_device.specs.Card.{Block, word, header}
-use Rattle.mc_base.specs.model_device.specs.Layout.{gap, gaps_from, first_place, first_hole, bad_header}
+use Rattle.mc_words.specs.model_device.specs.Card.{Block, word, header}
+use Rattle.mc_words.specs.model_device.specs.Layout.{gap, gaps_from, first_place, first_hole, bad_header}
 use Rattle.mc_blocks.specs.Blocks.{block_within, blocks_at, bad_from, used_spans, hole_spans}
 use Rattle.mc_blocks.proofs.Steps.{HeaderIs, header_is, blocks_step, blocks_stop}
 use Rattle.mc_blocks.proofs.Headers.{bad_here, bad_behind, good_end}

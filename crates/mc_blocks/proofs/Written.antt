@@ -5,11 +5,11 @@ use Rattle.std.specs.Prelude.{◌==◌, slice_index, bytes_eq}
 use Rattle.std.specs.List.{AllByRecursion, list_any}
 use Rattle.std.proofs.lemmas.Bool.{le-leb, eq-eqb, eqb-true, and_parts, and_from, or_cases, cases_eq}
 use Rattle.std.proofs.lemmas.Slice.Eq.{bytes_eq-Decides}
-use Rattle.mc_base.specs.model_device.specs.Bytes.{be2}
-use Rattle.mc_base.specs.model_device.specs.Card.{Block, word, header}
-use Rattle.mc_base.specs.model_device.specs.Layout.{first_hole, hole_header, used_header, root, same_pair, bad_link}
-use Rattle.mc_base.specs.model_device.proofs.ImageLemmas.{HoldsWords, all_append}
-use Rattle.mc_base.specs.model_device.proofs.ListLemmas.{two_bytes}
+use Rattle.mc_words.specs.model_device.specs.Bytes.{be2}
+use Rattle.mc_words.specs.model_device.specs.Card.{Block, word, header}
+use Rattle.mc_words.specs.model_device.specs.Layout.{first_hole, hole_header, used_header, root, same_pair, bad_link}
+use Rattle.mc_words.specs.model_device.proofs.ImageLemmas.{HoldsWords, all_append}
+use Rattle.mc_words.specs.model_device.proofs.ListLemmas.{two_bytes}
 use Rattle.mc_blocks.specs.Blocks.{used_spans, is_root_word}
 use Rattle.mc_blocks.specs.Outcomes.{OthersKept}
 use Rattle.mc_blocks.specs.Plans.{changes, link_word}

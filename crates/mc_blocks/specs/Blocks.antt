@@ -1,8 +1,8 @@
 -- Blocks as the code reads them, the blocks from a place on, and the spans of used blocks and of holes.
 use Rattle.std.specs.Prelude.{◌≡◌, ℕ, ◌+◌, ◌-◌, ◌<◌, ◌≤◌, Bool, true, false, cond, not, ◌&&◌, ◌||◌, nat_le, nat_lt, ◌==◌, List, [], ◌∷◌, ◌++◌, length, take, map, slice_index, bytes_eq, Option, Some, None, MatchBool}
-use Rattle.mc_base.specs.model_device.specs.Bytes.{has_name}
-use Rattle.mc_base.specs.model_device.specs.Card.{Block, word, blocks_from, record_at, name_in}
-use Rattle.mc_base.specs.model_device.specs.Layout.{is_record, root, bad_header, bad_block}
+use Rattle.mc_words.specs.model_device.specs.Bytes.{has_name}
+use Rattle.mc_words.specs.model_device.specs.Card.{Block, word, blocks_from, record_at, name_in}
+use Rattle.mc_words.specs.model_device.specs.Layout.{is_record, root, bad_header, bad_block}
 use Rattle.mc_blocks.specs.declared.block.Block.{Block as Read}
 
 -- a block that the code read, as the definition's value

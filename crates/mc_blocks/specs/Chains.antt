@@ -1,8 +1,8 @@
 -- The chain of holes in the words of a device: each hole's header names the next.
 use Rattle.std.specs.Prelude.{◌≡◌, ℕ, suc, ◌+◌, ◌≤◌, cond, nat_le, List, [], ◌∷◌, length}
-use Rattle.mc_base.specs.model_device.specs.Bytes.{be2}
-use Rattle.mc_base.specs.model_device.specs.Card.{word}
-use Rattle.mc_base.specs.model_device.specs.Layout.{first_place}
+use Rattle.mc_words.specs.model_device.specs.Bytes.{be2}
+use Rattle.mc_words.specs.model_device.specs.Card.{word}
+use Rattle.mc_words.specs.model_device.specs.Layout.{first_place}
 
 -- spans that all begin at p or after it
 abbrev pub SpansAbove : ℕ → List (ℕ × ℕ) → Type 0

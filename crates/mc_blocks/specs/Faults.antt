@@ -1,6 +1,6 @@
 -- The code's findings, as faults of the definition.
 use Rattle.std.specs.Prelude.{ℕ, Option, Some, None, Result, Ok, Err}
-use Rattle.mc_base.specs.model_device.specs.declared.cause.Cause.{Cause}
+use Rattle.mc_words.specs.model_device.specs.declared.cause.Cause.{Cause}
 use Rattle.mc_blocks.specs.declared.image.Shape.{Shape}
 use Rattle.mc_blocks.specs.declared.image.Unusable.{Unusable}
 

@@ -1,8 +1,8 @@
 -- Words after a plan, and the card that they hold.
 use Rattle.std.specs.Prelude.{◌≡◌, ◌≢◌, ℕ, ◌+◌, ◌<◌, ◌≤◌, true, List, [], ◌∷◌, length, None}
 use Rattle.std.specs.List.{AllByRecursion}
-use Rattle.mc_base.specs.model_device.specs.Card.{App, Block, word, means, card_of}
-use Rattle.mc_base.specs.model_device.specs.Layout.{words_fault}
+use Rattle.mc_words.specs.model_device.specs.Card.{App, Block, word, means, card_of}
+use Rattle.mc_words.specs.model_device.specs.Layout.{words_fault}
 use Rattle.mc_blocks.specs.Plans.{plan}
 
 -- from word `low` on, each word that the list does not name is kept

@@ -1,8 +1,8 @@
 -- The header words that change when words of a hole are taken or a used block is freed.
 use Rattle.std.specs.Prelude.{ℕ, ◌+◌, ◌-◌, Bool, false, cond, not, ◌&&◌, ◌||◌, nat_lt, nat_le, ◌==◌, List, [], ◌∷◌, filter}
 use Rattle.std.specs.List.{list_any}
-use Rattle.mc_base.specs.model_device.specs.Card.{Card, heap_start}
-use Rattle.mc_base.specs.model_device.specs.Layout.{gaps_from, first_place, root, hole_header, used_header, gap_headers, with_used, layout, same_pair}
+use Rattle.mc_words.specs.model_device.specs.Card.{Card, heap_start}
+use Rattle.mc_words.specs.model_device.specs.Layout.{gaps_from, first_place, root, hole_header, used_header, gap_headers, with_used, layout, same_pair}
 
 -- the pairs of a layout that are not in another
 abbrev pub changes : List (ℕ × List ℕ) → List (ℕ × List ℕ) → List (ℕ × List ℕ)

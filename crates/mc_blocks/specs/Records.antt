@@ -1,7 +1,7 @@
 -- The tests of a record in three parts: its name, the lengths of its sections, its session size and access list.
 use Rattle.std.specs.Prelude.{ℕ, ◌-◌, Bool, ◌&&◌, nat_le, ◌==◌, List, take, drop, slice_index, bytes_eq}
-use Rattle.mc_base.specs.model_device.specs.Limits.{most_code}
-use Rattle.mc_base.specs.model_device.specs.Bytes.{be2, zeros}
+use Rattle.mc_words.specs.model_device.specs.Limits.{most_code}
+use Rattle.mc_words.specs.model_device.specs.Bytes.{be2, zeros}
 
 -- whether the name has 5 to 16 bytes, with zeros after it
 abbrev pub has_valid_name : List ℕ → Bool

@@ -1,11 +1,11 @@
 ghost use Rattle.std.specs.Prelude.{◌≡◌, ◌+◌, ◌≤◌, length, MatchOption, true, false};
-ghost use Rattle.mc_base.specs.model_device.specs.Card.{header, word};
-ghost use Rattle.mc_base.specs.model_device.specs.Layout.{bad_header};
+ghost use Rattle.mc_words.specs.model_device.specs.Card.{header, word};
+ghost use Rattle.mc_words.specs.model_device.specs.Layout.{bad_header};
 ghost use Rattle.mc_blocks.specs.Blocks.{block_of, read_block, block_within};
 
 use crate::header::{HOLE, USED};
-use mc_base::{Word, number_of};
 use mc_nvm::Nvm;
+use mc_words::{Word, number_of};
 
 /// A block of the heap: the place of its header, whether it is used or a hole, its number of words with the
 /// header, and its link.

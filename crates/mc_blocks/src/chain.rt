@@ -1,14 +1,14 @@
 // The links of an image, tested by the blocks: the root and each hole name the next hole, used headers name
 // none.
 ghost use Rattle.std.specs.Prelude.{◌≡◌, ◌+◌, ◌≤◌, length, cond};
-ghost use Rattle.mc_base.specs.model_device.specs.Card.{blocks};
-ghost use Rattle.mc_base.specs.model_device.specs.Layout.{bad_chain, bad_link, first_hole};
+ghost use Rattle.mc_words.specs.model_device.specs.Card.{blocks};
+ghost use Rattle.mc_words.specs.model_device.specs.Layout.{bad_chain, bad_link, first_hole};
 ghost use Rattle.mc_blocks.specs.Blocks.{blocks_at, used_spans, hole_spans};
 
 use crate::block::{Block, block_at};
 use crate::header::HEAP;
-use mc_base::number_of;
 use mc_nvm::Nvm;
+use mc_words::number_of;
 
 /// Returns the first place whose link is wrong, that of the root first, or `None`.
 pub fn first_bad_place<N: Nvm>(device: &N) -> Option<u16>

@@ -1,16 +1,16 @@
 // The checks of an image, each over the whole image before the next: the root, the headers, the records.
 ghost use Rattle.std.specs.Prelude.{◌≡◌, ◌+◌, ◌≤◌, [], length, map, true, false, MatchOption};
-ghost use Rattle.mc_base.specs.model_device.specs.Bytes.{has_name};
-ghost use Rattle.mc_base.specs.model_device.specs.Card.{heap_start, word, header, blocks, name_in};
-ghost use Rattle.mc_base.specs.model_device.specs.Layout.{no_root, bad_header, bad_block, bad_record};
+ghost use Rattle.mc_words.specs.model_device.specs.Bytes.{has_name};
+ghost use Rattle.mc_words.specs.model_device.specs.Card.{heap_start, word, header, blocks, name_in};
+ghost use Rattle.mc_words.specs.model_device.specs.Layout.{no_root, bad_header, bad_block, bad_record};
 ghost use Rattle.mc_blocks.specs.Blocks.{block_of, is_root_word, FollowsBlock, Admits};
 
 use crate::block::{Block, block_at};
 use crate::header::{HEAP, root_word};
 use crate::record::{Record, is_good, name_of, read_record};
 use arrayvec::ArrayVec;
-use mc_base::Word;
 use mc_nvm::Nvm;
+use mc_words::Word;
 
 /// Returns the place of the root if word 0 is no root of layout 1 or 2 for this size, else `None`.
 pub fn missing_root<N: Nvm>(device: &N) -> Option<u16>

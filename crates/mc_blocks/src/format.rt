@@ -1,12 +1,12 @@
 ghost use Rattle.std.specs.Prelude.{◌≡◌, ◌-◌, ◌≤◌, [], ◌∷◌};
-ghost use Rattle.mc_base.specs.model_device.specs.Bytes.{zeros};
-ghost use Rattle.mc_base.specs.model_device.specs.Image.{shut_word};
-ghost use Rattle.mc_base.specs.model_device.specs.Card.{heap_start};
-ghost use Rattle.mc_base.specs.model_device.specs.Layout.{root, hole_header};
+ghost use Rattle.mc_words.specs.model_device.specs.Bytes.{zeros};
+ghost use Rattle.mc_words.specs.model_device.specs.Image.{shut_word};
+ghost use Rattle.mc_words.specs.model_device.specs.Card.{heap_start};
+ghost use Rattle.mc_words.specs.model_device.specs.Layout.{root, hole_header};
 
 use crate::header::{HEAP, hole_word, root_word};
-use mc_base::Word;
 use mc_gate::{HEAD, Layout, SHUT};
+use mc_words::Word;
 
 /// Returns words 0, 1, 2, 130 and 131 of an empty card of layout 2 on a device of `size` words, 256 to
 /// 16,384: the root, the two gates, the head of the journal, and one hole over the whole heap.

@@ -1,10 +1,10 @@
 ghost use Rattle.std.specs.Prelude.{◌≡◌, ◌<◌, ◌==◌, length, slice_index};
-ghost use Rattle.mc_base.specs.model_device.specs.Bytes.{be2};
-ghost use Rattle.mc_base.specs.model_device.specs.Card.{word, used_tag};
-ghost use Rattle.mc_base.specs.model_device.specs.Layout.{hole_header, used_header, root};
+ghost use Rattle.mc_words.specs.model_device.specs.Bytes.{be2};
+ghost use Rattle.mc_words.specs.model_device.specs.Card.{word, used_tag};
+ghost use Rattle.mc_words.specs.model_device.specs.Layout.{hole_header, used_header, root};
 
-use mc_base::{Word, bytes_of};
 use mc_nvm::Nvm;
+use mc_words::{Word, bytes_of};
 
 /// The first byte of the header of a used block.
 pub const USED: u8 = 0x55;

@@ -1,14 +1,14 @@
 ghost use Rattle.std.specs.Prelude.{◌≡◌, length, slice_index, IfOk};
-ghost use Rattle.mc_base.specs.model_device.specs.Image.{Closed, look};
-ghost use Rattle.mc_base.specs.model_device.specs.Card.{means, blocks, word};
-ghost use Rattle.mc_base.specs.model_device.specs.Layout.{fault, gaps, words_fault};
+ghost use Rattle.mc_words.specs.model_device.specs.Image.{Closed, look};
+ghost use Rattle.mc_words.specs.model_device.specs.Card.{means, blocks, word};
+ghost use Rattle.mc_words.specs.model_device.specs.Layout.{fault, gaps, words_fault};
 ghost use Rattle.mc_blocks.specs.Blocks.{used_spans, hole_spans};
 ghost use Rattle.mc_blocks.specs.Faults.{fault_found, fault_named};
 
 use crate::chain::{count_blocks, first_bad_place};
 use crate::checks::{first_bad_header, first_bad_record, missing_root};
-use mc_base::model_device::Cause;
 use mc_nvm::Nvm;
+use mc_words::model_device::Cause;
 
 /// The numbers of used blocks and of holes of a card, and the version of its layout, 1 or 2.
 #[derive(Clone, Copy, Debug, PartialEq, Eq)]

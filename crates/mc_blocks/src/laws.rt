@@ -1,11 +1,11 @@
 ghost use Rattle.std.specs.Prelude.{◌≡◌, ℕ, ◌-◌, ◌<◌, ◌≤◌, List, [], ◌∷◌, length, slice_index, true, false, Some, None};
 ghost use Rattle.std.specs.List.{AllByRecursion};
-ghost use Rattle.mc_base.specs.model_device.specs.Bytes.{be2, lookup, insert, remove};
-ghost use Rattle.mc_base.specs.model_device.specs.Image.{Closed, Two, look, after, shut_word};
-ghost use Rattle.mc_base.specs.model_device.specs.Device.{IsImage, IsSized};
-ghost use Rattle.mc_base.specs.model_device.specs.Stopped.{LaidWhole as WrittenBy};
-ghost use Rattle.mc_base.specs.model_device.specs.Card.{App, Card, words_of_app, blocks, card_of, heap_start, means, words_after, word, record_at, name_at, app_at};
-ghost use Rattle.mc_base.specs.model_device.specs.Layout.{spans, spans_of, put_at, gaps, hole_header, root, first_place, first_fitting, layout, step_of, is_record, words_fault, IsWellLaid};
+ghost use Rattle.mc_words.specs.model_device.specs.Bytes.{be2, lookup, insert, remove};
+ghost use Rattle.mc_words.specs.model_device.specs.Image.{Closed, Two, look, after, shut_word};
+ghost use Rattle.mc_words.specs.model_device.specs.Device.{IsImage, IsSized};
+ghost use Rattle.mc_words.specs.model_device.specs.Stopped.{LaidWhole as WrittenBy};
+ghost use Rattle.mc_words.specs.model_device.specs.Card.{App, Card, words_of_app, blocks, card_of, heap_start, means, words_after, word, record_at, name_at, app_at};
+ghost use Rattle.mc_words.specs.model_device.specs.Layout.{spans, spans_of, put_at, gaps, hole_header, root, first_place, first_fitting, layout, step_of, is_record, words_fault, IsWellLaid};
 ghost use Rattle.mc_blocks.specs.Blocks.{used_spans, hole_spans, is_root_word, WordsAgree};
 ghost use Rattle.mc_blocks.specs.Chains.{IsChain};
 ghost use Rattle.mc_blocks.specs.Outcomes.{AgreeBut, Planned, HoldsApplications};

@@ -23,7 +23,7 @@ pub use laws::{
     fits_room, format_rows, holds_layout, inserts_span, keeps_card, plan_rows, plans_steps,
     removes_span, sets_application, walks_card, writes_plan,
 };
-pub use mc_base::model_device::Cause;
+pub use mc_words::model_device::Cause;
 pub use plan::{free_plan, take_plan};
 pub use record::{Record, name_of, read_record, record_from, words_of};
 pub use room::first_fit;

@@ -1,14 +1,14 @@
 // Links of the chain of holes.
 ghost use Rattle.std.specs.Prelude.{◌≡◌, ◌+◌, ◌<◌, ◌≤◌, length, slice_index};
-ghost use Rattle.mc_base.specs.model_device.specs.Bytes.{be2};
-ghost use Rattle.mc_base.specs.model_device.specs.Image.{Closed, look};
-ghost use Rattle.mc_base.specs.model_device.specs.Card.{means, word};
-ghost use Rattle.mc_base.specs.model_device.specs.Layout.{first_place, gaps, IsWellLaid};
+ghost use Rattle.mc_words.specs.model_device.specs.Bytes.{be2};
+ghost use Rattle.mc_words.specs.model_device.specs.Image.{Closed, look};
+ghost use Rattle.mc_words.specs.model_device.specs.Card.{means, word};
+ghost use Rattle.mc_words.specs.model_device.specs.Layout.{first_place, gaps, IsWellLaid};
 ghost use Rattle.mc_blocks.specs.Plans.{link_word, names_before, gap_before, gaps_behind, joined_words, joined_next};
 
 use crate::header::{hole_word, root_word};
-use mc_base::{Word, number_of};
 use mc_nvm::Nvm;
+use mc_words::{Word, number_of};
 
 /// A link of the chain: the root, at place 0, or a hole of `words` words; and the place of the hole that it
 /// names, or 0.

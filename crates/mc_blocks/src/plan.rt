@@ -1,15 +1,15 @@
 ghost use Rattle.std.specs.Prelude.{◌≡◌, ◌+◌, ◌≤◌, true, length, slice_index};
-ghost use Rattle.mc_base.specs.model_device.specs.Image.{Closed, look};
-ghost use Rattle.mc_base.specs.model_device.specs.Stopped.{IsAtomic};
-ghost use Rattle.mc_base.specs.model_device.specs.Card.{means, word};
-ghost use Rattle.mc_base.specs.model_device.specs.Layout.{spans, gaps, put_at, IsWellLaid};
+ghost use Rattle.mc_words.specs.model_device.specs.Image.{Closed, look};
+ghost use Rattle.mc_words.specs.model_device.specs.Stopped.{IsAtomic};
+ghost use Rattle.mc_words.specs.model_device.specs.Card.{means, word};
+ghost use Rattle.mc_words.specs.model_device.specs.Layout.{spans, gaps, put_at, IsWellLaid};
 ghost use Rattle.mc_blocks.specs.Plans.{plan, without, has_room, has_span, take_front, put_hole};
 
 use crate::header::{hole_word, used_word};
 use crate::link::{Link, joined, link_at, link_before, relinked};
 use arrayvec::ArrayVec;
-use mc_base::Word;
 use mc_nvm::Nvm;
+use mc_words::Word;
 
 /// Returns the header words that change when `need` words, 1 or more, are taken from the front of the hole at
 /// a place that has them: the link before it, the used header, and the header of the rest of the hole. They

@@ -1,11 +1,11 @@
 ghost use Rattle.std.specs.Prelude.{◌≡◌, ◌+◌, ◌≤◌, length, slice_index, bytes_eq};
-ghost use Rattle.mc_base.specs.model_device.specs.Bytes.{be2, zeros, up};
-ghost use Rattle.mc_base.specs.model_device.specs.Card.{record_at, name_in, word, words_of_lengths};
-ghost use Rattle.mc_base.specs.model_device.specs.Layout.{is_record};
+ghost use Rattle.mc_words.specs.model_device.specs.Bytes.{be2, zeros, up};
+ghost use Rattle.mc_words.specs.model_device.specs.Card.{record_at, name_in, word, words_of_lengths};
+ghost use Rattle.mc_words.specs.model_device.specs.Layout.{is_record};
 ghost use Rattle.mc_blocks.specs.Records.{has_valid_name, has_valid_lengths, has_valid_access};
 
-use mc_base::{Word, number_of};
 use mc_nvm::Nvm;
+use mc_words::{Word, number_of};
 
 /// The 32 bytes of a record.
 pub type Record = [u8; 32];

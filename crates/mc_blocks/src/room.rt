@@ -1,13 +1,13 @@
 ghost use Rattle.std.specs.Prelude.{◌≡◌, ◌+◌, ◌≤◌, nat_le};
-ghost use Rattle.mc_base.specs.model_device.specs.Image.{Closed, look};
-ghost use Rattle.mc_base.specs.model_device.specs.Card.{means};
-ghost use Rattle.mc_base.specs.model_device.specs.Layout.{first_fitting, gaps, IsWellLaid};
+ghost use Rattle.mc_words.specs.model_device.specs.Image.{Closed, look};
+ghost use Rattle.mc_words.specs.model_device.specs.Card.{means};
+ghost use Rattle.mc_words.specs.model_device.specs.Layout.{first_fitting, gaps, IsWellLaid};
 ghost use Rattle.mc_nvm.specs.Probe.{device_of_probe};
 ghost use Rattle.mc_blocks.specs.Chains.{count_of_searched_gaps};
 
 use crate::link::{Link, link_of};
-use mc_base::{Steps, number_of};
 use mc_nvm::{Nvm, Probe};
+use mc_words::{Steps, number_of};
 use std::sync::ledger::Ledger;
 
 /// Returns the place of the first hole of at least `need` words, 1 or more, or `None` if there is none. The

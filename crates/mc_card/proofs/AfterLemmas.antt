@@ -1,9 +1,9 @@
 -- A card after the atomic writes of a chain.
 use Rattle.std.proofs.Common.{arith, ◌≡◌, ℕ, true, false, List, length, Option, Some, Ok, ◌∙◌, subst}
 use Rattle.mc_bank.specs.model_card.specs.declared.card.Part.{Part}
-use Rattle.mc_base.specs.model_device.specs.Orders.{Answer, InOrder}
-use Rattle.mc_base.specs.model_device.specs.Device.{DeviceState, Wrote as DeviceWrote}
-use Rattle.mc_base.specs.model_device.specs.Card.{Card as ModelCard, means}
+use Rattle.mc_words.specs.model_device.specs.Orders.{Answer, InOrder}
+use Rattle.mc_words.specs.model_device.specs.Device.{DeviceState, Wrote as DeviceWrote}
+use Rattle.mc_words.specs.model_device.specs.Card.{Card as ModelCard, means}
 use Rattle.mc_bank.specs.model_card.specs.Items.{Site, BankItem, card_done, write_items}
 use Rattle.mc_apdu.specs.model_machine.specs.Chain.{Write}
 use Rattle.mc_bank.specs.Bank.{BankState, app_of}

@@ -1,11 +1,11 @@
 -- A command on a card: one that the manager answers, and one that the selected application runs.
 use Rattle.std.proofs.Common.{◌≡◌, ℕ, ◌+◌, ◌≤◌, Bool, true, false, cond, List, length, Option, Some, None, Result, Ok, Err, refl, sym, ◌∙◌, ap, subst, arith}
 use Rattle.std.specs.Prelude.{◌==◌, ◌&&◌, option_map, IfOk, OnOk, OnErr}
-use Rattle.mc_base.specs.model_device.specs.declared.device.Stop.{Stop}
-use Rattle.mc_base.specs.model_device.specs.Orders.{Answer, InOrder, answer_of}
+use Rattle.mc_words.specs.model_device.specs.declared.device.Stop.{Stop}
+use Rattle.mc_words.specs.model_device.specs.Orders.{Answer, InOrder, answer_of}
 use Rattle.mc_apdu.specs.model_machine.specs.Apdu.{ApduParts, apdu_read}
-use Rattle.mc_base.specs.model_device.specs.Device.{DeviceState, IsSized, Wrote as DeviceWrote}
-use Rattle.mc_base.specs.model_device.specs.Card.{App, Card as ModelCard}
+use Rattle.mc_words.specs.model_device.specs.Device.{DeviceState, IsSized, Wrote as DeviceWrote}
+use Rattle.mc_words.specs.model_device.specs.Card.{App, Card as ModelCard}
 use Rattle.mc_bank.specs.model_card.specs.Items.{BankItem, write_items}
 use Rattle.mc_apdu.specs.model_machine.specs.Chain.{Chain, Ran, start, run}
 use Rattle.mc_bank.specs.model_card.specs.Manager.{Selected, SessionState, Route, ToApplication, route_of_parts, route}

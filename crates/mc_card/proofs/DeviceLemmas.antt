@@ -1,15 +1,15 @@
 -- The device after a command: it is the same one, with its power and its numbers of stops.
 use Rattle.std.proofs.Common.{◌≡◌, ℕ, true, List, Some, Result, Ok, Err, refl, sym, subst}
-use Rattle.mc_base.specs.model_device.specs.declared.device.Stop.{Stop}
-use Rattle.mc_base.specs.model_device.specs.Orders.{Answer, answer_of}
+use Rattle.mc_words.specs.model_device.specs.declared.device.Stop.{Stop}
+use Rattle.mc_words.specs.model_device.specs.Orders.{Answer, answer_of}
 use Rattle.mc_apdu.specs.model_machine.specs.Apdu.{ApduParts}
 use Rattle.mc_bank.specs.model_card.specs.Manager.{route_of_parts}
 use Rattle.mc_bank.specs.model_card.specs.Commands.{Command, by_route}
-use Rattle.mc_base.specs.model_device.specs.Device.{DeviceState, Wrote, Ended}
-use Rattle.mc_base.specs.model_device.specs.Card.{Card}
+use Rattle.mc_words.specs.model_device.specs.Device.{DeviceState, Wrote, Ended}
+use Rattle.mc_words.specs.model_device.specs.Card.{Card}
 use Rattle.mc_bank.specs.model_card.specs.Items.{Item}
-use Rattle.mc_base.specs.model_device.proofs.DeviceLemmas.{DoneAll, makes_done, makes_stopped}
-use Rattle.mc_base.specs.model_device.proofs.LoopLemmas.{makes_same}
+use Rattle.mc_words.specs.model_device.proofs.DeviceLemmas.{DoneAll, makes_done, makes_stopped}
+use Rattle.mc_words.specs.model_device.proofs.LoopLemmas.{makes_same}
 use Rattle.mc_machine.specs.declared.outcome.Outcome.{Outcome}
 use Rattle.mc_store.specs.GoingLaws.{going_is}
 use Rattle.mc_card.specs.declared.card.Card.{Card as CardOf}

@@ -3,12 +3,12 @@ use Rattle.std.proofs.Common.{arith, ◌≡◌, ℕ, Bool, true, false, List, []
 use Rattle.std.specs.Prelude.{Result, bytes_eq, is_some, option_map, IsSome}
 use Rattle.std.proofs.lemmas.List.{length-replicate}
 use Rattle.mc_bank.specs.model_card.specs.declared.card.Sizes.{Sizes}
-use Rattle.mc_base.specs.model_device.specs.declared.device.Stop.{Stop}
-use Rattle.mc_base.specs.model_device.specs.Orders.{Answer, InOrder}
+use Rattle.mc_words.specs.model_device.specs.declared.device.Stop.{Stop}
+use Rattle.mc_words.specs.model_device.specs.Orders.{Answer, InOrder}
 use Rattle.mc_apdu.specs.model_machine.specs.Apdu.{ApduParts}
-use Rattle.mc_base.specs.model_device.specs.Bytes.{zeros, lookup, insert}
-use Rattle.mc_base.specs.model_device.specs.Device.{DeviceState, Wrote}
-use Rattle.mc_base.specs.model_device.specs.Card.{App, Card as ModelCard}
+use Rattle.mc_words.specs.model_device.specs.Bytes.{zeros, lookup, insert}
+use Rattle.mc_words.specs.model_device.specs.Device.{DeviceState, Wrote}
+use Rattle.mc_words.specs.model_device.specs.Card.{App, Card as ModelCard}
 use Rattle.mc_bank.specs.model_card.specs.Items.{BankItem}
 use Rattle.mc_bank.specs.model_card.specs.Manager.{Selected, SessionState, Managed, Declines, Accepts, Accepted, Route, WrongLength, WrongClass, ToSelect, ToManager, ToApplication, route_of_parts, select, is_selected, manage, room_on}
 use Rattle.mc_apdu.specs.model_machine.specs.Chain.{Reply}
@@ -38,7 +38,7 @@ use Rattle.mc_card.specs.Ends.{is_passed}
 use Rattle.mc_card.specs.Managing.{IsAnswered, IsPassed}
 use Rattle.mc_card.proofs.StaticLemmas.{going_apps}
 use Rattle.mc_card.proofs.ManagerLemmas.{due_made}
-use Rattle.mc_base.specs.model_device.proofs.MapLemmas.{same_name, lookup_beside, lookup_left, other_way}
+use Rattle.mc_words.specs.model_device.proofs.MapLemmas.{same_name, lookup_beside, lookup_left, other_way}
 
 -- ---- the verdict on a command, and what it does
 

@@ -1,18 +1,18 @@
 -- The number of device writes of each item that a command began.
 use Rattle.std.proofs.Common.{◌≡◌, ℕ, zero, suc, ◌+◌, ◌-◌, ◌≤◌, true, false, not, List, [], ◌∷◌, ◌++◌, length, Option, Some, None, Ok, Err, refl, sym, ap, subst, inl, inr, arith, length-append}
 use Rattle.std.specs.List.{AllByRecursion}
-use Rattle.mc_base.specs.model_device.specs.declared.device.Stop.{Stop}
-use Rattle.mc_base.specs.model_device.specs.Orders.{Answer, InOrder}
-use Rattle.mc_base.specs.model_device.specs.Image.{Two}
-use Rattle.mc_base.specs.model_device.specs.Stopped.{cost}
+use Rattle.mc_words.specs.model_device.specs.declared.device.Stop.{Stop}
+use Rattle.mc_words.specs.model_device.specs.Orders.{Answer, InOrder}
+use Rattle.mc_words.specs.model_device.specs.Image.{Two}
+use Rattle.mc_words.specs.model_device.specs.Stopped.{cost}
 use Rattle.mc_apdu.specs.model_machine.specs.Apdu.{ApduParts}
-use Rattle.mc_base.specs.model_device.specs.Device.{DeviceState, IsSized, Wrote as DeviceWrote}
-use Rattle.mc_base.specs.model_device.specs.Card.{App, Card, means}
+use Rattle.mc_words.specs.model_device.specs.Device.{DeviceState, IsSized, Wrote as DeviceWrote}
+use Rattle.mc_words.specs.model_device.specs.Card.{App, Card, means}
 use Rattle.mc_apdu.specs.model_machine.specs.Chain.{Write, no_app}
 use Rattle.mc_bank.specs.model_card.specs.Items.{Fixed, Created, Item, Plain, Atomic, weight, moves, card_done, BankItem, write_items}
 use Rattle.mc_bank.specs.model_card.specs.Manager.{SessionState, Selected, Route, WrongLength, WrongClass, ToSelect, ToManager, ToApplication, p1p2, word_parts, fresh, select, manage, room_on}
 use Rattle.mc_bank.specs.model_card.specs.Commands.{Command, atomic_of, manager_command, by_route}
-use Rattle.mc_base.specs.model_device.proofs.OrdersLemmas.{in_order_append}
+use Rattle.mc_words.specs.model_device.proofs.OrdersLemmas.{in_order_append}
 use Rattle.mc_machine.specs.law_machine.proofs.FewHeaders.{few_headers_law}
 use Rattle.mc_machine.specs.law_machine.proofs.RowWords.{few_writes_law}
 use Rattle.mc_manager.specs.law_manager.specs.Orders.{Order, order_of}

@@ -4,20 +4,20 @@ use Rattle.std.specs.Prelude.{nat_le, unwrap_or}
 use Rattle.std.specs.List.{AllByRecursion}
 use Rattle.std.proofs.lemmas.List.{length-map}
 use Rattle.std.proofs.lemmas.Bool.{cases_lt, le-leb}
-use Rattle.mc_base.specs.model_device.specs.declared.device.Stop.{Stop}
-use Rattle.mc_base.specs.model_device.specs.Orders.{Answer, InOrder}
-use Rattle.mc_base.specs.model_device.specs.Bytes.{lookup}
-use Rattle.mc_base.specs.model_device.specs.Image.{Two, look, Closed}
-use Rattle.mc_base.specs.model_device.specs.Device.{DeviceState, IsSized, Wrote, Makes}
-use Rattle.mc_base.specs.model_device.specs.Stopped.{cost, stands, owes, image_after_stop, writes, IsAtomic}
-use Rattle.mc_base.specs.model_device.specs.Card.{App, Card, card_of, means}
-use Rattle.mc_base.specs.model_device.specs.Layout.{words_fault, step_of, IsWellLaid}
+use Rattle.mc_words.specs.model_device.specs.declared.device.Stop.{Stop}
+use Rattle.mc_words.specs.model_device.specs.Orders.{Answer, InOrder}
+use Rattle.mc_words.specs.model_device.specs.Bytes.{lookup}
+use Rattle.mc_words.specs.model_device.specs.Image.{Two, look, Closed}
+use Rattle.mc_words.specs.model_device.specs.Device.{DeviceState, IsSized, Wrote, Makes}
+use Rattle.mc_words.specs.model_device.specs.Stopped.{cost, stands, owes, image_after_stop, writes, IsAtomic}
+use Rattle.mc_words.specs.model_device.specs.Card.{App, Card, card_of, means}
+use Rattle.mc_words.specs.model_device.specs.Layout.{words_fault, step_of, IsWellLaid}
 use Rattle.mc_bank.specs.model_card.specs.Items.{Change, Item, Plain, Atomic, Stopped, with_item, in_flight, weight, moves, apps_after_change, card_done, at_stop, BankItem, Piece, Blank, Note, Commit, Enter, Remove}
-use Rattle.mc_base.specs.model_device.specs.PowerUp.{OnCard}
-use Rattle.mc_base.specs.model_device.proofs.OrdersLemmas.{in_order_append}
-use Rattle.mc_base.specs.model_device.proofs.DeviceLemmas.{DoneAll, makes_done}
-use Rattle.mc_base.specs.model_device.proofs.StoppedLemmas.{torn_within, torn_past}
-use Rattle.mc_base.specs.model_device.proofs.CallLemmas.{length_writes}
+use Rattle.mc_words.specs.model_device.specs.PowerUp.{OnCard}
+use Rattle.mc_words.specs.model_device.proofs.OrdersLemmas.{in_order_append}
+use Rattle.mc_words.specs.model_device.proofs.DeviceLemmas.{DoneAll, makes_done}
+use Rattle.mc_words.specs.model_device.proofs.StoppedLemmas.{torn_within, torn_past}
+use Rattle.mc_words.specs.model_device.proofs.CallLemmas.{length_writes}
 use Rattle.mc_bank.specs.Bank.{no_app, app_of, CanCommit, item_done}
 use Rattle.mc_store.specs.Store.{apps_in, part_in, static_writes, card_with, card_without, item_writes, store_site_bytes, Allows, StoreDid}
 use Rattle.mc_store.specs.Power.{HoldsBase}
@@ -29,9 +29,9 @@ use Rattle.mc_store.specs.DeletionLaws.{deletes_plan}
 use Rattle.mc_store.specs.TurnLaws.{CardChanged, SiteBytes, site_bytes_of, turns}
 use Rattle.mc_store.proofs.StopLemmas.{item_stops}
 use Rattle.mc_card.specs.ItemWrites.{IsCardAfterStop, CountsWrites, IsCardAfter, ItemsMade, StopsAtEach}
-use Rattle.mc_base.specs.model_device.proofs.LayoutLemmas.{closed_fault, closed_means}
+use Rattle.mc_words.specs.model_device.proofs.LayoutLemmas.{closed_fault, closed_means}
 use Rattle.mc_bank.specs.model_card.proofs.ItemLemmas.{moves_append, card_append, behind, stop_within, stop_past}
-use Rattle.mc_base.specs.model_device.proofs.BoolLemmas.{some_is}
+use Rattle.mc_words.specs.model_device.proofs.BoolLemmas.{some_is}
 
 -- ---- words that are a card
 

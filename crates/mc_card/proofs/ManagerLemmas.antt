@@ -5,16 +5,16 @@ use Rattle.std.specs.List.{AllByRecursion}
 use Rattle.std.proofs.lemmas.List.{map-append}
 use Rattle.mc_bank.specs.model_card.specs.declared.card.Part.{Part}
 use Rattle.mc_bank.specs.model_card.specs.declared.card.Sizes.{Sizes}
-use Rattle.mc_base.specs.model_device.specs.declared.device.Stop.{Stop}
-use Rattle.mc_base.specs.model_device.specs.Orders.{Answer, InOrder}
+use Rattle.mc_words.specs.model_device.specs.declared.device.Stop.{Stop}
+use Rattle.mc_words.specs.model_device.specs.Orders.{Answer, InOrder}
 use Rattle.mc_apdu.specs.model_machine.specs.Apdu.{ApduParts}
-use Rattle.mc_base.specs.model_device.specs.Bytes.{lookup}
-use Rattle.mc_base.specs.model_device.specs.Image.{Two}
-use Rattle.mc_base.specs.model_device.specs.Device.{DeviceState, Wrote}
-use Rattle.mc_base.specs.model_device.specs.Card.{App, Card, means}
+use Rattle.mc_words.specs.model_device.specs.Bytes.{lookup}
+use Rattle.mc_words.specs.model_device.specs.Image.{Two}
+use Rattle.mc_words.specs.model_device.specs.Device.{DeviceState, Wrote}
+use Rattle.mc_words.specs.model_device.specs.Card.{App, Card, means}
 use Rattle.mc_bank.specs.model_card.specs.Items.{Created, Deleted, Item, Plain, card_done, Site, BankItem, Piece, Enter, Remove}
 use Rattle.mc_bank.specs.model_card.specs.Manager.{SessionState, Open, got_of, select_body, Managed, Declines, Accepts, Route, WrongLength, WrongClass, ToSelect, ToManager, ToApplication, is_complete, first_status, answer_unless, select_refusals, select_done, select, create_done, create_items, fresh, manage, word_parts, room_on}
-use Rattle.mc_base.specs.model_device.specs.PowerUp.{OnCard}
+use Rattle.mc_words.specs.model_device.specs.PowerUp.{OnCard}
 use Rattle.mc_bank.specs.model_card.specs.Commands.{item_of, atomic_of, manager_command, application_command, by_route}
 use Rattle.mc_manager.specs.law_manager.specs.Orders.{Order, order_of}
 use Rattle.mc_manager.specs.law_manager.specs.Answers.{IsAnswer}
@@ -36,7 +36,7 @@ use Rattle.mc_store.proofs.ItemLemmas.{IsPlain}
 use Rattle.mc_card.specs.ItemWrites.{ItemsMade}
 use Rattle.mc_card.proofs.StaticLemmas.{going_apps}
 use Rattle.mc_card.proofs.MadeLemmas.{IsAs, card_found, closed_base, made_stopped, made_append, made_fold, made_one}
-use Rattle.mc_base.specs.model_device.proofs.LayoutLemmas.{closed_means}
+use Rattle.mc_words.specs.model_device.proofs.LayoutLemmas.{closed_means}
 
 -- ---- lists of steps that are done in order
 

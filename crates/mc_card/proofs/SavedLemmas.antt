@@ -1,7 +1,7 @@
 -- A session state that was saved fits the words of its card, and a card with it is ready.
 use Rattle.std.proofs.Common.{◌≡◌, ℕ, List, Option, sym, subst}
 use Rattle.std.specs.Option.{ForSome}
-use Rattle.mc_base.specs.model_device.specs.Device.{DeviceState}
+use Rattle.mc_words.specs.model_device.specs.Device.{DeviceState}
 use Rattle.mc_manager.specs.ManagerState.{ManagerState, Loaded, FitsLoad}
 use Rattle.mc_card.specs.declared.card.Card.{Card}
 use Rattle.mc_card.specs.Parts.{words_in, view_in, IsReadyCard}

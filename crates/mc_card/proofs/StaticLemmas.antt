@@ -1,15 +1,15 @@
 -- The static segment of an application of a card, in its bank.
 use Rattle.std.proofs.Common.{arith, ◌≡◌, ℕ, true, false, List, length, Option, Some, None, sym, ◌∙◌, ap}
 use Rattle.std.specs.Prelude.{is_some, option_map, unwrap_or, IsSome}
-use Rattle.mc_base.specs.model_device.specs.Bytes.{lookup}
-use Rattle.mc_base.specs.model_device.specs.Device.{DeviceState}
-use Rattle.mc_base.specs.model_device.specs.Card.{App, means}
+use Rattle.mc_words.specs.model_device.specs.Bytes.{lookup}
+use Rattle.mc_words.specs.model_device.specs.Device.{DeviceState}
+use Rattle.mc_words.specs.model_device.specs.Card.{App, means}
 use Rattle.mc_bank.specs.model_card.specs.declared.card.Sizes.{Sizes}
 use Rattle.mc_bank.specs.Bank.{no_app, app_of, sizes_of}
 use Rattle.mc_store.specs.Store.{apps_in, is_going, store_named}
 use Rattle.mc_store.specs.GoingLaws.{going_is}
 use Rattle.mc_store.specs.TurnLaws.{SiteBytes, site_bytes_of}
-use Rattle.mc_base.specs.model_device.proofs.BoolLemmas.{no_value}
+use Rattle.mc_words.specs.model_device.proofs.BoolLemmas.{no_value}
 
 -- the applications of a bank that has not stopped are those of the card
 pub going_apps : (d : DeviceState) (c : ℕ) → is_going d c ≡ true → apps_in d.words ≡ (means d.words).apps

@@ -1,7 +1,7 @@
 -- A store as a bank: the record of the trait, by the store's definitions.
 use Rattle.std.specs.Prelude.{ℕ, List}
-use Rattle.mc_base.specs.model_device.specs.Orders.{Answer}
-use Rattle.mc_base.specs.model_device.specs.Device.{DeviceState}
+use Rattle.mc_words.specs.model_device.specs.Orders.{Answer}
+use Rattle.mc_words.specs.model_device.specs.Device.{DeviceState}
 use Rattle.mc_bank.specs.declared.bank.Bank.{Ghosts}
 use Rattle.mc_store.specs.declared.store.Store.{Store}
 use Rattle.mc_bank.specs.Slots.{slot_place}

@@ -1,10 +1,10 @@
 -- A card after a turn of a chain.
 use Rattle.std.proofs.Common.{◌≡◌, ℕ, ◌+◌, ◌-◌, true, false, List, length, Option, Some, None, Result, Ok, Err, refl, sym, ◌∙◌, ap, subst, arith}
 use Rattle.std.specs.Prelude.{option_map, is_some}
-use Rattle.mc_base.specs.model_device.specs.declared.device.Stop.{Stop}
-use Rattle.mc_base.specs.model_device.specs.Orders.{Answer, answer_of, InOrder}
-use Rattle.mc_base.specs.model_device.specs.Device.{DeviceState, IsSized, Wrote as DeviceWrote}
-use Rattle.mc_base.specs.model_device.specs.Card.{App}
+use Rattle.mc_words.specs.model_device.specs.declared.device.Stop.{Stop}
+use Rattle.mc_words.specs.model_device.specs.Orders.{Answer, answer_of, InOrder}
+use Rattle.mc_words.specs.model_device.specs.Device.{DeviceState, IsSized, Wrote as DeviceWrote}
+use Rattle.mc_words.specs.model_device.specs.Card.{App}
 use Rattle.mc_bank.specs.model_card.specs.Items.{BankItem, apps_after_items, write_items}
 use Rattle.mc_apdu.specs.model_machine.specs.Chain.{Chain, Turn as ModelTurn, Outcome as ModelOutcome, Acted, Follows, Continues, Ends, chain_session, end_of, turn_of}
 use Rattle.mc_bank.specs.Bank.{BankState, AreApps, app_of}

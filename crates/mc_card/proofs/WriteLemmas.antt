@@ -1,11 +1,11 @@
 -- The atomic writes of a chain on a store, as items of the definition and as commits of a bank.
 use Rattle.std.proofs.Common.{◌≡◌, ℕ, ◌+◌, ◌≤◌, true, List, [], ◌∷◌, length, Some, Ok, Err, refl, sym, ◌∙◌, ap, subst, inl, inr, arith}
 use Rattle.std.proofs.lemmas.List.{length-map}
-use Rattle.mc_base.specs.model_device.specs.Orders.{Answer, InOrder}
-use Rattle.mc_base.specs.model_device.specs.Bytes.{lookup, splice}
-use Rattle.mc_base.specs.model_device.specs.Pieces.{laid_pieces, laid_words, with_words, with_touched, touched_words, HoldPieces, LieIn}
-use Rattle.mc_base.specs.model_device.specs.Device.{DeviceState, Wrote as DeviceWrote}
-use Rattle.mc_base.specs.model_device.specs.Card.{App, Card, means}
+use Rattle.mc_words.specs.model_device.specs.Orders.{Answer, InOrder}
+use Rattle.mc_words.specs.model_device.specs.Bytes.{lookup, splice}
+use Rattle.mc_words.specs.model_device.specs.Pieces.{laid_pieces, laid_words, with_words, with_touched, touched_words, HoldPieces, LieIn}
+use Rattle.mc_words.specs.model_device.specs.Device.{DeviceState, Wrote as DeviceWrote}
+use Rattle.mc_words.specs.model_device.specs.Card.{App, Card, means}
 use Rattle.mc_apdu.specs.model_machine.specs.Chain.{Write, map_changed}
 use Rattle.mc_bank.specs.model_card.specs.Items.{Fixed, Item, Atomic, card_done, BankItem, Commit, write_items}
 use Rattle.mc_trans.proofs.Holding.{words_laid}
@@ -22,11 +22,11 @@ use Rattle.mc_machine.specs.law_rows.specs.Keeping.{PiecesWithin}
 use Rattle.mc_machine.specs.Chains.{ChainWrote}
 use Rattle.mc_machine.proofs.SoundChains.{IsSoundWrite, AreSound}
 use Rattle.mc_card.proofs.MadeLemmas.{card_found, closed_base, made_none, made_stopped, made_append, IsAtomicAs, made_one}
-use Rattle.mc_base.specs.model_device.proofs.LayoutLemmas.{closed_means}
-use Rattle.mc_base.specs.model_device.proofs.PieceLemmas.{held_same}
-use Rattle.mc_base.specs.model_device.proofs.ListLemmas.{splice_none}
+use Rattle.mc_words.specs.model_device.proofs.LayoutLemmas.{closed_means}
+use Rattle.mc_words.specs.model_device.proofs.PieceLemmas.{held_same}
+use Rattle.mc_words.specs.model_device.proofs.ListLemmas.{splice_none}
 use Rattle.std.proofs.lemmas.Bool.{not-false}
-use Rattle.mc_base.specs.model_device.proofs.BoolLemmas.{some_is}
+use Rattle.mc_words.specs.model_device.proofs.BoolLemmas.{some_is}
 use Rattle.mc_card.proofs.StoreBank.{store_bank}
 use Rattle.mc_bank.specs.declared.bank.Bank.{Ghosts}
 

@@ -1,11 +1,11 @@
 -- The ends of the calls of a card: a power-up, a command that is answered or passed to the application, and a turn.
 use Rattle.std.specs.Prelude.{◌≡◌, ℕ, ◌+◌, ◌-◌, ◌≤◌, Bool, true, false, List, length, Option, Some, None, Result, Ok, Err, IfOk, OnOk}
-use Rattle.mc_base.specs.model_device.specs.declared.device.Stop.{Stop}
-use Rattle.mc_base.specs.model_device.specs.Orders.{Answer, answer_of}
-use Rattle.mc_base.specs.model_device.specs.Device.{DeviceState}
+use Rattle.mc_words.specs.model_device.specs.declared.device.Stop.{Stop}
+use Rattle.mc_words.specs.model_device.specs.Orders.{Answer, answer_of}
+use Rattle.mc_words.specs.model_device.specs.Device.{DeviceState}
 use Rattle.mc_apdu.specs.model_machine.specs.Apdu.{ApduParts}
-use Rattle.mc_base.specs.model_device.specs.Card as model
-use Rattle.mc_base.specs.model_device.specs.Layout.{gaps}
+use Rattle.mc_words.specs.model_device.specs.Card as model
+use Rattle.mc_words.specs.model_device.specs.Layout.{gaps}
 use Rattle.mc_apdu.specs.model_machine.specs.Chain.{Chain, Acted, Follows, Continues, Ends, Ran, start, run, chain_session}
 use Rattle.mc_bank.specs.model_card.specs.Manager.{Selected, Route, WrongLength, WrongClass, ToSelect, ToManager, ToApplication, route}
 use Rattle.mc_bank.specs.model_card.specs.Commands.{Command}

@@ -1,13 +1,13 @@
 -- The device writes of items on a card, and the words that they leave with a stop at any of them and without one.
 use Rattle.std.specs.Prelude.{◌≡◌, ℕ, zero, suc, ◌-◌, ◌≤◌, List, [], ◌∷◌, length, Ok, Err}
 use Rattle.std.specs.List.{AllByRecursion}
-use Rattle.mc_base.specs.model_device.specs.Orders.{Answer}
-use Rattle.mc_base.specs.model_device.specs.Image.{Two}
-use Rattle.mc_base.specs.model_device.specs.Device.{DeviceState, Makes}
-use Rattle.mc_base.specs.model_device.specs.Stopped.{image_after_stop}
-use Rattle.mc_base.specs.model_device.specs.Card.{Card}
+use Rattle.mc_words.specs.model_device.specs.Orders.{Answer}
+use Rattle.mc_words.specs.model_device.specs.Image.{Two}
+use Rattle.mc_words.specs.model_device.specs.Device.{DeviceState, Makes}
+use Rattle.mc_words.specs.model_device.specs.Stopped.{image_after_stop}
+use Rattle.mc_words.specs.model_device.specs.Card.{Card}
 use Rattle.mc_bank.specs.model_card.specs.Items.{Item, Stopped, weight, moves, card_done, at_stop}
-use Rattle.mc_base.specs.model_device.specs.PowerUp.{OnCard}
+use Rattle.mc_words.specs.model_device.specs.PowerUp.{OnCard}
 use Rattle.mc_store.specs.Power.{HoldsBase}
 
 -- words that hold the card after the complete items of a stop, and have the writes that recovery still has to make

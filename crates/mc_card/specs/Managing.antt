@@ -1,8 +1,8 @@
 -- How the manager of a card handles a command.
 use Rattle.std.specs.Prelude.{◌≡◌, ℕ, false, List, Option, Some, None, Result, Ok, Err}
-use Rattle.mc_base.specs.model_device.specs.declared.device.Stop.{Stop}
-use Rattle.mc_base.specs.model_device.specs.Orders.{Answer}
-use Rattle.mc_base.specs.model_device.specs.Device.{DeviceState}
+use Rattle.mc_words.specs.model_device.specs.declared.device.Stop.{Stop}
+use Rattle.mc_words.specs.model_device.specs.Orders.{Answer}
+use Rattle.mc_words.specs.model_device.specs.Device.{DeviceState}
 use Rattle.mc_apdu.specs.model_machine.specs.Apdu.{ApduParts}
 use Rattle.mc_bank.specs.model_card.specs.Manager.{ToApplication, route_of_parts}
 use Rattle.mc_bank.specs.model_card.specs.Commands.{by_route}

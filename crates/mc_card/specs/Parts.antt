@@ -2,9 +2,9 @@
 -- that runs on it.
 use Rattle.std.specs.Prelude.{◌≡◌, ℕ, true, List, length, option_map, Some, None}
 use Rattle.std.specs.Option.{ForSome}
-use Rattle.mc_base.specs.model_device.specs.Device.{DeviceState}
-use Rattle.mc_base.specs.model_device.specs.Card.{means}
-use Rattle.mc_base.specs.model_device.specs.Card as model
+use Rattle.mc_words.specs.model_device.specs.Device.{DeviceState}
+use Rattle.mc_words.specs.model_device.specs.Card.{means}
+use Rattle.mc_words.specs.model_device.specs.Card as model
 use Rattle.mc_apdu.specs.model_machine.specs.Chain.{Chain, first_frame}
 use Rattle.mc_bank.specs.model_card.specs.Manager.{Selected, SessionState}
 use Rattle.mc_bank.specs.model_card.specs.Commands.{Command, command}

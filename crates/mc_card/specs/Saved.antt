@@ -1,8 +1,8 @@
 -- The session state of a card that was saved, and the words that it fits.
 use Rattle.std.specs.Prelude.{◌≡◌, ℕ, true, List, length, Some, None}
 use Rattle.std.specs.Option.{ForSome}
-use Rattle.mc_base.specs.model_device.specs.Card.{means}
-use Rattle.mc_base.specs.model_device.specs.Device.{DeviceState}
+use Rattle.mc_words.specs.model_device.specs.Card.{means}
+use Rattle.mc_words.specs.model_device.specs.Device.{DeviceState}
 use Rattle.mc_bank.specs.model_card.specs.Manager.{SessionState}
 use Rattle.mc_bank.specs.Bank.{app_of}
 use Rattle.mc_store.specs.Store.{store_state, store_named, store_room, store_site_bytes}

@@ -1,13 +1,13 @@
 // A card over a bench: its size, its power, its words before a power-up, and its armed stops.
 ghost use Rattle.std.specs.Prelude.{◌≡◌, ◌≤◌, ◌<◌, length, slice_set, true, Some, None};
-ghost use Rattle.mc_base.specs.model_device.specs.Device.{next_count, bench_after_poke, IsImage};
+ghost use Rattle.mc_words.specs.model_device.specs.Device.{next_count, bench_after_poke, IsImage};
 ghost use Rattle.std.specs.Borrow.{Lends, sem};
 ghost use Rattle.mc_card.specs.Parts.{device_in, with_device};
 ghost use Rattle.mc_card.specs.contracts.card.Card.{the_row};
 
 use crate::card::Card;
-use mc_base::Word;
 use mc_nvm::Bench;
+use mc_words::Word;
 
 impl<N: Bench> Card<N> {
     /// Returns the number of words of the device.

@@ -1,7 +1,7 @@
 ghost use Rattle.std.specs.Prelude.{◌≡◌, ◌+◌, ◌-◌, ◌≤◌, ℕ, true, length, take, drop, option_map, Ok, Some, None, IsSome, IfSome, IfOk, OnOk};
-ghost use Rattle.mc_base.specs.model_device.specs.Bytes.{lookup};
-ghost use Rattle.mc_base.specs.model_device.specs.Orders.{answer_of};
-ghost use Rattle.mc_base.specs.model_device.specs.Device.{Makes, Ended, IsSized};
+ghost use Rattle.mc_words.specs.model_device.specs.Bytes.{lookup};
+ghost use Rattle.mc_words.specs.model_device.specs.Orders.{answer_of};
+ghost use Rattle.mc_words.specs.model_device.specs.Device.{Makes, Ended, IsSized};
 ghost use Rattle.mc_apdu.specs.model_machine.specs.Chain.{Chain as ModelChain, turn_of};
 ghost use Rattle.mc_bank.specs.model_card.specs.Manager.{empty_session_state, route};
 ghost use Rattle.mc_apdu.specs.model_machine.specs.Code.{Shaped};
@@ -19,12 +19,12 @@ ghost use Rattle.mc_card.specs.ItemWrites.{ItemsMade, MadeWithin};
 use arrayvec::ArrayVec;
 use mc_apdu::{Reply, parse};
 use mc_bank::Bank;
-use mc_base::{Aid, Steps, Stop};
 use mc_machine::{BriefTurn, ChainPlace, End, Outcome, Turn, run_into};
 use mc_manager::Manager;
 use mc_nvm::Nvm;
 use mc_segs::Session;
 use mc_store::{Store, Up};
+use mc_words::{Aid, Steps, Stop};
 use std::sync::ledger::Ledger;
 
 /// A card that runs: its applications in the words of a device, the manager with the selection and the open load, the

@@ -1,7 +1,7 @@
 // A command that the manager of a card handles, with the session bytes of a selection.
 ghost use Rattle.std.specs.Prelude.{◌≡◌, ◌+◌, ◌≤◌, true, IsSome, length};
-ghost use Rattle.mc_base.specs.model_device.specs.Bytes.{zeros};
-ghost use Rattle.mc_base.specs.model_device.specs.Layout.{gaps};
+ghost use Rattle.mc_words.specs.model_device.specs.Bytes.{zeros};
+ghost use Rattle.mc_words.specs.model_device.specs.Layout.{gaps};
 ghost use Rattle.mc_apdu.specs.Command.{parts_of};
 ghost use Rattle.mc_bank.specs.Bank.{app_of};
 ghost use Rattle.mc_manager.specs.CommandDue.{most_ticks};
@@ -13,11 +13,11 @@ ghost use Rattle.mc_card.specs.Managing.{Directs};
 use crate::card::Card;
 use mc_apdu::{Apdu, Reply};
 use mc_bank::{Bank, Slot};
-use mc_base::{Steps, Stop};
 use mc_manager::Ruling;
 use mc_nvm::Nvm;
 use mc_segs::Session;
 use mc_store::Store;
+use mc_words::{Steps, Stop};
 use std::sync::ledger::Ledger;
 
 impl<N: Nvm> Card<N> {

@@ -4,10 +4,10 @@ ghost use Rattle.mc_card.specs.Parts.{device_in, words_in, session_state_in, IsR
 ghost use Rattle.mc_card.specs.Saved.{saved_of, session_state_on, FitsWords};
 
 use crate::card::Card;
-use mc_base::{Aid, NoMemory};
 use mc_manager::{Load, Manager, Selection};
 use mc_nvm::Nvm;
 use mc_segs::Session;
+use mc_words::{Aid, NoMemory};
 use std::alloc::Global;
 use std::marker::Model;
 

@@ -3,9 +3,9 @@ ghost use Rattle.std.specs.Prelude.{◌≡◌, option_map};
 ghost use Rattle.mc_card.specs.Parts.{session_state_in};
 
 use crate::card::Card;
-use mc_base::Aid;
 use mc_manager::Load;
 use mc_nvm::Nvm;
+use mc_words::Aid;
 
 impl<N: Nvm> Card<N> {
     /// Returns the name of the selected application, or `None` if none is selected.

@@ -12,7 +12,7 @@ use Rattle.law_family.specs.model_machine.specs.Frame.{Frame, Effect, dynamic_en
 use Rattle.law_family.specs.model_machine.specs.Primitives.{Around, Done, Primitive, MemoryCopy, DelegatorAid, Digest, CopyFixed, Encipher, Decipher, Sign, BitByte, ShiftLeft, ShiftRight, BitWord, primitive, masked_bytes}
 use Rattle.law_family.specs.model_machine.specs.Row.{causes, first_cause, effect, holds, address_or_zero, on_stack, operand, place_of}
 use Rattle.model_stack.specs.StackRows.{Uses, uses, WritesAt, WritesAnywhere, height_after, pair_uses, prim_uses, row_uses, prim_writing, row_writing, is_indirect, counts, call_target}
-use Rattle.law_family.specs.law_rows.specs.Shapes.{Act, Stays, Answers, Jumps, Calls, Returns, Pushes, Replaces, Writes, Protects, Shape, with_status, with_length, act_effect, with_flags, meaning, delegator_shape, prim_shape, pair_shape, shape}
+use Rattle.mc_isa.specs.model_machine.specs.Shapes.{Act, Stays, Answers, Jumps, Calls, Returns, Pushes, Replaces, Writes, Protects, Shape, with_status, with_length, act_effect, with_flags, meaning, delegator_shape, prim_shape, pair_shape, shape}
 use Rattle.law_family.specs.law_rows.proofs.RowShapes.{shapes}
 use Rattle.law_family.specs.law_machine.proofs.RowWords.{none_holds}
 use Rattle.law_family.specs.law_machine.proofs.BlockLengths.{worked_short, each_short, map_short, stacked_short, at_short}

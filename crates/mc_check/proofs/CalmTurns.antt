@@ -15,7 +15,7 @@ use Rattle.law_family.specs.model_machine.specs.Row.{effect, first_cause, row, R
 use Rattle.law_family.specs.model_machine.specs.Chain.{frame_at}
 use Rattle.model_stack.specs.StackRows.{height_after, always_abends, writing, is_plain, counts, goes_on, jump_target, call_target}
 use Rattle.model_stack.specs.StackShape.{Routine, fact, Reached, goes, jumps, Gives, Depth, Accepts}
-use Rattle.mc_isa.proofs.PlaceLemmas.{decoded_stands}
+use Rattle.mc_isa.specs.law_rows.proofs.PlaceLemmas.{decoded_stands}
 use Rattle.mc_check.specs.Checked.{is_excluded}
 use Rattle.mc_check.specs.Standing.{StandsAt, OpenCalls, none, call, calls_of}
 use Rattle.mc_check.proofs.RowFacts.{RowsAreCalm, RowStays, GoesTo}

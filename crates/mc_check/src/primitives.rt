@@ -2,12 +2,12 @@
 ghost use Rattle.std.specs.Prelude.{◌≡◌};
 ghost use Rattle.law_family.specs.model_machine.specs.Primitives as model;
 ghost use Rattle.model_stack.specs.StackRows as shape;
-ghost use Rattle.mc_prims.specs.Table.{primitive_of};
+ghost use Rattle.mc_isa.specs.Primitives.{primitive_of};
 ghost use Rattle.mc_check.specs.Seen.{uses_of, writing_of};
 
 use crate::uses::Uses;
 use crate::writing::Writing;
-use mc_prims::Primitive;
+use mc_isa::Primitive;
 
 fn primitive_uses(primitive: Primitive, args: &[u8; 3]) -> Uses
     ensures { uses_of result ≡ shape.prim_uses (primitive_of primitive) args.now }

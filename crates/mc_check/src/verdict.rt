@@ -9,7 +9,7 @@ use crate::closing::close;
 use crate::judging::judge;
 use crate::table::Fault;
 use law_family::model_text::CheckCause;
-use mc_base::NoMemory;
+use model_device::NoMemory;
 use std::alloc::Global;
 
 /// A verdict on code: the most bytes of stack that it takes, or the place and cause of a rule that it breaks.

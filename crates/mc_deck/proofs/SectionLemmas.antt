@@ -1,7 +1,8 @@
 -- Sections line by line.
 use Rattle.std.proofs.Common.{◌≡◌, ℕ, List, [], ◌∷◌, take, refl}
 use Rattle.model_play.specs.model_text.specs.Text.{◌>>=◌}
-use Rattle.model_play.specs.DeckGrammar.{is_end, is_data, data_hex, section_data, section_unit, made_unit, Section}
+use Rattle.model_play.specs.model_text.specs.Text.{is_end}
+use Rattle.model_play.specs.DeckGrammar.{is_data, data_hex, section_data, section_unit, made_unit, Section}
 use Rattle.mc_deck.specs.Sections.{section_code, unit_judged}
 
 -- the first five fields determine the end of a section

@@ -7,7 +7,8 @@ use Rattle.std.specs.BTreeMap.{BTreeMap}
 use Rattle.model_play.specs.declared.deck.DeckCause.{DeckCause}
 use Rattle.model_play.specs.declared.deck.DeckCause.TheVariants.{NoEnd}
 use Rattle.model_play.specs.DeckGrammar
-use Rattle.model_play.specs.DeckGrammar.{DeckLine, Context, LineTurn, Mode, deck_lines, lines_at_end, turn_at, Between, Within, between, within, turn_in, turn_of, is_end, section_unit, with_unit, Named}
+use Rattle.model_play.specs.DeckGrammar.{DeckLine, Context, LineTurn, Mode, deck_lines, lines_at_end, turn_at, Between, Within, between, within, turn_in, turn_of, section_unit, with_unit, Named}
+use Rattle.model_play.specs.model_text.specs.Text.{is_end}
 use Rattle.mc_deck.specs.declared.refusal.DeckRefusal.{DeckRefusal}
 use Rattle.mc_deck.specs.declared.refusal.DeckRefusal.TheVariants.{At, NoMemory}
 use Rattle.mc_deck.specs.declared.statement.Statement.{Statement}

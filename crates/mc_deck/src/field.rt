@@ -6,8 +6,8 @@ ghost use Rattle.mc_deck.specs.Refused.{Faulty};
 use crate::bytes::ShortBytes;
 use crate::refusal::Fault;
 use hex::FromHexError;
-use mc_base::{Aid, Word};
 use mc_text::{decimal_number, has_name_characters};
+use mc_words::{Aid, Word};
 use model_play::DeckCause;
 use std::alloc::Global;
 

@@ -11,7 +11,7 @@ use crate::bytes::ShortBytes;
 use crate::deck::Deck;
 use crate::line::OwnedLine;
 use crate::unit::{OwnedUnit, made};
-use mc_base::{Aid, NoMemory, Word};
+use mc_words::{Aid, NoMemory, Word};
 use std::alloc::{AllocError, Global};
 
 // Adds one to a counter at each command, and replies its two bytes.

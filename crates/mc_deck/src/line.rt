@@ -5,8 +5,8 @@ ghost use Rattle.mc_deck.specs.Lines.{line_of, grammar_line, unit_at, UnitWithin
 
 use crate::bytes::{Bytes, ShortBytes};
 use crate::unit::{OwnedUnit, keeps_device};
-use mc_base::{Aid, Word};
 use mc_unit::Unit;
+use mc_words::{Aid, Word};
 
 /// A line of a deck. `Named` is a statement that names a unit; a `Load` has the unit, and the sizes in bytes
 /// of its static segment and of its session; the other lines have their fields.

@@ -2,7 +2,8 @@
 ghost use Rattle.std.specs.Prelude.{◌≡◌, ◌<◌, ◌≤◌, length, vec_len, Ok, Err, IfOk, IfErr, MatchResult};
 ghost use Rattle.model_play.specs.model_device.specs.Limits.{most_code};
 ghost use Rattle.model_play.specs.model_text.specs.Text.{fields};
-ghost use Rattle.model_play.specs.DeckGrammar.{data_hex, data_of_line, is_data, is_end, made_unit, section_data, section_program, section_unit};
+ghost use Rattle.model_play.specs.DeckGrammar.{data_hex, data_of_line, is_data, made_unit, section_data, section_program, section_unit};
+ghost use Rattle.model_play.specs.model_text.specs.Text.{is_end};
 ghost use Rattle.mc_asm.specs.Items.{texts};
 ghost use Rattle.mc_asm.specs.Passes.{numbered_lines};
 ghost use Rattle.mc_deck.specs.Refused.{Faulty, DeckRefuses};
@@ -15,7 +16,7 @@ use crate::refusal::{DeckRefusal, Fault};
 use crate::text::fields;
 use crate::unit::{OwnedUnit, made};
 use mc_asm::{AsmRefusal, NumberedLine, assemble_lines};
-use mc_base::Aid;
+use mc_words::Aid;
 use model_play::DeckCause;
 use model_play::model_card::UnitRefusal;
 use std::alloc::Global;

@@ -21,8 +21,8 @@ use crate::line::OwnedLine;
 use crate::names::{Names, place_of};
 use crate::refusal::Fault;
 use crate::unit::{OwnedUnit, copied};
-use mc_base::Aid;
 use mc_unit::read_unit;
+use mc_words::Aid;
 use model_play::DeckCause;
 use std::alloc::Global;
 

@@ -6,8 +6,8 @@ ghost use Rattle.mc_unit.specs.Parts.{parts_of};
 ghost use Rattle.mc_deck.specs.Lines.{owned_parts, NumberWithin};
 
 use crate::bytes::Bytes;
-use mc_base::Aid;
 use mc_unit::Unit;
+use mc_words::Aid;
 use std::alloc::{AllocError, Global};
 
 /// A load unit that owns its bytes.

@@ -2,7 +2,7 @@
 use Rattle.std.proofs.Common.{◌≡◌, ◌+◌, ◌<◌, ◌≤◌, ℕ, Bool, true, false, nat_le, subst, sym, inl, inr, List, ◌++◌, length, Option, Some, None, refl, ap, ◌∙◌, arith}
 use Rattle.std.proofs.lemmas.List.{append-nil, length-append}
 use Rattle.std.proofs.Math.Nat.{min-eq_left, min-eq_right}
-use Rattle.mc_base.specs.model_device.specs.Counts.{Rose, last_count}
+use Rattle.model_device.specs.Counts.{Rose, last_count}
 use Rattle.mc_streams.specs.Streams.{one_more, AtEnd, Took, TookMore}
 use Rattle.mc_filter.specs.Inputs.{input_limit, IsAll}
 

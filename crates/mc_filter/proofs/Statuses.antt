@@ -1,6 +1,6 @@
 -- The text that a filter's job writes, and the number of its status.
 use Rattle.std.proofs.Common.{◌≡◌, ◌≤◌, ℕ, zero, suc, cond, nat_eq, List, Result, Ok, Err, OnErr, OnOk, refl, arith, ap, sym, subst, ◌∙◌}
-use Rattle.mc_base.specs.model_device.specs.Counts.{Rose}
+use Rattle.model_device.specs.Counts.{Rose}
 use Rattle.mc_streams.specs.Streams.{Grew, GrewByPart}
 use Rattle.mc_streams.specs.declared.refusals.WriteFault.{WriteFault as Fault}
 use Rattle.mc_text.specs.Texts.{Puts, Sunk}

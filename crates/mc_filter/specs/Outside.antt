@@ -2,7 +2,7 @@
 -- program's verdicts on an input, of which a refusal by a line is one; the program supplies which verdicts an input
 -- has, which is due, and when a verdict is done.
 use Rattle.std.specs.Prelude.{◌≡◌, ℕ, ◌≤◌, ◌<◌, ◌⊎◌, List, length, Option}
-use Rattle.mc_base.specs.model_device.specs.Counts.{Rose}
+use Rattle.model_device.specs.Counts.{Rose}
 use Rattle.mc_streams.specs.Streams.{one_more, TookMore}
 use Rattle.mc_streams.specs.declared.sink.Sink as sink
 use Rattle.mc_streams.specs.declared.source.Source as source

@@ -8,7 +8,7 @@ use Rattle.std.specs.declared.io.ErrorKind.TheVariants.{OutOfMemory}
 use Rattle.std.specs.declared.string.String.{String}
 use Rattle.std.specs.declared.vec.IntoIter.{IntoIter}
 use Rattle.std.specs.Global.{Vec}
-use Rattle.mc_base.specs.declared.refusals.NoMemory.{NoMemory as Memory}
+use Rattle.model_device.specs.declared.memory.NoMemory.{NoMemory as Memory}
 
 -- the words of a command line, or none if one of them cannot be read
 abbrev pub readable_words : Option (Vec (String Global)) → List (String Global)

@@ -1,10 +1,10 @@
 // The device of a program.
 ghost use Rattle.std.specs.Prelude.{◌≡◌, IfOk};
 ghost use Rattle.mc_nvm.specs.Sim.{blank_sim};
-ghost use Rattle.mc_base.specs.model_device.specs.Device.{device_words};
+ghost use Rattle.model_device.specs.Device.{device_words};
 
-use mc_base::NoMemory;
 use mc_nvm::{DEVICE_WORDS, SimNvm};
+use model_device::NoMemory;
 use std::alloc::Global;
 
 /// Returns a blank device in memory, of [`DEVICE_WORDS`] words, on which a program plays.

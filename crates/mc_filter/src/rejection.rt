@@ -1,5 +1,5 @@
 // Why a job is not done.
-use mc_base::NoMemory;
+use model_device::NoMemory;
 use std::alloc::AllocError;
 
 /// Why a job is not done: a line that refuses its input, a fault of its source, or out of memory.

@@ -4,7 +4,7 @@ ghost use Rattle.std.specs.IoError.{error_kind};
 ghost use Rattle.std.specs.Vec.Iter.{into_iter_items};
 ghost use Rattle.mc_filter.specs.Words.{readable_words, ArgumentsGive};
 
-use mc_base::NoMemory;
+use model_device::NoMemory;
 use std::alloc::{AllocError, Global};
 use std::env::Args;
 use std::io;

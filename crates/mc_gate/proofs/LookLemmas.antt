@@ -1,7 +1,7 @@
 -- One step of reading the pairs of a journal, of either layout.
 use Rattle.std.proofs.Common.{◌≡◌, ℕ, ◌+◌, ◌<◌, ◌≤◌, List, [], ◌∷◌, ◌++◌, length, drop, get_or, refl, sym, ◌∙◌, ap, drop-cons, add-one, append_assoc}
 use Rattle.std.proofs.lemmas.List.{drop_all, append-nil}
-use Rattle.mc_base.specs.model_device.specs.Image.{Journal, One, Two, word_at, value, pairs}
+use Rattle.mc_words.specs.model_device.specs.Image.{Journal, One, Two, word_at, value, pairs}
 use Rattle.mc_gate.specs.Layouts.{place_of_value}
 
 -- a value is the word in its place

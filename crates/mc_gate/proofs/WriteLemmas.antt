@@ -1,11 +1,11 @@
 -- An atomic write in its three parts, in either layout: the entries, the head and the gate, and the replay.
 use Rattle.std.proofs.Common.{ℕ, List, [], ◌∷◌, ◌++◌, length, Ok, Err}
-use Rattle.mc_base.specs.model_device.specs.declared.device.Stop.{Stop}
-use Rattle.mc_base.specs.model_device.specs.Orders.{Answer}
-use Rattle.mc_base.specs.model_device.specs.Device.{Makes}
-use Rattle.mc_base.specs.model_device.specs.Image.{Journal, gate, opening}
-use Rattle.mc_base.specs.model_device.specs.Stopped.{word_of_number, entries, replay, writes}
-use Rattle.mc_base.specs.model_device.proofs.LoopLemmas.{then, stopped}
+use Rattle.mc_words.specs.model_device.specs.declared.device.Stop.{Stop}
+use Rattle.mc_words.specs.model_device.specs.Orders.{Answer}
+use Rattle.mc_words.specs.model_device.specs.Device.{Makes}
+use Rattle.mc_words.specs.model_device.specs.Image.{Journal, gate, opening}
+use Rattle.mc_words.specs.model_device.specs.Stopped.{word_of_number, entries, replay, writes}
+use Rattle.mc_words.specs.model_device.proofs.LoopLemmas.{then, stopped}
 
 -- the two writes that open a journal: its head, which holds the number of pairs, and its gate
 abbrev pub opening_writes : Journal → List (ℕ × List ℕ) → List (ℕ × List ℕ)

@@ -1,6 +1,6 @@
 -- The journal of the definitions that belongs to each layout of the code, and where its values are kept.
 use Rattle.std.specs.Prelude.{ℕ, ◌+◌, ◌*◌}
-use Rattle.mc_base.specs.model_device.specs.Image as image
+use Rattle.mc_words.specs.model_device.specs.Image as image
 use Rattle.mc_gate.specs.declared.layouts.Layout.{Layout}
 use Rattle.mc_gate.specs.declared.layouts.Layout.TheVariants.{V1, V2}
 

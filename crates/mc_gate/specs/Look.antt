@@ -1,7 +1,7 @@
 -- What the code found in a journal, as a look of the definitions.
 use Rattle.std.specs.Prelude.{◌≡◌, ℕ, ◌≤◌, List, Result, Ok, Err}
 use Rattle.arrayvec.specs.ArrayVec.{ArrayVec}
-use Rattle.mc_base.specs.model_device.specs.Image.{Journal, Look, Refused, Closed, Pending, targets, look_by_targets, look_j}
+use Rattle.mc_words.specs.model_device.specs.Image.{Journal, Look, Refused, Closed, Pending, targets, look_by_targets, look_j}
 use Rattle.mc_gate.specs.declared.look.Found.{Found}
 use Rattle.mc_gate.specs.declared.look.Found.TheVariants.{Closed as FoundClosed, Bad as FoundBad, Pending as FoundPending}
 

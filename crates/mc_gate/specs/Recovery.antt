@@ -1,6 +1,6 @@
 -- How a recovery ended, by the result of its call.
 use Rattle.std.specs.Prelude.{ℕ, Result, Ok, Err}
-use Rattle.mc_base.specs.model_device.specs.Stopped.{RecoveryOutcome, Recovered, Interrupted, BadAt}
+use Rattle.mc_words.specs.model_device.specs.Stopped.{RecoveryOutcome, Recovered, Interrupted, BadAt}
 use Rattle.mc_gate.specs.declared.failures.Recover.{Recover}
 use Rattle.mc_gate.specs.declared.failures.Recover.TheVariants.{Stop as RecoverStop, BadJournal as RecoverBad}
 

@@ -1,4 +1,4 @@
-use mc_base::Stop;
+use mc_words::Stop;
 
 /// Why a recovery did not end: a device write of it stopped, or the word of an open journal at this place is bad and
 /// nothing was written.

@@ -1,14 +1,14 @@
 ghost use Rattle.std.specs.Prelude.{◌≡◌, ◌≤◌, true, length, OnOk};
-ghost use Rattle.mc_base.specs.model_device.specs.Device.{Makes};
-ghost use Rattle.mc_base.specs.model_device.specs.Image.{targets};
-ghost use Rattle.mc_base.specs.model_device.specs.Stopped.{entries};
+ghost use Rattle.mc_words.specs.model_device.specs.Device.{Makes};
+ghost use Rattle.mc_words.specs.model_device.specs.Image.{targets};
+ghost use Rattle.mc_words.specs.model_device.specs.Stopped.{entries};
 ghost use Rattle.mc_gate.specs.Layouts.{journal_of};
 ghost use Rattle.mc_gate.specs.Look.{target_list};
 
 use crate::layouts::Layout;
 use crate::look::Targets;
-use mc_base::{Stop, Word};
 use mc_nvm::Nvm;
+use mc_words::{Stop, Word};
 
 /// The journal of one layout: how the targets and the values of its pairs are written, and how its targets are read.
 /// All else is the same in both layouts, and `write_words` and `recover` are generic over it.

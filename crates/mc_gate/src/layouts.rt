@@ -1,8 +1,8 @@
 ghost use Rattle.std.specs.Prelude.{◌≡◌, ◌<◌, ◌≤◌};
-ghost use Rattle.mc_base.specs.model_device.specs.Image.{gate, opening};
+ghost use Rattle.mc_words.specs.model_device.specs.Image.{gate, opening};
 ghost use Rattle.mc_gate.specs.Layouts.{journal_of, place_of_value};
 
-use mc_base::Word;
+use mc_words::Word;
 
 /// The place of the head of a journal, which holds the number of its pairs. It is the same in both layouts.
 pub const HEAD: u32 = 2;

@@ -1,13 +1,13 @@
 ghost use Rattle.std.specs.Prelude.{◌≡◌, ◌≤◌, length, IfSome, MatchResult};
-ghost use Rattle.mc_base.specs.model_device.specs.Image.{within, look_by_targets, pairs, number, is_count, is_open, look_j};
+ghost use Rattle.mc_words.specs.model_device.specs.Image.{within, look_by_targets, pairs, number, is_count, is_open, look_j};
 ghost use Rattle.mc_gate.specs.Layouts.{journal_of};
 ghost use Rattle.mc_gate.specs.Look.{look_of, target_list, HasCount};
 
 use crate::journals::Journal;
 use crate::layouts::{HEAD, Layout};
 use arrayvec::ArrayVec;
-use mc_base::{Word, number_of};
 use mc_nvm::Nvm;
+use mc_words::{Word, number_of};
 
 /// The pairs of a journal, each a target and its word.
 pub type Pairs = ArrayVec<(u16, Word), 64>;

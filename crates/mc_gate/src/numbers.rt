@@ -1,7 +1,7 @@
 ghost use Rattle.std.specs.Prelude.{◌≡◌};
-ghost use Rattle.mc_base.specs.model_device.specs.Stopped.{word_of_number};
+ghost use Rattle.mc_words.specs.model_device.specs.Stopped.{word_of_number};
 
-use mc_base::{Word, bytes_of};
+use mc_words::{Word, bytes_of};
 
 /// Returns the word of six zero bytes and a number, high byte first.
 pub fn number_word(number: u16) -> Word

@@ -1,14 +1,14 @@
 ghost use Rattle.std.specs.Prelude.{◌≡◌, ◌≤◌, true, [], ◌∷◌, length, OnOk};
 ghost use Rattle.std.specs.List.{AllByRecursion};
-ghost use Rattle.mc_base.specs.model_device.specs.Device.{Makes};
-ghost use Rattle.mc_base.specs.model_device.specs.Image.{within, gate, opening};
-ghost use Rattle.mc_base.specs.model_device.specs.Stopped.{word_of_number, replay};
+ghost use Rattle.mc_words.specs.model_device.specs.Device.{Makes};
+ghost use Rattle.mc_words.specs.model_device.specs.Image.{within, gate, opening};
+ghost use Rattle.mc_words.specs.model_device.specs.Stopped.{word_of_number, replay};
 ghost use Rattle.mc_gate.specs.Layouts.{journal_of};
 
 use crate::layouts::{HEAD, Layout, SHUT};
 use crate::numbers::number_word;
-use mc_base::{Stop, Word};
 use mc_nvm::Nvm;
+use mc_words::{Stop, Word};
 
 /// Writes the head, which holds the number of pairs, and opens the gate.
 ///

@@ -1,7 +1,7 @@
 ghost use Rattle.std.specs.Prelude.{◌≡◌, ◌≤◌, true, length};
-ghost use Rattle.mc_base.specs.model_device.specs.Device.{Makes};
-ghost use Rattle.mc_base.specs.model_device.specs.Image.{look_j};
-ghost use Rattle.mc_base.specs.model_device.specs.Stopped.{owed_writes, outcome_answer, LookAllows, RecoverEnds};
+ghost use Rattle.mc_words.specs.model_device.specs.Device.{Makes};
+ghost use Rattle.mc_words.specs.model_device.specs.Image.{look_j};
+ghost use Rattle.mc_words.specs.model_device.specs.Stopped.{owed_writes, outcome_answer, LookAllows, RecoverEnds};
 ghost use Rattle.mc_gate.specs.Layouts.{journal_of};
 ghost use Rattle.mc_gate.specs.Look.{look_of};
 ghost use Rattle.mc_gate.specs.Recovery.{outcome_of};

@@ -1,13 +1,13 @@
 ghost use Rattle.std.specs.Prelude.{◌≡◌, ◌≤◌, true, false, length};
-ghost use Rattle.mc_base.specs.model_device.specs.Device.{Makes};
-ghost use Rattle.mc_base.specs.model_device.specs.Image.{is_open};
-ghost use Rattle.mc_base.specs.model_device.specs.Stopped.{IsAtomic, writes, WriteEnds};
+ghost use Rattle.mc_words.specs.model_device.specs.Device.{Makes};
+ghost use Rattle.mc_words.specs.model_device.specs.Image.{is_open};
+ghost use Rattle.mc_words.specs.model_device.specs.Stopped.{IsAtomic, writes, WriteEnds};
 ghost use Rattle.mc_gate.specs.Layouts.{journal_of};
 
 use crate::journals::Journal;
 use crate::put::{open_gate, replay_all};
-use mc_base::{Stop, Word};
 use mc_nvm::Nvm;
+use mc_words::{Stop, Word};
 
 /// Writes 1 to 64 words atomically: wherever it is stopped, all of them are durable or none is. The targets ascend,
 /// each word 0 or a word of the heap, and the gate is not open.

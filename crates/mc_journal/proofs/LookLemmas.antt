@@ -1,7 +1,7 @@
 -- One step of reading the targets of the journal of layout 1, a target word for each pair.
 use Rattle.std.proofs.Common.{◌≡◌, ℕ, suc, ◌+◌, ◌-◌, ◌*◌, ◌<◌, List, [], ◌∷◌, ◌++◌, length, Option, Some, None, Result, Ok, Err, ◌∙◌, ap, arith}
-use Rattle.mc_base.specs.model_device.specs.Image.{word_at, number, within, before, one_before, targets_1}
-use Rattle.mc_base.specs.model_device.proofs.JournalLemmas.{read_on, read_bad, read_all}
+use Rattle.mc_words.specs.model_device.specs.Image.{word_at, number, within, before, one_before, targets_1}
+use Rattle.mc_words.specs.model_device.proofs.JournalLemmas.{read_on, read_bad, read_all}
 
 -- n targets are the target of pair i and the n - 1 after it
 one_more : (m : List (List ℕ)) (i n k : ℕ) → n ≡ suc k → targets_1 m i n ≡ one_before (number (within (length m)) (word_at m (3 + 2 * i))) (3 + 2 * i) (targets_1 m (i + 1) k)

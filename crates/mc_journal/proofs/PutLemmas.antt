@@ -1,7 +1,7 @@
 -- One step through the entries of the journal of layout 1.
 use Rattle.std.proofs.Common.{◌≡◌, ℕ, ◌+◌, ◌*◌, ◌<◌, List, [], ◌∷◌, ◌++◌, length, drop, get_or, ap}
-use Rattle.mc_base.specs.model_device.specs.Stopped.{entries_1, word_of_number}
-use Rattle.mc_base.specs.model_device.proofs.JournalLemmas.{pair_step}
+use Rattle.mc_words.specs.model_device.specs.Stopped.{entries_1, word_of_number}
+use Rattle.mc_words.specs.model_device.proofs.JournalLemmas.{pair_step}
 
 -- the entries from pair i on are its target word, its value and those after them
 pub entry_step : (list : List (ℕ × List ℕ)) (i : ℕ) → i < length list

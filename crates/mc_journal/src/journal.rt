@@ -1,14 +1,14 @@
 ghost use Rattle.std.specs.Prelude.{◌≡◌, true, false, length};
-ghost use Rattle.mc_base.specs.model_device.specs.Device.{Makes};
-ghost use Rattle.mc_base.specs.model_device.specs.Image.{One, is_open, look_j};
-ghost use Rattle.mc_base.specs.model_device.specs.Stopped.{IsAtomic, writes, WriteEnds, owed_writes, outcome_answer, RecoverEnds};
+ghost use Rattle.mc_words.specs.model_device.specs.Device.{Makes};
+ghost use Rattle.mc_words.specs.model_device.specs.Image.{One, is_open, look_j};
+ghost use Rattle.mc_words.specs.model_device.specs.Stopped.{IsAtomic, writes, WriteEnds, owed_writes, outcome_answer, RecoverEnds};
 ghost use Rattle.mc_gate.specs.Recovery.{outcome_of};
 
 use crate::look::read_targets;
 use crate::put::put_entries;
-use mc_base::{Stop, Word};
 use mc_gate::{Journal, Layout, Recover, Targets};
 use mc_nvm::Nvm;
+use mc_words::{Stop, Word};
 
 // The journal of layout 1: the target word of each pair, and its value after it.
 struct JournalV1;

@@ -1,11 +1,11 @@
 ghost use Rattle.std.specs.Prelude.{◌≡◌, ◌≤◌, length};
-ghost use Rattle.mc_base.specs.model_device.specs.Image.{One, within, targets, number};
+ghost use Rattle.mc_words.specs.model_device.specs.Image.{One, within, targets, number};
 ghost use Rattle.mc_gate.specs.Look.{target_list};
 
 use arrayvec::ArrayVec;
-use mc_base::{Word, number_of};
 use mc_gate::{Targets, is_within};
 use mc_nvm::Nvm;
+use mc_words::{Word, number_of};
 
 /// Returns the targets of the first `count` pairs, at most 64, as the journal holds them.
 ///

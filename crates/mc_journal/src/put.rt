@@ -1,11 +1,11 @@
 ghost use Rattle.std.specs.Prelude.{◌≡◌, ◌+◌, ◌*◌, ◌<◌, ◌≤◌, true, [], ◌∷◌, length, OnOk};
-ghost use Rattle.mc_base.specs.model_device.specs.Device.{Makes};
-ghost use Rattle.mc_base.specs.model_device.specs.Image.{One};
-ghost use Rattle.mc_base.specs.model_device.specs.Stopped.{entries, word_of_number};
+ghost use Rattle.mc_words.specs.model_device.specs.Device.{Makes};
+ghost use Rattle.mc_words.specs.model_device.specs.Image.{One};
+ghost use Rattle.mc_words.specs.model_device.specs.Stopped.{entries, word_of_number};
 
-use mc_base::{Stop, Word};
 use mc_gate::{Layout, number_word};
 use mc_nvm::Nvm;
+use mc_words::{Stop, Word};
 
 /// Writes the target word and the value of each of at most 64 pairs.
 ///

@@ -6,7 +6,7 @@ use Rattle.mc_asm.proofs.PassLemmas.{no_line}
 use Rattle.mc_streams.specs.declared.refusals.WriteFault.{WriteFault}
 use Rattle.mc_text.specs.Texts.{Sunk, Puts, Writes, Fails}
 use Rattle.mc_text.proofs.TextLemmas.{fails_before, puts_as, puts_then}
-use Rattle.law_explore.specs.Matching.{fits}
+use Rattle.law_explore.specs.model_events.specs.Matching.{fits}
 use Rattle.mc_lab.specs.declared.remark.Remark.{Remark as Found}
 use Rattle.mc_lab.specs.Remarks.{Remark}
 use Rattle.mc_lab.specs.Remarked.{remark_value, remark_values}

@@ -2,7 +2,7 @@
 use Rattle.std.proofs.Common.{◌≡◌, ◌<◌, refl, sym, ◌∙◌, ap, ℕ, zero, suc, List, [], ◌∷◌, ◌++◌, length, take, drop, Bool, true, false, Option, Some, None, arith, append_assoc, append-nil}
 use Rattle.std.specs.Prelude.{min, ⊤}
 use Rattle.law_explore.specs.model_text.specs.Text.{first_cut, is_blank, pieces, pieces_with_character}
-use Rattle.law_explore.specs.model_play.specs.Patterns.{without_blanks}
+use Rattle.law_explore.specs.model_events.specs.Patterns.{without_blanks}
 use Rattle.mc_text.proofs.ReadingLemmas.{pieces_at, pieces_cut}
 use Rattle.mc_lab.specs.Expectations.{after_blank, laid_by}
 

@@ -17,7 +17,6 @@ mod SweepAccounts
 mod SweepNames
 mod SweepLoops
 mod SweepPlayers
-mod SweepStepLemmas
 mod SweepFrontLemmas
 mod SweepRows
 mod SweepDecks

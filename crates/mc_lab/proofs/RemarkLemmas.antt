@@ -12,7 +12,7 @@ use Rattle.mc_lab.specs.declared.remark.Mark.{Mark}
 use Rattle.mc_lab.specs.declared.remark.Remark.{Remark as Found}
 use Rattle.mc_lab.specs.Remarks.{Remark, above_after, after_line, in_section, just, remark_at, remarks, remarks_from, text_in}
 use Rattle.mc_lab.specs.Remarked.{remark_number, remark_value, remark_values}
-use Rattle.law_explore.specs.Rules.{stays_inside}
+use Rattle.model_events.specs.model_text.specs.Text.{stays_inside}
 use Rattle.mc_lab.specs.Scanning.{scanned_from, scanned}
 
 -- ---- remarks

@@ -7,7 +7,8 @@ use Rattle.law_explore.specs.model_play.specs.declared.deck.DeckCause.TheVariant
 use Rattle.law_explore.specs.model_device.specs.Bytes.{lookup}
 use Rattle.law_explore.specs.model_card.specs.Units.{UnitParts, unit_read}
 use Rattle.law_explore.specs.model_text.specs.Text.{◌>>=◌, ok_as, err_as, only_if, begins, fields, lines, with_numbers}
-use Rattle.law_explore.specs.model_play.specs.DeckGrammar.{DeckLine, Named, Context, Section, Stated, Says, Opens, Word, FormatWord, PowerWord, UnitWord, AppWord, LoadWord, SelectWord, DeleteWord, DumpWord, ApduWord, BudgetWord, CutWord, FailWord, PokeWord, Mode, Between, Within, LineTurn, statement_of, deck_words, turn_of, between, within, turn_in, turn_at, lines_at_end, deck_lines, deck_read, section_unit, with_unit, is_end, name_field, hex_field, aid_field, fill_field, number_field, new_name}
+use Rattle.law_explore.specs.model_play.specs.DeckGrammar.{DeckLine, Named, Context, Section, Stated, Says, Opens, Word, FormatWord, PowerWord, UnitWord, AppWord, LoadWord, SelectWord, DeleteWord, DumpWord, ApduWord, BudgetWord, CutWord, FailWord, PokeWord, Mode, Between, Within, LineTurn, statement_of, deck_words, turn_of, between, within, turn_in, turn_at, lines_at_end, deck_lines, deck_read, section_unit, with_unit, name_field, hex_field, aid_field, fill_field, number_field, new_name}
+use Rattle.model_events.specs.model_text.specs.Text.{is_end}
 use Rattle.law_explore.specs.model_play.specs.DeckGrammar as line
 use Rattle.mc_lab.specs.Rising.{Rising}
 use Rattle.mc_lab.specs.Expectations.{line_number}

@@ -9,12 +9,13 @@ use Rattle.law_explore.specs.model_card.specs.Units.{unit_read}
 use Rattle.law_explore.specs.model_play.specs.declared.deck.DeckCause.{DeckCause}
 use Rattle.law_explore.specs.model_play.specs.declared.deck.DeckCause.TheVariants.{BadLine, LateLine, UnknownName}
 use Rattle.law_explore.specs.model_play.specs.declared.deck.DeckCause.TheVariants as causes
-use Rattle.law_explore.specs.model_play.specs.DeckGrammar.{hex_field, aid_field, fill_field, name_field, number_field, Context, Section, Stated, Says, Opens, Word, FormatWord, PowerWord, UnitWord, AppWord, LoadWord, SelectWord, DeleteWord, DumpWord, ApduWord, BudgetWord, CutWord, FailWord, PokeWord, deck_words, new_name, early, with_unit, statement_of, is_end, section_unit, Mode, Between, Within, LineTurn, turn_of, between, within, turn_at, deck_lines, deck_read}
+use Rattle.law_explore.specs.model_play.specs.DeckGrammar.{hex_field, aid_field, fill_field, name_field, number_field, Context, Section, Stated, Says, Opens, Word, FormatWord, PowerWord, UnitWord, AppWord, LoadWord, SelectWord, DeleteWord, DumpWord, ApduWord, BudgetWord, CutWord, FailWord, PokeWord, deck_words, new_name, early, with_unit, statement_of, section_unit, Mode, Between, Within, LineTurn, turn_of, between, within, turn_at, deck_lines, deck_read}
+use Rattle.model_events.specs.model_text.specs.Text.{is_end}
 use Rattle.law_explore.specs.model_play.specs.DeckGrammar as line
 use Rattle.mc_deck.specs.law_family.proofs.AssembledBytes.{as_ok, err_ok, only_ok, cond_ok, any_ok}
 use Rattle.mc_lab.specs.declared.remark.Mark.{Mark}
 use Rattle.mc_lab.specs.Remarks.{Remark, above_after, after_line, in_section, just, remark_at, remarks, remarks_from, text_in}
-use Rattle.law_explore.specs.Rules.{stays_inside}
+use Rattle.model_events.specs.model_text.specs.Text.{stays_inside}
 use Rattle.mc_lab.specs.Scanning.{scanned_from, scanned}
 
 -- ---- statements

@@ -1,5 +1,5 @@
 -- A play that is compared: line by line, on a steady bench.
-use Rattle.std.proofs.Common.{◌≡◌, ◌+◌, ◌≤◌, refl, sym, ◌∙◌, ap, subst, ℕ, zero, suc, List, [], ◌∷◌, ◌++◌, drop, take, true, cond, Option, Some, arith, add-one}
+use Rattle.std.proofs.Common.{◌≡◌, ◌+◌, ◌≤◌, refl, sym, ◌∙◌, ap, subst, ℕ, zero, suc, List, [], ◌∷◌, drop, true, cond, Option, Some, arith, add-one}
 use Rattle.std.specs.Prelude.{nat_lt, slice_get, option_map}
 use Rattle.law_explore.specs.model_device.specs.Device.{DeviceState, BenchState}
 use Rattle.law_explore.specs.model_machine.specs.Chain.{Turn}
@@ -9,8 +9,6 @@ use Rattle.mc_script.specs.declared.answer.Answer.{Answer}
 use Rattle.mc_script.specs.declared.player.Player.{Player}
 use Rattle.mc_script.specs.Players.{answer_value, device_of, IsPlayerAt, IsPlaying}
 use Rattle.mc_script.specs.Lines.{LineDone}
-use Rattle.mc_script.specs.StepCounts.{CountsLine, PlaySteps}
-use Rattle.mc_script.proofs.StepPlayLemmas.{step_counts, steps_as, steps_then}
 use Rattle.law_explore.specs.model_play.proofs.PlayLemmas.{step_is}
 use Rattle.mc_lab.specs.Rising.{Rising, count_below, last_of}
 use Rattle.mc_lab.specs.Expectations.{line_number, result_above, result_text, steady_from, steady_steps, step_text}
@@ -74,13 +72,6 @@ next_of [] (suc i) x r e = absurd (cc e)
 next_of (y ∷ xs) zero x r e = record { first = ap Some (cc e); behind = (cc e) }
 next_of (y ∷ xs) (suc i) x r e = grind (arith, next_of xs i x r e)
 
--- the first of a list, with the first of the rest after them
-take_next : {A : Type 0} (xs : List A) (i : ℕ) (x : A) (r : List A) → drop i xs ≡ x ∷ r → take (i + 1) xs ≡ take i xs ++ x ∷ []
-take_next [] zero x r e = absurd (cc e)
-take_next [] (suc i) x r e = absurd (cc e)
-take_next (y ∷ xs) zero x r e = let same : y ≡ x = cc e in ap (λ z. z ∷ []) same
-take_next (y ∷ xs) (suc i) x r e = grind (arith, take_next xs i x r e)
-
 -- ---- a player
 
 module _ {N : Type 0} (state : N → DeviceState) (bench : N → BenchState) where
@@ -104,21 +95,6 @@ module _ {N : Type 0} (state : N → DeviceState) (bench : N → BenchState) whe
       let text_is : result_text (option_map (answer_value state q) answer) ≡ step_text (last_of (i + 1) whole) =
       ap result_text stepped.answers ∙ sym (ap step_text (ap (λ k. last_of k whole) (add-one i) ∙ next.first)) in
       record { here = t.after; at = stepped.at; steady = stepped.played.counts.counts.steady ∙ h.steady; rest = next.behind; last = is ∙ text_is }
-
-  -- the steps of one more line
-  pub counted_on : {R : Type 0} (reported : R → List Turn → R → Type 0) (whole : List Step) (ls : List (ℕ × DeckLine)) (p q : Player N) (i n : ℕ) (l : DeckLine) (text : List ℕ) (before after : R) (answer : Option Answer) (old now new : ℕ)
-      → slice_get ls i ≡ Some (n, l) → LineDone state bench reported p l before after answer q → CountsLine state bench p l answer now new → Staged state bench whole ls p i text → PlaySteps (take i whole) old now → PlaySteps (take (i + 1) whole) old new
-  counted_on reported whole ls p q i n l text before after answer old now new e done counts h steps =
-      let d = done h.here n h.at in
-      let stepped = d.1.stepped in
-      let worn = stepped.played.steady h.steady in
-      let t = step h.here (n, l) d.0 in
-      let left : drop i whole ≡ t ∷ steady_from t.after (drop (i + 1) ls) =
-      h.rest ∙ ap (steady_from h.here) (drop_at ls i (n, l) e) ∙ steady_on h.here (n, l) (drop (i + 1) ls)
-      ∙ ap (λ w. step h.here (n, l) w ∷ steady_from (step h.here (n, l) w).after (drop (i + 1) ls)) (sym worn) in
-      let one = step_counts state q h.here (n, l) d.0 answer now new stepped.answers (counts h.here h.at) in
-      steps_as (take i whole ++ t ∷ []) (take (i + 1) whole) old new (sym (take_next whole i t (steady_from t.after (drop (i + 1) ls)) left))
-      (steps_then (take i whole) (t ∷ []) old now new steps one)
 
   -- a player that was playing continues
   pub playing_on : {R : Type 0} (reported : R → List Turn → R → Type 0) (p q : Player N) (n : ℕ) (l : DeckLine) (before after : R) (answer : Option Answer) → LineDone state bench reported p l before after answer q → IsPlaying state bench p → IsPlaying state bench q

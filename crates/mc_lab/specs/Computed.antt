@@ -19,7 +19,7 @@ use Rattle.law_explore.specs.model_card.specs.Manager.{manage}
 use Rattle.law_explore.specs.model_play.specs.Play.{Step, send, play_at_power, step, plays, moves_of, steady_failures}
 use Rattle.law_explore.specs.model_card.specs.Commands.{command}
 use Rattle.law_explore.specs.model_play.specs.DeckGrammar.{DeckLine, deck_read}
-use Rattle.law_explore.specs.Matching.{fits}
+use Rattle.law_explore.specs.model_events.specs.Matching.{fits}
 use Rattle.mc_lab.specs.Remarks.{remarks}
 use Rattle.mc_lab.specs.Expectations.{ExpectedDeck, ExpectationFault, expected_deck_read, expect_text, steady_from, steady_steps}
 

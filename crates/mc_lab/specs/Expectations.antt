@@ -6,8 +6,8 @@ use Rattle.law_explore.specs.model_play.specs.DeckGrammar.{DeckLine, deck_read}
 use Rattle.law_explore.specs.model_play.specs.DeckGrammar as line
 use Rattle.law_explore.specs.model_play.specs.Play.{LineResult, State, Step, plays, start, steady_failures}
 use Rattle.law_explore.specs.model_play.specs.Transcript.{text_of_result}
-use Rattle.law_explore.specs.model_play.specs.Patterns.{is_star, without_blanks}
-use Rattle.law_explore.specs.Matching.{fits}
+use Rattle.law_explore.specs.model_events.specs.Patterns.{is_star, without_blanks}
+use Rattle.law_explore.specs.model_events.specs.Matching.{fits}
 use Rattle.mc_lab.specs.declared.remark.Mark.TheVariants as mark
 use Rattle.mc_lab.specs.Remarks.{Remark, remarks}
 

@@ -4,7 +4,7 @@ pub use Rattle.law_explore.specs.model_play.specs.Play
 pub use Rattle.law_explore.specs.model_play.specs.Transcript
 pub use Rattle.mc_asm.specs.Passes
 pub use Rattle.mc_script.specs.Players
-pub use Rattle.law_explore.specs.Matching
+pub use Rattle.model_events.specs.Matching
 pub mod Rising
 pub mod Remarks
 pub mod Remarked
@@ -21,5 +21,4 @@ pub mod SweepPlayers
 pub mod SweepFronts
 pub mod Benches
 pub mod SweepEnds
-pub mod SweepSteps
 pub mod SweptRows

@@ -1,7 +1,7 @@
 -- The pass of the laboratory over a deck's text, which keeps of the deck's reader only whether it is in a section.
 use Rattle.std.specs.Prelude.{ℕ, Bool, false, List, [], ◌∷◌, ◌++◌}
 use Rattle.law_explore.specs.model_text.specs.Text.{fields, lines, with_numbers}
-use Rattle.law_explore.specs.Rules.{stays_inside}
+use Rattle.model_events.specs.model_text.specs.Text.{stays_inside}
 use Rattle.mc_lab.specs.declared.remark.Mark.{Mark}
 use Rattle.mc_lab.specs.Remarks.{Remark, above_after, just, remark_at, text_in}
 

@@ -1,18 +1,12 @@
 -- A play of a deck up to some of its lines.
-use Rattle.std.specs.Prelude.{◌≡◌, ℕ, true, List, drop, take}
+use Rattle.std.specs.Prelude.{◌≡◌, ℕ, true, List, drop}
 use Rattle.law_explore.specs.model_device.specs.Device.{DeviceState, BenchState}
 use Rattle.law_explore.specs.model_play.specs.DeckGrammar.{DeckLine}
 use Rattle.law_explore.specs.model_play.specs.Play.{State, Step}
 use Rattle.mc_script.specs.declared.player.Player.{Player}
 use Rattle.mc_script.specs.Players.{device_of, IsPlayerAt}
-use Rattle.mc_script.specs.StepCounts.{PlaySteps}
 use Rattle.mc_lab.specs.Rising.{last_of}
 use Rattle.mc_lab.specs.Expectations.{steady_from, step_text}
-
--- the steps of the first lines of a play, up to some line
-pub record CountsFront (whole : List Step) (old new : ℕ) : Type 0 where
-  pub count : ℕ
-  pub steps : PlaySteps (take count whole) old new
 
 module _ {N : Type 0} (state : N → DeviceState) (bench : N → BenchState) where
   -- the first lines were played on a steady bench, as steps of the whole play; the text is the result of the last of

@@ -8,8 +8,8 @@ ghost use Rattle.mc_lab.specs.ExpectedDecks.{refusal_of, expected_deck_value, Is
 
 use crate::remark::{Mark, Remark};
 use crate::scanning::remarks;
-use mc_base::NoMemory;
 use mc_deck::{Deck, DeckCause, DeckRefusal, Line, read_deck};
+use mc_words::NoMemory;
 use std::alloc::Global;
 use thiserror::Error;
 

@@ -5,15 +5,14 @@ ghost use Rattle.mc_script.specs.Players.{IsUnfused};
 ghost use Rattle.mc_lab.specs.Expectations.{count_failed, expect_text, steady_steps};
 ghost use Rattle.mc_lab.specs.Judged.{done_of};
 ghost use Rattle.mc_lab.specs.ExpectedDecks.{expected_deck_value, IsRising};
-ghost use Rattle.mc_lab.specs.Stages.{CountsFront};
 
 use crate::expected_deck::{ExpectedDeck, count_above};
 use crate::judging::{judge, put_counts};
 use crate::stage::play_lines;
-use mc_base::Steps;
 use mc_nvm::Bench;
 use mc_script::{Player, Text};
 use mc_streams::{Sink, WriteFault};
+use mc_words::Steps;
 use std::sync::ledger::Ledger;
 
 // The number of failed expectations after one more that held or failed.
@@ -49,10 +48,6 @@ pub fn expect<N: Bench + Drop, T: Sink, L: Ledger>(
     ensures failed { IfOk result (λ n. n ≡ count_failed
         (steady_steps (N.state device).words (expected_deck_value expected_deck.now).lines)
         (expected_deck_value expected_deck.now).expected) }
-    // Up to some line the lines were played once: each executed instruction is one step, and the search of an OPEN for room
-    // takes at most two more than the card has gaps.
-    ensures steps { CountsFront
-        (steady_steps (N.state device).words (expected_deck_value expected_deck.now).lines) steps.old steps.new }
 {
     let mut player = Player::new(device);
     let mut text = Text::new();

@@ -1,7 +1,7 @@
 // Expectations compared with results, and the report of them.
 ghost use Rattle.std.specs.Prelude.{◌≡◌, decimal, IfOk};
 ghost use Rattle.mc_text.specs.Texts.{sunk, Puts};
-ghost use Rattle.law_explore.specs.Matching.{fits};
+ghost use Rattle.law_explore.specs.model_events.specs.Matching.{fits};
 ghost use Rattle.mc_lab.specs.Expectations.{above_text, count_text, failed_line, expectation_line};
 ghost use Rattle.mc_lab.specs.Judged.{done_of};
 ghost use Rattle.mc_lab.specs.Remarked.{line_value, remark_value};

@@ -2,7 +2,7 @@
 ghost use Rattle.std.specs.Prelude.{◌≡◌, ◌+◌, ◌<◌, ◌≤◌, ◌++◌, ◌∷◌, [], length};
 ghost use Rattle.arrayvec.specs.ArrayVec.{array_vec_len};
 ghost use Rattle.law_explore.specs.model_text.specs.Text.{is_blank, pieces};
-ghost use Rattle.law_explore.specs.model_play.specs.Patterns.{without_blanks};
+ghost use Rattle.law_explore.specs.model_events.specs.Patterns.{without_blanks};
 ghost use Rattle.mc_text.specs.Texts.{sunk, Puts};
 ghost use Rattle.mc_lab.specs.Expectations.{laid_by, laid_out, lays_out};
 

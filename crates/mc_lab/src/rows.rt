@@ -1,8 +1,8 @@
-#![tactic(auto, unfolding(law_explore::specs::Matching::fits))]
+#![tactic(auto, unfolding(model_events::specs::Matching::fits))]
 
 // Worked rows: the texts that patterns hold for.
 ghost use Rattle.std.specs.Prelude.{◌≡◌, [], codes, true, false};
-ghost use Rattle.law_explore.specs.Matching.{fits};
+ghost use Rattle.law_explore.specs.model_events.specs.Matching.{fits};
 
 /// A pattern without `?` and `*` matches itself and nothing else.
 pub fn plain()

@@ -7,8 +7,8 @@ ghost use Rattle.mc_lab.specs.Remarked.{remark_values, some_value};
 use crate::remark::{Mark, Remark, above_after, remark_at};
 use lab_match::stays_inside;
 use mc_asm::NumberedLine;
-use mc_base::NoMemory;
 use mc_text::next_line;
+use mc_words::NoMemory;
 use std::alloc::Global;
 
 // Adds a remark, if there is one.

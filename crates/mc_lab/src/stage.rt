@@ -1,16 +1,15 @@
 // Lines of a deck played one by one, and the text of the last one's result.
-ghost use Rattle.std.specs.Prelude.{◌≡◌, ◌≤◌, ℕ, List, length, option_map, take};
+ghost use Rattle.std.specs.Prelude.{◌≡◌, ◌≤◌, List, length, option_map};
 ghost use Rattle.law_explore.specs.model_play.specs.Play.{Step};
 ghost use Rattle.mc_script.specs.Players.{answer_value};
 ghost use Rattle.mc_script.specs.Benches.{IsPlaying};
-ghost use Rattle.mc_script.specs.StepCounts.{PlaySteps};
 ghost use Rattle.mc_lab.specs.Expectations.{result_text};
 ghost use Rattle.mc_lab.specs.Benches.{Staged};
 
-use mc_base::Steps;
 use mc_deck::Deck;
 use mc_nvm::Bench;
 use mc_script::{Answer, Player, Silent, Text, add_result};
+use mc_words::Steps;
 use std::sync::ledger::Ledger;
 
 // Copies the text of a result of a player to `text`, empty if there is no result.
@@ -39,9 +38,6 @@ pub fn play_lines<N: Bench, L: Ledger>(
     requires most { to ≤ length deck.now }
     ensures staged { (whole : List Step) → Staged N.Bench whole deck.now player.old from text.old.items
         → Staged N.Bench whole deck.now player.new to text.new.items }
-    // The steps of the lines that were played before count with those of these lines.
-    ensures counted { (whole : List Step) (old : ℕ) → Staged N.Bench whole deck.now player.old from text.old.items
-        → PlaySteps (take from whole) old steps.old → PlaySteps (take to whole) old steps.new }
     ensures playing { IsPlaying N.Bench player.new }
 {
     for at in from..to {

@@ -4,8 +4,8 @@ ghost use Rattle.mc_lab.specs.Sweeps.{are_same_held, is_same, is_same_held};
 ghost use Rattle.mc_lab.specs.SweepBodies.{account_value, held_value, state_by_fault};
 
 use arrayvec::ArrayVec;
-use mc_base::NoMemory;
 use mc_blocks::Unusable;
+use mc_words::NoMemory;
 use std::alloc::{AllocError, Global};
 
 /// The static bytes of the application of a name, or `None` if it is absent.

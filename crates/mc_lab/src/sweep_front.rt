@@ -1,5 +1,5 @@
 // The lines before a line: they are played once, and what a play holds after them is kept.
-ghost use Rattle.std.specs.Prelude.{◌≡◌, ◌+◌, ◌≤◌, ℕ, true, List, length, take, Some, IfSome};
+ghost use Rattle.std.specs.Prelude.{◌≡◌, ◌≤◌, ℕ, true, List, length, take, Some, IfSome};
 ghost use Rattle.law_explore.specs.model_device.specs.Card.{Card};
 ghost use Rattle.law_explore.specs.model_device.specs.Image.{Two};
 ghost use Rattle.law_explore.specs.model_device.specs.PowerUp.{OnCard};
@@ -10,13 +10,12 @@ ghost use Rattle.mc_script.specs.Benches.{IsPlaying};
 ghost use Rattle.mc_lab.specs.Sweeps.{state_on_blank};
 ghost use Rattle.mc_lab.specs.Benches.{IsPoweredUp, IsSteadyAt};
 ghost use Rattle.mc_lab.specs.SweepFronts.{is_card, IsKeptAt, ShowsPlay};
-ghost use Rattle.mc_lab.specs.SweepSteps.{most_of_front};
 
 use crate::sweep_play::play_line;
-use mc_base::Steps;
 use mc_deck::{Deck, Line};
 use mc_nvm::Bench;
 use mc_script::{Live, Player, Silent};
+use mc_words::Steps;
 use std::alloc::Global;
 use std::sync::ledger::Ledger;
 
@@ -63,7 +62,6 @@ fn resume<N: Bench, L: Ledger>(device: N, kept: &Option<Kept>, steps: &mut Steps
     requires steady { (N.bench device).steady ≡ true }
     requires kept { (s : State) × IsKeptAt (N.state device).words kept.now s }
     ensures at { (s : State) → IsKeptAt (N.state device).words kept.now s → IsSteadyAt N.Bench result s }
-    ensures steps { steps.new ≤ steps.old }
     ensures keeps_device { N.same device (device_of result) }
 {
     let mut player = Player::new(device);
@@ -82,7 +80,6 @@ fn power_up<N: Bench, L: Ledger>(player: &mut Player<N>, steps: &mut Steps<L>)
     ensures playing { IsPlaying N.Bench player.new }
     ensures up { (m : List (List ℕ)) (b : ℕ) (c : Card) → IsSteadyAt N.Bench player.old (BeforePower m b Unarmed)
         → HoldsBase (OnCard c) 0 Two m → c.layout ≡ 2 → IsPoweredUp N.Bench player.new m b c }
-    ensures steps { steps.new ≤ steps.old }
     ensures keeps_device { N.same (device_of player.old) (device_of player.new) }
 {
     let _powered = player.line(&Line::Power, &mut Silent, steps);
@@ -94,7 +91,6 @@ fn put_back<N: Bench, L: Ledger>(player: &mut Player<N>, kept: &Kept, steps: &mu
         × ShowsPlay m kept.now w }
     ensures at { (m : List (List ℕ)) (w : Warm) → IsSteadyAt N.Bench player.old (start m) → ShowsPlay m kept.now w
         → IsSteadyAt N.Bench player.new (AfterPower w) }
-    ensures steps { steps.new ≤ steps.old }
     ensures keeps_device { N.same (device_of player.old) (device_of player.new) }
 {
     let _set = play_line(player, &Line::Budget(kept.budget), steps);
@@ -118,7 +114,6 @@ pub fn play_front<N: Bench, L: Ledger>(
     requires order { from ≤ to }
     requires place { to ≤ length deck.now }
     ensures at { IsSteadyAt N.Bench result (state_on_blank (take to deck.now)) }
-    ensures steps { steps.new ≤ steps.old + most_of_front deck.now to }
     ensures keeps_device { N.same device (device_of result) }
 {
     let mut player = resume(device, kept, steps);
@@ -146,7 +141,6 @@ pub fn play_on<N: Bench, L: Ledger>(
     requires place { to ≤ length deck.now }
     ensures kept { IfSome result.1 (λ k. IsKeptAt (N.state result.0).words (Some k)
         (state_on_blank (take to deck.now))) }
-    ensures steps { steps.new ≤ steps.old + most_of_front deck.now to }
     ensures keeps_device { N.same device result.0 }
 {
     let player = play_front(device, kept, deck, from, to, steps);

@@ -1,18 +1,17 @@
 // One line of a sweep: each of its writes is cut, and each write of the recovery after it.
-ghost use Rattle.std.specs.Prelude.{◌≡◌, ℕ, ◌+◌, ◌≤◌, ◌<◌, ◌*◌, length, map, take, IfNone, IfOk, IfSome, MatchOption};
+ghost use Rattle.std.specs.Prelude.{◌≡◌, ◌+◌, ◌≤◌, ◌<◌, ◌*◌, length, map, take, IfNone, IfOk, IfSome, MatchOption};
 ghost use Rattle.mc_lab.specs.Sweeps.{all_same, count_from, plays_of};
 ghost use Rattle.mc_lab.specs.SweepBodies.{account_value, again_in, front_of, lines_through, recovery_states_at, state_at_place};
 ghost use Rattle.mc_lab.specs.SweepBodies.{cut_write_at, word_with};
 ghost use Rattle.mc_lab.specs.SweepBodies.{writes_in, AccountFits, AccountsHaveRoom, IsUnarmedLine, IsPlace};
 ghost use Rattle.mc_lab.specs.SweepBodies.{OpensNoGate};
-ghost use Rattle.mc_lab.specs.SweepSteps.{most_through, plays_of_sweep, IsDoubled, Measured};
 ghost use Rattle.mc_lab.specs.declared.sweep_trial.TrialLines.TheVariants as trial;
 
 use crate::sweep_account::Account;
 use crate::sweep_trial::{Place, TrialLines, Trials};
 use crate::sweep_word::SweepWord;
 use crate::truth::both;
-use mc_base::{NoMemory, Steps};
+use mc_words::{NoMemory, Steps};
 use std::alloc::Global;
 use std::sync::ledger::Ledger;
 
@@ -93,7 +92,6 @@ fn recoveries<D: Trials, L: Ledger>(
     ensures same { result.0 ≡ all_same (account_value pair.old.first) (recovery_states_at place.now k fill) }
     ensures count { result.1 ≡ length (recovery_states_at place.now k fill) }
     ensures first { pair.new.first ≡ pair.old.first }
-    ensures steps { steps.new ≤ steps.old + (result.1 + 1) * most_through place.now }
     ensures room { AccountFits pair.new.now place.now }
     ensures played { D.has_played trials.new (front_of place.now) }
 {
@@ -132,8 +130,6 @@ fn try_write<D: Trials, L: Ledger>(
         (λ t. (k ≤ writes_in place.now) × (t.word ≡ (cut_write_at place.now k).word)
         × (t.plays ≡ (cut_write_at place.now k).plays)) }
     ensures few_plays { IfSome result (λ t. t.plays ≤ 131072) }
-    ensures steps { MatchOption result (steps.new ≤ steps.old + 1 * most_through place.now)
-        (λ t. steps.new ≤ steps.old + (t.plays + 2) * most_through place.now) }
     ensures first { AccountFits pair.new.first place.now }
     ensures now { AccountFits pair.new.now place.now }
     ensures played { D.has_played trials.new (front_of place.now) }
@@ -221,8 +217,6 @@ impl<D: Trials + Drop> LineSweeper<D> {
         requires room { AccountsHaveRoom self.old.ends self.old.pair (length place.now.names.now) }
         ensures writes { IfSome result (λ n. writes_in place.now ≤ n) }
         ensures many { IfNone result (4294967295 ≤ writes_in place.now) }
-        ensures steps { (d : ℕ) → IsDoubled d most
-            → Measured d 1 result (most_through place.now) steps.old steps.new }
         ensures grows { IfSome result (λ n. most ≤ n) }
         ensures small { IfSome result (λ n. n < 4294967295) }
         ensures room { AccountsHaveRoom self.new.ends self.new.pair (length place.now.names.now) }
@@ -243,7 +237,6 @@ impl<D: Trials + Drop> LineSweeper<D> {
         requires played { D.has_played self.old.trials (front_of place.now) }
         requires room { AccountsHaveRoom self.old.ends self.old.pair (length place.now.names.now) }
         ensures played { D.has_played self.new.trials (lines_through place.now) }
-        ensures steps { steps.new ≤ steps.old + most_through place.now }
         ensures room { AccountsHaveRoom self.new.ends self.new.pair (length place.now.names.now) }
     {
         self.trials.advance(place, steps);
@@ -267,7 +260,6 @@ impl<D: Trials + Drop> LineSweeper<D> {
             ≡ map (λ t. t.word) (map (cut_write_at place.now) (count_from 1 (writes_in place.now))) }
         ensures plays { result.plays ≡ plays_of (map (cut_write_at place.now) (count_from 1 (writes_in place.now))) }
         ensures few_plays { result.plays ≤ 131072 * result.writes }
-        ensures steps { steps.new ≤ steps.old + plays_of_sweep result.writes result.plays * most_through place.now }
         ensures size { length words.new ≡ length words.old }
         ensures room { AccountsHaveRoom self.new.ends self.new.pair (length place.now.names.now) }
         ensures played { D.has_played self.new.trials (front_of place.now) }

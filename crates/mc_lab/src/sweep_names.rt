@@ -4,8 +4,8 @@ ghost use Rattle.law_explore.specs.model_device.specs.Bytes.{has_name};
 ghost use Rattle.mc_deck.specs.Lines.{line_of};
 ghost use Rattle.mc_lab.specs.Sweeps.{names_in_line, names_from, with_names};
 
-use mc_base::{Aid, NoMemory};
 use mc_deck::{Deck, Line};
+use mc_words::{Aid, NoMemory};
 use std::alloc::{AllocError, Global};
 
 // The name that a line mentions; a load mentions that of its unit.

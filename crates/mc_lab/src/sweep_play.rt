@@ -4,7 +4,7 @@ ghost use Rattle.law_explore.specs.model_play.specs.Play.{State};
 ghost use Rattle.law_explore.specs.model_play.specs.DeckGrammar.{DeckLine};
 ghost use Rattle.mc_deck.specs.Lines.{line_of, GoodLine};
 ghost use Rattle.mc_script.specs.Players.{device_of, statics_in, IsUnfused};
-ghost use Rattle.mc_script.specs.Benches.{CountsLine, IsPlaying};
+ghost use Rattle.mc_script.specs.Benches.{IsPlaying};
 ghost use Rattle.mc_lab.specs.Sweeps.{state_on_blank};
 ghost use Rattle.law_explore.specs.model_device.specs.Bytes.{zeros};
 ghost use Rattle.mc_lab.specs.SweepBodies.{account_value, held_value, hit_in, state_at_place, CanCut, AccountFits};
@@ -13,18 +13,17 @@ ghost use Rattle.mc_lab.specs.declared.sweep_trial.TrialLines.TheVariants as tri
 ghost use Rattle.mc_lab.specs.SweepPlayers.{fault_in, most_in};
 ghost use Rattle.mc_lab.specs.SweepFronts.{HasPlayed, IsKeptAt};
 ghost use Rattle.mc_lab.specs.Benches.{CutOn, IsSteadyAt, LineOn, TrialOn};
-ghost use Rattle.mc_lab.specs.SweepSteps.{most_of_line, most_through};
 
 use crate::sweep_account::{Account, Held};
 use crate::sweep_front::{Kept, play_front, play_on};
 use crate::sweep_trial::{Place, Played, TrialLines, Trials};
 use arrayvec::ArrayVec;
 use lab_branch::BranchNvm;
-use mc_base::{Aid, NoMemory, Steps, Word};
 use mc_blocks::Unusable;
 use mc_deck::Line;
 use mc_nvm::Bench;
 use mc_script::{Answer, Player, Silent, was_cut};
+use mc_words::{Aid, NoMemory, Steps, Word};
 use std::alloc::Global;
 use std::sync::ledger::Ledger;
 
@@ -68,7 +67,6 @@ pub fn play_line<N: Bench, L: Ledger>(
     requires good { GoodLine (line_of line.now) }
     ensures on { (s : State) (n : ℕ) → IsSteadyAt N.Bench player.old s
         → LineOn N.Bench s (n, line_of line.now) result player.new }
-    ensures steps { CountsLine N.Bench player.old (line_of line.now) result steps.old steps.new }
     ensures playing { IsPlaying N.Bench player.new }
     ensures size { length (N.state (device_of player.new)).words ≡ length (N.state (device_of player.old)).words }
     ensures keeps_device { N.same (device_of player.old) (device_of player.new) }
@@ -89,8 +87,6 @@ fn play_cut<N: Bench, L: Ledger>(
     requires low { 1 ≤ k }
     ensures on { (s : State) (i n : ℕ) → IsSteadyAt N.Bench player.old s
         → CutOn N.Bench s (n, line_of line.now) i k fill result player.new }
-    ensures steps { (s : State) → IsSteadyAt N.Bench player.old s
-        → steps.new ≤ steps.old + most_of_line s (line_of line.now) }
     ensures playing { IsPlaying N.Bench player.new }
     ensures size { length (N.state (device_of player.new)).words ≡ length (N.state (device_of player.old)).words }
     ensures keeps_device { N.same (device_of player.old) (device_of player.new) }
@@ -116,8 +112,6 @@ fn play_twice<N: Bench, L: Ledger>(
     requires first { 1 ≤ again }
     ensures on { (front : List (ℕ × DeckLine)) (n : ℕ) → IsSteadyAt N.Bench player.old (state_on_blank front)
         → TrialOn N.Bench front (n, line_of line.now) (trial.Twice k fill again) result player.new }
-    ensures steps { (s : State) → IsSteadyAt N.Bench player.old s
-        → steps.new ≤ steps.old + most_of_line s (line_of line.now) }
     ensures size { length (N.state (device_of player.new)).words ≡ length (N.state (device_of player.old)).words }
     ensures keeps_device { N.same (device_of player.old) (device_of player.new) }
 {
@@ -137,8 +131,6 @@ fn play_trial_lines<N: Bench, L: Ledger>(
     requires cuts { CanCut trial }
     ensures on { (front : List (ℕ × DeckLine)) (n : ℕ) → IsSteadyAt N.Bench player.old (state_on_blank front)
         → TrialOn N.Bench front (n, line_of line.now) trial result player.new }
-    ensures steps { (s : State) → IsSteadyAt N.Bench player.old s
-        → steps.new ≤ steps.old + most_of_line s (line_of line.now) }
     ensures size { length (N.state (device_of player.new)).words ≡ length (N.state (device_of player.old)).words }
     ensures keeps_device { N.same (device_of player.old) (device_of player.new) }
 {
@@ -223,7 +215,6 @@ fn play_trial<N: Bench, L: Ledger>(
     ensures reported { account_value into.new ≡ state_at_place place.now trial }
     ensures hit { result.1.hit ≡ hit_in place.now trial }
     ensures few { IsRecoveryBound place.now trial result.1.most }
-    ensures steps { steps.new ≤ steps.old + most_through place.now }
     ensures room { AccountFits into.new place.now }
     ensures keeps_device { N.same device result.0 }
 {
@@ -253,7 +244,6 @@ fn play_reach<N: Bench, L: Ledger>(
     requires at { IsPlace place.now }
     requires low { 1 ≤ k }
     ensures hit { result.1 ≡ hit_in place.now (trial.Cut k (zeros 8)) }
-    ensures steps { steps.new ≤ steps.old + most_through place.now }
     ensures keeps_device { N.same device result.0 }
 {
     let mut player = play_front(device, kept, place.deck, from, place.at, steps);

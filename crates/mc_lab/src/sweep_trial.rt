@@ -1,15 +1,14 @@
 // The plays of a sweep, and the trait of what plays them.
-ghost use Rattle.std.specs.Prelude.{◌≡◌, ◌+◌, ◌≤◌, ℕ, List};
+ghost use Rattle.std.specs.Prelude.{◌≡◌, ◌≤◌, ℕ, List};
 ghost use Rattle.law_explore.specs.model_device.specs.Bytes.{zeros};
 ghost use Rattle.law_explore.specs.model_play.specs.DeckGrammar.{DeckLine};
 ghost use Rattle.mc_lab.specs.SweepBodies.{account_value, front_of, hit_in, lines_through, state_at_place, CanCut, AccountFits};
 ghost use Rattle.mc_lab.specs.declared.sweep_trial.TrialLines.TheVariants as trial;
 ghost use Rattle.mc_lab.specs.SweepBodies.{IsRecoveryBound, IsPlace};
-ghost use Rattle.mc_lab.specs.SweepSteps.{most_through};
 
 use crate::sweep_account::Account;
-use mc_base::{Aid, Steps, Word};
 use mc_deck::Deck;
+use mc_words::{Aid, Steps, Word};
 use std::sync::ledger::Ledger;
 
 /// A line of a deck, and the names whose static bytes are observed.
@@ -60,7 +59,6 @@ pub trait Trials {
         ensures reported { account_value into.new ≡ state_at_place place.now trial }
         ensures hit { result.hit ≡ hit_in place.now trial }
         ensures few { IsRecoveryBound place.now trial result.most }
-        ensures steps { steps.new ≤ steps.old + most_through place.now }
         ensures room { AccountFits into.new place.now }
         ensures played { has_played self.new (front_of place.now) };
 
@@ -71,13 +69,11 @@ pub trait Trials {
         requires played { has_played self.old (front_of place.now) }
         requires low { 1 ≤ k }
         ensures hit { result ≡ hit_in place.now (trial.Cut k (zeros 8)) }
-        ensures steps { steps.new ≤ steps.old + most_through place.now }
         ensures played { has_played self.new (front_of place.now) };
 
     /// Plays a line after the lines before it, which were played.
     fn advance<L: Ledger>(&mut self, place: &Place<'_>, steps: &mut Steps<L>)
         requires at { IsPlace place.now }
         requires played { has_played self.old (front_of place.now) }
-        ensures played { has_played self.new (lines_through place.now) }
-        ensures steps { steps.new ≤ steps.old + most_through place.now };
+        ensures played { has_played self.new (lines_through place.now) };
 }

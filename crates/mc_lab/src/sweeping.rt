@@ -1,18 +1,16 @@
 // Sweeps of a deck.
-ghost use Rattle.std.specs.Prelude.{◌≡◌, ℕ, ◌+◌, ◌*◌, ◌≤◌, ◌<◌, ◌&&◌, Bool, [], ◌∷◌, length, not, take, true, false};
+ghost use Rattle.std.specs.Prelude.{◌≡◌, ℕ, ◌+◌, ◌≤◌, ◌<◌, ◌&&◌, Bool, [], ◌∷◌, length, not, take, true, false};
 ghost use Rattle.std.specs.Prelude.{IfNone, IfOk, IfSome, MatchOption, OnOk};
 ghost use Rattle.law_explore.specs.model_play.specs.Play.{armed_stop_in, is_card_line};
 ghost use Rattle.mc_deck.specs.Lines.{line_of};
 ghost use Rattle.mc_text.specs.Texts.{sunk, Puts};
 ghost use Rattle.mc_lab.specs.Judged.{done_of};
 ghost use Rattle.mc_lab.specs.Remarked.{remark_values};
-ghost use Rattle.mc_lab.specs.Sweeps.{are_fine, is_whole, is_unarmed, marks_after, names_from, rows_text, rows_to, state_on_blank, sweep_text, Swept};
+ghost use Rattle.mc_lab.specs.Sweeps.{are_fine, is_whole, is_unarmed, marks_after, rows_text, rows_to, state_on_blank, sweep_text, Swept};
 ghost use Rattle.mc_lab.specs.SweepFronts.{HasPlayed};
 ghost use Rattle.mc_lab.specs.SweepBodies.{front_of, line_at, writes_in, AccountsHaveRoom, IsUnarmedLine, IsPlace};
 ghost use Rattle.mc_lab.specs.SweepEnds.{free_behind, is_open_at, sweeps_from, sweeps_at, pending_value, AddsFine, AddsSums, AtMost, IsLineOf, IsRoom};
 ghost use Rattle.mc_lab.specs.SweepEnds.{HasTooMany, IsSmall, ReportsSweep};
-ghost use Rattle.mc_lab.specs.SweepSteps.{if_open, most_of_measure, most_of_sweep, most_through, plays_at, sum_below, swept_steps_at};
-ghost use Rattle.mc_lab.specs.SweepSteps.{IsDoubled, Measured};
 
 use crate::remark::Remark;
 use crate::sweep_line::LineSweeper;
@@ -23,10 +21,10 @@ use crate::sweep_text::{Sums, put_sums, put_swept};
 use crate::sweep_trial::{Place, Trials};
 use crate::sweep_word::SweepWord;
 use crate::truth::both;
-use mc_base::{Aid, NoMemory, Steps};
 use mc_deck::{Deck, Line};
 use mc_script::JobFault;
 use mc_streams::{Sink, WriteFault};
+use mc_words::{Aid, NoMemory, Steps};
 use std::alloc::Global;
 use std::sync::ledger::Ledger;
 
@@ -117,8 +115,6 @@ fn bound_at<D: Trials + Drop, L: Ledger>(
     requires room { AccountsHaveRoom sweeper.old.ends sweeper.old.pair (length place.now.names.now) }
     ensures writes { IfSome result (λ n. is_open_at place.now.deck.now place.now.at ≡ true → writes_in place.now ≤ n) }
     ensures many { IfNone result (HasTooMany place.now.deck.now place.now.at) }
-    ensures steps { (d : ℕ) → IsDoubled d most → Measured d (if_open (is_open_at place.now.deck.now place.now.at) 1)
-        result (most_through place.now) steps.old steps.new }
     ensures grows { IfSome result (λ n. most ≤ n) }
     ensures small { IfSome result (λ n. n < 4294967295) }
     ensures room { AccountsHaveRoom sweeper.new.ends sweeper.new.pair (length place.now.names.now) }
@@ -142,7 +138,6 @@ fn most_writes<D: Trials + Drop, L: Ledger>(
     requires played { D.has_played sweeper.old.trials [] }
     ensures most { IfSome result (λ n. AtMost deck.now (length deck.now) n) }
     ensures many { IfNone result ((at : ℕ) × (at < length deck.now) × HasTooMany deck.now at) }
-    ensures steps { steps.new ≤ steps.old + most_of_measure deck.now }
 {
     let mut most = 0;
     for at in 0..deck.len() {
@@ -221,7 +216,6 @@ fn sweep_place<D: Trials + Drop, T: Sink, L: Ledger>(
         ≡ marks_after (pending_value (remark_values marks.now) pending.old) (sweeps_at place.now)) }
     ensures small { OnOk result (IsSmall sums.new (place.now.at + 1)) }
     ensures size { length words.new ≡ length words.old }
-    ensures steps { steps.new ≤ steps.old + plays_at place.now * most_through place.now }
     ensures room { AccountsHaveRoom sweeper.new.ends sweeper.new.pair (length place.now.names.now) }
     ensures played { D.has_played sweeper.new.trials (front_of place.now) }
 {
@@ -267,8 +261,6 @@ fn sweep_at<D: Trials + Drop, T: Sink, L: Ledger>(
         ≡ marks_after (pending_value (remark_values marks.now) pending.old) (sweeps_at place.now)) }
     ensures small { OnOk result (IsSmall sums.new (place.now.at + 1)) }
     ensures size { length words.new ≡ length words.old }
-    ensures steps { steps.new ≤ steps.old
-        + if_open (is_open_at place.now.deck.now place.now.at) (plays_at place.now) * most_through place.now }
     ensures room { AccountsHaveRoom sweeper.new.ends sweeper.new.pair (length place.now.names.now) }
     ensures played { D.has_played sweeper.new.trials (front_of place.now) }
 {
@@ -323,7 +315,6 @@ fn sweep_lines<D: Trials + Drop, T: Sink, L: Ledger>(
         sums.new.whole) }
     ensures left { OnOk result (pending_value (remark_values marks.now) pending.new
         ≡ marks_after (pending_value (remark_values marks.now) pending.old) (sweeps_from names.now deck.now 0)) }
-    ensures steps { steps.new ≤ steps.old + sum_below (swept_steps_at names.now deck.now) (length deck.now) }
 {
     for at in 0..deck.len() {
         let place = Place { deck, at, names };
@@ -351,7 +342,6 @@ fn measure<L: Ledger>(
     steps: &mut Steps<L>,
 ) -> Result<u32, NoMemory>
     ensures most { IfOk result (λ n. AtMost deck.now (length deck.now) n) }
-    ensures steps { steps.new ≤ steps.old + most_of_measure deck.now }
 {
     let mut sweeper = new_sweeper(alloc, names.len())?;
     match most_writes(&mut sweeper, deck, names, steps) {
@@ -372,7 +362,6 @@ fn room_for<L: Ledger>(alloc: Global, deck: &Deck, steps: &mut Steps<L>) -> Resu
     ensures room { IfOk result (λ room. IsRoom deck.now room.names.items room.sweeper.ends room.sweeper.pair
         (length room.words.items)) }
     ensures played { IfOk result (λ room. HasPlayed room.sweeper.trials []) }
-    ensures steps { steps.new ≤ steps.old + most_of_measure deck.now }
 {
     let names = names_of(alloc, deck)?;
     let most = measure(alloc, deck, names.as_slice(), steps)?;
@@ -400,8 +389,6 @@ fn sweep_in<T: Sink, L: Ledger>(
     ensures reported { Puts (sunk T.Sink out.old) (sweep_text (remark_values marks.now) deck.now)
         (done_of result) (sunk T.Sink out.new) }
     ensures whole { IfOk result (λ whole. whole ≡ is_whole (remark_values marks.now) deck.now) }
-    ensures steps { steps.new ≤ steps.old
-        + sum_below (swept_steps_at (names_from [] deck.now) deck.now) (length deck.now) }
 {
     let mut sums = no_sums();
     let mut pending = Pending {
@@ -452,8 +439,6 @@ pub fn sweep<T: Sink, L: Ledger>(
         (sweep_text (remark_values marks.now) deck.now) result
         (sunk T.Sink out.new) }
     ensures whole { IfOk result (λ whole. whole ≡ is_whole (remark_values marks.now) deck.now) }
-    // At most the steps of its plays, as if each were played from the beginning of the deck.
-    ensures steps { steps.new ≤ steps.old + most_of_sweep deck.now }
 {
     let mut room = room_for(alloc, deck, steps)?;
     Ok(sweep_in(&mut room, deck, marks, out, steps)?)

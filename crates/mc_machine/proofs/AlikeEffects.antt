@@ -7,7 +7,7 @@ use Rattle.law_machine.specs.model_device.specs.Pieces.{laid_pieces, touched_wor
 use Rattle.law_machine.specs.model_machine.specs.Frame.{Frame, Effect, Place, where_is, static_written, write_effect_at, write_effect, pending_change, protect}
 use Rattle.law_machine.specs.model_machine.specs.Primitives.{Around, frame_effect, Primitive, DelegatorAid, primitive}
 use Rattle.law_machine.specs.model_machine.specs.Row.{effect}
-use Rattle.law_machine.specs.law_rows.specs.Shapes.{Act, Shape, act_effect, with_flags, meaning, delegator_shape, prim_shape, pair_shape, shape}
+use Rattle.law_machine.specs.model_machine.specs.Shapes.{Act, Shape, act_effect, with_flags, meaning, delegator_shape, prim_shape, pair_shape, shape}
 use Rattle.law_machine.specs.law_rows.proofs.RowShapes.{shapes}
 use Rattle.mc_segs.specs.HeldFrames.{Seen, frame_reading, no_pieces}
 use Rattle.mc_machine.specs.Alike.{seen_change, IsGuarded, SameEffect, SameDone}

@@ -7,8 +7,8 @@ use Rattle.law_machine.specs.model_machine.specs.declared.instruction.DecodeFaul
 use Rattle.law_machine.specs.model_machine.specs.declared.instruction.DecodeFault.TheVariants.{Undefined, Past}
 use Rattle.law_machine.specs.model_machine.specs.declared.instruction.Ins.{Ins}
 use Rattle.law_machine.specs.model_machine.specs.Code.{Form, Kind, U8, U16, I16, operands, total, form, kinds, spell, made_of, DecodesTo, instruction_at, from_place}
-use Rattle.mc_isa.proofs.PlaceLemmas.{decoded_only}
-use Rattle.mc_isa.proofs.RowLemmas.{Good, GoodRow, good_form}
+use Rattle.law_machine.specs.law_rows.proofs.PlaceLemmas.{decoded_only}
+use Rattle.law_machine.specs.law_rows.proofs.RowLemmas.{Good, GoodRow, good_form}
 use Rattle.std.proofs.lemmas.List.{take-take}
 
 -- ---- lengths

@@ -9,7 +9,7 @@ use Rattle.law_machine.specs.model_machine.specs.Frame.{Frame, Effect, Place, St
 use Rattle.law_machine.specs.model_machine.specs.Primitives.{Around, Done}
 use Rattle.law_machine.specs.model_machine.specs.Row.{effect, causes, first_cause, row}
 use Rattle.law_machine.specs.law_rows.specs.Keeping.{after_change}
-use Rattle.law_machine.specs.law_rows.specs.Shapes.{Act, Answers, Jumps, Calls, Writes, Protects, Shape, with_status, with_length, act_effect, with_flags, meaning, shape}
+use Rattle.law_machine.specs.model_machine.specs.Shapes.{Act, Answers, Jumps, Calls, Writes, Protects, Shape, with_status, with_length, act_effect, with_flags, meaning, shape}
 use Rattle.law_machine.specs.law_rows.proofs.RowShapes.{shapes}
 use Rattle.law_machine.specs.law_rows.proofs.Keeping.{effect_keeps as parts_kept, on_done}
 use Rattle.mc_segs.specs.Ends.{changed_bytes}

@@ -15,11 +15,11 @@ use crate::fetch::fetch;
 use crate::known::{Table, fetch_known};
 use crate::outcome::{End, last_exit};
 use mc_bank::Bank;
-use mc_base::{Aid, Steps, Stop};
 use mc_isa::{DecodeFault, Ins};
 use mc_prims::{Around, prim};
 use mc_rows::{Flow, step};
 use mc_segs::{Abend, Frame, Halt, Next, Public};
+use mc_words::{Aid, Steps, Stop};
 use std::sync::ledger::Ledger;
 
 /// What comes after a turn of an application that no frame waits for: its next turn, the end of the command,

@@ -13,8 +13,8 @@ use crate::outcome::{BriefTurn, Outcome};
 use crate::turning::brief_turn;
 use mc_apdu::Apdu;
 use mc_bank::{Bank, Slot};
-use mc_base::{Steps, Stop};
 use mc_segs::Session;
+use mc_words::{Steps, Stop};
 use std::marker::Model;
 use std::sync::ledger::Ledger;
 

@@ -18,8 +18,8 @@ use crate::waiting::Waiting;
 use arrayvec::ArrayVec;
 use mc_apdu::{Apdu, Reply};
 use mc_bank::{Bank, Slot};
-use mc_base::{Aid, Steps, Stop};
 use mc_segs::{Abend, Frame, Public, Session};
+use mc_words::{Aid, Steps, Stop};
 use std::mem;
 use std::sync::ledger::Ledger;
 

@@ -17,11 +17,11 @@ use crate::fetch::fetch;
 use crate::outcome::{BriefTurn, End, Outcome, Step, Turn, last_exit, reported};
 use crate::waiting::Waiting;
 use mc_bank::Bank;
-use mc_base::{Aid, Steps, Stop};
 use mc_isa::{DecodeFault, Ins};
 use mc_prims::{Around, prim};
 use mc_rows::{Flow, step};
 use mc_segs::{Abend, Frame, Halt, Next, Session};
+use mc_words::{Aid, Steps, Stop};
 use std::mem;
 use std::sync::ledger::Ledger;
 

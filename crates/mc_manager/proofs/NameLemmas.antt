@@ -1,7 +1,7 @@
 -- Names that no application on a card has.
 use Rattle.std.proofs.Common.{◌≡◌, ℕ, List, [], ◌∷◌, None, refl, subst, arith}
 use Rattle.std.specs.List.{AllByRecursion}
-use Rattle.mc_base.specs.Name.{IsName}
+use Rattle.mc_words.specs.Name.{IsName}
 use Rattle.model_card.specs.model_device.specs.Bytes.{lookup}
 use Rattle.model_card.specs.model_device.specs.Card.{App}
 use Rattle.mc_bank.specs.Bank.{IsApplication, AreApps}

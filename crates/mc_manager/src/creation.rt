@@ -13,8 +13,8 @@ use crate::load::Load;
 use crate::status::Status;
 use mc_apdu::Apdu;
 use mc_bank::{Bank, Part};
-use mc_base::Aid;
 use mc_unit::aid_of;
+use mc_words::Aid;
 
 /// Returns the name in the DIR record of the open load, which CREATE registers.
 ///

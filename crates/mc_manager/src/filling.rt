@@ -13,7 +13,7 @@ use crate::load::Load;
 use crate::status::Status;
 use mc_apdu::Apdu;
 use mc_bank::{Bank, Part};
-use mc_base::Stop;
+use mc_words::Stop;
 
 /// Returns the status of the first refusal of a LOAD command for a section, or `None` if there is none.
 #[tactic(auto, using(crate::proofs::LoadLemmas::length_got, crate::proofs::LoadLemmas::same_size))]

@@ -21,7 +21,7 @@ use crate::status::Status;
 use arrayvec::ArrayVec;
 use mc_apdu::{Apdu, Reply};
 use mc_bank::{Bank, Part};
-use mc_base::{Steps, Stop};
+use mc_words::{Steps, Stop};
 use std::marker::Model;
 use std::sync::ledger::Ledger;
 

@@ -4,7 +4,7 @@ ghost use Rattle.mc_manager.specs.ManagerState.{NamedBy};
 
 use crate::selection::Selection;
 use mc_bank::Bank;
-use mc_base::Aid;
+use mc_words::Aid;
 
 /// Returns the application whose name is `name`, or `None` if it is not on the card.
 #[tactic(auto, using(crate::proofs::NameLemmas::no_other_names))]

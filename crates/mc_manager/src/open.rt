@@ -10,7 +10,7 @@ use crate::load::Load;
 use crate::status::Status;
 use mc_apdu::Apdu;
 use mc_bank::Bank;
-use mc_base::Steps;
+use mc_words::Steps;
 use std::sync::ledger::Ledger;
 
 /// The bits of an access list.

@@ -1,5 +1,5 @@
 use mc_bank::Slot;
-use mc_base::Aid;
+use mc_words::Aid;
 
 /// The selected application: its slot and its name.
 #[derive(Clone, Copy, Debug)]

@@ -3,14 +3,14 @@ use Rattle.std.specs.Prelude.{◌≡◌, ◌+◌, ◌<◌, ◌≤◌, ℕ, Bool,
 use Rattle.std.proofs.Common.{subst, sym, inl, inr, arith, zero, suc}
 use Rattle.std.proofs.lemmas.Bool.{cases_lt}
 use Rattle.std.proofs.Math.Nat.{min-eq_left, min-eq_right, le-min}
-use Rattle.mc_base.specs.model_device.specs.declared.device.Stop.TheVariants.{Off, Worn}
-use Rattle.mc_base.specs.model_device.specs.Orders.{Answer}
+use Rattle.mc_words.specs.model_device.specs.declared.device.Stop.TheVariants.{Off, Worn}
+use Rattle.mc_words.specs.model_device.specs.Orders.{Answer}
 use Rattle.mc_nvm.specs.declared.fuse.Fuse.{Fuse as Inside}
 use Rattle.mc_nvm.specs.declared.sim.SimNvm.TheInside.{Inside as Held}
 use Rattle.mc_nvm.specs.declared.fuse.Due.{Due as Found}
 use Rattle.mc_nvm.specs.declared.fuse.Due.TheVariants.{Cut as FoundCut, Worn as FoundFailure, Not as FoundNot}
-use Rattle.mc_base.specs.model_device.specs.Counts.{Rose, last_count}
-use Rattle.mc_base.specs.model_device.specs.Device.{blank_words, DeviceState, BenchState, Fuse, Wrote, NextWriteEnds, fill_at, BenchWrote, Due, DueCut, DueFailure, DueNot, due, next_fill, fuse_after_write, next_count}
+use Rattle.mc_words.specs.model_device.specs.Counts.{Rose, last_count}
+use Rattle.mc_words.specs.model_device.specs.Device.{blank_words, DeviceState, BenchState, Fuse, Wrote, NextWriteEnds, fill_at, BenchWrote, Due, DueCut, DueFailure, DueNot, due, next_fill, fuse_after_write, next_count}
 
 -- the state of a device in memory
 pub record Sim : Type 0 where

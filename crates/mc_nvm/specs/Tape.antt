@@ -1,6 +1,6 @@
 -- The tape of a device: the record of its writes, up to a number of them.
 use Rattle.std.specs.Prelude.{◌≤◌, ℕ, Bool, true, false, nat_le, List, [], ◌∷◌, ◌++◌, length, map, vec_capacity, Option, Some, None}
-use Rattle.mc_base.specs.model_device.specs.Device.{Entry}
+use Rattle.mc_words.specs.model_device.specs.Device.{Entry}
 use Rattle.mc_nvm.specs.declared.tape.Entry.{Entry as Written}
 use Rattle.mc_nvm.specs.declared.tape.Tape.TheInside.{Inside as TapeInside}
 

@@ -1,10 +1,10 @@
 -- A device in memory that records its tape, and on which the writes of a list fail besides.
 use Rattle.std.specs.Prelude.{◌≡◌, ◌<◌, ℕ, Bool, true, false, ◌||◌, ◌==◌, nat_le, List, [], ◌∷◌, ◌++◌, length, slice_set, Option, Some, None, refl}
 use Rattle.std.proofs.Common.{subst, sym, inl}
-use Rattle.mc_base.specs.model_device.specs.declared.device.Stop.{Stop}
-use Rattle.mc_base.specs.model_device.specs.declared.device.Stop.TheVariants.{Off, Worn}
-use Rattle.mc_base.specs.model_device.specs.Orders.{Answer}
-use Rattle.mc_base.specs.model_device.specs.Device.{DeviceState, BenchState, Entry, Wrote, NextWriteEnds, Counts, Burns, Grows, BenchWrote, Due, DueCut, DueFailure, DueNot, due, next_fill, next_count}
+use Rattle.mc_words.specs.model_device.specs.declared.device.Stop.{Stop}
+use Rattle.mc_words.specs.model_device.specs.declared.device.Stop.TheVariants.{Off, Worn}
+use Rattle.mc_words.specs.model_device.specs.Orders.{Answer}
+use Rattle.mc_words.specs.model_device.specs.Device.{DeviceState, BenchState, Entry, Wrote, NextWriteEnds, Counts, Burns, Grows, BenchWrote, Due, DueCut, DueFailure, DueNot, due, next_fill, next_count}
 use Rattle.mc_nvm.specs.declared.tape_nvm.TapeNvm.TheInside.{Inside as Held}
 use Rattle.mc_nvm.specs.Sim.{Sim, sim_state, sim_bench, blank_sim, own, next_due, after_write, answer_to, Sound, falls_word, next_rose, next_not_less}
 use Rattle.mc_nvm.specs.Tape.{ReportedTape, more, unless}

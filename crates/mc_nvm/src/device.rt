@@ -1,9 +1,9 @@
 ghost use Rattle.std.specs.Prelude.{◌≡◌, ℕ, ◌<◌, ◌≤◌, true, List, length, slice_index_or, slice_set, [], Some, None, refl};
 ghost use Rattle.std.proofs.Common.{◌∙◌};
-ghost use Rattle.mc_base.specs.model_device.specs.Orders.{Answer};
-ghost use Rattle.mc_base.specs.model_device.specs.Device.{DeviceState, BenchState, IsImage, Wrote, BenchWrote, next_count, bench_after_poke};
+ghost use Rattle.mc_words.specs.model_device.specs.Orders.{Answer};
+ghost use Rattle.mc_words.specs.model_device.specs.Device.{DeviceState, BenchState, IsImage, Wrote, BenchWrote, next_count, bench_after_poke};
 
-use mc_base::{Stop, Word};
+use mc_words::{Stop, Word};
 
 /// A device of 256 to 16,384 words of eight bytes, written one word at a time. A write may stop: it is torn as power
 /// goes, or it fails. Its word may hold anything then.

@@ -1,8 +1,8 @@
 ghost use Rattle.std.specs.Prelude.{◌≡◌, option_map, IfSome};
-ghost use Rattle.mc_base.specs.model_device.specs.Device.{next_fill, fuse_after_write, due};
+ghost use Rattle.mc_words.specs.model_device.specs.Device.{next_fill, fuse_after_write, due};
 ghost use Rattle.mc_nvm.specs.Sim.{fuse_of, due_of, own};
 
-use mc_base::Word;
+use mc_words::Word;
 
 /// A write to come, counted with 1 for the next, and the word that it leaves.
 #[derive(Clone, Copy, Debug, Drop)]

@@ -1,9 +1,9 @@
 ghost use Rattle.std.specs.Prelude.{◌≡◌, ◌+◌, ◌<◌, length, slice_index_or, []};
-ghost use Rattle.mc_base.specs.model_device.specs.Device.{IsImage};
+ghost use Rattle.mc_words.specs.model_device.specs.Device.{IsImage};
 ghost use Rattle.mc_nvm.specs.Probe.{device_of_probe};
 
 use crate::device::Nvm;
-use mc_base::{Steps, Word};
+use mc_words::{Steps, Word};
 use std::marker::PhantomData;
 use std::sync::ledger::Ledger;
 

@@ -1,6 +1,6 @@
 // The device of a program.
 ghost use Rattle.std.specs.Prelude.{◌≡◌};
-ghost use Rattle.mc_base.specs.model_device.specs.Device.{device_words};
+ghost use Rattle.mc_words.specs.model_device.specs.Device.{device_words};
 
 /// The number of words of the device that a program plays on.
 pub const DEVICE_WORDS: u32 = 8192;

@@ -1,10 +1,10 @@
 ghost use Rattle.std.specs.Prelude.{◌≡◌, ◌<◌, ◌≤◌, ℕ, [], length, slice_index_or, IfOk};
-ghost use Rattle.mc_base.specs.model_device.specs.Bytes.{AreBytes};
+ghost use Rattle.mc_words.specs.model_device.specs.Bytes.{AreBytes};
 ghost use Rattle.mc_nvm.specs.Sim.{blank_sim, Sound, answer_to, next_due, after_write};
 
 use crate::device::{Bench, Nvm};
 use crate::fuse::{Due, Fuse, nearer, next};
-use mc_base::{NoMemory, Stop, Word};
+use mc_words::{NoMemory, Stop, Word};
 use std::alloc::Global;
 use std::marker::Model;
 

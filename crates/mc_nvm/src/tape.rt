@@ -1,7 +1,7 @@
 ghost use Rattle.std.specs.Prelude.{◌≡◌, [], Some, None, MatchOption, IfOk, map};
 ghost use Rattle.mc_nvm.specs.Tape.{ReportedTape, entry_of, more};
 
-use mc_base::{NoMemory, Stop, Word};
+use mc_words::{NoMemory, Stop, Word};
 use std::alloc::Global;
 use std::marker::Model;
 

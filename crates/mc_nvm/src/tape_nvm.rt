@@ -6,7 +6,7 @@ ghost use Rattle.mc_nvm.specs.Taped.{blank_taped, is_listed, taped_state, TapedW
 use crate::device::{Bench, Nvm};
 use crate::sim::SimNvm;
 use crate::tape::{Entry, Tape};
-use mc_base::{NoMemory, Stop, Word};
+use mc_words::{NoMemory, Stop, Word};
 use std::alloc::Global;
 use std::marker::Model;
 

@@ -3,9 +3,9 @@ use Rattle.std.proofs.Common.{◌≡◌, ℕ, suc, ◌+◌, ◌-◌, ◌*◌, �
 use Rattle.std.proofs.lemmas.List.{drop_all}
 use Rattle.std.proofs.lemmas.Bool.{cases_lt}
 use Rattle.std.proofs.Math.Nat.{min-eq_left, min-eq_right}
-use Rattle.mc_base.specs.model_device.specs.Bytes.{up}
-use Rattle.mc_base.specs.model_device.specs.Image.{word_at, four, all_zero, ascend, after_all, before, all_before, targets_2}
-use Rattle.mc_base.specs.model_device.proofs.JournalLemmas.{read_on, read_bad, read_all}
+use Rattle.mc_words.specs.model_device.specs.Bytes.{up}
+use Rattle.mc_words.specs.model_device.specs.Image.{word_at, four, all_zero, ascend, after_all, before, all_before, targets_2}
+use Rattle.mc_words.specs.model_device.proofs.JournalLemmas.{read_on, read_bad, read_all}
 
 -- of four numbers, the first c are the first of them up to four
 take_four : (c : ℕ) (all : List ℕ) → length all ≡ 4 → take (min c 4) all ≡ take c all

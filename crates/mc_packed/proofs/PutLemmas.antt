@@ -1,7 +1,7 @@
 -- One step through the target words and the values of the journal of layout 2.
 use Rattle.std.proofs.Common.{◌≡◌, ℕ, suc, ◌+◌, ◌-◌, ◌*◌, ◌<◌, List, [], ◌∷◌, length, take, drop, get_or, sym, ◌∙◌, ap, arith, drop-drop}
-use Rattle.mc_base.specs.model_device.specs.Stopped.{target_words, values_2, four_targets}
-use Rattle.mc_base.specs.model_device.proofs.JournalLemmas.{pair_step}
+use Rattle.mc_words.specs.model_device.specs.Stopped.{target_words, values_2, four_targets}
+use Rattle.mc_words.specs.model_device.proofs.JournalLemmas.{pair_step}
 
 -- the values from pair i on are its value and those after it
 pub value_step : (list : List (ℕ × List ℕ)) (i : ℕ) → i < length list → values_2 i (drop i list) ≡ (19 + i, (get_or list i (0, [])).1) ∷ values_2 (i + 1) (drop (i + 1) list)

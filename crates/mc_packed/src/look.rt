@@ -1,13 +1,13 @@
 ghost use Rattle.std.specs.Prelude.{◌≡◌, ◌+◌, ◌≤◌, true, false, ◌++◌, length, min, MatchOption};
-ghost use Rattle.mc_base.specs.model_device.specs.Image.{Two, within, four, all_zero, ascend, after_all, targets};
+ghost use Rattle.mc_words.specs.model_device.specs.Image.{Two, within, four, all_zero, ascend, after_all, targets};
 ghost use Rattle.mc_gate.specs.Look.{target_list};
 ghost use Rattle.arrayvec.specs.ArrayVec.{array_vec_len};
 
 use crate::put::TARGETS;
 use arrayvec::ArrayVec;
-use mc_base::{Word, number_of};
 use mc_gate::{Targets, is_within};
 use mc_nvm::Nvm;
+use mc_words::{Word, number_of};
 
 /// Returns the targets of the first `count` pairs, at most 64, as the journal holds them.
 ///

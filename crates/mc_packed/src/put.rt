@@ -1,12 +1,12 @@
 ghost use Rattle.std.specs.Prelude.{◌≡◌, ◌≤◌, true, length, take, drop, map, get_or, OnOk};
-ghost use Rattle.mc_base.specs.model_device.specs.Bytes.{up, bytes2};
-ghost use Rattle.mc_base.specs.model_device.specs.Device.{Makes};
-ghost use Rattle.mc_base.specs.model_device.specs.Image.{Two};
-ghost use Rattle.mc_base.specs.model_device.specs.Stopped.{four_targets, target_words, values_2, entries};
+ghost use Rattle.mc_words.specs.model_device.specs.Bytes.{up, bytes2};
+ghost use Rattle.mc_words.specs.model_device.specs.Device.{Makes};
+ghost use Rattle.mc_words.specs.model_device.specs.Image.{Two};
+ghost use Rattle.mc_words.specs.model_device.specs.Stopped.{four_targets, target_words, values_2, entries};
 
-use mc_base::{Stop, Word, bytes_of};
 use mc_gate::Layout;
 use mc_nvm::Nvm;
+use mc_words::{Stop, Word, bytes_of};
 
 /// The place of the first target word.
 pub const TARGETS: u32 = 3;

@@ -6,11 +6,13 @@ ghost use Rattle.model_machine.specs.Primitives as model;
 ghost use Rattle.mc_segs.specs.HeldFrames.{frame_on_bank, CanRun};
 ghost use Rattle.mc_segs.specs.Ends.{IfDue};
 ghost use Rattle.mc_prims.specs.Acting.{IsLength, ReadsBytes, ReadsCount};
-ghost use Rattle.mc_prims.specs.Table.{cipher_of, block_under_key};
+ghost use Rattle.mc_isa.specs.Primitives.{cipher_of};
+ghost use Rattle.mc_prims.specs.Table.{block_under_key};
 
+use crate::ciphers;
 use crate::ciphers::Way;
-use crate::table::Cipher;
 use mc_bank::Bank;
+use mc_isa::Cipher;
 use mc_segs::{Frame, Public, load};
 use model_machine::Abend;
 use std::marker::Model;
@@ -82,7 +84,7 @@ impl Block {
             (model.block_len (cipher_of cipher)) self.old }
     {
         let len = self.len as usize;
-        cipher.turn_each(way, key, &mut self.bytes[..len]);
+        ciphers::turn_each(cipher, way, key, &mut self.bytes[..len]);
     }
 
     /// Replaces it, the start block, by the last block of CBC mode (FIPS 81) over a message of whole blocks.
@@ -95,7 +97,7 @@ impl Block {
         ensures signed { self.new ≡ model.signature (cipher_of cipher) key.now self.old message.now }
     {
         let len = self.len as usize;
-        cipher.sign(key, message, &mut self.bytes[..len]);
+        ciphers::sign(cipher, key, message, &mut self.bytes[..len]);
     }
 }
 

@@ -5,7 +5,8 @@ ghost use Rattle.model_machine.specs.Primitives as model;
 ghost use Rattle.mc_segs.specs.HeldFrames.{frame_on_bank, CanRun};
 ghost use Rattle.mc_segs.specs.Ends.{RowActs, scene};
 ghost use Rattle.mc_prims.specs.Acting.{PrimActs};
-ghost use Rattle.mc_prims.specs.Table.{surroundings_of, primitive_of};
+ghost use Rattle.mc_prims.specs.Table.{surroundings_of};
+ghost use Rattle.mc_isa.specs.Primitives.{primitive_of};
 
 use crate::bits::{Side, manipulate_top, shift_top};
 use crate::ciphers::Way;
@@ -13,10 +14,10 @@ use crate::memory::{compare_fixed, compare_memory, copy_fixed, copy_memory, dige
 use crate::messages::{sign_message, turn_message};
 use crate::names::{delegate, report_delegator};
 use crate::registers::{check_case, load_flags, set_protection, store_flags};
-use crate::table::Primitive;
 use mc_bank::Bank;
-use mc_base::Aid;
+use mc_isa::Primitive;
 use mc_segs::{Frame, Halt, Next, Public};
+use mc_words::Aid;
 use model_machine::Abend;
 
 /// The surroundings of a frame: the case of the chain's command, 1 to 4, and the name of the application

@@ -11,7 +11,5 @@ mod messages;
 mod names;
 mod registers;
 mod stack;
-mod table;
 
 pub use dispatch::{Around, prim};
-pub use table::{Cipher, Primitive};

@@ -4,13 +4,14 @@ ghost use Rattle.model_machine.specs.Primitives as model;
 ghost use Rattle.mc_segs.specs.HeldFrames.{frame_on_bank, CanRun};
 ghost use Rattle.mc_segs.specs.Ends.{scene};
 ghost use Rattle.mc_prims.specs.Acting.{alone, CausesAct, PrimActs};
-ghost use Rattle.mc_prims.specs.Table.{cipher_of, block_under_key};
+ghost use Rattle.mc_isa.specs.Primitives.{cipher_of};
+ghost use Rattle.mc_prims.specs.Table.{block_under_key};
 
 use crate::access::Block;
 use crate::ciphers::Way;
 use crate::stack::{pop_four, pop_three};
-use crate::table::Cipher;
 use mc_bank::Bank;
+use mc_isa::Cipher;
 use mc_segs::{Frame, Halt, Next, Public, store};
 
 /// Enciphers or deciphers a message of a given number of bytes: its address, that of the result and that of the key

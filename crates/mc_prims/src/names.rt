@@ -9,8 +9,8 @@ ghost use Rattle.mc_prims.specs.Acting.{alone, PrimActs};
 use crate::access::{Block, read_count};
 use crate::stack::pop_word;
 use mc_bank::Bank;
-use mc_base::Aid;
 use mc_segs::{Frame, Halt, Next, Public, store};
+use mc_words::Aid;
 use model_machine::Abend;
 
 /// Executes Delegate: returns the name of the application to run next. An address is on the stack; at the

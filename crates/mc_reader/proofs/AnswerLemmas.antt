@@ -1,8 +1,8 @@
 -- The answer to one frame, and to the frames after it.
 use Rattle.std.proofs.Common.{◌≡◌, ℕ, ◌<◌, List, [], ◌∷◌, ◌++◌, length, Option, Some, None, refl, arith, sym, ◌∙◌, ap, subst, append_assoc, append-nil}
 use Rattle.std.specs.Prelude.{option_map}
-use Rattle.mc_base.specs.model_device.specs.Device.{DeviceState}
-use Rattle.mc_base.specs.model_device.specs.Card.{App}
+use Rattle.mc_words.specs.model_device.specs.Device.{DeviceState}
+use Rattle.mc_words.specs.model_device.specs.Card.{App}
 use Rattle.mc_deck.specs.model_play.specs.Play.{static_of}
 use Rattle.mc_streams.specs.Streams.{Grew}
 use Rattle.mc_streams.proofs.StreamsLemmas.{grew_append}

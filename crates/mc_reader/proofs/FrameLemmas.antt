@@ -3,7 +3,7 @@ use Rattle.std.proofs.Common.{◌≡◌, ℕ, zero, suc, ◌+◌, ◌*◌, ◌/�
 use Rattle.std.specs.List.{AllByRecursion}
 use Rattle.std.proofs.lemmas.Bool.{le-leb}
 use Rattle.std.proofs.lemmas.List.{take_at, drop_at}
-use Rattle.mc_base.specs.model_device.specs.Bytes.{AreBytes}
+use Rattle.mc_words.specs.model_device.specs.Bytes.{AreBytes}
 use Rattle.mc_reader.specs.Frames.{frame_bytes, frames_bytes, first_frame, frames_within, frames_read}
 
 -- a frame consists of bytes, and its length fits two bytes

@@ -2,9 +2,9 @@
 use Rattle.std.proofs.Common.{◌≡◌, ℕ, zero, suc, ◌+◌, ◌-◌, ◌<◌, ◌≤◌, Bool, true, false, cond, List, [], ◌∷◌, ◌++◌, length, take, drop, Option, Some, None, Result, Ok, Err, refl, arith, length-drop, length-take}
 use Rattle.std.specs.Prelude.{◌==◌, ◌&&◌, nat_le, IfOk, IfSome}
 use Rattle.std.specs.List.{AllByRecursion}
-use Rattle.mc_base.specs.model_device.specs.Bytes.{num, AreBytes}
-use Rattle.mc_base.specs.model_device.proofs.BoolLemmas.{and_first, and_second}
-use Rattle.mc_base.specs.model_device.proofs.ListLemmas.{bytes_from}
+use Rattle.mc_words.specs.model_device.specs.Bytes.{num, AreBytes}
+use Rattle.mc_words.specs.model_device.proofs.BoolLemmas.{and_first, and_second}
+use Rattle.mc_words.specs.model_device.proofs.ListLemmas.{bytes_from}
 use Rattle.mc_deck.specs.model_play.specs.DeckGrammar.{DeckLine}
 use Rattle.mc_deck.specs.model_play.specs.DeckGrammar as line
 use Rattle.mc_reader.specs.Meanings.{budget_order, by_order, by_power, cut_order, fail_order, in_range, meaning, order, order_by, plain_order, power_after, wrong_instruction, wrong_length, wrong_parameters, Meaning, Nothing, PowerOff, PowerOn, WantsAtr}

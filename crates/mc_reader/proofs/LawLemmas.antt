@@ -2,11 +2,11 @@
 use Rattle.std.proofs.Common.{◌≡◌, ℕ, ◌+◌, ◌≤◌, Bool, true, false, List, [], ◌∷◌, ◌++◌, length, drop, Option, Some, None, refl, sym, ap, ◌∙◌, arith}
 use Rattle.std.specs.List.{AllByRecursion}
 use Rattle.std.proofs.lemmas.List.{length-append}
-use Rattle.mc_base.specs.model_device.specs.Bytes.{bytes2, lookup}
-use Rattle.mc_base.specs.model_device.specs.Card.{App, Card}
-use Rattle.mc_base.specs.model_device.specs.PowerUp.{base_after_migration, AtFault, Base, OnCard}
-use Rattle.mc_base.specs.model_device.specs.declared.device.Stop.{Stop}
-use Rattle.mc_base.specs.model_device.specs.declared.device.Stop.TheVariants as stop
+use Rattle.mc_words.specs.model_device.specs.Bytes.{bytes2, lookup}
+use Rattle.mc_words.specs.model_device.specs.Card.{App, Card}
+use Rattle.mc_words.specs.model_device.specs.PowerUp.{base_after_migration, AtFault, Base, OnCard}
+use Rattle.mc_words.specs.model_device.specs.declared.device.Stop.{Stop}
+use Rattle.mc_words.specs.model_device.specs.declared.device.Stop.TheVariants as stop
 use Rattle.mc_apdu.specs.model_machine.specs.Chain.{Abended, Outcome, Reply}
 use Rattle.mc_deck.specs.model_card.specs.Commands.{Command}
 use Rattle.mc_deck.specs.model_card.specs.Items.{StopAt}

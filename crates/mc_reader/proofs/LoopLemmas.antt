@@ -1,9 +1,9 @@
 -- The loop over the frames of an input.
 use Rattle.std.proofs.Common.{◌≡◌, ℕ, ◌+◌, ◌≤◌, Bool, false, List, [], ◌∷◌, ◌++◌, length, Option, None, Result, Ok, Err, refl, arith, sym, ap, subst, ◌∙◌, inl, inr, append_assoc, append-nil, length-append}
 use Rattle.std.specs.List.{AllByRecursion}
-use Rattle.mc_base.specs.model_device.specs.Counts.{Rose, last_count}
-use Rattle.mc_base.specs.model_device.specs.Device.{DeviceState, BenchState}
-use Rattle.mc_deck.specs.model_play.specs.Play.{State, FailedWrite, LineResult, Step, plays}
+use Rattle.mc_words.specs.model_device.specs.Counts.{Rose, last_count}
+use Rattle.mc_words.specs.model_device.specs.Device.{DeviceState, BenchState}
+use Rattle.mc_deck.specs.model_play.specs.Play.{State, FailedWrite, LineResult}
 use Rattle.mc_streams.specs.Streams.{Took}
 use Rattle.mc_streams.specs.declared.refusals.WriteFault.{WriteFault}
 use Rattle.mc_streams.proofs.StreamsLemmas.{took_append, took_none, grew_none, rose_later}
@@ -12,12 +12,9 @@ use Rattle.mc_script.specs.declared.player.Player.{Player}
 use Rattle.mc_script.specs.Players.{IsPlayerAt}
 use Rattle.mc_script.specs.Plays.{Bench}
 use Rattle.mc_script.specs.Lines.{bench_of}
-use Rattle.mc_script.specs.StepCounts.{PlaySteps}
-use Rattle.mc_script.proofs.PlayLemmas.{plays_none}
-use Rattle.mc_script.proofs.StepPlayLemmas.{steps_as, steps_none, steps_then}
 use Rattle.mc_reader.specs.Frames.{frame_bytes, frames_bytes, first_frame}
 use Rattle.mc_reader.specs.Meanings.{meaning, power_after}
-use Rattle.mc_reader.specs.Lines.{line_in, lines_of, number_after}
+use Rattle.mc_reader.specs.Lines.{line_in, number_after}
 use Rattle.mc_reader.specs.Answers.{answer_to}
 use Rattle.mc_reader.specs.Readings.{TookPart, TookNone, TookShort}
 use Rattle.mc_reader.specs.Moments.{Moment, Records, AreMoments}
@@ -28,25 +25,22 @@ use Rattle.mc_reader.specs.declared.serve_error.ServeError.TheVariants as fault
 use Rattle.mc_reader.proofs.FrameLemmas.{LengthFits, each_bytes, frames_are, framed_more, fits_more}
 use Rattle.mc_reader.proofs.AnswerLemmas.{written_more, written_cut}
 use Rattle.mc_reader.proofs.MomentLemmas.{records_none, records_append, moments_kept, moments_more, moments_last}
-use Rattle.mc_reader.proofs.ServingLemmas.{failures_of_move, frames_none, frames_on, move_counted, plays_move, steps_of_move}
+use Rattle.mc_reader.proofs.ServingLemmas.{failures_of_move, frames_none, frames_on}
 use Rattle.mc_script.proofs.LinedLemmas.{at_stands}
 
--- the state of host, sink and bench when a loop began, and the number of steps
+-- the state of host, sink and bench when a loop began
 pub record Start : Type 0 where
   pub left : Option (List ℕ)
   pub reads : ℕ
   pub out : Sunk
   pub dev : Bench
   pub asked : Option (List Moment)
-  pub steps : ℕ
 
--- the state of a host: the bytes that it has left, its count of faults, and the moments that it has recorded; and the
--- number of steps
+-- the state of a host: the bytes that it has left, its count of faults, and the moments that it has recorded
 pub record Heard : Type 0 where
   pub left : Option (List ℕ)
   pub reads : ℕ
   pub asked : Option (List Moment)
-  pub steps : ℕ
 
 -- the state of host, sink and bench then and now
 abbrev pub around : Start → Heard → Sunk → Bench → AroundSession
@@ -62,8 +56,6 @@ around v h out dev =
       dev = dev;
       asked_old = v.asked;
       asked = h.asked;
-      steps_old = v.steps;
-      steps = h.steps;
     }
 
 -- the frames of a moment of a session stay so with more failed writes after it
@@ -94,10 +86,6 @@ module _ {N : Type 0} (state : N → DeviceState) (bench : N → BenchState) whe
     pub at : IsPlayerAt state bench p here
     pub rest : (fs : List (List ℕ)) (ws : List (Option FailedWrite)) (os : List (Option (List ℕ))) (c : Bench)
         → ServedFrames here number powered fs ws (bench_of state bench p) os c → ServedFrames s n false (frames ++ fs) (worn ++ ws) v.dev (answers ++ os) c
-    -- the steps so far, and those of a play of frames that are served from here
-    pub done : List Step
-    pub steps : PlaySteps done v.steps heard.steps
-    pub plays_rest : (fs : List (List ℕ)) (ws : List (Option FailedWrite)) → plays s (lines_of n false (frames ++ fs)) (worn ++ ws) ≡ done ++ plays here (lines_of number powered fs) ws
     pub fit : AllByRecursion LengthFits frames
     pub took : Took v.left heard.left (frames_bytes frames)
     pub counted : v.reads ≤ heard.reads
@@ -110,7 +98,7 @@ module _ {N : Type 0} (state : N → DeviceState) (bench : N → BenchState) whe
 
   -- no frame was served
   pub reached_start : (s : State) (n : ℕ) (p : Player N) (heard : Heard) (out : Sunk) → IsPlayerAt state bench p s
-      → SessionReached s n (record { left = heard.left; reads = heard.reads; out = out; dev = bench_of state bench p; asked = heard.asked; steps = heard.steps }) 0 p false heard out
+      → SessionReached s n (record { left = heard.left; reads = heard.reads; out = out; dev = bench_of state bench p; asked = heard.asked }) 0 p false heard out
   reached_start s n p heard out at =
       record {
         frames = [];
@@ -120,9 +108,6 @@ module _ {N : Type 0} (state : N → DeviceState) (bench : N → BenchState) whe
         number = n;
         at = at;
         rest = λ fs ws os c h. h;
-        done = [];
-        steps = steps_none heard.steps;
-        plays_rest = λ fs ws. refl;
         fit = tt;
         took = took_none heard.left;
         counted = omega arith;
@@ -143,16 +128,6 @@ module _ {N : Type 0} (state : N → DeviceState) (bench : N → BenchState) whe
       subst (λ (gs : List (List ℕ)). ServedFrames s n false gs h.worn v.dev h.answers b) (append-nil h.frames)
       (subst (λ (ws : List (Option FailedWrite)). ServedFrames s n false (h.frames ++ []) ws v.dev h.answers b) (append-nil h.worn)
       (subst (λ (qs : List (Option (List ℕ))). ServedFrames s n false (h.frames ++ []) (h.worn ++ []) v.dev qs b) (append-nil h.answers) (h.rest [] [] [] b none)))
-
-  -- the steps of the frames that were served
-  counted_here : (s : State) (n : ℕ) (v : Start) (count : ℕ) (p : Player N) (powered : Bool) (heard : Heard) (out : Sunk)
-      (h : SessionReached s n v count p powered heard out) → PlaySteps (plays s (lines_of n false h.frames) h.worn) v.steps heard.steps
-  counted_here s n v count p powered heard out h =
-      let none = ap (λ (ts : List Step). h.done ++ ts) (plays_none h.here) ∙ append-nil h.done in
-      let all = h.plays_rest [] [] ∙ none in
-      let frames = ap (λ (fs : List (List ℕ)). plays s (lines_of n false fs) (h.worn ++ [])) (append-nil h.frames) in
-      let worn = ap (λ (ws : List (Option FailedWrite)). plays s (lines_of n false h.frames) ws) (append-nil h.worn) in
-      steps_as h.done (plays s (lines_of n false h.frames) h.worn) v.steps heard.steps (sym all ∙ frames ∙ worn) h.steps
 
   -- the moment at which the host is asked for the next frame
   moment_here : (s : State) (n : ℕ) (v : Start) (count : ℕ) (p : Player N) (powered : Bool) (heard : Heard) (out : Sunk)
@@ -192,34 +167,6 @@ module _ {N : Type 0} (state : N → DeviceState) (bench : N → BenchState) whe
       (subst (λ (us : List (Option FailedWrite)). ServedFrames s n false (h.frames ++ f ∷ fs) us v.dev ((h.answers ++ o ∷ []) ++ os) c) (sym (append_assoc h.worn w ws))
       (subst (λ (qs : List (Option (List ℕ))). ServedFrames s n false (h.frames ++ f ∷ fs) (h.worn ++ (w ++ ws)) v.dev qs c) (sym (append_assoc h.answers (o ∷ []) os)) whole))
 
-  -- a play of frames after one more
-  plays_on_rest : (s : State) (n : ℕ) (v : Start) (count : ℕ) (p q : Player N) (powered : Bool) (heard : Heard) (out : Sunk)
-      (h : SessionReached s n v count p powered heard out) (f : List ℕ) (u : State) (reported : Option LineResult)
-      (moves : Moves h.here h.number (line_in (meaning powered f)) (bench_of state bench p) reported u (bench_of state bench q))
-      (fs : List (List ℕ)) (ws : List (Option FailedWrite))
-      → plays s (lines_of n false ((h.frames ++ f ∷ []) ++ fs)) ((h.worn ++ failures_of_move h.here u h.number (line_in (meaning powered f)) (bench_of state bench p) (bench_of state bench q) reported moves) ++ ws)
-      ≡ (h.done ++ steps_of_move h.here u h.number (line_in (meaning powered f)) (bench_of state bench p) (bench_of state bench q) reported moves) ++ plays u (lines_of (number_after h.number (line_in (meaning powered f))) (power_after powered (meaning powered f)) fs) ws
-  plays_on_rest s n v count p q powered heard out h f u reported moves fs ws =
-      let o = line_in (meaning powered f) in
-      let w = failures_of_move h.here u h.number o (bench_of state bench p) (bench_of state bench q) reported moves in
-      let mine = steps_of_move h.here u h.number o (bench_of state bench p) (bench_of state bench q) reported moves in
-      let ls = lines_of (number_after h.number o) (power_after powered (meaning powered f)) fs in
-      let frames = ap (λ (gs : List (List ℕ)). plays s (lines_of n false gs) ((h.worn ++ w) ++ ws)) (append_assoc h.frames (f ∷ []) fs) in
-      let worn = ap (λ (us : List (Option FailedWrite)). plays s (lines_of n false (h.frames ++ f ∷ fs)) us) (append_assoc h.worn w ws) in
-      let here = ap (λ (ts : List Step). h.done ++ ts) (plays_move h.here u h.number o (bench_of state bench p) (bench_of state bench q) reported moves ls ws) in
-      frames ∙ worn ∙ h.plays_rest (f ∷ fs) (w ++ ws) ∙ here ∙ sym (append_assoc h.done mine (plays u ls ws))
-
-  -- the steps with those of one frame more
-  counted_on : (s : State) (n : ℕ) (v : Start) (count : ℕ) (p q : Player N) (powered : Bool) (heard : Heard) (more : ℕ) (out wrote : Sunk) (r : Result (Unit {0}) WriteFault)
-      (h : SessionReached s n v count p powered heard out) (f : List ℕ) (served : ServesFrame state bench p h.here h.number (meaning powered f) out r q wrote heard.steps more)
-      → PlaySteps (h.done ++ steps_of_move h.here served.after h.number (line_in (meaning powered f)) (bench_of state bench p) (bench_of state bench q) served.reported served.moves) v.steps more
-  counted_on s n v count p q powered heard more out wrote r h f served =
-      let o = line_in (meaning powered f) in
-      let a = bench_of state bench p in
-      let b = bench_of state bench q in
-      steps_then h.done (steps_of_move h.here served.after h.number o a b served.reported served.moves) v.steps heard.steps more h.steps
-      (move_counted h.here served.after h.number o a b served.reported served.moves heard.steps more served.steps)
-
   -- the bytes of one more frame
   took_on : (v : Start) (fs : List (List ℕ)) (f : List ℕ) (left next : Option (List ℕ)) → Took v.left left (frames_bytes fs) → Took left next (frame_bytes f) → Took v.left next (frames_bytes (fs ++ f ∷ []))
   took_on v fs f left next h k =
@@ -238,7 +185,7 @@ module _ {N : Type 0} (state : N → DeviceState) (bench : N → BenchState) whe
   pub reached_on : (s : State) (n : ℕ) (v : Start) (count : ℕ) (p q : Player N) (powered on : Bool) (heard more : Heard) (out wrote : Sunk)
       (h : SessionReached s n v count p powered heard out) (f : List ℕ) → LengthFits f → Took heard.left more.left (frame_bytes f) → heard.reads ≤ more.reads
       → Records heard.asked (moment_of p out ∷ []) more.asked → on ≡ power_after powered (meaning powered f)
-      → ServesFrame state bench p h.here h.number (meaning powered f) out (Ok tt) q wrote heard.steps more.steps → SessionReached s n v (count + 1) q on more wrote
+      → ServesFrame state bench p h.here h.number (meaning powered f) out (Ok tt) q wrote → SessionReached s n v (count + 1) q on more wrote
   reached_on s n v count p q powered on heard more out wrote h f fits took counted recorded power served =
       let w = failures_of_move h.here served.after h.number (line_in (meaning powered f)) (bench_of state bench p) (bench_of state bench q) served.reported served.moves in
       record {
@@ -253,12 +200,6 @@ module _ {N : Type 0} (state : N → DeviceState) (bench : N → BenchState) whe
             → ServedFrames served.after (number_after h.number (line_in (meaning powered f))) b fs ws (bench_of state bench q) os c
             → ServedFrames s n false ((h.frames ++ f ∷ []) ++ fs) ((h.worn ++ w) ++ ws) v.dev ((h.answers ++ answer_to (meaning powered f) served.reported ∷ []) ++ os) c) (sym power)
             (rest_on s n v count p q powered heard out h f served.after served.reported served.moves);
-        done = h.done ++ steps_of_move h.here served.after h.number (line_in (meaning powered f)) (bench_of state bench p) (bench_of state bench q) served.reported served.moves;
-        steps = counted_on s n v count p q powered heard more.steps out wrote (Ok tt) h f served;
-        plays_rest =
-            subst (λ (b : Bool). (fs : List (List ℕ)) (ws : List (Option FailedWrite)) → plays s (lines_of n false ((h.frames ++ f ∷ []) ++ fs)) ((h.worn ++ w) ++ ws)
-            ≡ (h.done ++ steps_of_move h.here served.after h.number (line_in (meaning powered f)) (bench_of state bench p) (bench_of state bench q) served.reported served.moves) ++ plays served.after (lines_of (number_after h.number (line_in (meaning powered f))) b fs) ws) (sym power)
-            (plays_on_rest s n v count p q powered heard out h f served.after served.reported served.moves);
         fit = fits_more h.frames f h.fit fits;
         took = took_on v h.frames f heard.left more.left h.took took;
         counted = omega (arith, h.counted, counted);
@@ -272,10 +213,10 @@ module _ {N : Type 0} (state : N → DeviceState) (bench : N → BenchState) whe
 
   -- no more frame is served after those that were, and the host was asked for it
   served_end : (s : State) (n : ℕ) (v : Start) (count : ℕ) (p : Player N) (powered : Bool) (heard more : Heard) (out : Sunk)
-      (h : SessionReached s n v count p powered heard out) (part : List ℕ) (result : Result (Unit {0}) ServeError) → Took heard.left more.left part → first_frame part ≡ None → heard.reads ≤ more.reads → more.steps ≡ heard.steps
+      (h : SessionReached s n v count p powered heard out) (part : List ℕ) (result : Result (Unit {0}) ServeError) → Took heard.left more.left part → first_frame part ≡ None → heard.reads ≤ more.reads
       → Records heard.asked (moment_of p out ∷ []) more.asked
       → EndsBy h.frames part h.answers result (around v more out (bench_of state bench p)) → ServedFrom s n result (around v more out (bench_of state bench p))
-  served_end s n v count p powered heard more out h part result took less counted still recorded ends =
+  served_end s n v count p powered heard more out h part result took less counted recorded ends =
       let m = moment_of p out in
       record {
         frames = h.frames;
@@ -288,7 +229,6 @@ module _ {N : Type 0} (state : N → DeviceState) (bench : N → BenchState) whe
         answers = h.answers;
         worn = h.worn;
         served = served_here s n v count p powered heard out h;
-        steps = subst (λ (k : ℕ). PlaySteps (plays s (lines_of n false h.frames) h.worn) v.steps k) (sym still) (counted_here s n v count p powered heard out h);
         moments = h.moments ++ m ∷ [];
         recorded = records_append v.asked heard.asked more.asked h.moments (m ∷ []) h.recorded recorded;
         each =
@@ -299,10 +239,10 @@ module _ {N : Type 0} (state : N → DeviceState) (bench : N → BenchState) whe
 
   -- the input ended between two frames
   pub served_whole : (s : State) (n : ℕ) (v : Start) (count : ℕ) (p : Player N) (powered : Bool) (heard more : Heard) (out : Sunk)
-      → SessionReached s n v count p powered heard out → TookNone heard.left more.left → heard.reads ≤ more.reads → more.steps ≡ heard.steps → Records heard.asked (moment_of p out ∷ []) more.asked
+      → SessionReached s n v count p powered heard out → TookNone heard.left more.left → heard.reads ≤ more.reads → Records heard.asked (moment_of p out ∷ []) more.asked
       → ServedFrom s n (Ok tt) (around v more out (bench_of state bench p))
-  served_whole s n v count p powered heard more out h took counted still recorded =
-      served_end s n v count p powered heard more out h [] (Ok tt) took.took refl counted still recorded (record { between = refl; end = inl took.end; written = h.written })
+  served_whole s n v count p powered heard more out h took counted recorded =
+      served_end s n v count p powered heard more out h [] (Ok tt) took.took refl counted recorded (record { between = refl; end = inl took.end; written = h.written })
 
   -- the greatest number of frames that can be counted was received
   pub served_all : (s : State) (n : ℕ) (v : Start) (count : ℕ) (p : Player N) (powered : Bool) (heard : Heard) (out : Sunk)
@@ -320,7 +260,6 @@ module _ {N : Type 0} (state : N → DeviceState) (bench : N → BenchState) whe
         answers = h.answers;
         worn = h.worn;
         served = served_here s n v count p powered heard out h;
-        steps = counted_here s n v count p powered heard out h;
         moments = h.moments;
         recorded = h.recorded;
         each = h.each;
@@ -329,25 +268,25 @@ module _ {N : Type 0} (state : N → DeviceState) (bench : N → BenchState) whe
 
   -- the input ended inside a frame
   pub served_short : (s : State) (n : ℕ) (v : Start) (count : ℕ) (p : Player N) (powered : Bool) (heard more : Heard) (out : Sunk)
-      → SessionReached s n v count p powered heard out → TookShort heard.left more.left → heard.reads ≤ more.reads → more.steps ≡ heard.steps → Records heard.asked (moment_of p out ∷ []) more.asked
+      → SessionReached s n v count p powered heard out → TookShort heard.left more.left → heard.reads ≤ more.reads → Records heard.asked (moment_of p out ∷ []) more.asked
       → ServedFrom s n (Err (fault.Short (count + 1))) (around v more out (bench_of state bench p))
-  served_short s n v count p powered heard more out h took counted still recorded =
-      served_end s n v count p powered heard more out h took.took.part (Err (fault.Short (count + 1))) took.took.took took.took.less counted still recorded
+  served_short s n v count p powered heard more out h took counted recorded =
+      served_end s n v count p powered heard more out h took.took.part (Err (fault.Short (count + 1))) took.took.took took.took.less counted recorded
       (record { some = took.some; end = took.end; number = ap (λ k. k + 1) (sym h.many); written = h.written })
 
   -- the host failed
   pub served_unread : (s : State) (n : ℕ) (v : Start) (count : ℕ) (p : Player N) (powered : Bool) (heard more : Heard) (out : Sunk)
-      → SessionReached s n v count p powered heard out → TookPart heard.left more.left → Rose heard.reads more.reads → heard.reads ≤ more.reads → more.steps ≡ heard.steps → Records heard.asked (moment_of p out ∷ []) more.asked
+      → SessionReached s n v count p powered heard out → TookPart heard.left more.left → Rose heard.reads more.reads → heard.reads ≤ more.reads → Records heard.asked (moment_of p out ∷ []) more.asked
       → ServedFrom s n (Err fault.ReadFault) (around v more out (bench_of state bench p))
-  served_unread s n v count p powered heard more out h took cause counted still recorded =
-      served_end s n v count p powered heard more out h took.part (Err fault.ReadFault) took.took took.less counted still recorded
+  served_unread s n v count p powered heard more out h took cause counted recorded =
+      served_end s n v count p powered heard more out h took.part (Err fault.ReadFault) took.took took.less counted recorded
       (record { cause = rose_later v.reads heard.reads more.reads h.counted cause; written = h.written })
 
   -- the sink failed in the answer of a frame
   pub served_cut : (s : State) (n : ℕ) (v : Start) (count : ℕ) (p q : Player N) (powered : Bool) (heard more : Heard) (out wrote : Sunk) (e : WriteFault)
       (h : SessionReached s n v count p powered heard out) (f : List ℕ) → LengthFits f → Took heard.left more.left (frame_bytes f) → heard.reads ≤ more.reads
       → Records heard.asked (moment_of p out ∷ []) more.asked
-      → ServesFrame state bench p h.here h.number (meaning powered f) out (Err e) q wrote heard.steps more.steps → ServedFrom s n (Err fault.WriteFault) (around v more wrote (bench_of state bench q))
+      → ServesFrame state bench p h.here h.number (meaning powered f) out (Err e) q wrote → ServedFrom s n (Err fault.WriteFault) (around v more wrote (bench_of state bench q))
   served_cut s n v count p q powered heard more out wrote e h f fits took counted recorded served =
       let b = bench_of state bench q in
       let o = answer_to (meaning powered f) served.reported in
@@ -357,12 +296,6 @@ module _ {N : Type 0} (state : N → DeviceState) (bench : N → BenchState) whe
       let ws = h.worn ++ w in
       let none = frames_none served.after (number_after h.number (line_in (meaning powered f))) (power_after powered (meaning powered f)) b (at_stands state bench q served.after served.at) served.at.unfused in
       let whole = rest_on s n v count p q powered heard out h f served.after served.reported served.moves [] [] [] b none in
-      let mine = steps_of_move h.here served.after h.number (line_in (meaning powered f)) (bench_of state bench p) b served.reported served.moves in
-      let after : plays s (lines_of n false (fs ++ [])) (ws ++ []) ≡ h.done ++ mine =
-      plays_on_rest s n v count p q powered heard out h f served.after served.reported served.moves [] []
-      ∙ ap (λ (ts : List Step). (h.done ++ mine) ++ ts) (plays_none served.after) ∙ append-nil (h.done ++ mine) in
-      let all : plays s (lines_of n false fs) ws ≡ h.done ++ mine =
-      sym (ap (λ (gs : List (List ℕ)). plays s (lines_of n false gs) (ws ++ [])) (append-nil fs) ∙ ap (λ (us : List (Option FailedWrite)). plays s (lines_of n false fs) us) (append-nil ws)) ∙ after in
       record {
         frames = fs;
         part = [];
@@ -377,7 +310,6 @@ module _ {N : Type 0} (state : N → DeviceState) (bench : N → BenchState) whe
             subst (λ (gs : List (List ℕ)). ServedFrames s n false gs ws v.dev qs b) (append-nil fs)
             (subst (λ (us : List (Option FailedWrite)). ServedFrames s n false (fs ++ []) us v.dev qs b) (append-nil ws)
             (subst (λ (os : List (Option (List ℕ))). ServedFrames s n false (fs ++ []) (ws ++ []) v.dev os b) (append-nil qs) whole));
-        steps = steps_as (h.done ++ mine) (plays s (lines_of n false fs) ws) v.steps more.steps (sym all) (counted_on s n v count p q powered heard more.steps out wrote (Err e) h f served);
         moments = h.moments ++ moment_of p out ∷ [];
         recorded = records_append v.asked heard.asked more.asked h.moments (moment_of p out ∷ []) h.recorded recorded;
         each = moments_on s n v count p powered heard out h f w;

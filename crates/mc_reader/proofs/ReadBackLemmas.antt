@@ -1,8 +1,8 @@
 -- The statements of frames' lines, read back.
 use Rattle.std.proofs.Common.{◌≡◌, ℕ, ◌+◌, ◌-◌, ◌*◌, ◌/◌, ◌%◌, ◌^◌, ◌<◌, ◌≤◌, Bool, true, false, cond, List, [], ◌∷◌, ◌++◌, length, Some, Ok, refl, arith, sym, ap, subst, ◌∙◌, append-nil}
 use Rattle.std.specs.Prelude.{◌==◌, ◌&&◌, not, filter, codes, decimal, ⊤}
-use Rattle.mc_base.specs.model_device.specs.Bytes.{AreBytes}
-use Rattle.mc_base.specs.model_device.proofs.BoolLemmas.{and_first, and_second}
+use Rattle.mc_words.specs.model_device.specs.Bytes.{AreBytes}
+use Rattle.mc_words.specs.model_device.proofs.BoolLemmas.{and_first, and_second}
 use Rattle.mc_text.specs.model_text.specs.Text.{begins, bytes_of_digits, decimal_number, every, fields, hex_bytes, hex_value, hex_values, is_blank, is_digit, is_empty, is_within, lines, no_last_empty, pieces, pieces_with_character, without_returns}
 use Rattle.mc_text.specs.model_text.specs.Listing.{hex_digit, hex_text}
 use Rattle.mc_text.specs.model_text.proofs.TextLemmas.{every_append}

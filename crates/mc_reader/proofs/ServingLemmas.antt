@@ -1,7 +1,7 @@
 -- One frame that was served, and the frames after it.
 use Rattle.std.proofs.Common.{◌≡◌, ℕ, ◌+◌, Bool, List, [], ◌∷◌, ◌++◌, drop, Option, Some, None, Result, refl, sym, ◌∙◌, ap, subst}
 use Rattle.std.specs.Prelude.{option_map}
-use Rattle.mc_base.specs.model_device.specs.Device.{DeviceState, BenchState}
+use Rattle.mc_words.specs.model_device.specs.Device.{DeviceState, BenchState}
 use Rattle.mc_deck.specs.model_play.specs.DeckGrammar.{DeckLine}
 use Rattle.mc_deck.specs.model_play.specs.DeckGrammar as line
 use Rattle.mc_deck.specs.model_play.specs.Play.{State, FailedWrite, Step, LineResult, StandsForState, step, plays}
@@ -12,62 +12,56 @@ use Rattle.mc_script.specs.declared.player.Player.{Player}
 use Rattle.mc_script.specs.Players.{answer_value, IsPlayerAt, IsUnfused}
 use Rattle.mc_script.specs.Plays.{Bench, Played}
 use Rattle.mc_script.specs.Lines.{bench_of}
-use Rattle.mc_script.specs.StepCounts.{PlaySteps}
-use Rattle.mc_script.proofs.StepPlayLemmas.{steps_none}
 use Rattle.mc_script.proofs.PlayLemmas.{plays_on, played_on, played_none}
 use Rattle.mc_reader.specs.Meanings.{Meaning, PowerOn, PowerOff, WantsAtr, Nothing, Orders, Refused, ToCard, Unheard, meaning, power_after}
 use Rattle.mc_reader.specs.Lines.{line_in, line_with_number, number_after, lines_of}
 use Rattle.mc_reader.specs.Answers.{result_bytes, answer_to, first_result, steps_behind, answer_each}
 use Rattle.mc_reader.specs.Results.{reply_to_frame, answer_frame}
-use Rattle.mc_reader.specs.Serving.{Moves, MoveSteps, PlaysLine, ServesFrame, ServedFrames}
+use Rattle.mc_reader.specs.Serving.{Moves, PlaysLine, ServesFrame, ServedFrames}
 use Rattle.mc_reader.proofs.AnswerLemmas.{answer_is}
 
 -- ---- one frame
 
 module _ {N : Type 0} (state : N → DeviceState) (bench : N → BenchState) where
   -- a frame without a line
-  without_line : (p q : Player N) (s : State) (n : ℕ) (m : Meaning) (x y : Sunk) (r : Result (Unit {0}) WriteFault) (old new : ℕ) → line_in m ≡ None
-      → IsPlayerAt state bench p s → (q ≡ p) × (new ≡ old) → Puts x (answer_frame (answer_to m None)) r y → ServesFrame state bench p s n m x r q y old new
-  without_line p q s n m x y r old new none at same puts =
-      let both = subst (λ (o : Option DeckLine). (k : Moves s n o (bench_of state bench p) None s (bench_of state bench q)) × MoveSteps s n o (bench_of state bench p) None s (bench_of state bench q) k old new) (sym none) ((refl, ap (bench_of state bench) same.0), same.1) in
+  without_line : (p q : Player N) (s : State) (n : ℕ) (m : Meaning) (x y : Sunk) (r : Result (Unit {0}) WriteFault) → line_in m ≡ None
+      → IsPlayerAt state bench p s → q ≡ p → Puts x (answer_frame (answer_to m None)) r y → ServesFrame state bench p s n m x r q y
+  without_line p q s n m x y r none at same puts =
       record {
         after = s;
-        at = subst (λ v. IsPlayerAt state bench v s) (sym same.0) at;
+        at = subst (λ v. IsPlayerAt state bench v s) (sym same) at;
         reported = None;
-        moves = both.0;
-        steps = both.1;
+        moves = subst (λ (o : Option DeckLine). Moves s n o (bench_of state bench p) None s (bench_of state bench q)) (sym none) (refl, ap (bench_of state bench) same);
         puts = puts;
       }
 
   -- a frame with a line, whose answer follows from the line's result
-  with_line : (p q : Player N) (s : State) (n : ℕ) (m : Meaning) (l : DeckLine) (answer : Option Answer) (x y : Sunk) (r : Result (Unit {0}) WriteFault) (old new : ℕ) → line_in m ≡ Some l
-      → IsPlayerAt state bench p s → PlaysLine state bench p (Some l) answer q old new → Puts x (answer_frame (answer_to m (option_map (answer_value state q) answer))) r y → ServesFrame state bench p s n m x r q y old new
-  with_line p q s n m l answer x y r old new some at plays puts =
+  with_line : (p q : Player N) (s : State) (n : ℕ) (m : Meaning) (l : DeckLine) (answer : Option Answer) (x y : Sunk) (r : Result (Unit {0}) WriteFault) → line_in m ≡ Some l
+      → IsPlayerAt state bench p s → PlaysLine state bench p (Some l) answer q → Puts x (answer_frame (answer_to m (option_map (answer_value state q) answer))) r y → ServesFrame state bench p s n m x r q y
+  with_line p q s n m l answer x y r some at plays puts =
       let done = plays s (n + 1) at in
       let t = step s (n + 1, l) done.0 in
-      let both = subst (λ (o : Option DeckLine). (k : Moves s n o (bench_of state bench p) t.result t.after (bench_of state bench q)) × MoveSteps s n o (bench_of state bench p) t.result t.after (bench_of state bench q) k old new) (sym some) ((done.0, done.1.played, refl, refl), done.2) in
       record {
         after = t.after;
         at = done.1.at;
         reported = t.result;
-        moves = both.0;
-        steps = both.1;
+        moves = subst (λ (o : Option DeckLine). Moves s n o (bench_of state bench p) t.result t.after (bench_of state bench q)) (sym some) (done.0, done.1.played, refl, refl);
         puts = subst (λ (o : Option LineResult). Puts x (answer_frame (answer_to m o)) r y) done.1.answers puts;
       }
 
   -- a frame whose line was played, and whose answer was written
-  pub frame_served : (p q : Player N) (s : State) (n : ℕ) (m : Meaning) (answer : Option Answer) (x y : Sunk) (r : Result (Unit {0}) WriteFault) (old new : ℕ)
-      → IsPlayerAt state bench p s → PlaysLine state bench p (line_in m) answer q old new → Puts x (answer_frame (reply_to_frame m q.outcome answer)) r y → ServesFrame state bench p s n m x r q y old new
-  frame_served p q s n PowerOn answer x y r old new at plays puts = with_line p q s n PowerOn line.Power answer x y r old new refl at plays puts
-  frame_served p q s n PowerOff answer x y r old new at plays puts = without_line p q s n PowerOff x y r old new refl at plays puts
-  frame_served p q s n WantsAtr answer x y r old new at plays puts = without_line p q s n WantsAtr x y r old new refl at plays puts
-  frame_served p q s n Nothing answer x y r old new at plays puts = without_line p q s n Nothing x y r old new refl at plays puts
-  frame_served p q s n (Orders l) answer x y r old new at plays puts = with_line p q s n (Orders l) l answer x y r old new refl at plays puts
-  frame_served p q s n (Refused w) answer x y r old new at plays puts = without_line p q s n (Refused w) x y r old new refl at plays puts
-  frame_served p q s n (ToCard f) answer x y r old new at plays puts =
-      with_line p q s n (ToCard f) (line.Sent (line.Apdu f)) answer x y r old new refl at plays
+  pub frame_served : (p q : Player N) (s : State) (n : ℕ) (m : Meaning) (answer : Option Answer) (x y : Sunk) (r : Result (Unit {0}) WriteFault)
+      → IsPlayerAt state bench p s → PlaysLine state bench p (line_in m) answer q → Puts x (answer_frame (reply_to_frame m q.outcome answer)) r y → ServesFrame state bench p s n m x r q y
+  frame_served p q s n PowerOn answer x y r at plays puts = with_line p q s n PowerOn line.Power answer x y r refl at plays puts
+  frame_served p q s n PowerOff answer x y r at plays puts = without_line p q s n PowerOff x y r refl at plays puts
+  frame_served p q s n WantsAtr answer x y r at plays puts = without_line p q s n WantsAtr x y r refl at plays puts
+  frame_served p q s n Nothing answer x y r at plays puts = without_line p q s n Nothing x y r refl at plays puts
+  frame_served p q s n (Orders l) answer x y r at plays puts = with_line p q s n (Orders l) l answer x y r refl at plays puts
+  frame_served p q s n (Refused w) answer x y r at plays puts = without_line p q s n (Refused w) x y r refl at plays puts
+  frame_served p q s n (ToCard f) answer x y r at plays puts =
+      with_line p q s n (ToCard f) (line.Sent (line.Apdu f)) answer x y r refl at plays
       (subst (λ (t : List ℕ). Puts x (answer_frame (Some t)) r y) (sym (answer_is state q answer)) puts)
-  frame_served p q s n Unheard answer x y r old new at plays puts = without_line p q s n Unheard x y r old new refl at plays puts
+  frame_served p q s n Unheard answer x y r at plays puts = without_line p q s n Unheard x y r refl at plays puts
 
 -- ---- a frame, and those after it
 
@@ -111,24 +105,6 @@ behind_line s u n l q fs ws a b c reported os m h =
 abbrev pub failures_of_move : (s u : State) (n : ℕ) (o : Option DeckLine) (a b : Bench) (reported : Option LineResult) → Moves s n o a reported u b → List (Option FailedWrite)
 failures_of_move s u n None a b reported m = []
 failures_of_move s u n (Some l) a b reported m = m.0 ∷ []
-
--- the steps of a line that may be missing
-abbrev pub steps_of_move : (s u : State) (n : ℕ) (o : Option DeckLine) (a b : Bench) (reported : Option LineResult) → Moves s n o a reported u b → List Step
-steps_of_move s u n None a b reported m = []
-steps_of_move s u n (Some l) a b reported m = step s (n + 1, l) m.0 ∷ []
-
--- they were counted
-pub move_counted : (s u : State) (n : ℕ) (o : Option DeckLine) (a b : Bench) (reported : Option LineResult) (m : Moves s n o a reported u b) (old new : ℕ) → MoveSteps s n o a reported u b m old new → PlaySteps (steps_of_move s u n o a b reported m) old new
-move_counted s u n None a b reported m old new same = subst (λ (k : ℕ). PlaySteps [] old k) (sym same) (steps_none old)
-move_counted s u n (Some l) a b reported m old new counted = counted
-
--- a play of a line that may be missing and of those after it
-pub plays_move : (s u : State) (n : ℕ) (o : Option DeckLine) (a b : Bench) (reported : Option LineResult) (m : Moves s n o a reported u b) (ls : List (ℕ × DeckLine)) (ws : List (Option FailedWrite))
-    → plays s (line_with_number n o ++ ls) (failures_of_move s u n o a b reported m ++ ws) ≡ steps_of_move s u n o a b reported m ++ plays u ls ws
-plays_move s u n None a b reported m ls ws = ap (λ (v : State). plays v ls ws) (sym m.0)
-plays_move s u n (Some l) a b reported m ls ws =
-    let t = step s (n + 1, l) m.0 in
-    plays_on s (n + 1, l) m.0 ls ws ∙ ap (λ (v : State). t ∷ plays v ls ws) (sym m.3)
 
 behind : (s u : State) (n : ℕ) (powered : Bool) (m : Meaning) (fs : List (List ℕ)) (ws : List (Option FailedWrite)) (a b c : Bench) (reported : Option LineResult) (os : List (Option (List ℕ)))
     (moves : Moves s n (line_in m) a reported u b) → ServedFrames u (number_after n (line_in m)) (power_after powered m) fs ws b os c

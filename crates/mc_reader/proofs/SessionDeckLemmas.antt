@@ -3,8 +3,8 @@ use Rattle.std.proofs.Common.{◌≡◌, ℕ, zero, suc, ◌+◌, ◌-◌, ◌�
 use Rattle.std.specs.Prelude.{◌==◌, codes}
 use Rattle.std.specs.List.{AllByRecursion}
 use Rattle.std.proofs.lemmas.List.{drop_at, map-append}
-use Rattle.mc_base.specs.model_device.specs.Bytes.{AreBytes}
-use Rattle.mc_base.specs.model_device.specs.PowerUp.{AtFault, Base, OnCard}
+use Rattle.mc_words.specs.model_device.specs.Bytes.{AreBytes}
+use Rattle.mc_words.specs.model_device.specs.PowerUp.{AtFault, Base, OnCard}
 use Rattle.mc_text.specs.model_text.specs.Text.{◌>>=◌, lines, ok_as, with_numbers}
 use Rattle.mc_deck.specs.model_play.specs.declared.deck.DeckCause.{DeckCause}
 use Rattle.mc_deck.specs.model_play.specs.DeckGrammar.{deck_lines, deck_read, turn_at, Between, Context, DeckLine, LineTurn, Mode, Within}

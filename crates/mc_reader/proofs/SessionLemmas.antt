@@ -3,19 +3,17 @@ use Rattle.std.proofs.Common.{◌≡◌, ◌≢◌, ℕ, Bool, false, List, [], 
 use Rattle.std.specs.Prelude.{IfSome}
 use Rattle.std.specs.List.{AllByRecursion}
 use Rattle.std.proofs.lemmas.List.{drop_at}
-use Rattle.mc_base.specs.model_device.specs.Bytes.{AreBytes}
-use Rattle.mc_base.specs.model_device.specs.Device.{DeviceState, BenchState, IsImage}
+use Rattle.mc_words.specs.model_device.specs.Bytes.{AreBytes}
+use Rattle.mc_words.specs.model_device.specs.Device.{DeviceState, BenchState, IsImage}
 use Rattle.mc_deck.specs.model_play.specs.DeckGrammar.{DeckLine}
 use Rattle.mc_deck.specs.model_play.specs.DeckGrammar as line
 use Rattle.mc_deck.specs.model_play.specs.Laws.{HoldsOf}
 use Rattle.mc_deck.specs.model_play.specs.Play.{State, FailedWrite, Step, plays, start, last_state}
 use Rattle.mc_deck.specs.model_play.specs.ReadyAgain.{IsLine, AreLines}
-use Rattle.mc_base.specs.model_device.proofs.ImageLemmas.{all_append}
+use Rattle.mc_words.specs.model_device.proofs.ImageLemmas.{all_append}
 use Rattle.mc_deck.specs.law_family.proofs.DeckBytes.{played_bytes}
 use Rattle.mc_deck.specs.law_family.proofs.PlayLaw.{play_law}
 use Rattle.mc_script.specs.Plays.{Bench, LeadsTo}
-use Rattle.mc_script.specs.StepCounts.{PlaySteps}
-use Rattle.mc_script.proofs.StepPlayLemmas.{steps_as, steps_then}
 use Rattle.mc_script.proofs.Composing.{plays_append}
 use Rattle.mc_check.proofs.CheckedPlays.{checked_plays_law}
 use Rattle.mc_reader.proofs.FrameLineLemmas.{good}
@@ -38,13 +36,13 @@ steps_behind_deck s u deck ls ws vs many last =
     ∙ drop_at (plays s deck ws) (plays (last_state s (plays s deck ws)) ls vs) (length deck) (length_plays s deck ws)
     ∙ ap (λ (v : State). plays v ls vs) (sym last)
 
--- the end of a session does not depend on the device and the steps
-ends_same : (fs : List (List ℕ)) (part : List ℕ) (os : List (Option (List ℕ))) (result : Result (Unit {0}) ServeError) (a : AroundSession) (b c : Bench) (mid : ℕ) → EndsBy fs part os result (record a { dev_old = b; dev = c; steps_old = mid }) → EndsBy fs part os result a
-ends_same fs part os (Ok u) a b c mid h = record { between = h.between; end = h.end; written = h.written }
-ends_same fs part os (Err (fault.Short n)) a b c mid h = record { some = h.some; end = h.end; number = h.number; written = h.written }
-ends_same fs part os (Err fault.ReadFault) a b c mid h = record { cause = h.cause; written = h.written }
-ends_same fs part os (Err fault.WriteFault) a b c mid h = record { between = h.between; written = h.written }
-ends_same fs part os (Err fault.NoMemory) a b c mid h = h
+-- the end of a session does not depend on the device
+ends_same : (fs : List (List ℕ)) (part : List ℕ) (os : List (Option (List ℕ))) (result : Result (Unit {0}) ServeError) (a : AroundSession) (b c : Bench) → EndsBy fs part os result (record a { dev_old = b; dev = c }) → EndsBy fs part os result a
+ends_same fs part os (Ok u) a b c h = record { between = h.between; end = h.end; written = h.written }
+ends_same fs part os (Err (fault.Short n)) a b c h = record { some = h.some; end = h.end; number = h.number; written = h.written }
+ends_same fs part os (Err fault.ReadFault) a b c h = record { cause = h.cause; written = h.written }
+ends_same fs part os (Err fault.WriteFault) a b c h = record { between = h.between; written = h.written }
+ends_same fs part os (Err fault.NoMemory) a b c h = h
 
 -- ---- lines of bytes
 
@@ -92,20 +90,16 @@ moment_deck deck a b u worn ws fs m leads k =
       written = subst (λ (os : List (Option (List ℕ))). AnswersWritten a.out_old os m.out) are k.written;
     }
 
--- the deck and the frames are one play, with the steps of both
-served_deck : (deck : List (ℕ × DeckLine)) (result : Result (Unit {0}) ServeError) (a : AroundSession) (b : Bench) (u : State) (worn : List (Option FailedWrite)) (mid : ℕ)
-    → IsImage a.dev_old.device.words → AllByRecursion (λ l. IsLine l.1) deck → LeadsTo (start a.dev_old.device.words) deck worn a.dev_old u b → PlaySteps (plays (start a.dev_old.device.words) deck worn) a.steps_old mid → ServedFrom u (last_number deck) result (record a { dev_old = b; steps_old = mid }) → Served deck result a
-served_deck deck result a b u worn mid image bytes leads begun h =
+-- the deck and the frames are one play
+served_deck : (deck : List (ℕ × DeckLine)) (result : Result (Unit {0}) ServeError) (a : AroundSession) (b : Bench) (u : State) (worn : List (Option FailedWrite))
+    → IsImage a.dev_old.device.words → AllByRecursion (λ l. IsLine l.1) deck → LeadsTo (start a.dev_old.device.words) deck worn a.dev_old u b → ServedFrom u (last_number deck) result (record a { dev_old = b }) → Served deck result a
+served_deck deck result a b u worn image bytes leads h =
     let s = start a.dev_old.device.words in
     let ls = lines_of (last_number deck) false h.frames in
     let played = leads.rest ls h.worn a.dev h.served.played in
     let steps = steps_behind_deck s u deck ls worn h.worn leads.many leads.last in
     let are : h.answers ≡ session_answers deck h.frames (plays s (deck ++ ls) (worn ++ h.worn)) =
     h.served.answers ∙ ap (λ (ts : List Step). answer_each false h.frames ts) (sym steps) in
-    let first = plays s deck worn in
-    let later = plays u ls h.worn in
-    let parts : first ++ later ≡ plays s (deck ++ ls) (worn ++ h.worn) =
-    sym (plays_append s deck ls worn h.worn leads.many ∙ ap (λ (v : State). first ++ plays v ls h.worn) (sym leads.last)) in
     let m = a.dev_old.device.words in
     let laws : HoldsOf m (plays s (deck ++ ls) (worn ++ h.worn)) = play_law (session_lines deck h.frames) m (worn ++ h.worn) played.possible in
     let mine = all_append (λ l. IsLine l.1) deck ls bytes (frames_bytes (last_number deck) false h.frames h.bytes) in
@@ -120,7 +114,6 @@ served_deck deck result a b u worn mid image bytes leads begun h =
       counted = h.counted;
       worn = worn ++ h.worn;
       played = played;
-      steps = steps_as (first ++ later) (plays s (deck ++ ls) (worn ++ h.worn)) a.steps_old a.steps parts (steps_then first later a.steps_old mid a.steps begun h.steps);
       asked = record {
         moments = h.moments;
         recorded = h.recorded;
@@ -132,7 +125,7 @@ served_deck deck result a b u worn mid image bytes leads begun h =
       few = laws.few image each;
       ready = laws.ready image each;
       checked = checked_plays_law (session_lines deck h.frames) m (worn ++ h.worn);
-      ends = subst (λ (os : List (Option (List ℕ))). EndsBy h.frames h.part os result a) are (ends_same h.frames h.part h.answers result a b a.dev mid h.ends);
+      ends = subst (λ (os : List (Option (List ℕ))). EndsBy h.frames h.part os result a) are (ends_same h.frames h.part h.answers result a b a.dev h.ends);
     }
 
 -- a session is not out of memory
@@ -151,13 +144,13 @@ bench_same x y device bench =
     first ∙ second
 
 -- a session on a device that its player borrows and returns
-pub served_session : (deck : List (ℕ × DeckLine)) (result : Result (Unit {0}) ServeError) (a : AroundSession) (d b c : Bench) (u : State) (worn : List (Option FailedWrite)) (mid : ℕ)
-    → IsImage a.dev_old.device.words → AllByRecursion (λ l. IsLine l.1) deck → LeadsTo (start a.dev_old.device.words) deck worn d u b → PlaySteps (plays (start a.dev_old.device.words) deck worn) a.steps_old mid → ServedFrom u (last_number deck) result (record a { dev_old = b; dev = c; steps_old = mid })
+pub served_session : (deck : List (ℕ × DeckLine)) (result : Result (Unit {0}) ServeError) (a : AroundSession) (d b c : Bench) (u : State) (worn : List (Option FailedWrite))
+    → IsImage a.dev_old.device.words → AllByRecursion (λ l. IsLine l.1) deck → LeadsTo (start a.dev_old.device.words) deck worn d u b → ServedFrom u (last_number deck) result (record a { dev_old = b; dev = c })
     → d.device ≡ a.dev_old.device → d.bench ≡ a.dev_old.bench → c.device ≡ a.dev.device → c.bench ≡ a.dev.bench → Serves deck result a
-served_session deck result a d b c u worn mid image bytes leads begun h old old_bench new new_bench =
+served_session deck result a d b c u worn image bytes leads h old old_bench new new_bench =
     serves deck result a (
-    served_deck deck result a b u worn mid image bytes (subst (λ (e : Bench). LeadsTo (start a.dev_old.device.words) deck worn e u b) (bench_same d a.dev_old old old_bench) leads) begun
-    (subst (λ (e : Bench). ServedFrom u (last_number deck) result (record a { dev_old = b; dev = e; steps_old = mid })) (bench_same c a.dev new new_bench) h))
+    served_deck deck result a b u worn image bytes (subst (λ (e : Bench). LeadsTo (start a.dev_old.device.words) deck worn e u b) (bench_same d a.dev_old old old_bench) leads)
+    (subst (λ (e : Bench). ServedFrom u (last_number deck) result (record a { dev_old = b; dev = e })) (bench_same c a.dev new new_bench) h))
 
 -- ---- by the result
 

@@ -1,7 +1,7 @@
 -- The answers to the frames of a session, by the steps of the play. ISO/IEC 7816-3 (the ATR); ISO/IEC 7816-4 (status
 -- bytes).
 use Rattle.std.specs.Prelude.{ℕ, Bool, false, List, [], ◌∷◌, ◌++◌, length, drop, Option, Some, None}
-use Rattle.mc_base.specs.model_device.specs.Bytes.{bytes2}
+use Rattle.mc_words.specs.model_device.specs.Bytes.{bytes2}
 use Rattle.mc_apdu.specs.model_machine.specs.Chain.{Outcome, Reply, Abended}
 use Rattle.mc_deck.specs.model_play.specs.DeckGrammar.{DeckLine}
 use Rattle.mc_deck.specs.model_play.specs.Play.{LineResult, FailureStop, Answered, Step}

@@ -11,10 +11,10 @@ use Rattle.mc_script.specs.Benches.{BenchMembers}
 use Rattle.mc_reader.specs.Meanings.{Meaning}
 use Rattle.mc_reader.specs.Serving as serving
 
--- a line that may be missing was played, whatever its number, with its steps; without a line nothing has changed
-abbrev pub PlaysLine : {N : Type 0} → BenchMembers N → Player N → Option DeckLine → Option Answer → Player N → ℕ → ℕ → Type 0
+-- a line that may be missing was played, whatever its number; without a line nothing has changed
+abbrev pub PlaysLine : {N : Type 0} → BenchMembers N → Player N → Option DeckLine → Option Answer → Player N → Type 0
 PlaysLine n = serving.PlaysLine n.state n.bench
 
 -- a frame with this meaning was served
-abbrev pub ServesFrame : {N : Type 0} → BenchMembers N → Player N → State → ℕ → Meaning → Sunk → Result (Unit {0}) WriteFault → Player N → Sunk → ℕ → ℕ → Type 0
+abbrev pub ServesFrame : {N : Type 0} → BenchMembers N → Player N → State → ℕ → Meaning → Sunk → Result (Unit {0}) WriteFault → Player N → Sunk → Type 0
 ServesFrame n = serving.ServesFrame n.state n.bench

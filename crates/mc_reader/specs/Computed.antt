@@ -2,7 +2,7 @@
 -- worked rows: no contract rests on it.
 use Rattle.std.specs.Prelude.{ℕ, List, [], Result, Ok, Err}
 use Rattle.mc_deck.specs.model_play.specs.declared.deck.DeckCause.{DeckCause}
-use Rattle.mc_base.specs.model_device.specs.Device.{blank_words}
+use Rattle.mc_words.specs.model_device.specs.Device.{blank_words}
 use Rattle.mc_deck.specs.model_play.specs.DeckGrammar.{DeckLine, deck_read}
 use Rattle.model_examples.specs.Written.{hex}
 use Rattle.model_examples.specs.Played.{steps_on}

@@ -1,7 +1,7 @@
 -- Frames of bytes: a length of two bytes, big endian, and that number of bytes. The virtual smart card reader vpcd of
 -- the vsmartcard project.
 use Rattle.std.specs.Prelude.{ℕ, zero, suc, ◌+◌, ◌*◌, cond, nat_le, List, [], ◌∷◌, ◌++◌, length, take, drop, Option, Some, None}
-use Rattle.mc_base.specs.model_device.specs.Bytes.{bytes2}
+use Rattle.mc_words.specs.model_device.specs.Bytes.{bytes2}
 
 -- a frame as it is sent
 abbrev pub frame_bytes : List ℕ → List ℕ

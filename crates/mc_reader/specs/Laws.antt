@@ -1,7 +1,7 @@
 -- The laws of sessions: which frames have an answer, and that a card that runs answers every command that no stop hits.
 use Rattle.std.specs.Prelude.{◌≡◌, ℕ, ◌≤◌, Bool, true, false, List, [], ◌∷◌, length, drop, Option, Some, None, ⊤}
 use Rattle.std.specs.List.{AllByRecursion}
-use Rattle.mc_base.specs.model_device.specs.PowerUp.{Base, OnCard}
+use Rattle.mc_words.specs.model_device.specs.PowerUp.{Base, OnCard}
 use Rattle.mc_deck.specs.model_play.specs.DeckGrammar.{DeckLine}
 use Rattle.mc_deck.specs.model_play.specs.Play.{plays, start, AfterPower, BeforePower, FailedWrite, Live, Ready, Running, State, Step}
 use Rattle.mc_reader.specs.Meanings.{meaning, power_after, Meaning, ToCard}

@@ -2,7 +2,7 @@
 -- command to the card. vpcd's control bytes; ISO/IEC 7816-3, by which no card has the class FF; PC/SC, which reserves
 -- it for readers; this project's commands.
 use Rattle.std.specs.Prelude.{ℕ, Bool, true, false, cond, ◌&&◌, ◌==◌, nat_le, List, [], ◌∷◌, length, take, drop, Result, Ok, Err}
-use Rattle.mc_base.specs.model_device.specs.Bytes.{num}
+use Rattle.mc_words.specs.model_device.specs.Bytes.{num}
 use Rattle.mc_deck.specs.model_play.specs.DeckGrammar.{DeckLine}
 use Rattle.mc_deck.specs.model_play.specs.DeckGrammar as line
 

@@ -1,6 +1,6 @@
 -- The bytes that a read of one frame takes from a source.
 use Rattle.std.specs.Prelude.{◌≡◌, ℕ, ◌<◌, ◌≤◌, List, [], length, take, Option, Some, None, Result, Ok, Err}
-use Rattle.mc_base.specs.model_device.specs.Counts.{Rose}
+use Rattle.mc_words.specs.model_device.specs.Counts.{Rose}
 use Rattle.mc_streams.specs.Streams.{Took, AtEnd}
 use Rattle.mc_reader.specs.Frames.{frame_bytes, first_frame}
 use Rattle.mc_reader.specs.declared.reading.FrameFault.{FrameFault}

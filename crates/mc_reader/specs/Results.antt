@@ -1,6 +1,6 @@
 -- The answers to frames, by the results that the code has.
 use Rattle.std.specs.Prelude.{ℕ, List, [], Option, Some, None}
-use Rattle.mc_base.specs.model_device.specs.Bytes.{bytes2}
+use Rattle.mc_words.specs.model_device.specs.Bytes.{bytes2}
 use Rattle.mc_machine.specs.declared.outcome.Outcome.{Outcome}
 use Rattle.mc_machine.specs.Turns.{outcome_value}
 use Rattle.mc_script.specs.declared.answer.Answer.{Answer}

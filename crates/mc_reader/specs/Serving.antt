@@ -1,8 +1,8 @@
 -- The parts of a session: one frame, and frames that are served from a state of a play.
-use Rattle.std.specs.Prelude.{◌≡◌, ℕ, ◌+◌, ◌≤◌, Bool, false, List, [], ◌∷◌, ◌++◌, Option, Some, None, Result}
+use Rattle.std.specs.Prelude.{◌≡◌, ℕ, ◌+◌, ◌≤◌, Bool, false, List, [], ◌++◌, Option, Some, None, Result}
 use Rattle.std.specs.List.{AllByRecursion}
-use Rattle.mc_base.specs.model_device.specs.Bytes.{AreBytes}
-use Rattle.mc_base.specs.model_device.specs.Device.{DeviceState, BenchState}
+use Rattle.mc_words.specs.model_device.specs.Bytes.{AreBytes}
+use Rattle.mc_words.specs.model_device.specs.Device.{DeviceState, BenchState}
 use Rattle.mc_deck.specs.model_play.specs.DeckGrammar.{DeckLine}
 use Rattle.mc_deck.specs.model_play.specs.Play.{State, FailedWrite, LineResult, step, plays}
 use Rattle.mc_streams.specs.Streams.{Took}
@@ -13,7 +13,6 @@ use Rattle.mc_script.specs.declared.player.Player.{Player}
 use Rattle.mc_script.specs.Players.{IsPlayerAt}
 use Rattle.mc_script.specs.Plays.{Bench, PlayedLine, Played}
 use Rattle.mc_script.specs.Lines.{bench_of, Stepped}
-use Rattle.mc_script.specs.StepCounts.{PlaySteps}
 use Rattle.mc_reader.specs.Frames.{frames_read}
 use Rattle.mc_reader.specs.Meanings.{Meaning}
 use Rattle.mc_reader.specs.Lines.{line_in, lines_of}
@@ -32,25 +31,18 @@ Moves s n None a r u b = (u ≡ s) × (b ≡ a)
 Moves s n (Some l) a r u b =
     (w : Option FailedWrite) × PlayedLine s (n + 1, l) w (step s (n + 1, l) w) a b × (r ≡ (step s (n + 1, l) w).result) × (u ≡ (step s (n + 1, l) w).after)
 
--- the steps of such a line: none without a line
-abbrev pub MoveSteps : (s : State) (n : ℕ) (o : Option DeckLine) (a : Bench) (r : Option LineResult) (u : State) (b : Bench) → Moves s n o a r u b → ℕ → ℕ → Type 0
-MoveSteps s n None a r u b m old new = new ≡ old
-MoveSteps s n (Some l) a r u b m old new = PlaySteps (step s (n + 1, l) m.0 ∷ []) old new
-
 module _ {N : Type 0} (state : N → DeviceState) (bench : N → BenchState) where
-  -- a line that may be missing was played, whatever its number, with its steps; without a line nothing has changed
-  abbrev pub PlaysLine : Player N → Option DeckLine → Option Answer → Player N → ℕ → ℕ → Type 0
-  PlaysLine p None answer q old new = (q ≡ p) × (new ≡ old)
-  PlaysLine p (Some l) answer q old new =
-      (s : State) (n : ℕ) → IsPlayerAt state bench p s → (w : Option FailedWrite) × Stepped state bench p s (n, l) w (step s (n, l) w) answer q × PlaySteps (step s (n, l) w ∷ []) old new
+  -- a line that may be missing was played, whatever its number; without a line nothing has changed
+  abbrev pub PlaysLine : Player N → Option DeckLine → Option Answer → Player N → Type 0
+  PlaysLine p None answer q = q ≡ p
+  PlaysLine p (Some l) answer q = (s : State) (n : ℕ) → IsPlayerAt state bench p s → (w : Option FailedWrite) × Stepped state bench p s (n, l) w (step s (n, l) w) answer q
 
   -- a frame with this meaning was served: its line was played, and its answer was written, completely or up to a fault
-  pub record ServesFrame (p : Player N) (s : State) (n : ℕ) (m : Meaning) (x : Sunk) (result : Result (Unit {0}) WriteFault) (q : Player N) (y : Sunk) (old new : ℕ) : Type 0 where
+  pub record ServesFrame (p : Player N) (s : State) (n : ℕ) (m : Meaning) (x : Sunk) (result : Result (Unit {0}) WriteFault) (q : Player N) (y : Sunk) : Type 0 where
     pub after : State
     pub at : IsPlayerAt state bench q after
     pub reported : Option LineResult
     pub moves : Moves s n (line_in m) (bench_of state bench p) reported after (bench_of state bench q)
-    pub steps : MoveSteps s n (line_in m) (bench_of state bench p) reported after (bench_of state bench q) moves old new
     pub puts : Puts x (answer_frame (answer_to m reported)) result y
 
 -- ---- frames
@@ -83,7 +75,6 @@ pub record ServedFrom (s : State) (n : ℕ) (result : Result (Unit {0}) ServeErr
   pub answers : List (Option (List ℕ))
   pub worn : List (Option FailedWrite)
   pub served : ServedFrames s n false frames worn a.dev_old answers a.dev
-  pub steps : PlaySteps (plays s (lines_of n false frames) worn) a.steps_old a.steps
   pub moments : List Moment
   pub recorded : Records a.asked_old moments a.asked
   pub each : AreMoments (IsServedMoment s n worn a.dev_old a.out_old) [] frames moments

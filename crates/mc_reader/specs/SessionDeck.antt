@@ -1,7 +1,7 @@
 -- The deck that a session is, as a text: that of its own deck, and a line for each frame that represents one.
 use Rattle.std.specs.Prelude.{◌≡◌, ℕ, ◌+◌, ◌≤◌, Bool, false, List, [], ◌∷◌, ◌++◌, length, map, drop, codes, decimal, Option, Some, None, Ok}
 use Rattle.std.specs.List.{AllByRecursion}
-use Rattle.mc_base.specs.model_device.specs.Bytes.{AreBytes}
+use Rattle.mc_words.specs.model_device.specs.Bytes.{AreBytes}
 use Rattle.mc_text.specs.model_text.specs.Text.{lines}
 use Rattle.mc_text.specs.model_text.specs.Listing.{hex_text}
 use Rattle.mc_deck.specs.model_play.specs.DeckGrammar.{DeckLine, deck_read}

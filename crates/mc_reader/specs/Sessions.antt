@@ -2,8 +2,8 @@
 -- those of the frames.
 use Rattle.std.specs.Prelude.{◌≡◌, ◌⊎◌, ℕ, ◌+◌, ◌<◌, ◌≤◌, false, List, [], ◌∷◌, ◌++◌, length, Option, Some, Result, Ok, Err}
 use Rattle.std.specs.List.{AllByRecursion}
-use Rattle.mc_base.specs.model_device.specs.Bytes.{AreBytes}
-use Rattle.mc_base.specs.model_device.specs.Counts.{last_count, Rose}
+use Rattle.mc_words.specs.model_device.specs.Bytes.{AreBytes}
+use Rattle.mc_words.specs.model_device.specs.Counts.{last_count, Rose}
 use Rattle.mc_deck.specs.model_play.specs.DeckGrammar.{DeckLine}
 use Rattle.mc_deck.specs.model_play.specs.Play.{FailedWrite, Step, plays, start}
 use Rattle.mc_deck.specs.model_play.specs.Laws.{HoldsOf}
@@ -12,7 +12,6 @@ use Rattle.mc_streams.specs.Streams.{Took, AtEnd, Grew}
 use Rattle.mc_streams.specs.declared.sink.Sink as sink
 use Rattle.mc_text.specs.Texts.{sunk, Sunk}
 use Rattle.mc_script.specs.Plays.{Bench, Played}
-use Rattle.mc_script.specs.StepCounts.{PlaySteps}
 use Rattle.mc_check.specs.Plays.{KeepToVerdicts}
 use Rattle.mc_reader.specs.Frames.{frame_bytes, frames_bytes, frames_read}
 use Rattle.mc_reader.specs.Lines.{session_lines}
@@ -23,8 +22,7 @@ use Rattle.mc_reader.specs.Moments.{Moment, Records, AreMoments}
 use Rattle.mc_reader.specs.declared.serve_error.ServeError.{ServeError}
 use Rattle.mc_reader.specs.declared.serve_error.ServeError.TheVariants as fault
 
--- the state of host, sink and device before and after a session, the moments that the host has recorded, and the number of
--- steps
+-- the state of host, sink and device before and after a session, and the moments that the host has recorded
 pub record AroundSession : Type 0 where
   pub left_old : Option (List ℕ)
   pub left : Option (List ℕ)
@@ -36,12 +34,10 @@ pub record AroundSession : Type 0 where
   pub dev : Bench
   pub asked_old : Option (List Moment)
   pub asked : Option (List Moment)
-  pub steps_old : ℕ
-  pub steps : ℕ
 
 -- the same, by the values of a call before and after it
-abbrev pub around : {H T N : Type 0} → host.Ghosts H → sink.Ghosts T → BenchMembers N → H → H → T → T → N → N → ℕ → ℕ → AroundSession
-around h t n in_old in_new out_old out_new dev_old dev_new steps_old steps =
+abbrev pub around : {H T N : Type 0} → host.Ghosts H → sink.Ghosts T → BenchMembers N → H → H → T → T → N → N → AroundSession
+around h t n in_old in_new out_old out_new dev_old dev_new =
     record {
       left_old = h.left in_old;
       left = h.left in_new;
@@ -53,8 +49,6 @@ around h t n in_old in_new out_old out_new dev_old dev_new steps_old steps =
       dev = bench_at n dev_new;
       asked_old = h.moments in_old;
       asked = h.moments in_new;
-      steps_old = steps_old;
-      steps = steps;
     }
 
 -- ---- what was written
@@ -148,8 +142,6 @@ pub record Served (deck : List (ℕ × DeckLine)) (result : Result (Unit {0}) Se
   -- counts and the tape of the device, and for all that was written.
   pub worn : List (Option FailedWrite)
   pub played : Played (start a.dev_old.device.words) (session_lines deck frames) worn a.dev_old a.dev
-  -- Each executed instruction is one step, and the search of an OPEN for room takes at most two more than the card has gaps.
-  pub steps : PlaySteps (session_steps deck frames worn a) a.steps_old a.steps
   -- Each frame was taken when the frames before it had been served.
   pub asked : IsAskedInTurn deck worn frames a
   -- Every closed family of applications has the same results and the same bytes as on a card of its own, each line
@@ -171,7 +163,6 @@ pub record IsUntouched (a : AroundSession) : Type 0 where
   pub out : a.out ≡ a.out_old
   pub dev : a.dev ≡ a.dev_old
   pub asked : a.asked ≡ a.asked_old
-  pub steps : a.steps ≡ a.steps_old
 
 -- the end of a session, by its result
 abbrev pub Serves : List (ℕ × DeckLine) → Result (Unit {0}) ServeError → AroundSession → Type 0

@@ -1,6 +1,6 @@
 // The answers to frames.
 ghost use Rattle.std.specs.Prelude.{◌≤◌, ◌++◌, length};
-ghost use Rattle.mc_base.specs.model_device.specs.Bytes.{bytes2};
+ghost use Rattle.mc_words.specs.model_device.specs.Bytes.{bytes2};
 ghost use Rattle.mc_text.specs.Texts.{sunk, Puts};
 ghost use Rattle.mc_reader.specs.Frames.{frame_bytes};
 ghost use Rattle.mc_reader.specs.Requests.{meaning_of};

@@ -1,13 +1,13 @@
 // Commands to the reader itself, by which a host arms a stop or sets the budget.
 ghost use Rattle.std.specs.Prelude.{◌≡◌, ℕ, length, IfOk, OnOk, Result, MatchResult};
-ghost use Rattle.mc_base.specs.model_device.specs.Bytes.{bytes2, num};
+ghost use Rattle.mc_words.specs.model_device.specs.Bytes.{bytes2, num};
 ghost use Rattle.mc_deck.specs.model_play.specs.DeckGrammar.{DeckLine};
 ghost use Rattle.mc_deck.specs.Lines.{line_of, GoodLine};
 ghost use Rattle.mc_reader.specs.Meanings.{plain_order, cut_order, fail_order, budget_order, order};
 ghost use Rattle.mc_reader.specs.Requests.{order_line, status_of, Orders};
 
-use mc_base::Word;
 use mc_deck::Line;
+use mc_words::Word;
 
 /// The maximum budget of a command.
 const MOST_STEPS: u32 = 65_536;

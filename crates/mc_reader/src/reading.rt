@@ -1,6 +1,6 @@
 // Frames read from a source, and no byte after them.
 ghost use Rattle.std.specs.Prelude.{◌≡◌, ◌<◌, ◌≤◌, length, take, IfOk, OnErr};
-ghost use Rattle.mc_base.specs.model_device.specs.Counts.{Rose};
+ghost use Rattle.mc_words.specs.model_device.specs.Counts.{Rose};
 ghost use Rattle.mc_streams.specs.Streams.{Took, AtEnd};
 ghost use Rattle.mc_reader.specs.Readings.{TookLess, ReadsFrame};
 

@@ -1,6 +1,6 @@
 // A session: a deck is played, and then the frames of a host are served.
 ghost use Rattle.std.specs.Prelude.{◌≡◌, ◌≢◌, ℕ, length, Err};
-ghost use Rattle.mc_base.specs.model_device.specs.Bytes.{AreBytes};
+ghost use Rattle.mc_words.specs.model_device.specs.Bytes.{AreBytes};
 ghost use Rattle.mc_deck.specs.model_play.specs.Play.{State};
 ghost use Rattle.mc_text.specs.Texts.{sunk};
 ghost use Rattle.mc_script.specs.Players.{device_of, IsUnfused};
@@ -17,11 +17,11 @@ use crate::host::Host;
 use crate::reading::FrameFault;
 use crate::request::Request;
 use crate::serve_error::ServeError;
-use mc_base::Steps;
 use mc_deck::Deck;
 use mc_nvm::Bench;
 use mc_script::{Answer, Player, Silent};
 use mc_streams::{Sink, WriteFault};
+use mc_words::Steps;
 use std::alloc::Global;
 use std::sync::ledger::Ledger;
 
@@ -36,8 +36,7 @@ fn play_request<N: Bench, L: Ledger>(
 ) -> Option<Answer>
     requires playing { IsPlaying N.Bench player.old }
     requires good { IsGoodRequest request.now }
-    ensures plays { PlaysLine N.Bench player.old (line_in (meaning_of request.now)) result player.new
-        steps.old steps.new }
+    ensures plays { PlaysLine N.Bench player.old (line_in (meaning_of request.now)) result player.new }
     ensures keeps_device { N.same (device_of player.old) (device_of player.new) }
 {
     match request.line() {
@@ -57,7 +56,7 @@ fn serve_frame<N: Bench, T: Sink, L: Ledger>(
     requires { IsPlaying N.Bench player.old }
     ensures serves { (s : State) (n : ℕ) → IsPlayerAt N.Bench player.old s
         → ServesFrame N.Bench player.old s n (meaning powered.old frame.now)
-        (sunk T.Sink out.old) result player.new (sunk T.Sink out.new) steps.old steps.new }
+        (sunk T.Sink out.old) result player.new (sunk T.Sink out.new) }
     ensures power { powered.new ≡ power_after powered.old (meaning powered.old frame.now) }
     ensures bytes { AreBytes frame.now }
     ensures keeps_device { N.same (device_of player.old) (device_of player.new) }
@@ -91,8 +90,6 @@ fn serve_frames<H: Host, T: Sink, N: Bench, L: Ledger>(
           dev = bench_of N.Bench player.new;
           asked_old = H.moments input.old;
           asked = H.moments input.new;
-          steps_old = steps.old;
-          steps = steps.new;
         }) }
     ensures keeps_device { N.same (device_of player.old) (device_of player.new) }
 {
@@ -130,11 +127,11 @@ pub fn serve<H: Host, T: Sink, N: Bench, L: Ledger>(
     requires { IsUnfused (N.bench dev.old) }
     // Out of memory, nothing was read, played or written.
     ensures memory { result ≡ Err ServeError.NoMemory → IsUntouched
-        (around H.Host T.Sink N.Bench input.old input.new out.old out.new dev.old dev.new steps.old steps.new) }
+        (around H.Host T.Sink N.Bench input.old input.new out.old out.new dev.old dev.new) }
     // Else the deck and the frames that were taken were one play on the device, each frame was served before the next was
-    // taken, the answers of the play were written up to the end that the result states, and its steps were counted.
+    // taken, and the answers of the play were written up to the end that the result states.
     ensures session { result ≢ Err ServeError.NoMemory → Served deck.now result
-        (around H.Host T.Sink N.Bench input.old input.new out.old out.new dev.old dev.new steps.old steps.new) }
+        (around H.Host T.Sink N.Bench input.old input.new out.old out.new dev.old dev.new) }
 {
     let mut room = vec![in alloc; 0; LONGEST_FRAME]?;
     let _words = dev.len();

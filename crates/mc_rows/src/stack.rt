@@ -4,8 +4,8 @@ ghost use Rattle.mc_rows.specs.FrameRows.{FrameActs};
 
 use crate::bytes::zeros;
 use crate::operations::check_block;
-use mc_base::bytes_of;
 use mc_segs::{Abend, Frame, discard, push};
+use mc_words::bytes_of;
 
 /// Executes PUSHZ: pushes n zero bytes.
 #[tactic(auto, unfolding(model_machine::specs::Row::row, model_machine::specs::Row::causes, model_machine::specs::Row::effect))]

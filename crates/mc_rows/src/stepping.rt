@@ -18,8 +18,8 @@ use crate::transfers::{
     index, load_address, load_block, load_indirect, store_block, store_indirect,
 };
 use mc_bank::Bank;
-use mc_base::bytes_of;
 use mc_segs::{Abend, Frame, Halt, Public};
+use mc_words::bytes_of;
 use model_machine::Ins;
 
 /// Executes one instruction other than PRIM whose fields are in their ranges; the frame's code address is

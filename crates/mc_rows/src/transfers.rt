@@ -9,8 +9,8 @@ ghost use Rattle.mc_rows.specs.FrameRows.{FrameActs};
 use crate::operand::{indexed, need, on_stack, operand, place, read_address};
 use crate::operations::check_block;
 use mc_bank::Bank;
-use mc_base::bytes_of;
 use mc_segs::{Abend, Frame, Halt, Public, load, pop, push, store};
+use mc_words::bytes_of;
 
 /// The number of bytes for which a small buffer is enough: clearing a large one takes longer than most operands.
 const FEW: usize = 16;

@@ -9,11 +9,9 @@ use Rattle.mc_script.specs.declared.answer.Answer.{Answer}
 use Rattle.mc_script.specs.declared.player.Player.{Player}
 use Rattle.mc_script.specs.Players.{IsUnfused, IsPlayerAt}
 use Rattle.mc_script.specs.Plays.{Bench, PlayedLine, Played, LeadsTo}
-use Rattle.mc_script.specs.Lines.{bench_of, LineDone}
-use Rattle.mc_script.specs.StepCounts.{CountsLine, PlaySteps, CountsPlayed}
+use Rattle.mc_script.specs.Lines.{bench_of, DeckPlayed, LineDone}
 use Rattle.mc_script.proofs.PlayLemmas.{plays_on, plays_none, played_none, played_on}
 use Rattle.mc_script.proofs.LinedLemmas.{at_stands}
-use Rattle.mc_script.proofs.StepPlayLemmas.{step_counts, steps_none, steps_then, steps_as}
 
 -- ---- steps
 
@@ -82,52 +80,38 @@ module _ {N : Type 0} (state : N → DeviceState) (bench : N → BenchState) whe
   -- ---- the loop over the lines of a deck
 
   -- a player that has played, from a state, the lines before those that are left
-  pub record Between (s : State) (ls : List (ℕ × DeckLine)) (a : Bench) (old : ℕ) (left : List (ℕ × DeckLine)) (p : Player N) (now : ℕ) : Type 0 where
+  pub record Between (s : State) (ls : List (ℕ × DeckLine)) (a : Bench) (left : List (ℕ × DeckLine)) (p : Player N) : Type 0 where
     pub front : List (ℕ × DeckLine)
     pub worn : List (Option FailedWrite)
     pub here : State
     pub are : front ++ left ≡ ls
     pub at : IsPlayerAt state bench p here
     pub leads : LeadsTo s front worn a here (bench_of state bench p)
-    pub steps : PlaySteps (plays s front worn) old now
 
-  pub between_start : (s : State) (ls : List (ℕ × DeckLine)) (p : Player N) (old : ℕ) → IsPlayerAt state bench p s → Between s ls (bench_of state bench p) old ls p old
-  between_start s ls p old at =
-      record { front = []; worn = []; here = s; are = refl; at = at; leads = leads_none s (bench_of state bench p); steps = steps_as [] (plays s [] []) old old (sym (plays_none s)) (steps_none old) }
+  pub between_start : (s : State) (ls : List (ℕ × DeckLine)) (p : Player N) → IsPlayerAt state bench p s → Between s ls (bench_of state bench p) ls p
+  between_start s ls p at = record { front = []; worn = []; here = s; are = refl; at = at; leads = leads_none s (bench_of state bench p) }
 
-  pub between_on : {R : Type 0} (reported : R → List Turn → R → Type 0) (s : State) (ls : List (ℕ × DeckLine)) (a : Bench) (left : List (ℕ × DeckLine)) (n : ℕ) (l : DeckLine) (p q : Player N) (before after : R) (answer : Option Answer) (old now new : ℕ)
-      → Between s ls a old ((n, l) ∷ left) p now → LineDone state bench reported p l before after answer q → CountsLine state bench p l answer now new → Between s ls a old left q new
-  between_on reported s ls a left n l p q before after answer old now new h done counts =
+  pub between_on : {R : Type 0} (reported : R → List Turn → R → Type 0) (s : State) (ls : List (ℕ × DeckLine)) (a : Bench) (left : List (ℕ × DeckLine)) (n : ℕ) (l : DeckLine) (p q : Player N) (before after : R) (answer : Option Answer)
+      → Between s ls a ((n, l) ∷ left) p → LineDone state bench reported p l before after answer q → Between s ls a left q
+  between_on reported s ls a left n l p q before after answer h done =
       let line = done h.here n h.at in
       let w = line.0 in
       let end = line.1.stepped in
-      let t = step h.here (n, l) w in
-      let one = step_counts state q h.here (n, l) w answer now new end.answers (counts h.here h.at) in
-      let lone : plays h.here ((n, l) ∷ []) (w ∷ []) ≡ t ∷ [] = plays_on h.here (n, l) w [] [] ∙ ap (λ (ts : List Step). t ∷ ts) (plays_none t.after) in
-      let all : plays s (h.front ++ (n, l) ∷ []) (h.worn ++ w ∷ []) ≡ plays s h.front h.worn ++ t ∷ [] =
-      plays_append s h.front ((n, l) ∷ []) h.worn (w ∷ []) h.leads.many
-      ∙ ap (λ (v : State). plays s h.front h.worn ++ plays v ((n, l) ∷ []) (w ∷ [])) (sym h.leads.last)
-      ∙ ap (λ (ts : List Step). plays s h.front h.worn ++ ts) lone in
       record {
         front = h.front ++ (n, l) ∷ [];
         worn = h.worn ++ w ∷ [];
-        here = t.after;
+        here = (step h.here (n, l) w).after;
         are = append_assoc h.front ((n, l) ∷ []) left ∙ h.are;
         at = end.at;
         leads = leads_on s h.front h.worn a h.here (bench_of state bench p) (n, l) w (bench_of state bench q) h.leads end.played;
-        steps = steps_as (plays s h.front h.worn ++ t ∷ []) (plays s (h.front ++ (n, l) ∷ []) (h.worn ++ w ∷ [])) old new (sym all) (steps_then (plays s h.front h.worn) (t ∷ []) old now new h.steps one);
       }
 
-  pub between_end : (s : State) (ls : List (ℕ × DeckLine)) (p q : Player N) (old new : ℕ) → Between s ls (bench_of state bench p) old [] q new → CountsPlayed state bench p s ls q old new
-  between_end s ls p q old new h =
+  pub between_end : (s : State) (ls : List (ℕ × DeckLine)) (p q : Player N) → Between s ls (bench_of state bench p) [] q → DeckPlayed state bench p s ls q
+  between_end s ls p q h =
       let are : h.front ≡ ls = sym (append-nil h.front) ∙ h.are in
       record {
-        played =
-            record {
-              worn = h.worn;
-              here = h.here;
-              at = h.at;
-              leads = subst (λ (k : List (ℕ × DeckLine)). LeadsTo s k h.worn (bench_of state bench p) h.here (bench_of state bench q)) are h.leads;
-            };
-        steps = subst (λ (k : List (ℕ × DeckLine)). PlaySteps (plays s k h.worn) old new) are h.steps;
+        worn = h.worn;
+        here = h.here;
+        at = h.at;
+        leads = subst (λ (k : List (ℕ × DeckLine)). LeadsTo s k h.worn (bench_of state bench p) h.here (bench_of state bench q)) are h.leads;
       }

@@ -59,10 +59,6 @@ CountsLine n = steps.CountsLine n.state n.bench
 abbrev pub DeckPlayed : {N : Type 0} → BenchMembers N → Player N → State → List (ℕ × DeckLine) → Player N → Type 0
 DeckPlayed n = lines.DeckPlayed n.state n.bench
 
--- all lines were played from a state, with their steps
-abbrev pub CountsPlayed : {N : Type 0} → BenchMembers N → Player N → State → List (ℕ × DeckLine) → Player N → ℕ → ℕ → Type 0
-CountsPlayed n = steps.CountsPlayed n.state n.bench
-
 -- all lines were played, and their results and steps were counted
 abbrev pub Tallied : {N : Type 0} → BenchMembers N → State → List (ℕ × DeckLine) → Bench → Player N → Counts → ℕ → ℕ → Type 0
 Tallied n = sums.Tallied n.state n.bench

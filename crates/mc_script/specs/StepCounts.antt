@@ -19,7 +19,6 @@ use Rattle.mc_script.specs.declared.player.Player.{Player}
 use Rattle.mc_script.specs.Players.{IsPlayerAt}
 use Rattle.mc_script.specs.Counting.{total}
 use Rattle.mc_script.specs.Plays.{Bench, PlaysFrom, PlaysDeck, SumsDeck}
-use Rattle.mc_script.specs.Lines.{DeckPlayed}
 
 -- ---- instructions
 
@@ -115,11 +114,6 @@ CountsLine state bench p l a old new = (s : State) → IsPlayerAt state bench p 
 pub record PlaySteps (ts : List Step) (old new : ℕ) : Type 0 where
   pub least : AllByRecursion (λ t. t.stop ≡ None) ts → old + total (λ t. instructions t.turns) ts ≤ new
   pub most : new ≤ old + total (λ t. instructions t.turns + search_in t.before t.line) ts
-
--- all lines were played from a state, with their steps
-pub record CountsPlayed {N : Type 0} (state : N → DeviceState) (bench : N → BenchState) (p : Player N) (s : State) (ls : List (ℕ × DeckLine)) (q : Player N) (old new : ℕ) : Type 0 where
-  pub played : DeckPlayed state bench p s ls q
-  pub steps : PlaySteps (plays s ls played.worn) old new
 
 -- lines played from a state, with their text and their steps
 pub record CountsFrom (f : Step → List ℕ) (s : State) (ls : List (ℕ × DeckLine)) (a : Bench) (x : Sunk) (result : Result (Unit {0}) WriteFault) (b : Bench) (y : Sunk) (old new : ℕ) : Type 0 where

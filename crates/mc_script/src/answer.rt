@@ -1,8 +1,8 @@
 ghost use Rattle.std.specs.Prelude.{◌≡◌};
 ghost use Rattle.mc_script.specs.Cuts.{off_in};
 
-use mc_base::Aid;
 use mc_blocks::Unusable;
+use mc_words::Aid;
 
 /// The result of a line that answers. `NoCard` and `Mute` are those of a line that needs a card when none
 /// runs.

@@ -2,7 +2,7 @@
 ghost use Rattle.std.specs.Prelude.{◌≡◌};
 ghost use Rattle.mc_script.specs.Players.{cut_place};
 
-use mc_base::Word;
+use mc_words::Word;
 
 /// The stop that is armed for the next card line: the number of the device write that it hits, counted from
 /// 1, and for a cut the word that it leaves. A failed write leaves eight zero bytes.

@@ -11,11 +11,11 @@ ghost use Rattle.mc_card.specs.Ends.{outcome_or_stop};
 use crate::loading::{LoadCommands, send};
 use crate::runner::Runner;
 use arrayvec::ArrayVec;
-use mc_base::{Aid, Steps, Stop};
 use mc_card::Card;
 use mc_machine::Outcome;
 use mc_nvm::Nvm;
 use mc_unit::Unit;
+use mc_words::{Aid, Steps, Stop};
 use std::sync::ledger::Ledger;
 
 /// A line that is one command to a card, or the commands of a load.

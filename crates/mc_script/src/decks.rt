@@ -1,13 +1,13 @@
 // All lines of a deck, of which nothing is written.
 ghost use Rattle.model_play.specs.Play.{State};
 ghost use Rattle.mc_script.specs.Players.{device_of};
-ghost use Rattle.mc_script.specs.Benches.{CountsPlayed, DeckPlayed, IsPlayerAt, IsPlaying};
+ghost use Rattle.mc_script.specs.Benches.{DeckPlayed, IsPlayerAt, IsPlaying};
 
 use crate::player::Player;
 use crate::runner::Silent;
-use mc_base::Steps;
 use mc_deck::Deck;
 use mc_nvm::Bench;
+use mc_words::Steps;
 use std::sync::ledger::Ledger;
 
 impl<N: Bench> Player<N> {
@@ -16,8 +16,6 @@ impl<N: Bench> Player<N> {
         requires playing { IsPlaying N.Bench self.old }
         ensures done { (s : State) → IsPlayerAt N.Bench self.old s
             → DeckPlayed N.Bench self.old s deck.now self.new }
-        ensures steps { (s : State) → IsPlayerAt N.Bench self.old s
-            → CountsPlayed N.Bench self.old s deck.now self.new steps.old steps.new }
         ensures keeps_device { N.same (device_of self.old) (device_of self.new) }
     {
         for i in 0..deck.len() {

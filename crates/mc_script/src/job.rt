@@ -1,8 +1,8 @@
 // Why a job over a play ends early.
 ghost use Rattle.std.specs.Prelude.{◌≡◌};
 
-use mc_base::NoMemory;
 use mc_streams::WriteFault;
+use mc_words::NoMemory;
 
 /// Why a job that plays a deck and writes a text ended early: it was out of memory, or its text was not wholly written.
 #[derive(Clone, Copy, Debug, PartialEq, Eq)]

@@ -11,9 +11,9 @@ use crate::answer::Answer;
 use crate::commands::CardLine;
 use crate::player::Player;
 use crate::runner::Runner;
-use mc_base::Steps;
 use mc_deck::Line;
 use mc_nvm::Bench;
+use mc_words::Steps;
 use std::sync::ledger::Ledger;
 
 impl<N: Bench> Player<N> {

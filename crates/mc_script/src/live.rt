@@ -9,9 +9,9 @@ ghost use Rattle.mc_script.specs.Lives.{LiveShows, FitsLive, IsStopped, live_at}
 ghost use Rattle.mc_card.specs.Saved.{FitsWords, session_state_on};
 
 use crate::player::{Player, Power};
-use mc_base::NoMemory;
 use mc_card::SavedSession;
 use mc_nvm::Bench;
+use mc_words::NoMemory;
 use std::alloc::Global;
 
 /// What runs on a device: a card, with its session state; or no card, which is mute after a failed write.

@@ -15,11 +15,11 @@ ghost use Rattle.mc_card.specs.Ends.{outcome_or_stop};
 
 use crate::runner::Runner;
 use arrayvec::ArrayVec;
-use mc_base::{Steps, Stop, bytes_of};
 use mc_card::Card;
 use mc_machine::Outcome;
 use mc_nvm::Nvm;
 use mc_unit::Unit;
+use mc_words::{Steps, Stop, bytes_of};
 use std::marker::Model;
 use std::sync::ledger::Ledger;
 

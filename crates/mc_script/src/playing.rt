@@ -16,10 +16,10 @@ use crate::player::Player;
 use crate::reporter::Reporter;
 use crate::summing::sum_lines;
 use crate::writer::{Reporting, Writer};
-use mc_base::Steps;
 use mc_deck::Deck;
 use mc_nvm::Bench;
 use mc_streams::{Sink, WriteFault};
+use mc_words::Steps;
 use std::sync::ledger::Ledger;
 
 /// Plays a deck on a device before a reporter, up to the first line whose text is not wholly written. That line is

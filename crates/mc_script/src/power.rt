@@ -16,9 +16,9 @@ use crate::armed::Armed;
 use crate::commands::{CardLine, run_line};
 use crate::player::{Player, Power};
 use crate::runner::Runner;
-use mc_base::{Steps, Stop};
 use mc_card::{Card, Up};
 use mc_nvm::Bench;
+use mc_words::{Steps, Stop};
 use std::sync::ledger::Ledger;
 
 /// The word that a failed write leaves.

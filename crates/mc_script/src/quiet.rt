@@ -12,10 +12,10 @@ ghost use Rattle.mc_script.specs.Benches.{SilentDone};
 use crate::answer::Answer;
 use crate::armed::Armed;
 use crate::player::{Player, Power};
-use mc_base::Word;
 use mc_blocks::format_words;
 use mc_card::Card;
 use mc_nvm::Bench;
+use mc_words::Word;
 
 // Sets words of a device in order.
 fn poke_all<N: Bench>(card: &mut Card<N>, list: &[(u16, Word)])

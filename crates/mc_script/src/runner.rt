@@ -6,10 +6,10 @@ ghost use Rattle.mc_script.specs.Runs.{RanAndReported, SentCommand, sent_to};
 ghost use Rattle.mc_script.specs.StepCounts.{instructions, command_search, StepsOf};
 ghost use Rattle.mc_card.specs.Ends.{outcome_or_stop};
 
-use mc_base::{Steps, Stop};
 use mc_card::Card;
 use mc_machine::Outcome;
 use mc_nvm::Nvm;
+use mc_words::{Steps, Stop};
 use std::sync::ledger::Ledger;
 
 /// Runs the commands of a play, and may record their turns.

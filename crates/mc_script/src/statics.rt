@@ -4,8 +4,8 @@ ghost use Rattle.mc_script.specs.Players.{statics_in};
 ghost use Rattle.mc_script.specs.Benches.{IsPlaying};
 
 use crate::player::{Player, Power};
-use mc_base::Aid;
 use mc_nvm::Bench;
+use mc_words::Aid;
 
 impl<N: Bench> Player<N> {
     /// Returns the length in bytes of the static segment of an application, or `None` exactly when a `dump`

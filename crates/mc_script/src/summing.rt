@@ -18,11 +18,11 @@ use crate::runner::Silent;
 use crate::summary::{Counts, counted, put_counts};
 use crate::text::{Text, add_result};
 use crate::writer::Writer;
-use mc_base::Steps;
 use mc_deck::{Deck, Line};
 use mc_nvm::Bench;
 use mc_streams::{Sink, WriteFault};
 use mc_text::{add, put};
+use mc_words::Steps;
 use std::sync::ledger::Ledger;
 
 // Plays all lines of a deck, and counts their results.

@@ -6,7 +6,8 @@ ghost use Rattle.model_play.specs.Play.{static_of};
 ghost use Rattle.model_play.specs.model_machine.specs.Words.{abend_code};
 ghost use Rattle.model_play.specs.model_device.specs.Words.{cause_text};
 ghost use Rattle.model_play.specs.model_text.specs.Listing.{hex_digit, hex_text};
-ghost use Rattle.model_play.specs.Transcript.{line_text, outcome_text, text_of_result};
+ghost use Rattle.model_play.specs.Transcript.{line_text, text_of_result};
+ghost use Rattle.model_play.specs.model_text.specs.TurnText.{outcome_text};
 ghost use Rattle.mc_machine.specs.Turns.{outcome_value};
 ghost use Rattle.mc_bank.specs.Bank.{app_of};
 ghost use Rattle.mc_card.specs.Parts.{card_in, IsUp};
@@ -18,13 +19,13 @@ use crate::answer::Answer;
 use crate::player::{Player, Power};
 use arrayvec::ArrayVec;
 use mc_apdu::Reply;
-use mc_base::Aid;
 use mc_blocks::Unusable;
 use mc_card::Card;
 use mc_machine::Outcome;
 use mc_nvm::{Bench, Nvm};
 use mc_streams::{Sink, WriteFault};
 use mc_text::{add, add_decimal, add_hex, put};
+use mc_words::Aid;
 use model_play::model_machine::Abend;
 
 /// The number of static bytes that are read at a time.

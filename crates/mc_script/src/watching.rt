@@ -8,10 +8,10 @@ ghost use Rattle.mc_script.specs.Runs.{RanAndReported, sent_to};
 ghost use Rattle.mc_script.specs.StepCounts.{command_search, instructions, StepsOf};
 ghost use Rattle.mc_script.specs.Watching.{IsWide, Watches, WatchesTurn};
 
-use mc_base::{Steps, Stop};
 use mc_card::{BriefTurn, Card};
 use mc_machine::Outcome;
 use mc_nvm::Nvm;
+use mc_words::{Steps, Stop};
 use std::sync::ledger::Ledger;
 
 /// Watches the turns of the applications of a play: `run_watched` has it run each turn of a command, and so lets it look

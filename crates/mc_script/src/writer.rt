@@ -19,13 +19,13 @@ use crate::runner::Runner;
 use crate::text::{Text, put_answer};
 use crate::watching::{Watcher, run_watched};
 use arrayvec::ArrayVec;
-use mc_base::{Steps, Stop};
 use mc_card::{BriefTurn, Card};
 use mc_machine::Outcome;
 use mc_nvm::{Bench, Nvm};
 use mc_streams::{Sink, WriteFault};
 use mc_text::put;
 use mc_trace::line_of_brief;
+use mc_words::{Steps, Stop};
 use std::sync::ledger::Ledger;
 
 /// The text of each line of a play: its result, or the lines of its turns and its result.

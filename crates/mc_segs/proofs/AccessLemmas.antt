@@ -3,12 +3,12 @@ use Rattle.std.proofs.Common.{◌≡◌, ℕ, ◌+◌, ◌-◌, ◌≤◌, ◌<�
 use Rattle.std.specs.Prelude.{nat_le, nat_eq, slice_get, unwrap_or}
 use Rattle.std.proofs.lemmas.Bool.{cases_lt, le-leb, ne_eqb, lt-leb}
 use Rattle.std.proofs.lemmas.List.{length-take, length-drop, get_or-take, get_or-drop, ext_get_or, length-replicate}
-use Rattle.mc_base.specs.model_device.specs.Bytes.{splice}
-use Rattle.mc_base.specs.model_device.specs.Pieces.{covering_byte, laid_pieces, word_pieces}
+use Rattle.mc_words.specs.model_device.specs.Bytes.{splice}
+use Rattle.mc_words.specs.model_device.specs.Pieces.{covering_byte, laid_pieces, word_pieces}
 use Rattle.mc_apdu.specs.model_machine.specs.Frame.{Frame, Place, where_is, bytes_at, bytes_in}
 use Rattle.mc_bank.specs.Bank.{BankState}
 use Rattle.mc_trans.proofs.Overlay.{length_laid, splice_before, splice_in, splice_behind, get_some}
-use Rattle.mc_base.specs.model_device.proofs.ListLemmas.{length_splice}
+use Rattle.mc_words.specs.model_device.proofs.ListLemmas.{length_splice}
 use Rattle.mc_segs.specs.Overlaid.{IsOverlaid}
 use Rattle.mc_segs.specs.HeldFrames.{Held, FitsBank, frame_with, pieces_of, ArePendingIn}
 use Rattle.mc_segs.specs.Inside.{frame_value, KeepsInside}

@@ -2,7 +2,7 @@
 use Rattle.std.proofs.Common.{◌≡◌, ℕ, ◌+◌, ◌-◌, ◌≤◌, List, [], ◌++◌, false, length, take, drop, refl, arith, sym, ◌∙◌, ap, subst, length-append}
 use Rattle.std.proofs.lemmas.List.{take-append-drop, drop-replicate, length-replicate}
 use Rattle.std.proofs.Math.Seq.{take-append_seam}
-use Rattle.mc_base.specs.model_device.specs.Bytes.{zeros, splice}
+use Rattle.mc_words.specs.model_device.specs.Bytes.{zeros, splice}
 use Rattle.mc_bank.specs.model_card.specs.declared.card.Sizes.{Sizes}
 use Rattle.mc_segs.specs.Sessions.{KeepsSession}
 use Rattle.mc_segs.specs.HeldFrames.{Held, new_held}

@@ -5,11 +5,11 @@ use Rattle.std.specs.List.{AllByRecursion}
 use Rattle.std.proofs.lemmas.Bool.{cases_lt, lt-leb}
 use Rattle.std.proofs.lemmas.Bool.Decides.{nat_tests}
 use Rattle.std.proofs.lemmas.List.{length-take}
-use Rattle.mc_base.specs.model_device.specs.Pieces.{covering_byte, laid_pieces, word_pieces, with_number, with_words, with_touched, touched_words, numbers, pending_at, Ascend, HoldPieces, LieIn}
+use Rattle.mc_words.specs.model_device.specs.Pieces.{covering_byte, laid_pieces, word_pieces, with_number, with_words, with_touched, touched_words, numbers, pending_at, Ascend, HoldPieces, LieIn}
 use Rattle.mc_trans.proofs.Overlay.{LieIn_begin, laid_covered}
 use Rattle.mc_trans.proofs.Touched.{covered_word}
 use Rattle.mc_segs.specs.HeldFrames.{pieces_of, ArePendingIn}
-use Rattle.mc_base.specs.model_device.proofs.PieceLemmas.{one_word}
+use Rattle.mc_words.specs.model_device.proofs.PieceLemmas.{one_word}
 
 -- ---- numbers
 

@@ -2,7 +2,7 @@
 use Rattle.std.proofs.Common.{◌≡◌, ℕ, ◌+◌, ◌-◌, ◌≤◌, List, [], ◌∷◌, ◌++◌, length, take, drop, arith, sym, ◌∙◌, ap, append_assoc, length-append}
 use Rattle.std.proofs.lemmas.List.{append-nil, take-replicate, drop-replicate, length-replicate}
 use Rattle.std.proofs.Math.Seq.{take-append-add, drop-append-add}
-use Rattle.mc_base.specs.model_device.specs.Bytes.{zeros, splice, bytes2}
+use Rattle.mc_words.specs.model_device.specs.Bytes.{zeros, splice, bytes2}
 use Rattle.mc_segs.proofs.FrameLemmas.{padded_is}
 
 -- a word written at a place, by its two bytes

@@ -5,13 +5,13 @@ use Rattle.std.specs.List.{AllByRecursion}
 use Rattle.std.proofs.Math.Seq.{take-add}
 use Rattle.std.proofs.lemmas.Bool.Decides.{nat_tests}
 use Rattle.std.proofs.lemmas.List.{take_all, append-nil}
-use Rattle.mc_base.specs.model_device.specs.Bytes.{splice}
-use Rattle.mc_base.specs.model_device.specs.Pieces.{laid_pieces, numbers, pending_at, put_word, not_pending, Ascend, ArePending, HoldPieces, LieIn}
-use Rattle.mc_base.specs.model_device.proofs.ImageLemmas.{all_append}
+use Rattle.mc_words.specs.model_device.specs.Bytes.{splice}
+use Rattle.mc_words.specs.model_device.specs.Pieces.{laid_pieces, numbers, pending_at, put_word, not_pending, Ascend, ArePending, HoldPieces, LieIn}
+use Rattle.mc_words.specs.model_device.proofs.ImageLemmas.{all_append}
 use Rattle.mc_trans.proofs.Words.{put_pending}
 use Rattle.mc_trans.proofs.Touched.{untouched}
 use Rattle.mc_trans.proofs.Putting.{piece_put, pieces_joined}
-use Rattle.mc_base.specs.model_device.proofs.ListLemmas.{length_splice}
+use Rattle.mc_words.specs.model_device.proofs.ListLemmas.{length_splice}
 use Rattle.mc_segs.specs.HeldFrames.{ArePendingIn}
 use Rattle.mc_segs.specs.Puts.{words_under, IsWordOf, PutsBytes, PutsPiece}
 

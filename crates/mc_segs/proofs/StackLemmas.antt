@@ -1,7 +1,7 @@
 -- The saved registers of a call, and what a return leaves.
 use Rattle.std.proofs.Common.{◌≡◌, ℕ, ◌+◌, ◌-◌, ◌≤◌, ◌<◌, List, ◌∷◌, length, take, drop, slice_index, arith, sym, ◌∙◌, ap, subst}
 use Rattle.std.proofs.lemmas.List.{drop_more}
-use Rattle.mc_base.specs.model_device.specs.Bytes.{be2, num, splice}
+use Rattle.mc_words.specs.model_device.specs.Bytes.{be2, num, splice}
 use Rattle.mc_apdu.specs.model_machine.specs.Frame as model
 use Rattle.mc_segs.specs.HeldFrames.{Held}
 use Rattle.mc_segs.specs.Inside.{frame_value}

@@ -2,14 +2,14 @@
 use Rattle.std.proofs.Common.{◌≡◌, ℕ, zero, suc, ◌+◌, ◌-◌, ◌/◌, ◌%◌, ◌≤◌, ◌<◌, Bool, true, false, List, [], ◌∷◌, ◌++◌, length, Option, Some, None, Ok, Err, refl, sym, ap, subst, ◌∙◌, arith}
 use Rattle.std.specs.Prelude.{nat_lt, nat_eq, unwrap_or, IsSome, OnOk}
 use Rattle.std.proofs.lemmas.List.{length-replicate}
-use Rattle.mc_base.specs.model_device.specs.Orders.{Answer, InOrder}
+use Rattle.mc_words.specs.model_device.specs.Orders.{Answer, InOrder}
 use Rattle.mc_bank.specs.model_card.specs.Items.{BankItem, Commit}
-use Rattle.mc_base.specs.model_device.specs.Bytes.{lookup, insert, zeros}
-use Rattle.mc_base.specs.model_device.specs.Card.{App}
-use Rattle.mc_base.specs.model_device.specs.Pieces.{laid_pieces, touched_words, not_pending, HoldPieces, LieIn}
+use Rattle.mc_words.specs.model_device.specs.Bytes.{lookup, insert, zeros}
+use Rattle.mc_words.specs.model_device.specs.Card.{App}
+use Rattle.mc_words.specs.model_device.specs.Pieces.{laid_pieces, touched_words, not_pending, HoldPieces, LieIn}
 use Rattle.mc_apdu.specs.model_machine.specs.Frame.{Frame, Static, static_bytes, static_written, passes_limit, pending_change as changes_of}
 use Rattle.mc_bank.specs.Bank.{BankState, app_of, name_or, no_app, with_words, apps_after_commit, Changes}
-use Rattle.mc_base.specs.model_device.proofs.ImageLemmas.{all_append}
+use Rattle.mc_words.specs.model_device.proofs.ImageLemmas.{all_append}
 use Rattle.mc_trans.proofs.Overlay.{length_laid}
 use Rattle.mc_trans.proofs.Holding.{words_laid, none_held}
 use Rattle.mc_trans.proofs.Counting.{words_counted}
@@ -21,7 +21,7 @@ use Rattle.mc_segs.specs.Puts.{PutsBytes, words_under}
 use Rattle.mc_segs.specs.declared.frame.Frame.TheInside.{Inside}
 use Rattle.mc_segs.proofs.PendingLemmas.{pieces_held, pieces_lie}
 use Rattle.mc_segs.proofs.AccessLemmas.{HasWords}
-use Rattle.mc_base.specs.model_device.proofs.MapLemmas.{lookup_inserted_lem}
+use Rattle.mc_words.specs.model_device.proofs.MapLemmas.{lookup_inserted_lem}
 use Rattle.mc_bank.specs.declared.bank.Bank.{Ghosts}
 
 -- ---- counts

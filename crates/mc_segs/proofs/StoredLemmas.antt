@@ -4,10 +4,10 @@ use Rattle.std.specs.Prelude.{not, ◌&&◌, is_none}
 use Rattle.std.proofs.lemmas.Bool.{ne_eqb}
 use Rattle.mc_apdu.specs.model_machine.specs.declared.machine.Abend.{Abend}
 use Rattle.mc_apdu.specs.model_machine.specs.declared.machine.Abend.TheVariants.{A08}
-use Rattle.mc_base.specs.model_device.specs.declared.device.Stop.{Stop}
-use Rattle.mc_base.specs.model_device.specs.Orders.{Answer}
+use Rattle.mc_words.specs.model_device.specs.declared.device.Stop.{Stop}
+use Rattle.mc_words.specs.model_device.specs.Orders.{Answer}
 use Rattle.mc_bank.specs.model_card.specs.Items.{BankItem}
-use Rattle.mc_base.specs.model_device.specs.Bytes.{splice}
+use Rattle.mc_words.specs.model_device.specs.Bytes.{splice}
 use Rattle.mc_apdu.specs.model_machine.specs.Frame.{Frame, Effect, Place, Static, Dynamic, Public, where_is, is_outside, passes_limit, too_many, static_written, write_effect_at, write_effect}
 use Rattle.mc_bank.specs.Bank.{BankState}
 use Rattle.mc_segs.specs.HeldFrames.{Held, FitsBank, frame_on_bank}

@@ -3,10 +3,10 @@ use Rattle.std.specs.Prelude.{◌≡◌, ◌⊎◌, ℕ, ◌≤◌, Bool, true, 
 use Rattle.mc_apdu.specs.model_machine.specs.declared.instruction.Ins.{Ins}
 use Rattle.mc_apdu.specs.model_machine.specs.declared.machine.Abend.{Abend}
 use Rattle.mc_apdu.specs.model_machine.specs.declared.machine.Abend.TheVariants.{A03, A08}
-use Rattle.mc_base.specs.model_device.specs.declared.device.Stop.{Stop}
-use Rattle.mc_base.specs.model_device.specs.Orders.{Answer, InOrder}
+use Rattle.mc_words.specs.model_device.specs.declared.device.Stop.{Stop}
+use Rattle.mc_words.specs.model_device.specs.Orders.{Answer, InOrder}
 use Rattle.mc_bank.specs.model_card.specs.Items.{BankItem, Commit}
-use Rattle.mc_base.specs.model_device.specs.Pieces.{laid_pieces, HoldPieces}
+use Rattle.mc_words.specs.model_device.specs.Pieces.{laid_pieces, HoldPieces}
 use Rattle.mc_apdu.specs.model_machine.specs.Frame.{Frame, Effect, is_outside, too_many}
 use Rattle.mc_apdu.specs.model_machine.specs.Primitives.{Around, Then, Goes, Exits, Delegates}
 use Rattle.mc_apdu.specs.model_machine.specs.Row.{RowEnd, Abends, Does, row}

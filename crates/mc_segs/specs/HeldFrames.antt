@@ -2,9 +2,9 @@
 use Rattle.std.specs.Prelude.{◌≡◌, ℕ, ◌-◌, ◌*◌, ◌<◌, ◌≤◌, Bool, true, false, List, [], ◌∷◌, length, take, map, Option, IsSome}
 use Rattle.std.specs.List.{AllByRecursion}
 use Rattle.mc_bank.specs.model_card.specs.declared.card.Sizes.{Sizes}
-use Rattle.mc_base.specs.model_device.specs.Bytes.{lookup, zeros}
-use Rattle.mc_base.specs.model_device.specs.Card.{App}
-use Rattle.mc_base.specs.model_device.specs.Pieces.{touched_words, ArePending}
+use Rattle.mc_words.specs.model_device.specs.Bytes.{lookup, zeros}
+use Rattle.mc_words.specs.model_device.specs.Card.{App}
+use Rattle.mc_words.specs.model_device.specs.Pieces.{touched_words, ArePending}
 use Rattle.mc_apdu.specs.model_machine.specs.Frame.{Frame, static_bytes, floor, dynamic_end, new_frame}
 use Rattle.mc_bank.specs.Bank.{BankState, app_of, name_or}
 use Rattle.mc_bank.specs.declared.bank.Bank.{Ghosts}

@@ -1,6 +1,6 @@
 -- The meaning of the fields of a frame.
 use Rattle.std.specs.Prelude.{[]}
-use Rattle.mc_base.specs.model_device.specs.Bytes.{zeros}
+use Rattle.mc_words.specs.model_device.specs.Bytes.{zeros}
 use Rattle.mc_segs.specs.HeldFrames.{Held, pieces_of, ArePendingIn, KeepsFrame}
 use Rattle.mc_segs.specs.declared.frame.Frame.TheInside.{Inside}
 

@@ -1,6 +1,6 @@
 -- Bytes of a segment that a word is written over.
 use Rattle.std.specs.Prelude.{◌≡◌, ◌<◌, ◌+◌, ℕ, List, [], ◌∷◌, length, slice_index, unwrap_or}
-use Rattle.mc_base.specs.model_device.specs.Pieces.{covering_byte}
+use Rattle.mc_words.specs.model_device.specs.Pieces.{covering_byte}
 
 -- The bytes `old` at `at` of a segment become `new` when the word at `place` is written over the segment, as far as
 -- they overlap.

@@ -1,7 +1,7 @@
 -- Bytes that are put into the words of a static segment.
 use Rattle.std.specs.Prelude.{◌≡◌, ℕ, ◌+◌, ◌-◌, ◌*◌, ◌/◌, ◌<◌, List, [], ◌∷◌, ◌++◌, length, slice_index, None, IfSome}
-use Rattle.mc_base.specs.model_device.specs.Bytes.{splice}
-use Rattle.mc_base.specs.model_device.specs.Pieces.{pending_at, put_word, not_pending, HoldPieces, LieIn}
+use Rattle.mc_words.specs.model_device.specs.Bytes.{splice}
+use Rattle.mc_words.specs.model_device.specs.Pieces.{pending_at, put_word, not_pending, HoldPieces, LieIn}
 use Rattle.mc_segs.specs.HeldFrames.{ArePendingIn}
 
 -- Word n of a segment before bytes are put into it: the pending one, or else the segment's bytes. After the segment's

@@ -1,6 +1,6 @@
 // Reads and writes within byte arrays.
 ghost use Rattle.std.specs.Prelude.{◌≡◌, ◌+◌, ◌≤◌, ◌<◌, length, take, drop, ◌++◌};
-ghost use Rattle.mc_base.specs.model_device.specs.Bytes.{be2, bytes2, splice};
+ghost use Rattle.mc_words.specs.model_device.specs.Bytes.{be2, bytes2, splice};
 
 // Copies bytes. One, two or four of them, as most operands have, are copied in place: a call of `memcpy` takes longer.
 // They are read before any is written, which makes one read and one write of them.

@@ -1,5 +1,5 @@
 use mc_apdu::model_machine::Abend;
-use mc_base::{Aid, Stop};
+use mc_words::{Aid, Stop};
 
 /// The continuation after an instruction that was done: the next one, the frame's exit, or the application
 /// with this name.

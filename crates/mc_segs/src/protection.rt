@@ -1,7 +1,7 @@
 // Static writes: committed at once, or kept as pending words until a commit.
 ghost use Rattle.std.specs.Prelude.{◌≡◌, ℕ, ◌+◌, ◌*◌, ◌/◌, ◌%◌, ◌≤◌, ◌<◌, length, slice_index, true, false, [], ◌∷◌, Some, None, IsSome, OnOk, OnErr, ◌==◌, ◌||◌};
 ghost use Rattle.mc_apdu.specs.model_machine.specs.Frame as model;
-ghost use Rattle.mc_base.specs.model_device.specs.Pieces.{not_pending, pending_at, put_word};
+ghost use Rattle.mc_words.specs.model_device.specs.Pieces.{not_pending, pending_at, put_word};
 ghost use Rattle.mc_bank.specs.Bank.{app_of};
 ghost use Rattle.mc_segs.specs.HeldFrames.{frame_on_bank, ArePendingIn, CanRun};
 ghost use Rattle.mc_segs.specs.Puts.{words_under, IsWordOf, PutsPiece, PutsBytes};
@@ -12,8 +12,8 @@ use crate::bytes::write;
 use crate::frame::Frame;
 use mc_apdu::model_machine::Abend;
 use mc_bank::{Bank, Slot};
-use mc_base::{Stop, Word};
 use mc_trans::Pending;
+use mc_words::{Stop, Word};
 
 /// Sets the protection of static writes: mode 0 drops the pending words and ends it, 1 commits them and ends
 /// it, 2 drops them and begins it, 3 commits them and begins it. A commit is one commit of the bank; without

@@ -1,11 +1,11 @@
 ghost use Rattle.std.specs.Prelude.{◌≡◌, ◌≤◌, length};
-ghost use Rattle.mc_base.specs.model_device.specs.Bytes.{zeros};
+ghost use Rattle.mc_words.specs.model_device.specs.Bytes.{zeros};
 ghost use Rattle.mc_apdu.specs.model_machine.specs.Frame.{new_public, with_la, with_sw};
 ghost use Rattle.mc_apdu.specs.Command.{parts_of};
 
 use crate::bytes::{words, write};
 use mc_apdu::Apdu;
-use mc_base::bytes_of;
+use mc_words::bytes_of;
 use std::marker::Model;
 
 /// The public segment, which the applications of a chain share: the data of the command and of its reply, and in its

@@ -1,5 +1,5 @@
 ghost use Rattle.std.specs.Prelude.{◌≡◌, ◌≤◌, length};
-ghost use Rattle.mc_base.specs.model_device.specs.Bytes.{zeros};
+ghost use Rattle.mc_words.specs.model_device.specs.Bytes.{zeros};
 
 use crate::bytes::write;
 use std::marker::Model;

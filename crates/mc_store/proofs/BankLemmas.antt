@@ -1,10 +1,10 @@
 -- What a commit and a deletion do to a store as a bank.
 use Rattle.std.proofs.Common.{arith, ◌≡◌, ◌≢◌, ℕ, true, false, not, List, Option, Some, Ok, Err, refl, sym, ◌∙◌, ap, inl, inr}
 use Rattle.std.specs.Prelude.{◌⊎◌, IsSome, unwrap_or}
-use Rattle.mc_base.specs.model_device.specs.Orders.{Answer}
-use Rattle.mc_base.specs.model_device.specs.Bytes.{lookup, insert}
-use Rattle.mc_base.specs.model_device.specs.Device.{DeviceState, IsSized, Wrote}
-use Rattle.mc_base.specs.model_device.specs.Card.{App, means}
+use Rattle.mc_words.specs.model_device.specs.Orders.{Answer}
+use Rattle.mc_words.specs.model_device.specs.Bytes.{lookup, insert}
+use Rattle.mc_words.specs.model_device.specs.Device.{DeviceState, IsSized, Wrote}
+use Rattle.mc_words.specs.model_device.specs.Card.{App, means}
 use Rattle.mc_bank.specs.model_card.specs.Items.{BankItem, Commit, Remove}
 use Rattle.mc_bank.specs.Bank.{no_app, app_of, sizes_of, with_words, apps_after_commit, item_done}
 use Rattle.mc_bank.specs.SlotLaws.{commit_sized}
@@ -17,7 +17,7 @@ use Rattle.mc_store.specs.PlaceLaws.{place_changed}
 use Rattle.mc_store.specs.TurnLaws.{SiteBytes, site_bytes_of}
 use Rattle.mc_store.specs.Laws.{store_obeys, store_keeps}
 use Rattle.mc_store.specs.StoreItems.{store_did}
-use Rattle.mc_base.specs.model_device.proofs.BoolLemmas.{some_is}
+use Rattle.mc_words.specs.model_device.proofs.BoolLemmas.{some_is}
 
 -- a store that is not stopped runs
 pub running : (d : DeviceState) (c : ℕ) → not (is_going d c) ≡ false → is_going d c ≡ true

@@ -2,13 +2,13 @@
 use Rattle.std.proofs.Common.{◌≡◌, ℕ, suc, ◌+◌, ◌*◌, ◌<◌, ◌≤◌, true, false, not, List, [], ◌∷◌, length, get_or, Option, Some, refl, sym, ◌∙◌, ap, subst, arith}
 use Rattle.std.specs.Prelude.{IsSome, is_some, unwrap_or}
 use Rattle.std.specs.List.{AllByRecursion}
-use Rattle.mc_base.specs.model_device.specs.Orders.{Answer}
-use Rattle.mc_base.specs.model_device.specs.Bytes.{up, be2, lookup, remove}
-use Rattle.mc_base.specs.model_device.specs.Device.{DeviceState, IsSized, Makes}
-use Rattle.mc_base.specs.model_device.specs.Image.{Two, is_open, look, Closed}
-use Rattle.mc_base.specs.model_device.specs.Stopped.{writes, IsAtomic}
-use Rattle.mc_base.specs.model_device.specs.Card.{App, means, card_of, record_at, app_at}
-use Rattle.mc_base.specs.model_device.specs.Layout.{spans, step_of, IsWellLaid}
+use Rattle.mc_words.specs.model_device.specs.Orders.{Answer}
+use Rattle.mc_words.specs.model_device.specs.Bytes.{up, be2, lookup, remove}
+use Rattle.mc_words.specs.model_device.specs.Device.{DeviceState, IsSized, Makes}
+use Rattle.mc_words.specs.model_device.specs.Image.{Two, is_open, look, Closed}
+use Rattle.mc_words.specs.model_device.specs.Stopped.{writes, IsAtomic}
+use Rattle.mc_words.specs.model_device.specs.Card.{App, means, card_of, record_at, app_at}
+use Rattle.mc_words.specs.model_device.specs.Layout.{spans, step_of, IsWellLaid}
 use Rattle.mc_bank.specs.model_card.specs.Items.{Commit, Remove}
 use Rattle.mc_bank.specs.Bank.{CanCommit, no_app, app_of, name_or}
 use Rattle.mc_blocks.specs.Plans.{plan, without, has_span}
@@ -28,7 +28,7 @@ use Rattle.mc_bank.specs.model_card.specs.declared.card.Part.TheVariants.{Data}
 use Rattle.mc_bank.specs.model_card.specs.declared.card.Sizes.{Sizes}
 use Rattle.mc_store.proofs.ReadLemmas.{of_slot}
 use Rattle.mc_store.proofs.RecordLemmas.{RecordIs, record_is}
-use Rattle.mc_base.specs.model_device.proofs.BoolLemmas.{some_is}
+use Rattle.mc_words.specs.model_device.proofs.BoolLemmas.{some_is}
 
 -- ---- a deletion
 

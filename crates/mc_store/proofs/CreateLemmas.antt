@@ -5,15 +5,15 @@ use Rattle.std.proofs.lemmas.List.{drop_more, length-replicate, get_or_append_le
 use Rattle.std.proofs.Math.Seq.{drop-append-add}
 use Rattle.mc_bank.specs.model_card.specs.declared.card.Sizes.{Sizes}
 use Rattle.mc_bank.specs.model_card.specs.declared.card.Part.TheVariants.{Data}
-use Rattle.mc_base.specs.model_device.specs.Orders.{Answer}
-use Rattle.mc_base.specs.model_device.specs.Bytes.{zeros, bytes2, splice}
-use Rattle.mc_base.specs.model_device.specs.Device.{DeviceState, IsSized, Wrote, Makes}
-use Rattle.mc_base.specs.model_device.specs.Image.{Two, is_open, look, Closed}
-use Rattle.mc_base.specs.model_device.specs.Stopped.{writes}
-use Rattle.mc_base.specs.model_device.specs.Card.{means, word}
-use Rattle.mc_base.specs.model_device.specs.Layout.{gaps, spans, put_at, step_of, IsWellLaid}
+use Rattle.mc_words.specs.model_device.specs.Orders.{Answer}
+use Rattle.mc_words.specs.model_device.specs.Bytes.{zeros, bytes2, splice}
+use Rattle.mc_words.specs.model_device.specs.Device.{DeviceState, IsSized, Wrote, Makes}
+use Rattle.mc_words.specs.model_device.specs.Image.{Two, is_open, look, Closed}
+use Rattle.mc_words.specs.model_device.specs.Stopped.{writes}
+use Rattle.mc_words.specs.model_device.specs.Card.{means, word}
+use Rattle.mc_words.specs.model_device.specs.Layout.{gaps, spans, put_at, step_of, IsWellLaid}
 use Rattle.mc_bank.specs.model_card.specs.Items.{Site, Blank, Note, Enter}
-use Rattle.mc_base.specs.Name.{IsName}
+use Rattle.mc_words.specs.Name.{IsName}
 use Rattle.mc_blocks.specs.Plans.{plan, has_room}
 use Rattle.mc_store.specs.Store.{is_going, words_of_sizes, part_from, record_bytes, record_word, card_with, count_after, IsGoodIn, IsInWord, IsReadySite, StoreDid}
 use Rattle.mc_store.specs.GoingLaws.{Going, going_is}

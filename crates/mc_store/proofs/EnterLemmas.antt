@@ -1,12 +1,12 @@
 -- A store is ready for the last item of a creation after those before it.
 use Rattle.std.proofs.Common.{◌≡◌, ℕ, ◌-◌, ◌≤◌, true, List, [], ◌∷◌, length, map, None, Ok, sym, ◌∙◌, ap, subst}
 use Rattle.std.specs.List.{AllByRecursion}
-use Rattle.mc_base.specs.model_device.specs.Orders.{Answer, InOrder}
-use Rattle.mc_base.specs.model_device.specs.Bytes.{zeros, lookup}
-use Rattle.mc_base.specs.model_device.specs.Device.{DeviceState, IsSized, Wrote}
-use Rattle.mc_base.specs.model_device.specs.Card.{Card, means}
+use Rattle.mc_words.specs.model_device.specs.Orders.{Answer, InOrder}
+use Rattle.mc_words.specs.model_device.specs.Bytes.{zeros, lookup}
+use Rattle.mc_words.specs.model_device.specs.Device.{DeviceState, IsSized, Wrote}
+use Rattle.mc_words.specs.model_device.specs.Card.{Card, means}
 use Rattle.mc_bank.specs.model_card.specs.Items.{Site, Blank, Note}
-use Rattle.mc_base.specs.Name.{IsName}
+use Rattle.mc_words.specs.Name.{IsName}
 use Rattle.mc_store.specs.declared.store.Store.{Store}
 use Rattle.mc_store.specs.Store.{is_going, IsGoodIn, IsReadySite}
 use Rattle.mc_store.specs.GoingLaws.{going_is}
@@ -14,7 +14,7 @@ use Rattle.mc_store.specs.StoreItems.{store_did, blank_items}
 use Rattle.mc_store.proofs.FillLemmas.{PlainOn}
 use Rattle.mc_store.proofs.ItemLemmas.{IsPlain, items_on}
 use Rattle.mc_store.proofs.ReadyLemmas.{ready}
-use Rattle.mc_base.specs.model_device.proofs.LayoutLemmas.{closed_means}
+use Rattle.mc_words.specs.model_device.proofs.LayoutLemmas.{closed_means}
 
 plain_blanks : (s : Site) (cs : List (ℕ × List ℕ)) → AllByRecursion IsPlain (map (λ c. Blank s c.0 (length c.1)) cs)
 plain_blanks s [] = tt

@@ -3,11 +3,11 @@ use Rattle.std.proofs.Common.{◌≡◌, ◌⊎◌, ℕ, zero, suc, ◌+◌, ◌
 use Rattle.std.specs.Prelude.{OnOk}
 use Rattle.std.proofs.lemmas.List.{length-drop, drop-drop, take_all, drop_all}
 use Rattle.mc_bank.specs.model_card.specs.declared.card.Part.{Part}
-use Rattle.mc_base.specs.model_device.specs.declared.device.Stop.{Stop}
-use Rattle.mc_base.specs.model_device.specs.Orders.{Answer, InOrder}
-use Rattle.mc_base.specs.model_device.specs.Bytes.{splice}
-use Rattle.mc_base.specs.model_device.specs.Device.{DeviceState, IsSized, Wrote, Makes}
-use Rattle.mc_base.specs.model_device.specs.Card.{App, Card, card_of, means, word}
+use Rattle.mc_words.specs.model_device.specs.declared.device.Stop.{Stop}
+use Rattle.mc_words.specs.model_device.specs.Orders.{Answer, InOrder}
+use Rattle.mc_words.specs.model_device.specs.Bytes.{splice}
+use Rattle.mc_words.specs.model_device.specs.Device.{DeviceState, IsSized, Wrote, Makes}
+use Rattle.mc_words.specs.model_device.specs.Card.{App, Card, card_of, means, word}
 use Rattle.mc_bank.specs.model_card.specs.Items.{Site, BankItem, Piece, Blank, Note}
 use Rattle.mc_bank.specs.model_card.specs.Manager.{in_words, word_parts}
 use Rattle.mc_bank.specs.Bank.{part_len}
@@ -15,7 +15,7 @@ use Rattle.mc_store.specs.Store.{apps_in, is_going, part_from, IsGoodIn, IsInWor
 use Rattle.mc_store.specs.GoingLaws.{Going, going_is, is_going_of}
 use Rattle.mc_store.specs.CreationLaws.{at_site}
 use Rattle.mc_store.specs.TurnLaws.{CardChanged, SiteBytes, site_bytes_of, turns, parted}
-use Rattle.mc_base.specs.model_device.proofs.LayoutLemmas.{closed_means}
+use Rattle.mc_words.specs.model_device.proofs.LayoutLemmas.{closed_means}
 use Rattle.mc_store.proofs.SiteLemmas.{no_words}
 
 -- ---- the parts of a piece

@@ -5,9 +5,9 @@ use Rattle.std.specs.List.{concat}
 use Rattle.std.proofs.lemmas.List.{drop_more, drop-drop, drop-take, drop_at, take-take, take-append-drop, take-append-le, drop-append-le, take_all, length-take-le}
 use borrow.Rule.Slice.PartMut.{put_mid}
 use Rattle.std.proofs.lemmas.Slice.{put_mid-paste, take-put_mid}
-use Rattle.mc_base.specs.model_device.specs.Bytes.{up}
-use Rattle.mc_base.specs.model_device.specs.Device.{IsSized}
-use Rattle.mc_base.specs.model_device.specs.Card.{word, cells, section}
+use Rattle.mc_words.specs.model_device.specs.Bytes.{up}
+use Rattle.mc_words.specs.model_device.specs.Device.{IsSized}
+use Rattle.mc_words.specs.model_device.specs.Card.{word, cells, section}
 use Rattle.std.proofs.lemmas.List.Folds.{concat-append}
 use Rattle.mc_blocks.proofs.Sections.{length_cells}
 use Rattle.mc_store.specs.Slots.{flat}

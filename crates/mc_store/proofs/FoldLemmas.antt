@@ -4,17 +4,17 @@ use Rattle.std.specs.Prelude.{IsSome, OnOk, slice_set}
 use Rattle.std.specs.List.{AllByRecursion}
 use Rattle.std.proofs.lemmas.List.{length-replicate}
 use Rattle.mc_bank.specs.model_card.specs.declared.card.Part.{Part}
-use Rattle.mc_base.specs.model_device.specs.declared.device.Stop.{Stop}
-use Rattle.mc_base.specs.model_device.specs.declared.device.Stop.TheVariants.{Off, Worn}
-use Rattle.mc_base.specs.model_device.specs.Counts.{Rose}
-use Rattle.mc_base.specs.model_device.specs.Orders.{Answer, InOrder}
-use Rattle.mc_base.specs.model_device.specs.Bytes.{zeros, splice, lookup, insert}
-use Rattle.mc_base.specs.model_device.specs.Pieces.{laid_pieces}
+use Rattle.mc_words.specs.model_device.specs.declared.device.Stop.{Stop}
+use Rattle.mc_words.specs.model_device.specs.declared.device.Stop.TheVariants.{Off, Worn}
+use Rattle.mc_words.specs.model_device.specs.Counts.{Rose}
+use Rattle.mc_words.specs.model_device.specs.Orders.{Answer, InOrder}
+use Rattle.mc_words.specs.model_device.specs.Bytes.{zeros, splice, lookup, insert}
+use Rattle.mc_words.specs.model_device.specs.Pieces.{laid_pieces}
 use Rattle.mc_bank.specs.model_card.specs.Manager.{in_words, word_parts, create_items}
-use Rattle.mc_base.specs.model_device.specs.Device.{DeviceState, Wrote, Makes}
-use Rattle.mc_base.specs.model_device.specs.Card.{App, Card, means, card_of}
+use Rattle.mc_words.specs.model_device.specs.Device.{DeviceState, Wrote, Makes}
+use Rattle.mc_words.specs.model_device.specs.Card.{App, Card, means, card_of}
 use Rattle.mc_bank.specs.model_card.specs.Items.{Site, BankItem, Piece, Blank, Note, Commit, Enter, Remove}
-use Rattle.mc_base.specs.model_device.proofs.ImageLemmas.{all_map}
+use Rattle.mc_words.specs.model_device.proofs.ImageLemmas.{all_map}
 use Rattle.mc_bank.specs.Bank.{BankState, IsGoodSite, StayGood, app_of_site, item_done, part_len, IsChanged, IsStopped, StopRose, Changes}
 use Rattle.mc_store.specs.declared.store.Store.{Store}
 use Rattle.mc_bank.specs.Slots.{slot_place, name_of_slot}
@@ -27,9 +27,9 @@ use Rattle.mc_store.specs.Laws.{store_obeys, store_keeps}
 use Rattle.mc_store.specs.StoreItems.{store_did}
 use Rattle.mc_store.proofs.SiteLemmas.{piece_part, piece_other, blank_part, note_part, laid_parts, part_length}
 use Rattle.mc_store.proofs.ItemLemmas.{IsPlain}
-use Rattle.mc_base.specs.model_device.proofs.LayoutLemmas.{closed_means}
-use Rattle.mc_base.specs.model_device.proofs.ListLemmas.{splice_none}
-use Rattle.mc_base.specs.model_device.proofs.BoolLemmas.{some_is}
+use Rattle.mc_words.specs.model_device.proofs.LayoutLemmas.{closed_means}
+use Rattle.mc_words.specs.model_device.proofs.ListLemmas.{splice_none}
+use Rattle.mc_words.specs.model_device.proofs.BoolLemmas.{some_is}
 
 -- ---- changes one after another
 

@@ -3,9 +3,9 @@ use Rattle.std.proofs.Common.{◌≡◌, ℕ, zero, suc, ◌+◌, ◌-◌, ◌�
 use Rattle.std.specs.Prelude.{nat_lt, ◌==◌, slice_index, bytes_eq}
 use Rattle.std.specs.List.{concat, AllByRecursion}
 use Rattle.std.proofs.lemmas.List.{drop-drop, get_or-drop, get_or_default, same_lists}
-use Rattle.mc_base.specs.model_device.specs.Bytes.{has_name, insert, up}
-use Rattle.mc_base.specs.model_device.specs.Card.{App, Block, word, header, block_and, blocks_from, blocks, heap_start, cells, section, record_at, name_in, name_at, app_at, apps_of, card_of}
-use Rattle.mc_base.specs.model_device.specs.Layout.{is_record, bad_header, next_block, is_hole, bad_block, bad_record, words_fault, root}
+use Rattle.mc_words.specs.model_device.specs.Bytes.{has_name, insert, up}
+use Rattle.mc_words.specs.model_device.specs.Card.{App, Block, word, header, block_and, blocks_from, blocks, heap_start, cells, section, record_at, name_in, name_at, app_at, apps_of, card_of}
+use Rattle.mc_words.specs.model_device.specs.Layout.{is_record, bad_header, next_block, is_hole, bad_block, bad_record, words_fault, root}
 use Rattle.mc_blocks.proofs.Steps.{HeaderIs, header_is}
 
 -- the test of a root

@@ -1,8 +1,8 @@
 -- Lists of items of a store that leave the card: pieces, zeros and words of a record, done or stopped.
 use Rattle.std.proofs.Common.{arith, ◌≡◌, ℕ, true, List, [], ◌∷◌, Ok, refl, sym, ◌∙◌, subst, inl, inr}
 use Rattle.std.specs.List.{AllByRecursion}
-use Rattle.mc_base.specs.model_device.specs.Orders.{Answer, InOrder}
-use Rattle.mc_base.specs.model_device.specs.Device.{DeviceState, Wrote}
+use Rattle.mc_words.specs.model_device.specs.Orders.{Answer, InOrder}
+use Rattle.mc_words.specs.model_device.specs.Device.{DeviceState, Wrote}
 use Rattle.mc_bank.specs.model_card.specs.Items.{BankItem, Piece, Blank, Note, Commit, Enter, Remove}
 use Rattle.mc_store.specs.Store.{is_going, StoreDid}
 use Rattle.mc_store.proofs.FillLemmas.{PlainOn, piece_on, blank_on, note_on}

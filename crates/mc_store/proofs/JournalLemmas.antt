@@ -2,16 +2,16 @@
 use Rattle.std.proofs.Common.{◌≡◌, ◌≢◌, ℕ, ◌+◌, ◌≤◌, Bool, true, false, List, [], ◌∷◌, length, Option, Some, None, refl, sym, ◌∙◌, ap, arith, inl, inr}
 use Rattle.std.specs.Prelude.{bytes_eq, Result, Ok, Err, ◌⊎◌}
 use Rattle.std.specs.List.{AllByRecursion}
-use Rattle.mc_base.specs.model_device.specs.declared.cause.Cause.{Cause}
-use Rattle.mc_base.specs.model_device.specs.Image.{Journal, One, Two, opening, shut_word, gate, is_open, Only, which, which_of, Look, Refused, Closed, Pending, look_j, look_at, look, image_with, After, Words, after, after_j, owed_j, image_after_replay, debt, look_by_gate, within, count, look_by_targets, look_by_head, targets}
-use Rattle.mc_base.specs.model_device.specs.Stopped.{replay, remains, image_after_stop, Resumes}
-use Rattle.mc_base.specs.model_device.specs.Card.{Card, card_of, means, word, words_after}
-use Rattle.mc_base.specs.model_device.specs.Layout.{words_fault, fault, fault_of}
-use Rattle.mc_base.specs.model_device.specs.PowerUp.{Base, OnCard, AtFault, base_of}
-use Rattle.mc_base.specs.model_device.proofs.ImageLemmas.{all_append, length_laid, laid_other}
-use Rattle.mc_base.specs.model_device.proofs.LookLemmas.{good_pending, gate_inside}
-use Rattle.mc_base.specs.model_device.proofs.StoppedLemmas.{torn_other, shut_closed, targets_outside, closed_look}
-use Rattle.mc_base.specs.model_device.proofs.RecoveryLemmas.{resume, resumed, look_one, look_two}
+use Rattle.mc_words.specs.model_device.specs.declared.cause.Cause.{Cause}
+use Rattle.mc_words.specs.model_device.specs.Image.{Journal, One, Two, opening, shut_word, gate, is_open, Only, which, which_of, Look, Refused, Closed, Pending, look_j, look_at, look, image_with, After, Words, after, after_j, owed_j, image_after_replay, debt, look_by_gate, within, count, look_by_targets, look_by_head, targets}
+use Rattle.mc_words.specs.model_device.specs.Stopped.{replay, remains, image_after_stop, Resumes}
+use Rattle.mc_words.specs.model_device.specs.Card.{Card, card_of, means, word, words_after}
+use Rattle.mc_words.specs.model_device.specs.Layout.{words_fault, fault, fault_of}
+use Rattle.mc_words.specs.model_device.specs.PowerUp.{Base, OnCard, AtFault, base_of}
+use Rattle.mc_words.specs.model_device.proofs.ImageLemmas.{all_append, length_laid, laid_other}
+use Rattle.mc_words.specs.model_device.proofs.LookLemmas.{good_pending, gate_inside}
+use Rattle.mc_words.specs.model_device.proofs.StoppedLemmas.{torn_other, shut_closed, targets_outside, closed_look}
+use Rattle.mc_words.specs.model_device.proofs.RecoveryLemmas.{resume, resumed, look_one, look_two}
 use Rattle.mc_store.specs.Power.{base_of_words, HoldsBase}
 use Rattle.mc_store.proofs.HeapLemmas.{SameHeap, same_drop, same_fault, same_card}
 

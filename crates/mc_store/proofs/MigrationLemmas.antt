@@ -4,14 +4,14 @@ use Rattle.std.specs.Prelude.{bytes_eq, ◌⊎◌, ◌==◌, slice_index, slice_
 use Rattle.std.specs.List.{AllByRecursion}
 use Rattle.std.proofs.lemmas.List.{get_or-set_same, get_or-set_other, length-set}
 use Rattle.std.proofs.lemmas.Bool.{eqb-true}
-use Rattle.mc_base.specs.model_device.specs.declared.cause.Cause.TheVariants.{NoRoot, BadBlock, BadRecord, BadChain}
-use Rattle.mc_base.specs.model_device.specs.Bytes.{be2, or_else}
-use Rattle.mc_base.specs.model_device.specs.Image.{One, Two, opening, is_open, Closed, look, image_with}
-use Rattle.mc_base.specs.model_device.specs.Stopped.{InJournal, writes, stands, owes, image_after_stop, image_if_written, IsAtomic, SameOutside, LeavesOwing, LaidWhole}
-use Rattle.mc_base.specs.model_device.specs.Card.{App, Block, card_of, word, blocks, heap_start}
-use Rattle.mc_base.specs.model_device.specs.Layout.{words_fault, root, no_root, bad_block, bad_record, bad_link, bad_chain, first_hole, by_cause}
-use Rattle.mc_base.specs.model_device.proofs.ImageLemmas.{laid_other}
-use Rattle.mc_base.specs.model_device.proofs.StoppedLemmas.{torn_other, shut_closed, tear, done}
+use Rattle.mc_words.specs.model_device.specs.declared.cause.Cause.TheVariants.{NoRoot, BadBlock, BadRecord, BadChain}
+use Rattle.mc_words.specs.model_device.specs.Bytes.{be2, or_else}
+use Rattle.mc_words.specs.model_device.specs.Image.{One, Two, opening, is_open, Closed, look, image_with}
+use Rattle.mc_words.specs.model_device.specs.Stopped.{InJournal, writes, stands, owes, image_after_stop, image_if_written, IsAtomic, SameOutside, LeavesOwing, LaidWhole}
+use Rattle.mc_words.specs.model_device.specs.Card.{App, Block, card_of, word, blocks, heap_start}
+use Rattle.mc_words.specs.model_device.specs.Layout.{words_fault, root, no_root, bad_block, bad_record, bad_link, bad_chain, first_hole, by_cause}
+use Rattle.mc_words.specs.model_device.proofs.ImageLemmas.{laid_other}
+use Rattle.mc_words.specs.model_device.proofs.StoppedLemmas.{torn_other, shut_closed, tear, done}
 use Rattle.mc_blocks.proofs.Bridge.{Faultless, faultless}
 use Rattle.mc_store.specs.Power.{new_root, HoldsBase}
 use Rattle.mc_store.proofs.HeapLemmas.{SameHeap, root_test, same_drop, all_blocks, all_apps, bad_blocks, bad_records}

@@ -4,13 +4,13 @@ use Rattle.std.specs.Prelude.{slice_set}
 use Rattle.std.proofs.lemmas.List.{length-set, get_or-set_same, get_or-set_other, take-append-le, drop-append-le, length-take-le, take-append-drop, take_all, drop_all}
 use Rattle.std.proofs.lemmas.Bool.{cases_lt}
 use Rattle.std.proofs.Math.Seq.{take-append-add, drop-append-add}
-use Rattle.mc_base.specs.model_device.specs.Bytes.{up, splice}
-use Rattle.mc_base.specs.model_device.specs.Device.{IsSized}
-use Rattle.mc_base.specs.model_device.specs.Card.{word, cells, section}
+use Rattle.mc_words.specs.model_device.specs.Bytes.{up, splice}
+use Rattle.mc_words.specs.model_device.specs.Device.{IsSized}
+use Rattle.mc_words.specs.model_device.specs.Card.{word, cells, section}
 use Rattle.mc_bank.proofs.LeftLemmas.{front_piece, splice_splice}
 use Rattle.mc_store.specs.Store.{IsInWord}
 use Rattle.mc_blocks.proofs.Sections.{cells_more, cells_append, length_cells, same_cells}
-use Rattle.mc_base.specs.model_device.proofs.ListLemmas.{splice_none}
+use Rattle.mc_words.specs.model_device.proofs.ListLemmas.{splice_none}
 
 -- ---- bytes set in one word
 

@@ -2,24 +2,24 @@
 use Rattle.std.proofs.Common.{◌≡◌, ℕ, ◌+◌, ◌-◌, ◌≤◌, Bool, true, false, List, [], ◌++◌, length, Option, Some, None, refl, sym, ◌∙◌, ap, subst, arith, cond, inl, inr, length-append}
 use Rattle.std.specs.Prelude.{◌⊎◌, ◌==◌}
 use Rattle.std.proofs.lemmas.Bool.{eqb-true, eq-eqb, ne_eqb}
-use Rattle.mc_base.specs.model_device.specs.declared.cause.Cause.{Cause}
-use Rattle.mc_base.specs.model_device.specs.Orders.{Answer}
-use Rattle.mc_base.specs.model_device.specs.Device.{DeviceState, IsSized, Wrote, Makes}
-use Rattle.mc_base.specs.model_device.specs.Image.{Journal, One, which, Look, Refused, Closed, Pending, look, image_with, Words, After, after, image_after_replay, count_of_recovery_writes, debt}
-use Rattle.mc_base.specs.model_device.specs.Stopped.{writes, replay, owed_writes, image_after_stop, image_if_written, stands, owes, remains}
-use Rattle.mc_base.specs.model_device.specs.Card.{Card, card_of, means, words_after}
-use Rattle.mc_base.specs.model_device.specs.Layout.{words_fault, fault, fault_of}
-use Rattle.mc_base.specs.model_device.specs.PowerUp.{Base, OnCard, AtFault, base_of, migration, base_after_migration, pending_journal}
-use Rattle.mc_base.specs.model_device.proofs.ImageLemmas.{length_laid, laid_append}
-use Rattle.mc_base.specs.model_device.proofs.StoppedLemmas.{torn_within, torn_past}
-use Rattle.mc_base.specs.model_device.proofs.DeviceLemmas.{DoneAll, StoppedAt, makes_done, makes_stopped}
+use Rattle.mc_words.specs.model_device.specs.declared.cause.Cause.{Cause}
+use Rattle.mc_words.specs.model_device.specs.Orders.{Answer}
+use Rattle.mc_words.specs.model_device.specs.Device.{DeviceState, IsSized, Wrote, Makes}
+use Rattle.mc_words.specs.model_device.specs.Image.{Journal, One, which, Look, Refused, Closed, Pending, look, image_with, Words, After, after, image_after_replay, count_of_recovery_writes, debt}
+use Rattle.mc_words.specs.model_device.specs.Stopped.{writes, replay, owed_writes, image_after_stop, image_if_written, stands, owes, remains}
+use Rattle.mc_words.specs.model_device.specs.Card.{Card, card_of, means, words_after}
+use Rattle.mc_words.specs.model_device.specs.Layout.{words_fault, fault, fault_of}
+use Rattle.mc_words.specs.model_device.specs.PowerUp.{Base, OnCard, AtFault, base_of, migration, base_after_migration, pending_journal}
+use Rattle.mc_words.specs.model_device.proofs.ImageLemmas.{length_laid, laid_append}
+use Rattle.mc_words.specs.model_device.proofs.StoppedLemmas.{torn_within, torn_past}
+use Rattle.mc_words.specs.model_device.proofs.DeviceLemmas.{DoneAll, StoppedAt, makes_done, makes_stopped}
 use Rattle.mc_store.specs.Store.{settled_words}
 use Rattle.mc_store.specs.Power.{base_of_words, new_root, migration_writes, power_writes, power_count, HoldsBase, IsHalted, Powered, Runs, Halts, Fails, PowersUp, power_answer, PowerFollows}
 use Rattle.mc_store.specs.GoingLaws.{is_going_of, closed_settled}
 use Rattle.mc_store.proofs.HeapLemmas.{same_fault, same_card}
 use Rattle.mc_store.proofs.JournalLemmas.{IsPending, is_pending, NoneOpen, none_open, open_alone, base_in, raw, found_after, recovered_closed, recovery_halted}
 use Rattle.mc_store.proofs.MigrationLemmas.{version_is, upgrade, IsUpgraded, is_upgraded, migration_halted, migration_closed, migration_heap, migration_root}
-use Rattle.mc_base.specs.model_device.proofs.LayoutLemmas.{closed_means}
+use Rattle.mc_words.specs.model_device.proofs.LayoutLemmas.{closed_means}
 
 -- ---- after the writes of recovery
 

@@ -5,11 +5,11 @@ use Rattle.std.proofs.lemmas.Bool.{leb-false}
 use Rattle.mc_bank.specs.model_card.specs.declared.card.Part.{Part}
 use Rattle.mc_bank.specs.model_card.specs.declared.card.Sizes.{Sizes}
 use Rattle.mc_bank.specs.model_card.specs.declared.card.OpenRefusal.{OpenRefusal}
-use Rattle.mc_base.specs.model_device.specs.Bytes.{up, lookup}
-use Rattle.mc_base.specs.model_device.specs.Device.{DeviceState, IsSized}
-use Rattle.mc_base.specs.model_device.specs.Card.{App, Card, record_at, name_at, app_at, section, blocks, means}
-use Rattle.mc_base.specs.model_device.specs.Layout.{words_fault, gaps, IsWellLaid}
-use Rattle.mc_base.specs.model_device.specs.Image.{look, Closed}
+use Rattle.mc_words.specs.model_device.specs.Bytes.{up, lookup}
+use Rattle.mc_words.specs.model_device.specs.Device.{DeviceState, IsSized}
+use Rattle.mc_words.specs.model_device.specs.Card.{App, Card, record_at, name_at, app_at, section, blocks, means}
+use Rattle.mc_words.specs.model_device.specs.Layout.{words_fault, gaps, IsWellLaid}
+use Rattle.mc_words.specs.model_device.specs.Image.{look, Closed}
 use Rattle.mc_bank.specs.model_card.specs.Items.{Site}
 use Rattle.mc_bank.specs.Bank.{app_of, sizes_of, FitsLimits, AreApps, search_result, IsGoodSite, HasParts, part_len}
 use Rattle.mc_bank.specs.Slots.{slot_place, slot_sizes}
@@ -23,7 +23,7 @@ use Rattle.mc_store.specs.CreationLaws.{AtSite, at_site}
 use Rattle.mc_store.proofs.RecordLemmas.{RecordIs, record_is}
 use Rattle.mc_store.proofs.FlatLemmas.{section_bytes}
 use Rattle.mc_store.proofs.SlotLemmas.{runs, map_is, name_there as found_there, name_slot, are_apps, sizes_are, fits_limits, Slot, slot}
-use Rattle.mc_base.specs.model_device.proofs.LayoutLemmas.{closed_fault, closed_means}
+use Rattle.mc_words.specs.model_device.proofs.LayoutLemmas.{closed_fault, closed_means}
 
 -- ---- sections
 

@@ -2,13 +2,13 @@
 use Rattle.std.proofs.Common.{◌≡◌, ◌≢◌, ℕ, zero, suc, ◌+◌, ◌-◌, ◌%◌, ◌<◌, ◌≤◌, true, List, [], ◌∷◌, ◌++◌, length, take, drop, map, None, Ok, refl, sym, ◌∙◌, ap, subst, inl, inr, arith, length-append, append_assoc, append-nil}
 use Rattle.std.proofs.lemmas.List.{length-replicate, length-drop, drop-drop, take-append-drop, take_all, drop_all, drop_at, length-take-le, length-set, get_or-set_same, get_or-set_other}
 use Rattle.mc_bank.specs.model_card.specs.declared.card.Part.TheVariants.{Data}
-use Rattle.mc_base.specs.model_device.specs.Orders.{Answer, InOrder}
-use Rattle.mc_base.specs.model_device.specs.Bytes.{zeros, bytes2, lookup, splice}
-use Rattle.mc_base.specs.model_device.specs.Device.{DeviceState, IsSized, Wrote, WriteDone}
-use Rattle.mc_base.specs.model_device.specs.Card.{Card, means, word, cells, section, record_at}
+use Rattle.mc_words.specs.model_device.specs.Orders.{Answer, InOrder}
+use Rattle.mc_words.specs.model_device.specs.Bytes.{zeros, bytes2, lookup, splice}
+use Rattle.mc_words.specs.model_device.specs.Device.{DeviceState, IsSized, Wrote, WriteDone}
+use Rattle.mc_words.specs.model_device.specs.Card.{Card, means, word, cells, section, record_at}
 use Rattle.mc_bank.specs.model_card.specs.Items.{Site, BankItem, Blank, Note}
 use Rattle.mc_bank.specs.model_card.specs.Manager.{in_words}
-use Rattle.mc_base.specs.Name.{IsName}
+use Rattle.mc_words.specs.Name.{IsName}
 use Rattle.mc_store.specs.Store.{is_going, words_of_sizes, part_from, record_bytes, record_word, IsGoodIn, IsInWord, IsReadySite, StoreDid}
 use Rattle.mc_store.specs.GoingLaws.{Going, going_is}
 use Rattle.mc_store.specs.GapLaws.{just_one}
@@ -18,7 +18,7 @@ use Rattle.mc_store.specs.TurnLaws.{site_bytes_of}
 use Rattle.mc_store.specs.StoreItems.{blank_items}
 use Rattle.mc_store.proofs.FillLemmas.{PlainOn, blank_on}
 use Rattle.mc_store.proofs.PieceLemmas.{section_write, splice_parts}
-use Rattle.mc_base.specs.model_device.proofs.ListLemmas.{splice_none}
+use Rattle.mc_words.specs.model_device.proofs.ListLemmas.{splice_none}
 
 -- ---- zeros
 

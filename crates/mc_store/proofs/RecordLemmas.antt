@@ -3,12 +3,12 @@ use Rattle.std.proofs.Common.{◌≡◌, ℕ, ◌+◌, ◌≤◌, Bool, true, fa
 use Rattle.std.specs.Prelude.{nat_le, ◌==◌, slice_index, bytes_eq, ◌-◌}
 use Rattle.std.proofs.lemmas.Bool.{and_parts, leb-true, eqb-true, false_from_ne_true}
 use Rattle.std.proofs.lemmas.List.{take-take, take-append-le}
-use Rattle.mc_base.specs.model_device.specs.Bytes.{be2, zeros}
-use Rattle.mc_base.specs.model_device.specs.Card.{word, words_of_lengths, record_at, name_in, name_at}
-use Rattle.mc_base.specs.model_device.specs.Layout.{is_record}
+use Rattle.mc_words.specs.model_device.specs.Bytes.{be2, zeros}
+use Rattle.mc_words.specs.model_device.specs.Card.{word, words_of_lengths, record_at, name_in, name_at}
+use Rattle.mc_words.specs.model_device.specs.Layout.{is_record}
 use Rattle.mc_blocks.proofs.Records.{record_is as record_bytes_are}
 use Rattle.mc_store.specs.Slots.{IsUsedBlock}
-use Rattle.mc_base.specs.model_device.proofs.MapLemmas.{same_name, name_is_itself}
+use Rattle.mc_words.specs.model_device.proofs.MapLemmas.{same_name, name_is_itself}
 use Rattle.mc_blocks.proofs.Entries.{long_enough}
 
 -- the limits that a good record keeps, and the words of its block

@@ -1,23 +1,23 @@
 -- The steps of a power-up, one after another: the replay, the check, the migration.
 use Rattle.std.proofs.Common.{arith, ◌≡◌, ℕ, ◌≤◌, true, List, [], ◌∷◌, ◌++◌, length, Option, None, Ok, Err, refl, sym, ◌∙◌, ap, subst, cond, append-nil}
 use Rattle.std.specs.Prelude.{Result, IfOk, ◌==◌, slice_set}
-use Rattle.mc_base.specs.model_device.specs.declared.cause.Cause.{Cause}
-use Rattle.mc_base.specs.model_device.specs.Orders.{Answer}
-use Rattle.mc_base.specs.model_device.specs.Device.{DeviceState, Wrote, Makes}
-use Rattle.mc_base.specs.model_device.specs.Image.{Journal, One, Look, Closed, look, look_j, count_of_recovery_writes}
-use Rattle.mc_base.specs.model_device.specs.Stopped.{writes, owed_writes, Recovered, LookAllows, RecoverEnds}
-use Rattle.mc_base.specs.model_device.specs.Card.{means, word}
-use Rattle.mc_base.specs.model_device.specs.Layout.{words_fault, fault, fault_of}
-use Rattle.mc_base.specs.model_device.specs.PowerUp.{Base, base_of}
-use Rattle.mc_base.specs.model_device.proofs.OrdersLemmas.{in_order_append, in_order_stopped}
-use Rattle.mc_base.specs.model_device.proofs.DeviceLemmas.{DoneAll, makes_done}
+use Rattle.mc_words.specs.model_device.specs.declared.cause.Cause.{Cause}
+use Rattle.mc_words.specs.model_device.specs.Orders.{Answer}
+use Rattle.mc_words.specs.model_device.specs.Device.{DeviceState, Wrote, Makes}
+use Rattle.mc_words.specs.model_device.specs.Image.{Journal, One, Look, Closed, look, look_j, count_of_recovery_writes}
+use Rattle.mc_words.specs.model_device.specs.Stopped.{writes, owed_writes, Recovered, LookAllows, RecoverEnds}
+use Rattle.mc_words.specs.model_device.specs.Card.{means, word}
+use Rattle.mc_words.specs.model_device.specs.Layout.{words_fault, fault, fault_of}
+use Rattle.mc_words.specs.model_device.specs.PowerUp.{Base, base_of}
+use Rattle.mc_words.specs.model_device.proofs.OrdersLemmas.{in_order_append, in_order_stopped}
+use Rattle.mc_words.specs.model_device.proofs.DeviceLemmas.{DoneAll, makes_done}
 use Rattle.mc_store.specs.declared.power.Up.{Up}
 use Rattle.mc_store.specs.declared.power.Up.TheVariants as up
 use Rattle.mc_store.specs.Store.{settled_words}
 use Rattle.mc_store.specs.Power.{base_of_words, new_root, migration_writes, power_writes, Powered, power_answer, PowerFollows, RecoverFollows, FinishFollows, failure_end, recovery_end}
 use Rattle.mc_store.proofs.JournalLemmas.{IsPending, is_pending, recovered_closed}
 use Rattle.mc_store.proofs.PowerLemmas.{OwedSettles, settles}
-use Rattle.mc_base.specs.model_device.proofs.LayoutLemmas.{closed_fault, closed_means}
+use Rattle.mc_words.specs.model_device.proofs.LayoutLemmas.{closed_fault, closed_means}
 
 -- ---- a replay that was done
 

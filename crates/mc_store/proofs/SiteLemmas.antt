@@ -6,18 +6,18 @@ use Rattle.std.proofs.lemmas.List.{length-take-le, take-take, take-append-le, ge
 use Rattle.mc_bank.specs.model_card.specs.declared.card.Part.{Part}
 use Rattle.mc_bank.specs.model_card.specs.declared.card.Part.TheVariants.{Code, Data, Dir, Fci}
 use Rattle.mc_bank.specs.model_card.specs.declared.card.Sizes.{Sizes}
-use Rattle.mc_base.specs.model_device.specs.Bytes.{up, down, splice}
-use Rattle.mc_base.specs.model_device.specs.Pieces.{laid_pieces}
+use Rattle.mc_words.specs.model_device.specs.Bytes.{up, down, splice}
+use Rattle.mc_words.specs.model_device.specs.Pieces.{laid_pieces}
 use Rattle.mc_bank.specs.model_card.specs.Manager.{in_words, word_parts}
-use Rattle.mc_base.specs.model_device.specs.Device.{IsSized}
-use Rattle.mc_base.specs.model_device.specs.Card.{word, section}
+use Rattle.mc_words.specs.model_device.specs.Device.{IsSized}
+use Rattle.mc_words.specs.model_device.specs.Card.{word, section}
 use Rattle.mc_bank.specs.model_card.specs.Items.{Site}
 use Rattle.mc_bank.specs.Bank.{FitsLimits, part_len}
 use Rattle.mc_store.specs.Store.{words_of_sizes, part_from, part_in, piece_write, IsInWord}
 use Rattle.mc_store.proofs.PieceLemmas.{section_write, splice_parts}
 use Rattle.mc_blocks.proofs.Sections.{section_front, same_section, length_section}
 use Rattle.mc_blocks.proofs.Splices.{image_set}
-use Rattle.mc_base.specs.model_device.proofs.ListLemmas.{length_splice, splice_none}
+use Rattle.mc_words.specs.model_device.proofs.ListLemmas.{length_splice, splice_none}
 
 -- ---- bytes
 

@@ -4,13 +4,13 @@ use Rattle.std.specs.Prelude.{◌==◌, bytes_eq, IsSome, is_some, unwrap_or}
 use Rattle.std.specs.List.{AllByRecursion}
 use Rattle.std.proofs.lemmas.Bool.{eqb-true, eq-eqb}
 use Rattle.mc_bank.specs.model_card.specs.declared.card.Sizes.{Sizes}
-use Rattle.mc_base.specs.model_device.specs.Bytes.{lookup, insert, name_before, AscendByName}
-use Rattle.mc_base.specs.model_device.specs.Image.{look, Closed}
-use Rattle.mc_base.specs.model_device.specs.Device.{DeviceState, IsSized}
-use Rattle.mc_base.specs.model_device.specs.Card.{App, Card, Block, blocks, record_at, name_at, app_at, apps_of, card_of}
-use Rattle.mc_base.specs.model_device.specs.Layout.{is_record, words_fault}
-use Rattle.mc_base.specs.model_device.proofs.ImageLemmas.{all_map}
-use Rattle.mc_base.specs.Name.{IsName}
+use Rattle.mc_words.specs.model_device.specs.Bytes.{lookup, insert, name_before, AscendByName}
+use Rattle.mc_words.specs.model_device.specs.Image.{look, Closed}
+use Rattle.mc_words.specs.model_device.specs.Device.{DeviceState, IsSized}
+use Rattle.mc_words.specs.model_device.specs.Card.{App, Card, Block, blocks, record_at, name_at, app_at, apps_of, card_of}
+use Rattle.mc_words.specs.model_device.specs.Layout.{is_record, words_fault}
+use Rattle.mc_words.specs.model_device.proofs.ImageLemmas.{all_map}
+use Rattle.mc_words.specs.Name.{IsName}
 use Rattle.mc_bank.specs.Bank.{app_of, no_app, sizes_of, FitsLimits, IsApplication, AreApps}
 use Rattle.mc_blocks.proofs.Steps.{blocks_all}
 use Rattle.mc_blocks.proofs.Tiles.{HeadersRead}
@@ -22,10 +22,10 @@ use Rattle.mc_store.specs.GoingLaws.{Going, going_is, closed_apps}
 use Rattle.mc_blocks.proofs.Sections.{length_cells, length_section}
 use Rattle.mc_store.proofs.RecordLemmas.{RecordIs, record_is, name_size}
 use Rattle.mc_store.proofs.WalkLemmas.{Walk, walk_begins}
-use Rattle.mc_base.specs.model_device.proofs.MapLemmas.{same_name, name_is_itself, not_after, lookup_inserted_lem, lookup_beside, each_inserted, ascending_inserted, each_found}
-use Rattle.mc_base.specs.model_device.proofs.LayoutLemmas.{closed_fault, closed_means}
+use Rattle.mc_words.specs.model_device.proofs.MapLemmas.{same_name, name_is_itself, not_after, lookup_inserted_lem, lookup_beside, each_inserted, ascending_inserted, each_found}
+use Rattle.mc_words.specs.model_device.proofs.LayoutLemmas.{closed_fault, closed_means}
 use Rattle.mc_blocks.proofs.Entries.{long_enough}
-use Rattle.mc_base.specs.model_device.proofs.BoolLemmas.{some_is}
+use Rattle.mc_words.specs.model_device.proofs.BoolLemmas.{some_is}
 
 -- ---- the entries of the map
 

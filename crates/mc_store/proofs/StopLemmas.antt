@@ -2,17 +2,17 @@
 use Rattle.std.proofs.Common.{◌≡◌, ℕ, ◌+◌, ◌<◌, ◌≤◌, Bool, true, false, List, [], ◌∷◌, length, Option, Some, None, refl, sym, ◌∙◌, ap, subst, arith, cond}
 use Rattle.std.specs.Prelude.{bytes_eq, slice_set, unwrap_or}
 use Rattle.std.proofs.lemmas.List.{length-map}
-use Rattle.mc_base.specs.model_device.specs.Bytes.{up, lookup, insert}
-use Rattle.mc_base.specs.model_device.specs.Device.{IsSized}
-use Rattle.mc_base.specs.model_device.specs.Image.{One, Two, opening, look, Closed, image_with, debt}
-use Rattle.mc_base.specs.model_device.specs.Stopped.{writes, cost, stands, owes, image_after_stop, image_if_written, IsAtomic, LeavesOwing}
-use Rattle.mc_base.specs.model_device.specs.Card.{App, Card, card_of, means}
-use Rattle.mc_base.specs.model_device.specs.Layout.{words_fault, gaps, step_of, IsWellLaid}
-use Rattle.mc_base.specs.model_device.specs.PowerUp.{Base, OnCard}
+use Rattle.mc_words.specs.model_device.specs.Bytes.{up, lookup, insert}
+use Rattle.mc_words.specs.model_device.specs.Device.{IsSized}
+use Rattle.mc_words.specs.model_device.specs.Image.{One, Two, opening, look, Closed, image_with, debt}
+use Rattle.mc_words.specs.model_device.specs.Stopped.{writes, cost, stands, owes, image_after_stop, image_if_written, IsAtomic, LeavesOwing}
+use Rattle.mc_words.specs.model_device.specs.Card.{App, Card, card_of, means}
+use Rattle.mc_words.specs.model_device.specs.Layout.{words_fault, gaps, step_of, IsWellLaid}
+use Rattle.mc_words.specs.model_device.specs.PowerUp.{Base, OnCard}
 use Rattle.mc_bank.specs.model_card.specs.Items.{Site, BankItem, Piece, Blank, Note, Commit, Enter, Remove}
-use Rattle.mc_base.specs.model_device.proofs.ImageLemmas.{length_laid}
-use Rattle.mc_base.specs.model_device.proofs.CallLemmas.{length_writes}
-use Rattle.mc_base.specs.model_device.proofs.StoppedLemmas.{torn_other, tear}
+use Rattle.mc_words.specs.model_device.proofs.ImageLemmas.{length_laid}
+use Rattle.mc_words.specs.model_device.proofs.CallLemmas.{length_writes}
+use Rattle.mc_words.specs.model_device.proofs.StoppedLemmas.{torn_other, tear}
 use Rattle.mc_bank.specs.Bank.{no_app, app_of, CanCommit, with_words}
 use Rattle.mc_blocks.specs.Plans.{has_room}
 use Rattle.mc_store.specs.Store.{words_of_sizes, static_writes, card_with, card_without, item_writes, IsGoodIn, Allows}
@@ -27,10 +27,10 @@ use Rattle.mc_store.specs.DeletionLaws.{Deletes, deletes_plan, deletes_card}
 use Rattle.mc_store.specs.TurnLaws.{parted, blanked}
 use Rattle.mc_store.proofs.JournalLemmas.{NoneOpen, none_open, raw, found_after, same_raw, stays}
 use Rattle.mc_store.proofs.PowerLemmas.{raw_card, closed_words}
-use Rattle.mc_base.specs.model_device.proofs.LookLemmas.{outside_two}
-use Rattle.mc_base.specs.model_device.proofs.LayoutLemmas.{closed_fault, closed_means}
+use Rattle.mc_words.specs.model_device.proofs.LookLemmas.{outside_two}
+use Rattle.mc_words.specs.model_device.proofs.LayoutLemmas.{closed_fault, closed_means}
 use Rattle.mc_blocks.proofs.Plans.{first_room}
-use Rattle.mc_base.specs.model_device.proofs.BoolLemmas.{some_is}
+use Rattle.mc_words.specs.model_device.proofs.BoolLemmas.{some_is}
 
 module _ (m : List (List ℕ)) (image : IsSized m) (closed : look m ≡ Closed) (good : words_fault m ≡ None) where
   well : IsWellLaid m

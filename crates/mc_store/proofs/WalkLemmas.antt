@@ -2,10 +2,10 @@
 use Rattle.std.proofs.Common.{◌≡◌, ℕ, ◌+◌, ◌<◌, ◌≤◌, Bool, true, false, ◌&&◌, List, [], ◌∷◌, length, Option, Some, None, refl, sym, ◌∙◌, ap, subst, arith, cond, not}
 use Rattle.std.specs.Prelude.{◌==◌, slice_index, bytes_eq}
 use Rattle.std.proofs.lemmas.Bool.{le-leb}
-use Rattle.mc_base.specs.model_device.specs.Bytes.{be2}
-use Rattle.mc_base.specs.model_device.specs.Device.{IsSized}
-use Rattle.mc_base.specs.model_device.specs.Card.{Block, word, header, blocks, name_at, used_tag}
-use Rattle.mc_base.specs.model_device.specs.Layout.{words_fault}
+use Rattle.mc_words.specs.model_device.specs.Bytes.{be2}
+use Rattle.mc_words.specs.model_device.specs.Device.{IsSized}
+use Rattle.mc_words.specs.model_device.specs.Card.{Block, word, header, blocks, name_at, used_tag}
+use Rattle.mc_words.specs.model_device.specs.Layout.{words_fault}
 use Rattle.mc_blocks.specs.Blocks.{block_within, blocks_at}
 use Rattle.mc_blocks.proofs.Steps.{HeaderIs, header_is, blocks_step, blocks_all}
 use Rattle.mc_blocks.proofs.Tiles.{Tiled, HeadersRead}

@@ -1,10 +1,10 @@
 -- Words that are equal in word 0 and in the heap hold one card, whatever their journals hold.
 use Rattle.std.proofs.Common.{◌≡◌, ℕ, ◌+◌, ◌≤◌, Bool, true, false, List, [], ◌∷◌, length, Option, Some, None, Result, Ok, Err, refl, sym, ◌∙◌, ap, arith}
-use Rattle.mc_base.specs.model_device.specs.Device.{IsSized}
-use Rattle.mc_base.specs.model_device.specs.Image.{Journal, One, Two, is_open, count, targets, Look, Refused, Closed, Pending, which_of, look, look_at, look_j, look_by_head, look_by_targets, look_by_gate, After, Words, after, image_after_replay}
-use Rattle.mc_base.specs.model_device.specs.Stopped.{InJournal, SameOutside}
-use Rattle.mc_base.specs.model_device.specs.Card.{Block, word, blocks, card_of, means, words_after}
-use Rattle.mc_base.specs.model_device.specs.Layout.{words_fault, fault, fault_of}
+use Rattle.mc_words.specs.model_device.specs.Device.{IsSized}
+use Rattle.mc_words.specs.model_device.specs.Image.{Journal, One, Two, is_open, count, targets, Look, Refused, Closed, Pending, which_of, look, look_at, look_j, look_by_head, look_by_targets, look_by_gate, After, Words, after, image_after_replay}
+use Rattle.mc_words.specs.model_device.specs.Stopped.{InJournal, SameOutside}
+use Rattle.mc_words.specs.model_device.specs.Card.{Block, word, blocks, card_of, means, words_after}
+use Rattle.mc_words.specs.model_device.specs.Layout.{words_fault, fault, fault_of}
 use Rattle.mc_blocks.specs.Blocks.{WordsAgree}
 use Rattle.mc_blocks.proofs.Tiles.{Tiled}
 use Rattle.mc_blocks.proofs.Bridge.{WellLaid, laid}

@@ -2,17 +2,17 @@
 use Rattle.std.proofs.Common.{◌≡◌, ◌≢◌, ◌⊎◌, ℕ, ◌≤◌, Bool, true, false, List, [], ◌∷◌, length, Ok, Err, ◌∙◌, ap, inl, inr, arith}
 use Rattle.std.specs.Prelude.{bytes_eq}
 use Rattle.std.specs.List.{AllByRecursion}
-use Rattle.mc_base.specs.model_device.specs.Orders.{Answer}
-use Rattle.mc_base.specs.model_device.specs.Device.{DeviceState, IsSized, Wrote, Makes, Ended}
-use Rattle.mc_base.specs.model_device.specs.Image.{One, Two, opening, shut_word, gate, is_open, image_with, Look, Closed, look, after, image_after_replay, Words}
-use Rattle.mc_base.specs.model_device.specs.Stopped.{word_of_number, entries, replay, writes, IsAtomic, stands, image_if_written, SameOutside, WriteStands, WriteTorn}
-use Rattle.mc_base.specs.model_device.specs.Card.{word}
-use Rattle.mc_base.specs.model_device.proofs.ImageLemmas.{all_append, all_map, laid_other}
-use Rattle.mc_base.specs.model_device.proofs.DeviceLemmas.{StoppedAt, makes_stopped}
-use Rattle.mc_base.specs.model_device.proofs.GeometryLemmas.{InEntries, Geometry, geometry, targets_within}
-use Rattle.mc_base.specs.model_device.proofs.StoppedLemmas.{torn_other, shut_closed, targets_outside}
-use Rattle.mc_base.specs.model_device.proofs.RecoveryLemmas.{look_two}
-use Rattle.mc_base.specs.model_device.proofs.CallLemmas.{write_ends}
+use Rattle.mc_words.specs.model_device.specs.Orders.{Answer}
+use Rattle.mc_words.specs.model_device.specs.Device.{DeviceState, IsSized, Wrote, Makes, Ended}
+use Rattle.mc_words.specs.model_device.specs.Image.{One, Two, opening, shut_word, gate, is_open, image_with, Look, Closed, look, after, image_after_replay, Words}
+use Rattle.mc_words.specs.model_device.specs.Stopped.{word_of_number, entries, replay, writes, IsAtomic, stands, image_if_written, SameOutside, WriteStands, WriteTorn}
+use Rattle.mc_words.specs.model_device.specs.Card.{word}
+use Rattle.mc_words.specs.model_device.proofs.ImageLemmas.{all_append, all_map, laid_other}
+use Rattle.mc_words.specs.model_device.proofs.DeviceLemmas.{StoppedAt, makes_stopped}
+use Rattle.mc_words.specs.model_device.proofs.GeometryLemmas.{InEntries, Geometry, geometry, targets_within}
+use Rattle.mc_words.specs.model_device.proofs.StoppedLemmas.{torn_other, shut_closed, targets_outside}
+use Rattle.mc_words.specs.model_device.proofs.RecoveryLemmas.{look_two}
+use Rattle.mc_words.specs.model_device.proofs.CallLemmas.{write_ends}
 use Rattle.mc_store.specs.AlikeLaws.{HeapsAlike, alike_outside, Gates, gates, shut_look, SettlesAlike}
 
 -- ---- the gate of journal 1

@@ -4,14 +4,14 @@ use Rattle.std.specs.Prelude.{nat_le, nat_lt, ◌==◌, ◌&&◌}
 use Rattle.std.specs.List.{AllByRecursion}
 use Rattle.std.proofs.lemmas.List.{length-map}
 use Rattle.std.proofs.lemmas.Bool.{le-leb, lt-ltb, and_from, or_right}
-use Rattle.mc_base.specs.model_device.specs.Bytes.{up, lookup, insert}
-use Rattle.mc_base.specs.model_device.specs.Device.{IsSized}
-use Rattle.mc_base.specs.model_device.specs.Image.{within, ascend, image_with}
-use Rattle.mc_base.specs.model_device.specs.Stopped.{IsAtomic}
-use Rattle.mc_base.specs.model_device.specs.Pieces.{Ascend, numbers, laid_words}
-use Rattle.mc_base.specs.model_device.specs.Card.{App, Card, Block, word, card_of}
-use Rattle.mc_base.specs.model_device.specs.Layout.{gaps, words_fault}
-use Rattle.mc_base.specs.model_device.proofs.ImageLemmas.{laid_other, length_laid}
+use Rattle.mc_words.specs.model_device.specs.Bytes.{up, lookup, insert}
+use Rattle.mc_words.specs.model_device.specs.Device.{IsSized}
+use Rattle.mc_words.specs.model_device.specs.Image.{within, ascend, image_with}
+use Rattle.mc_words.specs.model_device.specs.Stopped.{IsAtomic}
+use Rattle.mc_words.specs.model_device.specs.Pieces.{Ascend, numbers, laid_words}
+use Rattle.mc_words.specs.model_device.specs.Card.{App, Card, Block, word, card_of}
+use Rattle.mc_words.specs.model_device.specs.Layout.{gaps, words_fault}
+use Rattle.mc_words.specs.model_device.proofs.ImageLemmas.{laid_other, length_laid}
 use Rattle.mc_bank.specs.Bank.{CanCommit, with_words}
 use Rattle.mc_blocks.specs.Blocks.{hole_spans, used_spans}
 use Rattle.mc_blocks.specs.Plans.{has_room}

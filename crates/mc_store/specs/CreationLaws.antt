@@ -4,14 +4,14 @@ use Rattle.std.specs.Prelude.{◌==◌, nat_le, nat_lt, slice_index}
 use Rattle.std.specs.List.{AllByRecursion}
 use Rattle.std.proofs.lemmas.Bool.{leb-true, and_parts, ne_eqb}
 use Rattle.mc_bank.specs.model_card.specs.declared.card.Sizes.{Sizes}
-use Rattle.mc_base.specs.model_device.specs.Bytes.{up, zeros, be2, lookup, insert}
-use Rattle.mc_base.specs.model_device.specs.Device.{IsSized}
-use Rattle.mc_base.specs.model_device.specs.Image.{look, Closed, within, ascend, image_with}
-use Rattle.mc_base.specs.model_device.specs.Stopped.{IsAtomic}
-use Rattle.mc_base.specs.model_device.specs.Card.{App, Block, word, words_of_app, words_of_lengths, section, record_at, name_at, app_of, app_at, blocks, means}
-use Rattle.mc_base.specs.model_device.specs.Layout.{gaps, spans, put_at, step_of, used_header, hole_header, IsWellLaid}
+use Rattle.mc_words.specs.model_device.specs.Bytes.{up, zeros, be2, lookup, insert}
+use Rattle.mc_words.specs.model_device.specs.Device.{IsSized}
+use Rattle.mc_words.specs.model_device.specs.Image.{look, Closed, within, ascend, image_with}
+use Rattle.mc_words.specs.model_device.specs.Stopped.{IsAtomic}
+use Rattle.mc_words.specs.model_device.specs.Card.{App, Block, word, words_of_app, words_of_lengths, section, record_at, name_at, app_of, app_at, blocks, means}
+use Rattle.mc_words.specs.model_device.specs.Layout.{gaps, spans, put_at, step_of, used_header, hole_header, IsWellLaid}
 use Rattle.mc_bank.specs.model_card.specs.Items.{Site}
-use Rattle.mc_base.specs.model_device.proofs.ImageLemmas.{laid_other, length_laid}
+use Rattle.mc_words.specs.model_device.proofs.ImageLemmas.{laid_other, length_laid}
 use Rattle.mc_bank.specs.Bank.{FitsLimits, app_of_site}
 use Rattle.mc_blocks.specs.Chains.{SpansAbove}
 use Rattle.mc_blocks.specs.Blocks.{used_spans, hole_spans}

@@ -1,11 +1,11 @@
 -- What the atomic write of a deletion makes of a card: the application is gone.
 use Rattle.std.proofs.Common.{◌≡◌, ℕ, suc, ◌≤◌, true, false, List, [], ◌∷◌, length, Some, refl, sym, ◌∙◌, ap, subst}
-use Rattle.mc_base.specs.model_device.specs.Bytes.{lookup, insert, remove}
-use Rattle.mc_base.specs.model_device.specs.Device.{IsSized}
-use Rattle.mc_base.specs.model_device.specs.Image.{look, Closed, image_with}
-use Rattle.mc_base.specs.model_device.specs.Stopped.{IsAtomic}
-use Rattle.mc_base.specs.model_device.specs.Card.{App, Card, Block, name_at, app_at, apps_of, blocks, means}
-use Rattle.mc_base.specs.model_device.specs.Layout.{spans, step_of, IsWellLaid}
+use Rattle.mc_words.specs.model_device.specs.Bytes.{lookup, insert, remove}
+use Rattle.mc_words.specs.model_device.specs.Device.{IsSized}
+use Rattle.mc_words.specs.model_device.specs.Image.{look, Closed, image_with}
+use Rattle.mc_words.specs.model_device.specs.Stopped.{IsAtomic}
+use Rattle.mc_words.specs.model_device.specs.Card.{App, Card, Block, name_at, app_at, apps_of, blocks, means}
+use Rattle.mc_words.specs.model_device.specs.Layout.{spans, step_of, IsWellLaid}
 use Rattle.mc_blocks.specs.Plans.{plan, without, has_span}
 use Rattle.mc_blocks.proofs.Maps.{spans_remove}
 use Rattle.mc_blocks.proofs.Applications.{found_application}
@@ -20,8 +20,8 @@ use Rattle.mc_blocks.proofs.Outcome.{deletes}
 use Rattle.mc_store.specs.Store.{card_without}
 use Rattle.mc_store.specs.AlikeLaws.{HeapsAlike}
 use Rattle.mc_store.specs.PlanningLaws.{planned}
-use Rattle.mc_base.specs.model_device.proofs.MapLemmas.{remove_inserted, length_inserted}
-use Rattle.mc_base.specs.model_device.proofs.LayoutLemmas.{closed_fault, closed_means}
+use Rattle.mc_words.specs.model_device.proofs.MapLemmas.{remove_inserted, length_inserted}
+use Rattle.mc_words.specs.model_device.proofs.LayoutLemmas.{closed_fault, closed_means}
 
 -- the atomic write of a deletion is a plan
 pub record Deletes (m : List (List ℕ)) (n : List ℕ) (a : App) : Type 0 where

@@ -2,12 +2,12 @@
 use Rattle.std.proofs.Common.{◌≡◌, ◌≢◌, ℕ, ◌+◌, ◌<◌, ◌≤◌, Bool, true, false, not, List, [], ◌∷◌, length, None, Ok, Err, sym, ◌∙◌, ap, subst, inl, inr, arith}
 use Rattle.std.specs.Prelude.{bytes_eq, slice_set}
 use Rattle.std.proofs.lemmas.List.{get_or-set_other, length-set}
-use Rattle.mc_base.specs.model_device.specs.declared.device.Stop.TheVariants.{Off, Worn}
-use Rattle.mc_base.specs.model_device.specs.Orders.{Answer}
-use Rattle.mc_base.specs.model_device.specs.Device.{DeviceState, IsSized, Wrote, WriteDone, WriteCut, WriteFailure, Makes, Ended}
-use Rattle.mc_base.specs.model_device.specs.Image.{One, Two, opening, look, Closed}
-use Rattle.mc_base.specs.model_device.specs.Card.{Block, word, blocks, card_of}
-use Rattle.mc_base.specs.model_device.specs.Layout.{gaps, words_fault}
+use Rattle.mc_words.specs.model_device.specs.declared.device.Stop.TheVariants.{Off, Worn}
+use Rattle.mc_words.specs.model_device.specs.Orders.{Answer}
+use Rattle.mc_words.specs.model_device.specs.Device.{DeviceState, IsSized, Wrote, WriteDone, WriteCut, WriteFailure, Makes, Ended}
+use Rattle.mc_words.specs.model_device.specs.Image.{One, Two, opening, look, Closed}
+use Rattle.mc_words.specs.model_device.specs.Card.{Block, word, blocks, card_of}
+use Rattle.mc_words.specs.model_device.specs.Layout.{gaps, words_fault}
 use Rattle.mc_blocks.specs.Blocks.{WordsAgree, hole_spans}
 use Rattle.mc_blocks.specs.Plans.{has_room}
 use Rattle.mc_blocks.proofs.Tiles.{Tiled}

@@ -2,13 +2,13 @@
 use Rattle.std.specs.Prelude.{◌≡◌, ℕ, Bool, true, false, ◌&&◌, cond, ◌==◌, List, [], length, Option, Some, None, is_none}
 use Rattle.std.proofs.Common.{refl, sym, ◌∙◌, ap}
 use Rattle.std.proofs.lemmas.Bool.{and_parts, eqb-true, eq-eqb}
-use Rattle.mc_base.specs.model_device.specs.declared.cause.Cause.{Cause}
-use Rattle.mc_base.specs.model_device.specs.Image.{Look, Refused, Closed, Pending, look, image_after_replay}
-use Rattle.mc_base.specs.model_device.specs.Device.{DeviceState}
-use Rattle.mc_base.specs.model_device.specs.Card.{Card, card_of, means, words_after}
-use Rattle.mc_base.specs.model_device.specs.Layout.{words_fault, fault}
+use Rattle.mc_words.specs.model_device.specs.declared.cause.Cause.{Cause}
+use Rattle.mc_words.specs.model_device.specs.Image.{Look, Refused, Closed, Pending, look, image_after_replay}
+use Rattle.mc_words.specs.model_device.specs.Device.{DeviceState}
+use Rattle.mc_words.specs.model_device.specs.Card.{Card, card_of, means, words_after}
+use Rattle.mc_words.specs.model_device.specs.Layout.{words_fault, fault}
 use Rattle.mc_store.specs.Store.{is_closed, settled_words, apps_in, is_going}
-use Rattle.mc_base.specs.model_device.proofs.LayoutLemmas.{closed_fault, closed_means}
+use Rattle.mc_words.specs.model_device.proofs.LayoutLemmas.{closed_fault, closed_means}
 
 -- power is on, no journal is open, the words are a card of layout 2 with c applications
 pub record Going (d : DeviceState) (c : ℕ) : Type 0 where

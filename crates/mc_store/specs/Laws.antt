@@ -3,17 +3,17 @@ use Rattle.std.proofs.Common.{◌≡◌, ◌⊎◌, ℕ, ◌+◌, ◌<◌, ◌�
 use Rattle.std.specs.Prelude.{unwrap_or, None, IsSome}
 use Rattle.mc_bank.specs.model_card.specs.declared.card.Part.{Part}
 use Rattle.mc_bank.specs.model_card.specs.declared.card.Part.TheVariants.{Code, Data, Dir, Fci}
-use Rattle.mc_base.specs.model_device.specs.declared.device.Stop.{Stop}
-use Rattle.mc_base.specs.model_device.specs.declared.device.Stop.TheVariants.{Off, Worn}
-use Rattle.mc_base.specs.model_device.specs.Orders.{Answer}
-use Rattle.mc_base.specs.model_device.specs.Bytes.{lookup, insert}
-use Rattle.mc_base.specs.model_device.specs.Image.{Two, image_with}
-use Rattle.mc_base.specs.model_device.specs.Device.{DeviceState, Wrote, Makes, Ended}
-use Rattle.mc_base.specs.model_device.specs.Stopped.{writes}
-use Rattle.mc_base.specs.model_device.specs.Card.{App, Card, word, card_of, means}
-use Rattle.mc_base.specs.model_device.specs.Layout.{gaps, first_fitting}
+use Rattle.mc_words.specs.model_device.specs.declared.device.Stop.{Stop}
+use Rattle.mc_words.specs.model_device.specs.declared.device.Stop.TheVariants.{Off, Worn}
+use Rattle.mc_words.specs.model_device.specs.Orders.{Answer}
+use Rattle.mc_words.specs.model_device.specs.Bytes.{lookup, insert}
+use Rattle.mc_words.specs.model_device.specs.Image.{Two, image_with}
+use Rattle.mc_words.specs.model_device.specs.Device.{DeviceState, Wrote, Makes, Ended}
+use Rattle.mc_words.specs.model_device.specs.Stopped.{writes}
+use Rattle.mc_words.specs.model_device.specs.Card.{App, Card, word, card_of, means}
+use Rattle.mc_words.specs.model_device.specs.Layout.{gaps, first_fitting}
 use Rattle.mc_bank.specs.model_card.specs.Items.{Site, BankItem, Piece, Blank, Note, Commit, Enter, Remove}
-use Rattle.mc_base.specs.model_device.proofs.ImageLemmas.{length_laid}
+use Rattle.mc_words.specs.model_device.proofs.ImageLemmas.{length_laid}
 use Rattle.mc_bank.specs.Bank.{FitsLimits, StayGood, BytesStay, CanCommit, part_len, no_app, app_of, sizes_of, with_words, app_of_site, apps_after_commit, item_done, Spares, StopRose, Changes}
 use Rattle.mc_bank.specs.Slots.{slot_place}
 use Rattle.mc_bank.specs.SlotLaws.{HasSizes, EntersNot, has_sizes, slot_named, item_sized}
@@ -30,8 +30,8 @@ use Rattle.mc_store.specs.CommitLaws.{CommittedCard, commits}
 use Rattle.mc_store.specs.PlaceLaws.{place_changed, place_new, place_removed}
 use Rattle.mc_store.specs.StoreItems.{named_there}
 use Rattle.mc_store.specs.TurnLaws.{ChangesCard, SiteBytes, site_bytes_of, turns}
-use Rattle.mc_base.specs.model_device.proofs.LayoutLemmas.{closed_means}
-use Rattle.mc_base.specs.model_device.proofs.BoolLemmas.{some_is}
+use Rattle.mc_words.specs.model_device.proofs.LayoutLemmas.{closed_means}
+use Rattle.mc_words.specs.model_device.proofs.BoolLemmas.{some_is}
 
 -- ---- the applications
 

@@ -2,11 +2,11 @@
 use Rattle.std.proofs.Common.{◌≡◌, ◌≢◌, ℕ, Bool, true, false, List, [], ◌∷◌, Option, Some, None, cond, refl, sym, ◌∙◌, ap}
 use Rattle.std.specs.Prelude.{◌==◌, bytes_eq}
 use Rattle.std.proofs.lemmas.Bool.{eqb-true, eq-eqb, ne_eqb}
-use Rattle.mc_base.specs.model_device.specs.Bytes.{lookup, insert, remove, name_before}
-use Rattle.mc_base.specs.model_device.specs.Card.{App}
+use Rattle.mc_words.specs.model_device.specs.Bytes.{lookup, insert, remove, name_before}
+use Rattle.mc_words.specs.model_device.specs.Card.{App}
 use Rattle.mc_blocks.proofs.Maps.{OneAt, Free}
 use Rattle.mc_store.specs.Store.{name_of_place}
-use Rattle.mc_base.specs.model_device.proofs.MapLemmas.{same_name}
+use Rattle.mc_words.specs.model_device.proofs.MapLemmas.{same_name}
 use Rattle.mc_blocks.proofs.Applications.{free_one}
 
 -- ---- an insertion

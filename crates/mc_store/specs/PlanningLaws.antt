@@ -3,14 +3,14 @@ use Rattle.std.proofs.Common.{◌≡◌, ◌⊎◌, ℕ, ◌<◌, ◌≤◌, tru
 use Rattle.std.specs.Prelude.{◌==◌, nat_le, nat_lt}
 use Rattle.std.specs.List.{AllByRecursion}
 use Rattle.std.proofs.lemmas.Bool.{leb-true, eqb-true, ltb-true, or_cases, and_parts}
-use Rattle.mc_base.specs.model_device.specs.Image.{within, image_with}
-use Rattle.mc_base.specs.model_device.specs.Stopped.{IsAtomic}
-use Rattle.mc_base.specs.model_device.specs.Card.{word, means}
-use Rattle.mc_base.specs.model_device.proofs.ImageLemmas.{HoldsWords, all_map, laid_other, laid_holds, length_laid, holds_point}
-use Rattle.mc_base.specs.model_device.proofs.GeometryLemmas.{targets_within}
+use Rattle.mc_words.specs.model_device.specs.Image.{within, image_with}
+use Rattle.mc_words.specs.model_device.specs.Stopped.{IsAtomic}
+use Rattle.mc_words.specs.model_device.specs.Card.{word, means}
+use Rattle.mc_words.specs.model_device.proofs.ImageLemmas.{HoldsWords, all_map, laid_other, laid_holds, length_laid, holds_point}
+use Rattle.mc_words.specs.model_device.proofs.GeometryLemmas.{targets_within}
 use Rattle.mc_blocks.specs.Plans.{plan}
 use Rattle.mc_blocks.specs.Outcomes.{Planned}
-use Rattle.mc_base.specs.model_device.proofs.StoppedLemmas.{ascends_list, within_below as below}
+use Rattle.mc_words.specs.model_device.proofs.StoppedLemmas.{ascends_list, within_below as below}
 use Rattle.mc_store.specs.AlikeLaws.{HeapsAlike}
 
 -- ---- targets

@@ -1,16 +1,16 @@
 -- What a power-up does: recovery (the replay of the open journal), then the migration of a card of layout 1; and what a
 -- stop leaves.
 use Rattle.std.specs.Prelude.{◌≡◌, ◌≢◌, ℕ, ◌+◌, ◌-◌, ◌<◌, ◌≤◌, true, cond, ◌==◌, List, [], ◌∷◌, ◌++◌, length, slice_set, Some, None, Result, Ok, Err}
-use Rattle.mc_base.specs.model_device.specs.declared.cause.Cause.{Cause}
-use Rattle.mc_base.specs.model_device.specs.declared.cause.Cause.TheVariants.{BadJournal}
-use Rattle.mc_base.specs.model_device.specs.declared.device.Stop.{Stop}
-use Rattle.mc_base.specs.model_device.specs.Orders.{Answer}
-use Rattle.mc_base.specs.model_device.specs.Image.{Journal, One, look, which, count_of_recovery_writes, Only, Closed, Refused}
-use Rattle.mc_base.specs.model_device.specs.Device.{DeviceState, Ended, GrowsBy, done_entries, torn_entries}
-use Rattle.mc_base.specs.model_device.specs.Stopped.{writes, owed_writes, image_after_stop, stands, owes, remains}
-use Rattle.mc_base.specs.model_device.specs.Card.{word, means}
-use Rattle.mc_base.specs.model_device.specs.Layout.{fault}
-use Rattle.mc_base.specs.model_device.specs.PowerUp.{Base, OnCard, AtFault, base_of, migration, base_after_migration, pending_journal}
+use Rattle.mc_words.specs.model_device.specs.declared.cause.Cause.{Cause}
+use Rattle.mc_words.specs.model_device.specs.declared.cause.Cause.TheVariants.{BadJournal}
+use Rattle.mc_words.specs.model_device.specs.declared.device.Stop.{Stop}
+use Rattle.mc_words.specs.model_device.specs.Orders.{Answer}
+use Rattle.mc_words.specs.model_device.specs.Image.{Journal, One, look, which, count_of_recovery_writes, Only, Closed, Refused}
+use Rattle.mc_words.specs.model_device.specs.Device.{DeviceState, Ended, GrowsBy, done_entries, torn_entries}
+use Rattle.mc_words.specs.model_device.specs.Stopped.{writes, owed_writes, image_after_stop, stands, owes, remains}
+use Rattle.mc_words.specs.model_device.specs.Card.{word, means}
+use Rattle.mc_words.specs.model_device.specs.Layout.{fault}
+use Rattle.mc_words.specs.model_device.specs.PowerUp.{Base, OnCard, AtFault, base_of, migration, base_after_migration, pending_journal}
 use Rattle.mc_store.specs.Store.{settled_words, is_going}
 use Rattle.mc_store.specs.declared.store.Store.{Store}
 use Rattle.mc_store.specs.declared.power.Ready.{Ready}

@@ -6,13 +6,13 @@ use Rattle.std.proofs.Math.Seq.{drop-append-add}
 use Rattle.std.proofs.lemmas.Bool.{le-leb, eq-eqb}
 use Rattle.std.proofs.lemmas.Slice.Eq.{bytes_eq-Decides}
 use Rattle.mc_bank.specs.model_card.specs.declared.card.Sizes.{Sizes}
-use Rattle.mc_base.specs.model_device.specs.Limits.{most_code}
-use Rattle.mc_base.specs.model_device.specs.Bytes.{zeros, be2, bytes2}
-use Rattle.mc_base.specs.model_device.specs.Card.{words_of_lengths, name_in}
-use Rattle.mc_base.specs.model_device.specs.Layout.{is_record}
-use Rattle.mc_base.specs.Name.{IsName}
+use Rattle.mc_words.specs.model_device.specs.Limits.{most_code}
+use Rattle.mc_words.specs.model_device.specs.Bytes.{zeros, be2, bytes2}
+use Rattle.mc_words.specs.model_device.specs.Card.{words_of_lengths, name_in}
+use Rattle.mc_words.specs.model_device.specs.Layout.{is_record}
+use Rattle.mc_words.specs.Name.{IsName}
 use Rattle.mc_bank.specs.Bank.{FitsLimits}
-use Rattle.mc_base.specs.model_device.proofs.ListLemmas.{two_bytes}
+use Rattle.mc_words.specs.model_device.proofs.ListLemmas.{two_bytes}
 use Rattle.mc_store.specs.Store.{record_bytes, words_of_sizes}
 
 -- the bytes after the name and its zeros

@@ -4,9 +4,9 @@ use Rattle.std.specs.List.{concat}
 use Rattle.mc_bank.specs.model_card.specs.declared.card.Part.{Part}
 use Rattle.mc_bank.specs.model_card.specs.declared.card.Part.TheVariants.{Code, Data, Dir, Fci}
 use Rattle.mc_bank.specs.model_card.specs.declared.card.Sizes.{Sizes}
-use Rattle.mc_base.specs.model_device.specs.Bytes.{be2}
-use Rattle.mc_base.specs.model_device.specs.Card.{App, Block, record_at, name_at}
-use Rattle.mc_base.specs.model_device.specs.Layout.{is_record}
+use Rattle.mc_words.specs.model_device.specs.Bytes.{be2}
+use Rattle.mc_words.specs.model_device.specs.Card.{App, Block, record_at, name_at}
+use Rattle.mc_words.specs.model_device.specs.Layout.{is_record}
 
 -- the place of the first used block with a name
 unfoldable pub first_named : List (List ℕ) → List Block → List ℕ → Option ℕ

@@ -1,11 +1,11 @@
 -- What a stop in the device writes of an item leaves of a card.
 use Rattle.std.specs.Prelude.{ℕ, cond, List, length}
-use Rattle.mc_base.specs.model_device.specs.Image.{Two}
-use Rattle.mc_base.specs.model_device.specs.Stopped.{stands, owes}
-use Rattle.mc_base.specs.model_device.specs.Card.{Card, means}
-use Rattle.mc_base.specs.model_device.specs.Layout.{step_of}
+use Rattle.mc_words.specs.model_device.specs.Image.{Two}
+use Rattle.mc_words.specs.model_device.specs.Stopped.{stands, owes}
+use Rattle.mc_words.specs.model_device.specs.Card.{Card, means}
+use Rattle.mc_words.specs.model_device.specs.Layout.{step_of}
 use Rattle.mc_bank.specs.model_card.specs.Items.{BankItem, Piece, Blank, Note, Commit, Enter, Remove}
-use Rattle.mc_base.specs.model_device.specs.PowerUp.{OnCard}
+use Rattle.mc_words.specs.model_device.specs.PowerUp.{OnCard}
 use Rattle.mc_bank.specs.Bank.{item_done}
 use Rattle.mc_store.specs.Store.{part_in, card_with, card_without}
 use Rattle.mc_store.specs.Power.{HoldsBase}

@@ -3,15 +3,15 @@ use Rattle.std.specs.Prelude.{◌≡◌, ℕ, ◌+◌, ◌-◌, ◌*◌, ◌%◌
 use Rattle.mc_bank.specs.model_card.specs.declared.card.Part.{Part}
 use Rattle.mc_bank.specs.model_card.specs.declared.card.Part.TheVariants.{Code, Data, Dir, Fci}
 use Rattle.mc_bank.specs.model_card.specs.declared.card.Sizes.{Sizes}
-use Rattle.mc_base.specs.model_device.specs.Orders.{Answer}
-use Rattle.mc_base.specs.model_device.specs.Bytes.{up, down, zeros, bytes2, splice, lookup, insert, remove}
-use Rattle.mc_base.specs.model_device.specs.Image.{Two, Look, Refused, Closed, Pending, look, after}
-use Rattle.mc_base.specs.model_device.specs.Device.{DeviceState, IsSized, Makes}
-use Rattle.mc_base.specs.model_device.specs.Stopped.{writes}
-use Rattle.mc_base.specs.model_device.specs.Card.{App, Card, words_of_lengths, word, section, record_at, means, words_after}
-use Rattle.mc_base.specs.model_device.specs.Layout.{gaps, first_fitting, words_fault, fault, step_of}
+use Rattle.mc_words.specs.model_device.specs.Orders.{Answer}
+use Rattle.mc_words.specs.model_device.specs.Bytes.{up, down, zeros, bytes2, splice, lookup, insert, remove}
+use Rattle.mc_words.specs.model_device.specs.Image.{Two, Look, Refused, Closed, Pending, look, after}
+use Rattle.mc_words.specs.model_device.specs.Device.{DeviceState, IsSized, Makes}
+use Rattle.mc_words.specs.model_device.specs.Stopped.{writes}
+use Rattle.mc_words.specs.model_device.specs.Card.{App, Card, words_of_lengths, word, section, record_at, means, words_after}
+use Rattle.mc_words.specs.model_device.specs.Layout.{gaps, first_fitting, words_fault, fault, step_of}
 use Rattle.mc_bank.specs.model_card.specs.Items.{Site, BankItem, Piece, Blank, Note, Commit, Enter, Remove}
-use Rattle.mc_base.specs.Name.{IsName}
+use Rattle.mc_words.specs.Name.{IsName}
 use Rattle.mc_bank.specs.Bank.{BankState, app_of, part_len, IsGoodSite, CanCommit, app_of_site}
 use Rattle.mc_bank.specs.Slots.{slot_place, name_of_slot}
 use Rattle.mc_blocks.specs.Chains.{count_of_searched_gaps}

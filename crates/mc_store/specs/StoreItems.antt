@@ -2,10 +2,10 @@
 use Rattle.std.proofs.Common.{◌≡◌, ℕ, Bool, true, false, List, [], ◌∷◌, length, map, Some, Ok, Err, cond, refl, sym, ◌∙◌, ap, subst, inl, inr}
 use Rattle.std.specs.Prelude.{◌==◌, bytes_eq, IsSome}
 use Rattle.std.proofs.lemmas.Bool.{eqb-true}
-use Rattle.mc_base.specs.model_device.specs.Orders.{Answer, InOrder}
-use Rattle.mc_base.specs.model_device.specs.Bytes.{lookup}
-use Rattle.mc_base.specs.model_device.specs.Device.{DeviceState, IsSized}
-use Rattle.mc_base.specs.model_device.specs.Card.{App, means}
+use Rattle.mc_words.specs.model_device.specs.Orders.{Answer, InOrder}
+use Rattle.mc_words.specs.model_device.specs.Bytes.{lookup}
+use Rattle.mc_words.specs.model_device.specs.Device.{DeviceState, IsSized}
+use Rattle.mc_words.specs.model_device.specs.Card.{App, means}
 use Rattle.mc_bank.specs.model_card.specs.Items.{Site, BankItem, Blank}
 use Rattle.mc_bank.specs.model_card.specs.Manager.{word_parts}
 use Rattle.mc_blocks.proofs.Maps.{OneAt}
@@ -14,8 +14,8 @@ use Rattle.mc_store.specs.declared.store.Store.{Store}
 use Rattle.mc_store.specs.Store.{name_of_place, apps_in, StoreDid}
 use Rattle.mc_store.specs.GoingLaws.{Going}
 use Rattle.mc_store.specs.TurnLaws.{SiteBytes, site_bytes_of}
-use Rattle.mc_base.specs.model_device.proofs.MapLemmas.{name_is_itself}
-use Rattle.mc_base.specs.model_device.proofs.BoolLemmas.{some_is}
+use Rattle.mc_words.specs.model_device.proofs.MapLemmas.{name_is_itself}
+use Rattle.mc_words.specs.model_device.proofs.BoolLemmas.{some_is}
 
 -- one item of a store as a value
 abbrev pub store_did : {N : Type 0} → (N → DeviceState) → (N → ℕ → List ℕ → Answer → N → Type 0) → Store N → BankItem → Answer → Store N → Type 0

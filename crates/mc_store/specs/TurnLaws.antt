@@ -4,14 +4,14 @@ use Rattle.std.specs.Prelude.{IsSome, unwrap_or}
 use Rattle.mc_bank.specs.model_card.specs.declared.card.Part.{Part}
 use Rattle.mc_bank.specs.model_card.specs.declared.card.Part.TheVariants.{Code, Data, Dir, Fci}
 use Rattle.mc_bank.specs.model_card.specs.declared.card.Sizes.{Sizes}
-use Rattle.mc_base.specs.model_device.specs.declared.device.Stop.{Stop}
-use Rattle.mc_base.specs.model_device.specs.Orders.{Answer}
-use Rattle.mc_base.specs.model_device.specs.Bytes.{down, lookup, insert, remove}
-use Rattle.mc_base.specs.model_device.specs.Image.{look, Closed, Two, image_with}
-use Rattle.mc_base.specs.model_device.specs.Device.{DeviceState, IsSized, Wrote, Makes, Ended}
-use Rattle.mc_base.specs.model_device.specs.Stopped.{writes, IsAtomic}
-use Rattle.mc_base.specs.model_device.specs.Card.{App, Card, card_of, means}
-use Rattle.mc_base.specs.model_device.specs.Layout.{gaps, step_of, words_fault, fault, IsWellLaid}
+use Rattle.mc_words.specs.model_device.specs.declared.device.Stop.{Stop}
+use Rattle.mc_words.specs.model_device.specs.Orders.{Answer}
+use Rattle.mc_words.specs.model_device.specs.Bytes.{down, lookup, insert, remove}
+use Rattle.mc_words.specs.model_device.specs.Image.{look, Closed, Two, image_with}
+use Rattle.mc_words.specs.model_device.specs.Device.{DeviceState, IsSized, Wrote, Makes, Ended}
+use Rattle.mc_words.specs.model_device.specs.Stopped.{writes, IsAtomic}
+use Rattle.mc_words.specs.model_device.specs.Card.{App, Card, card_of, means}
+use Rattle.mc_words.specs.model_device.specs.Layout.{gaps, step_of, words_fault, fault, IsWellLaid}
 use Rattle.mc_bank.specs.model_card.specs.Items.{Site, BankItem, Piece, Blank, Note, Commit, Enter, Remove}
 use Rattle.mc_bank.specs.Bank.{FitsLimits, CanCommit, part_len, no_app, app_of, with_words, app_of_site, apps_after_commit, item_done}
 use Rattle.mc_blocks.specs.Plans.{has_room}
@@ -25,10 +25,10 @@ use Rattle.mc_store.specs.GapLaws.{KeepsCard, keeps_gap, OneWrite, one_write, ju
 use Rattle.mc_store.specs.CreationLaws.{Creates, creates_plan, creates_card}
 use Rattle.mc_store.specs.DeletionLaws.{Deletes, deletes_plan, deletes_card, deletes_count}
 use Rattle.mc_store.specs.CommitLaws.{CommittedCard, commits}
-use Rattle.mc_base.specs.model_device.proofs.MapLemmas.{length_inserted}
-use Rattle.mc_base.specs.model_device.proofs.LayoutLemmas.{closed_fault, closed_means}
+use Rattle.mc_words.specs.model_device.proofs.MapLemmas.{length_inserted}
+use Rattle.mc_words.specs.model_device.proofs.LayoutLemmas.{closed_fault, closed_means}
 use Rattle.mc_blocks.proofs.Plans.{first_room}
-use Rattle.mc_base.specs.model_device.proofs.BoolLemmas.{some_is}
+use Rattle.mc_words.specs.model_device.proofs.BoolLemmas.{some_is}
 
 -- ---- words that turn
 

@@ -1,15 +1,15 @@
 // The used blocks of a card and their records, read by their places.
 ghost use Rattle.std.specs.Prelude.{◌≡◌, ◌+◌, ◌<◌, ◌≤◌, ◌&&◌, ◌==◌, None, IfSome, is_some, option_map, length, take, bytes_eq, true};
-ghost use Rattle.mc_base.specs.model_device.specs.Device.{IsImage};
-ghost use Rattle.mc_base.specs.model_device.specs.Card.{blocks, record_at, name_at};
-ghost use Rattle.mc_base.specs.model_device.specs.Layout.{words_fault};
+ghost use Rattle.mc_words.specs.model_device.specs.Device.{IsImage};
+ghost use Rattle.mc_words.specs.model_device.specs.Card.{blocks, record_at, name_at};
+ghost use Rattle.mc_words.specs.model_device.specs.Layout.{words_fault};
 ghost use Rattle.mc_bank.specs.Slots.{slot_place, slot_sizes};
 ghost use Rattle.mc_store.specs.Slots.{first_named, record_sizes, IsUsedBlock};
 
 use mc_bank::{Sizes, Slot};
-use mc_base::{Aid, Word, number_of};
 use mc_blocks::{HEAP, Header, Record, name_of, read_header, read_record, record_from};
 use mc_nvm::Nvm;
+use mc_words::{Aid, Word, number_of};
 
 /// Returns the slot of the used block that has this name, or `None` if there is none, on words without a fault.
 pub fn find_block<N: Nvm>(device: &N, aid: &Aid) -> Option<Slot>

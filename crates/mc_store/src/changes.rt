@@ -1,9 +1,9 @@
 // Changes of the applications of a store: a commit of static words and a deletion, one atomic write each.
 ghost use Rattle.std.specs.Prelude.{◌≡◌, ◌+◌, ◌≤◌, true, false, length, IsSome};
 ghost use Rattle.std.specs.List.{AllByRecursion};
-ghost use Rattle.mc_base.specs.model_device.specs.Device.{Makes};
-ghost use Rattle.mc_base.specs.model_device.specs.Image.{Two, is_open};
-ghost use Rattle.mc_base.specs.model_device.specs.Stopped.{IsAtomic, writes};
+ghost use Rattle.mc_words.specs.model_device.specs.Device.{Makes};
+ghost use Rattle.mc_words.specs.model_device.specs.Image.{Two, is_open};
+ghost use Rattle.mc_words.specs.model_device.specs.Stopped.{IsAtomic, writes};
 ghost use Rattle.mc_bank.specs.model_card.specs.Items.{Commit, Remove};
 ghost use Rattle.mc_bank.specs.Bank.{CanCommit, app_of, name_or};
 ghost use Rattle.mc_store.specs.Store.{is_going, apps_in, store_named};
@@ -14,10 +14,10 @@ use crate::place::part_place;
 use crate::store::Store;
 use arrayvec::ArrayVec;
 use mc_bank::{Part, Slot};
-use mc_base::{Stop, Word};
 use mc_blocks::free_plan;
 use mc_nvm::Nvm;
 use mc_packed::write_words;
+use mc_words::{Stop, Word};
 
 /// Sets 1 to 64 words of the static bytes of the application of a slot by one atomic write.
 ///

@@ -1,12 +1,12 @@
 // An application made of what a load left in a hole: zeros after its data, its record, and the atomic write of its
 // block.
 ghost use Rattle.std.specs.Prelude.{◌≡◌, ◌+◌, ◌-◌, ◌*◌, ◌<◌, ◌≤◌, ◌⊎◌, ◌++◌, true, None, [], ◌∷◌, length, take, drop, OnOk};
-ghost use Rattle.mc_base.specs.model_device.specs.Bytes.{zeros, bytes2, lookup};
-ghost use Rattle.mc_base.specs.model_device.specs.Orders.{InOrder};
-ghost use Rattle.mc_base.specs.model_device.specs.Card.{means};
+ghost use Rattle.mc_words.specs.model_device.specs.Bytes.{zeros, bytes2, lookup};
+ghost use Rattle.mc_words.specs.model_device.specs.Orders.{InOrder};
+ghost use Rattle.mc_words.specs.model_device.specs.Card.{means};
 ghost use Rattle.mc_bank.specs.model_card.specs.Items.{Blank, Note, Enter};
 ghost use Rattle.mc_bank.specs.model_card.specs.Manager.{create_items};
-ghost use Rattle.mc_base.specs.Name.{IsName};
+ghost use Rattle.mc_words.specs.Name.{IsName};
 ghost use Rattle.mc_bank.specs.Bank.{FitsLimits};
 ghost use Rattle.mc_bank.specs.model_card.specs.declared.card.Part.TheVariants.{Data};
 ghost use Rattle.mc_store.specs.Store.{is_going, part_from, record_word, IsGoodIn, IsInWord, IsReadySite};
@@ -16,10 +16,10 @@ use crate::filling::{room_in_word, write_part};
 use crate::place::{needed_words, part_place};
 use crate::store::Store;
 use mc_bank::{Part, Site, Sizes};
-use mc_base::{Aid, Stop, Word};
 use mc_blocks::take_plan;
 use mc_nvm::Nvm;
 use mc_packed::write_words;
+use mc_words::{Aid, Stop, Word};
 
 /// Makes an application of the bytes at a site that has room, under a name that is not there.
 ///

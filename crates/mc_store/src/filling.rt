@@ -1,8 +1,8 @@
 // What a load writes into a hole: bytes of its sections, each word of them in one write.
 ghost use Rattle.std.specs.Prelude.{◌≡◌, ◌+◌, ◌*◌, ◌/◌, ◌%◌, ◌<◌, ◌≤◌, ◌⊎◌, true, length, map, OnOk};
-ghost use Rattle.mc_base.specs.model_device.specs.Bytes.{splice};
-ghost use Rattle.mc_base.specs.model_device.specs.Orders.{InOrder};
-ghost use Rattle.mc_base.specs.model_device.specs.Card.{word};
+ghost use Rattle.mc_words.specs.model_device.specs.Bytes.{splice};
+ghost use Rattle.mc_words.specs.model_device.specs.Orders.{InOrder};
+ghost use Rattle.mc_words.specs.model_device.specs.Card.{word};
 ghost use Rattle.mc_bank.specs.model_card.specs.Items.{Piece};
 ghost use Rattle.mc_bank.specs.model_card.specs.Manager.{word_parts};
 ghost use Rattle.mc_bank.specs.Bank.{part_len};
@@ -12,8 +12,8 @@ ghost use Rattle.mc_store.specs.StoreItems.{store_did};
 use crate::place::part_place;
 use crate::store::Store;
 use mc_bank::{Part, Site};
-use mc_base::{Stop, Word};
 use mc_nvm::Nvm;
+use mc_words::{Stop, Word};
 
 /// Sets bytes of a section of a site that has room.
 ///

@@ -1,11 +1,11 @@
 ghost use Rattle.std.specs.Prelude.{◌≡◌, ◌≤◌, ℕ, List, length, Some, None};
-ghost use Rattle.mc_base.specs.model_device.specs.declared.cause.Cause.{Cause};
-ghost use Rattle.mc_base.specs.model_device.specs.Image.{One, Closed, look, image_with};
-ghost use Rattle.mc_base.specs.model_device.specs.Device.{IsSized};
-ghost use Rattle.mc_base.specs.model_device.specs.Stopped.{image_after_stop};
-ghost use Rattle.mc_base.specs.model_device.specs.Layout.{fault, words_fault};
+ghost use Rattle.mc_words.specs.model_device.specs.declared.cause.Cause.{Cause};
+ghost use Rattle.mc_words.specs.model_device.specs.Image.{One, Closed, look, image_with};
+ghost use Rattle.mc_words.specs.model_device.specs.Device.{IsSized};
+ghost use Rattle.mc_words.specs.model_device.specs.Stopped.{image_after_stop};
+ghost use Rattle.mc_words.specs.model_device.specs.Layout.{fault, words_fault};
 ghost use Rattle.mc_bank.specs.model_card.specs.Items.{BankItem};
-ghost use Rattle.mc_base.specs.model_device.specs.PowerUp.{base_after_migration};
+ghost use Rattle.mc_words.specs.model_device.specs.PowerUp.{base_after_migration};
 ghost use Rattle.mc_store.specs.Store.{settled_words, item_writes, Allows};
 ghost use Rattle.mc_store.specs.Power.{base_of_words, power_writes, power_count, HoldsBase, IsHalted};
 ghost use Rattle.mc_store.specs.Stops.{IsStoppedAt};

@@ -1,20 +1,20 @@
 // A power-up: the journal that is open is replayed, the words are checked, and a card of layout 1 is migrated.
 ghost use Rattle.std.specs.Prelude.{◌≡◌, ◌≤◌, ◌==◌, [], ◌∷◌, None, length, slice_set, cond, true, false, IfOk, IfErr};
-ghost use Rattle.mc_base.specs.model_device.specs.Orders.{answer_of};
-ghost use Rattle.mc_base.specs.model_device.specs.Device.{Makes, IsImage};
-ghost use Rattle.mc_base.specs.model_device.specs.Image.{One, Closed, look, look_j, is_open};
-ghost use Rattle.mc_base.specs.model_device.specs.Stopped.{writes, owed_writes, outcome_answer, RecoverEnds};
-ghost use Rattle.mc_base.specs.model_device.specs.Card.{means, word};
-ghost use Rattle.mc_base.specs.model_device.specs.Layout.{fault};
+ghost use Rattle.mc_words.specs.model_device.specs.Orders.{answer_of};
+ghost use Rattle.mc_words.specs.model_device.specs.Device.{Makes, IsImage};
+ghost use Rattle.mc_words.specs.model_device.specs.Image.{One, Closed, look, look_j, is_open};
+ghost use Rattle.mc_words.specs.model_device.specs.Stopped.{writes, owed_writes, outcome_answer, RecoverEnds};
+ghost use Rattle.mc_words.specs.model_device.specs.Card.{means, word};
+ghost use Rattle.mc_words.specs.model_device.specs.Layout.{fault};
 ghost use Rattle.mc_gate.specs.Layouts.{journal_of};
 ghost use Rattle.mc_gate.specs.Recovery.{outcome_of};
 ghost use Rattle.mc_store.specs.Store.{settled_words};
 ghost use Rattle.mc_store.specs.Power.{new_root, base_of_words, migration_writes, power_writes, power_answer, PowersUp, PowerFollows, RecoverFollows, FinishFollows, recovery_end, preparation_end};
 
-use mc_base::{Stop, Word};
 use mc_blocks::{Cause, Shape, Unusable, walk};
 use mc_gate::{Layout, Recover, is_gate_open};
 use mc_nvm::Nvm;
+use mc_words::{Stop, Word};
 
 /// The byte of the root that holds the version of the layout.
 const VERSION: usize = 3;

@@ -1,18 +1,18 @@
 // The search for room for a load.
 ghost use Rattle.std.specs.Prelude.{◌≡◌, ◌+◌, ◌≤◌, ◌-◌, false, nat_le};
-ghost use Rattle.mc_base.specs.model_device.specs.Image.{Closed, look};
-ghost use Rattle.mc_base.specs.model_device.specs.Card.{means};
-ghost use Rattle.mc_base.specs.model_device.specs.Layout.{gaps, IsWellLaid};
-ghost use Rattle.mc_base.specs.model_device.specs.Device.{IsImage};
+ghost use Rattle.mc_words.specs.model_device.specs.Image.{Closed, look};
+ghost use Rattle.mc_words.specs.model_device.specs.Card.{means};
+ghost use Rattle.mc_words.specs.model_device.specs.Layout.{gaps, IsWellLaid};
+ghost use Rattle.mc_words.specs.model_device.specs.Device.{IsImage};
 ghost use Rattle.mc_bank.specs.Bank.{FitsLimits, search_result};
 ghost use Rattle.mc_blocks.specs.Chains.{count_of_searched_gaps};
 ghost use Rattle.mc_store.specs.Store.{store_state, store_room, words_of_sizes, search_steps};
 
 use crate::place::needed_words;
 use mc_bank::{OpenRefusal, Site, Sizes};
-use mc_base::Steps;
 use mc_blocks::first_fit;
 use mc_nvm::{Nvm, Probe};
+use mc_words::Steps;
 use std::sync::ledger::Ledger;
 
 /// The greatest number of applications of a card.

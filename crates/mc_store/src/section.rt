@@ -1,10 +1,10 @@
 // Bytes of the sections of a block, read word by word.
 ghost use Rattle.std.specs.Prelude.{◌≡◌, ◌+◌, ◌*◌, ◌<◌, ◌≤◌, length, take, drop, true};
-ghost use Rattle.mc_base.specs.model_device.specs.Card.{word};
+ghost use Rattle.mc_words.specs.model_device.specs.Card.{word};
 ghost use Rattle.mc_store.specs.Slots.{flat};
 
-use mc_base::Word;
 use mc_nvm::Nvm;
+use mc_words::Word;
 
 // Copies at most seven bytes of the words of a device, from `skip` bytes after the start of the word at a place on.
 // They lie in two words at the most.

@@ -1,5 +1,5 @@
 ghost use Rattle.std.specs.Prelude.{◌≡◌, true, length};
-ghost use Rattle.mc_base.specs.model_device.specs.Device.{Makes, IsImage};
+ghost use Rattle.mc_words.specs.model_device.specs.Device.{Makes, IsImage};
 ghost use Rattle.std.specs.Borrow.{Lends, sem};
 ghost use Rattle.mc_store.specs.Power.{power_writes, power_answer, power_up_end, restart_end, device_of, device_after, over, PowersUp};
 ghost use Rattle.mc_store.specs.contracts.store.Store.{the_row};
@@ -10,8 +10,8 @@ use crate::reads::{read_code, read_section};
 use crate::room::find_room;
 use crate::{changes, creation, filling};
 use mc_bank::{Bank, Facts, OpenRefusal, Part, Site, Sizes, Slot};
-use mc_base::{Aid, Steps, Stop, Word};
 use mc_nvm::Nvm;
+use mc_words::{Aid, Steps, Stop, Word};
 use std::sync::ledger::Ledger;
 
 /// The applications of a card, in the words of its device. It keeps the number of applications, so that a search for

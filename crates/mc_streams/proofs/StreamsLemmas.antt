@@ -4,7 +4,7 @@ use Rattle.std.proofs.Common.{length-append, length-take}
 use Rattle.std.proofs.lemmas.List.{append-nil, take_rest, take_at, drop-drop, take-append-drop}
 use Rattle.std.proofs.Math.Nat.{min-le_left}
 use Rattle.std.proofs.Math.Seq.{take-add}
-use Rattle.mc_base.specs.model_device.specs.Counts.{Rose, last_count}
+use Rattle.model_device.specs.Counts.{Rose, last_count}
 use Rattle.mc_streams.specs.Streams.{one_more, without_last, Took, AtEnd, Grew, Stays, TookAtMost, TookMore, GrewByPart}
 
 -- a take after a take

@@ -1,7 +1,7 @@
 -- What calls do to the bytes that a source has left and a sink has taken, if it states them: `Some` of the bytes. For a
 -- stream that does not, `None`, nothing is claimed here, and one that does goes on stating them.
 use Rattle.std.specs.Prelude.{◌≡◌, ℕ, zero, suc, ◌+◌, ◌-◌, ◌<◌, ◌≤◌, min, List, [], ◌++◌, length, take, Option, Some, None, option_map, ⊤}
-use Rattle.mc_base.specs.model_device.specs.Counts.{last_count}
+use Rattle.model_device.specs.Counts.{last_count}
 
 -- a count plus one, up to the last value of a count
 abbrev pub one_more : ℕ → ℕ

@@ -4,7 +4,7 @@ ghost use Rattle.std.specs.List.{list_any};
 use crate::refusals::Failed;
 use crate::sink::Sink;
 use crate::source::Source;
-use mc_base::NoMemory;
+use model_device::NoMemory;
 use std::alloc::Global;
 use std::marker::Model;
 
@@ -58,7 +58,7 @@ impl MemSource {
 
 impl Source for MemSource {
     ghost use Rattle.std.specs.Prelude.{◌≡◌, ℕ, ◌+◌, ◌<◌, ◌≤◌, min, List, length, take, Option, Some, is_err, IfOk, OnOk, OnErr};
-    ghost use Rattle.mc_base.specs.model_device.specs.Counts.{Rose};
+    ghost use Rattle.model_device.specs.Counts.{Rose};
     ghost use Rattle.mc_streams.specs.Streams.{one_more, Took, AtEnd, Stays};
     ghost use Rattle.mc_streams.specs.MemoryStreams.{take_fails, source_after_call};
 
@@ -181,7 +181,7 @@ impl MemSink {
 
 impl Sink for MemSink {
     ghost use Rattle.std.specs.Prelude.{◌≡◌, ℕ, ◌+◌, ◌<◌, ◌≤◌, ◌↔◌, min, true, List, length, take, Option, Some, is_err, IfOk, OnOk, OnErr};
-    ghost use Rattle.mc_base.specs.model_device.specs.Counts.{Rose};
+    ghost use Rattle.model_device.specs.Counts.{Rose};
     ghost use Rattle.mc_streams.specs.Streams.{one_more, Grew, Stays};
     ghost use Rattle.mc_streams.specs.MemoryStreams.{put_fails, sink_after_put};
 

@@ -1,5 +1,5 @@
 ghost use Rattle.std.specs.Prelude.{◌≡◌, ℕ, ◌+◌, ◌<◌, ◌≤◌, ◌↔◌, Bool, true, List, length, take, Option, IfOk, OnOk, OnErr};
-ghost use Rattle.mc_base.specs.model_device.specs.Counts.{Rose};
+ghost use Rattle.model_device.specs.Counts.{Rose};
 ghost use Rattle.mc_streams.specs.Streams.{one_more, Grew, GrewByPart, Stays};
 
 use crate::refusals::{Failed, WriteFault};

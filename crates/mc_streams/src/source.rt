@@ -1,5 +1,5 @@
 ghost use Rattle.std.specs.Prelude.{◌≡◌, ℕ, ◌+◌, ◌<◌, ◌≤◌, List, length, take, Option, IfOk, OnOk, OnErr, IsErrOf, vec_len};
-ghost use Rattle.mc_base.specs.model_device.specs.Counts.{Rose};
+ghost use Rattle.model_device.specs.Counts.{Rose};
 ghost use Rattle.mc_streams.specs.Streams.{one_more, Took, AtEnd, Stays, TookAtMost, TookMore};
 
 use crate::refusals::{Failed, ReadAll};

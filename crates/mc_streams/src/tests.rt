@@ -3,7 +3,7 @@ use crate::outside::StdSink;
 use crate::refusals::{ReadAll, WriteFault};
 use crate::sink::put_all;
 use crate::source::read_all;
-use mc_base::NoMemory;
+use model_device::NoMemory;
 use std::alloc::Global;
 use std::io;
 use std::io::{ErrorKind, Write};

@@ -4,7 +4,7 @@ ghost use Rattle.model_device.specs.Pieces.{pending_at, put_word, ArePending};
 ghost use Rattle.mc_trans.specs.Place.{place};
 
 use arrayvec::ArrayVec;
-use mc_base::Word;
+use mc_words::Word;
 use std::marker::Model;
 
 /// The error of [`Pending::put`]: 64 other words are pending.

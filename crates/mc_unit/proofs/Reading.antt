@@ -2,7 +2,7 @@
 use Rattle.std.proofs.Common.{◌≡◌, ℕ, List, Result, Ok, Err}
 use Rattle.std.specs.Prelude.{IfOk, OnErr, MatchResult}
 use Rattle.std.specs.Global.{Vec}
-use Rattle.mc_base.specs.declared.refusals.NoMemory.{NoMemory}
+use Rattle.mc_words.specs.model_device.specs.declared.memory.NoMemory.{NoMemory}
 use Rattle.model_card.specs.model_device.specs.Bytes.{zeros}
 use Rattle.model_card.specs.declared.unit.UnitRefusal.{UnitRefusal}
 use Rattle.model_card.specs.Units.{name_of, unit_bytes, unit_read, FitsUnit, UnitParts, IsUnit}

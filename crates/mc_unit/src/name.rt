@@ -2,7 +2,7 @@ ghost use Rattle.std.specs.Prelude.{◌≡◌, ◌+◌, ◌<◌, ◌≤◌, [], 
 ghost use Rattle.model_card.specs.Units.{byte_at, checked_name, name_among, name_of, object_at, size_at, tag_len, template_of, value_at};
 ghost use Rattle.mc_unit.specs.Parts.{object_of};
 
-use mc_base::Aid;
+use mc_words::Aid;
 use model_card::AidFault;
 
 // A data object at the front of some bytes, and the bytes after it.

@@ -3,7 +3,7 @@ ghost use Rattle.model_card.specs.Units.{bytes_at, code_at, empty_at, end_at, fi
 ghost use Rattle.mc_unit.specs.Parts.{parts_of};
 
 use crate::name::aid_of;
-use mc_base::Aid;
+use mc_words::Aid;
 use model_card::{AidFault, UnitRefusal};
 
 /// A load unit: its card number of eight bytes, its code, the first bytes of its static segment, its

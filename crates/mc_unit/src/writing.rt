@@ -3,7 +3,7 @@ ghost use Rattle.model_card.specs.model_device.specs.Limits.{most_code};
 ghost use Rattle.model_card.specs.model_device.specs.Bytes.{zeros};
 ghost use Rattle.model_card.specs.Units.{field, name_of, unit_bytes, unit_read, FitsUnit};
 
-use mc_base::NoMemory;
+use mc_words::NoMemory;
 use std::alloc::Global;
 
 /// Returns the bytes of a load unit with these fields: code, the first bytes of the static segment, DIR and

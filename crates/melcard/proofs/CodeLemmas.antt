@@ -16,8 +16,8 @@ use Rattle.mc_asm.proofs.PassLemmas.{numbered_some, numbered_none}
 use Rattle.melcard.specs.declared.code.CodeRefusal.{CodeRefusal}
 use Rattle.melcard.specs.declared.code.CodeRefusal.TheVariants.{BadHex, TooLarge}
 use Rattle.melcard.specs.Judging.{line_digits, text_digits, RefusesCode}
-use Rattle.mc_base.specs.model_device.specs.Limits.{most_code}
-use Rattle.mc_isa.proofs.SpellingLemmas.{front_spell}
+use Rattle.mc_base.specs.mc_words.specs.model_device.specs.Limits.{most_code}
+use Rattle.mc_isa.specs.law_rows.proofs.SpellingLemmas.{front_spell}
 use Rattle.mc_text.specs.model_machine.specs.Code.{Shaped, front, spell}
 use Rattle.mc_text.specs.model_machine.specs.Words.{decode_word}
 use Rattle.mc_text.specs.model_machine.specs.declared.instruction.Ins.{Ins}

@@ -1,10 +1,10 @@
 -- A job is complete if no call of source or sink fails.
 use Rattle.std.proofs.Common.{◌≡◌, ℕ, List, Option, Some, None, Result, Ok, Err, IfSome, subst}
-use Rattle.mc_base.specs.model_device.specs.Counts.{Rose}
+use Rattle.mc_base.specs.mc_words.specs.model_device.specs.Counts.{Rose}
 use Rattle.mc_deck.specs.model_play.specs.DeckGrammar.{DeckLine}
 use Rattle.mc_deck.specs.model_play.specs.Generator.{summary}
 use Rattle.mc_deck.specs.model_play.specs.Play.{Step}
-use Rattle.mc_streams.specs.declared.refusals.WriteFault.{WriteFault as Fault}
+use Rattle.mc_base.specs.mc_streams.specs.declared.refusals.WriteFault.{WriteFault as Fault}
 use Rattle.mc_script.specs.Plays.{Bench, PlaysDeck, SumsDeck}
 use Rattle.mc_text.specs.Texts.{Sunk}
 use Rattle.mc_filter.proofs.Statuses.{same_status, written_whole}

@@ -1,7 +1,7 @@
 -- After the first dump line of a generated deck there are only dump lines.
 use Rattle.std.proofs.Common.{◌≡◌, ◌==◌, ◌%◌, ℕ, zero, suc, Bool, true, false, cond, List, [], ◌∷◌, ◌++◌, refl, sym, subst, ◌∙◌, true≢false, nat_lt}
 use Rattle.std.specs.List.{AllByRecursion}
-use Rattle.mc_base.specs.model_device.specs.Bytes.{bytes}
+use Rattle.mc_base.specs.mc_words.specs.model_device.specs.Bytes.{bytes}
 use Rattle.mc_text.specs.model_text.specs.Text.{with_numbers}
 use Rattle.mc_deck.specs.model_play.specs.DeckGrammar.{DeckLine, Power, Sent, Load, Select, Delete, Apdu}
 use Rattle.mc_deck.specs.model_play.specs.Generator.{closing_lines, command, counter_aid, cut_line, draw, deck_of_number, is_dump, line_of, next, opening_lines, purse, purse_aid, purse_line, relay_aid, turns}

@@ -1,9 +1,9 @@
 -- The meaning of the status with which a job ended.
 use Rattle.std.proofs.Common.{◌≡◌, ℕ, Option, Some, None, Result, Ok, Err, IfErr, IfOk, refl, sym, subst, ◌∙◌}
 use Rattle.mc_deck.specs.model_play.specs.Generator.{deck_of_number}
-use Rattle.mc_streams.specs.declared.refusals.WriteFault.{WriteFault as Fault}
-use Rattle.mc_streams.specs.declared.sink.Sink as sink
-use Rattle.mc_streams.specs.declared.source.Source as source
+use Rattle.mc_base.specs.mc_streams.specs.declared.refusals.WriteFault.{WriteFault as Fault}
+use Rattle.mc_base.specs.mc_streams.specs.declared.sink.Sink as sink
+use Rattle.mc_base.specs.mc_streams.specs.declared.source.Source as source
 use Rattle.mc_text.specs.Texts.{sunk, Puts, Sunk}
 use Rattle.mc_filter.specs.Statuses.{RejectionEnds, status_after_writing}
 use Rattle.mc_filter.specs.Outside.{outside, Outside, Untouched}

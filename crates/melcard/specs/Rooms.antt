@@ -1,6 +1,6 @@
 -- The memory that a job has before its input is read.
 use Rattle.std.specs.Prelude.{◌≡◌, ◌*◌, ◌≤◌, vec_len, vec_capacity}
-use Rattle.mc_base.specs.model_device.specs.Limits.{most_code}
+use Rattle.mc_base.specs.mc_words.specs.model_device.specs.Limits.{most_code}
 use Rattle.mc_filter.specs.Inputs.{input_limit}
 use Rattle.melcard.specs.declared.room.Room.{Room}
 

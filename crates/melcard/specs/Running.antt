@@ -1,6 +1,6 @@
 -- The parts of a job, and why a job is not done.
 use Rattle.std.specs.Prelude.{◌≡◌, ℕ, List}
-use Rattle.mc_streams.specs.Streams.{one_more}
+use Rattle.mc_base.specs.mc_streams.specs.Streams.{one_more}
 use Rattle.mc_deck.specs.model_play.specs.DeckGrammar.{DeckLine}
 use Rattle.melcard.specs.declared.job.Job.{Job}
 use Rattle.melcard.specs.declared.job.Job.TheVariants as job

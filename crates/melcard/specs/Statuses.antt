@@ -4,9 +4,9 @@ use Rattle.mc_deck.specs.model_play.specs.DeckGrammar.{DeckLine}
 use Rattle.mc_deck.specs.model_play.specs.Generator.{deck_of_number, summary}
 use Rattle.mc_deck.specs.model_play.specs.Play as play
 use Rattle.mc_deck.specs.model_play.specs.Play.{Step}
-use Rattle.mc_streams.specs.declared.refusals.WriteFault.{WriteFault as Fault}
-use Rattle.mc_streams.specs.declared.sink.Sink as sink
-use Rattle.mc_streams.specs.declared.source.Source as source
+use Rattle.mc_base.specs.mc_streams.specs.declared.refusals.WriteFault.{WriteFault as Fault}
+use Rattle.mc_base.specs.mc_streams.specs.declared.sink.Sink as sink
+use Rattle.mc_base.specs.mc_streams.specs.declared.source.Source as source
 use Rattle.mc_text.specs.Texts.{Sunk}
 use Rattle.mc_check.specs.Plays.{KeepToVerdicts}
 use Rattle.mc_script.specs.Benches.{bench_at, BenchMembers}

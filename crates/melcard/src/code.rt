@@ -1,6 +1,6 @@
 // Code given as hexadecimal digits.
 ghost use Rattle.std.specs.Prelude.{◌≡◌, ◌≤◌, ◌<◌, ◌+◌, ◌*◌, ◌++◌, ◌∷◌, [], length, vec_len, vec_capacity, option_map, Ok, IfOk, IfErr, OnOk};
-ghost use Rattle.mc_base.specs.model_device.specs.Limits.{most_code};
+ghost use Rattle.mc_base.specs.mc_words.specs.model_device.specs.Limits.{most_code};
 ghost use Rattle.mc_text.specs.model_text.specs.Text.{hex_bytes, lines, with_numbers, ok_as, code_text_read};
 ghost use Rattle.mc_filter.specs.Inputs.{input_limit};
 ghost use Rattle.melcard.specs.Judging.{line_digits, text_digits, RefusesCode};

@@ -1,6 +1,6 @@
 // The texts that are made from an input.
 ghost use Rattle.std.specs.Prelude.{◌≡◌, ◌≢◌, ◌*◌, ◌≤◌, length, Ok, IfErr, MatchResult, vec_len, vec_capacity};
-ghost use Rattle.mc_base.specs.model_device.specs.Limits.{most_code};
+ghost use Rattle.mc_base.specs.mc_words.specs.model_device.specs.Limits.{most_code};
 ghost use Rattle.mc_text.specs.model_text.specs.Assembly.{assembly_of};
 ghost use Rattle.mc_deck.specs.model_play.specs.DeckGrammar.{deck_read};
 ghost use Rattle.mc_text.specs.model_text.specs.Listing.{listing_of_code};

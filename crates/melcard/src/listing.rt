@@ -1,6 +1,6 @@
 // The listing of code, in a text that has room for it.
 ghost use Rattle.std.specs.Prelude.{◌≡◌, ◌+◌, ◌*◌, ◌≤◌, ◌++◌, length, codes, Ok, Err, IfErr, MatchResult, OnOk, vec_len, vec_capacity};
-ghost use Rattle.mc_base.specs.model_device.specs.Limits.{most_code};
+ghost use Rattle.mc_base.specs.mc_words.specs.model_device.specs.Limits.{most_code};
 ghost use Rattle.mc_text.specs.model_text.specs.Assembly.{assembly_of};
 ghost use Rattle.mc_text.specs.model_text.specs.Listing.{listing_of_code, text_of};
 ghost use Rattle.mc_text.specs.model_machine.specs.Code.{Shaped};

@@ -26,8 +26,8 @@ mod text;
 mod worked_rows;
 
 use crate::program::program;
+use mc_base::{StdSink, StdSource};
 use mc_filter::command_words;
-use mc_streams::{StdSink, StdSource};
 use std::env;
 use std::io::{Stdin, Stdout};
 use std::marker::Brand;

@@ -6,9 +6,8 @@ ghost use Rattle.mc_filter.specs.Statuses.{IsNumberOf};
 ghost use Rattle.melcard.specs.Programs.{DoesCardJob, ProgramSays};
 
 use crate::running::melcard;
-use mc_base::{NoMemory, Steps};
+use mc_base::{NoMemory, Sink, Source, Steps};
 use mc_filter::{Status, blank_device, job_words, number};
-use mc_streams::{Sink, Source};
 use std::alloc::Global;
 use std::sync::ledger::{Blank, Ledger};
 

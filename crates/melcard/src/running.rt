@@ -18,12 +18,11 @@ ghost use Rattle.mc_script.specs.StepCounts.{CountsDeck};
 use crate::form::text_of;
 use crate::job::{Form, Job, Reporting, job_of};
 use crate::room::room_for;
-use mc_base::Steps;
+use mc_base::{Sink, Source, Steps, WriteFault, put_all};
 use mc_deck::{Deck, generate};
 use mc_filter::{Rejection, Status, deck_of, ended, number, read_input, reject};
 use mc_nvm::Bench;
 use mc_script::{play, summarise, trace};
-use mc_streams::{Sink, Source, WriteFault, put_all};
 use std::alloc::Global;
 use std::sync::ledger::Ledger;
 

@@ -3,9 +3,8 @@ ghost use Rattle.std.specs.Prelude.{◌≡◌, ◌<◌};
 
 use crate::running::melcard;
 use crate::tests::{ended, words};
-use mc_base::{NoMemory, Steps, Stop};
+use mc_base::{MemSink, MemSource, NoMemory, Steps, Stop};
 use mc_nvm::{DEVICE_WORDS, Entry, TapeNvm};
-use mc_streams::{MemSink, MemSource};
 use std::alloc::{AllocError, Global};
 use std::marker::Brand;
 use std::sync::ledger::{Blank, Ledger};

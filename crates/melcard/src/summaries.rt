@@ -2,11 +2,10 @@
 ghost use Rattle.std.specs.Prelude.{◌≡◌, ◌≤◌, ◌<◌};
 
 use crate::tests::{ended, words};
-use mc_base::{NoMemory, Steps};
+use mc_base::{MemSink, NoMemory, Steps};
 use mc_deck::{Deck, generate};
 use mc_nvm::{DEVICE_WORDS, SimNvm};
 use mc_script::play;
-use mc_streams::MemSink;
 use std::alloc::{AllocError, Global};
 use std::marker::Brand;
 use std::sync::ledger::{Blank, Ledger};

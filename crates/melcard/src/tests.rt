@@ -4,9 +4,10 @@ use crate::decks::DECKS;
 use crate::running::melcard;
 use crate::samples::{SAMPLES, Sample};
 use crate::worked_rows::{CUTS, DELEGATIONS, IMAGES, PLAYS, SMALL_DEVICE, TRACES};
-use mc_base::{NoMemory, Steps};
+use mc_base::{
+    MemSink, MemSource, NoMemory, ReadAll, StdSink, StdSource, Steps, put_all, read_all,
+};
 use mc_nvm::{DEVICE_WORDS, SimNvm};
-use mc_streams::{MemSink, MemSource, ReadAll, StdSink, StdSource, put_all, read_all};
 use std::alloc::{AllocError, Global};
 use std::marker::Brand;
 use std::sync::ledger::{Blank, Ledger};

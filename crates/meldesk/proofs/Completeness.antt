@@ -1,6 +1,6 @@
 -- A call without a fault is complete, and words that select no job.
 use Rattle.std.proofs.Common.{◌≡◌, ◌∙◌, ℕ, Option, Some, None, Result, Ok, Err, refl, sym, subst}
-use Rattle.mc_base.specs.model_device.specs.Counts.{Rose}
+use Rattle.mc_words.specs.model_device.specs.Counts.{Rose}
 use Rattle.mc_streams.specs.declared.refusals.WriteFault.{WriteFault as Fault}
 use Rattle.mc_text.specs.Texts.{Puts, Sunk}
 use Rattle.mc_filter.specs.Inputs.{TookLimited}

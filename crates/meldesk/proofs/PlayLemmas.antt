@@ -1,6 +1,6 @@
 -- The meaning of the status with which a job that plays ended.
 use Rattle.std.proofs.Common.{◌≡◌, ℕ, Bool, true, false, List, Result, Ok, Err, IfErr, IfOk, refl, ap, sym, subst, ◌∙◌, inr}
-use Rattle.mc_base.specs.model_device.specs.Counts.{Rose}
+use Rattle.mc_words.specs.model_device.specs.Counts.{Rose}
 use Rattle.mc_deck.specs.model_play.specs.declared.deck.DeckCause.{DeckCause}
 use Rattle.mc_deck.specs.model_play.specs.DeckGrammar.{DeckLine}
 use Rattle.mc_streams.specs.declared.refusals.WriteFault.{WriteFault as Fault}
@@ -51,18 +51,18 @@ draft_rejected t a rejection.NoMemory read few h = few
 -- ---- the coverage
 
 -- a deck whose coverage was written
-pub is_covered : (name : List ℕ) (ss : List Source) (ls : List (ℕ × DeckLine)) (s : Status) (a : Bench) (x : Sunk) (r : Result (Unit {0}) Fault) (b : Bench) (y : Sunk) (old new : ℕ) → s ≡ status_after_writing Done r → CoversDeck name ss ls a x r b y old new → IsCovered name ss ls s a x b y
-is_covered name ss ls s a x r b y old new status h = record { result = r; status = status; text = h.text; sums = h.sums.deck; covers = h.covers }
+pub is_covered : (name : List ℕ) (ss : List Source) (ls : List (ℕ × DeckLine)) (s : Status) (a : Bench) (x : Sunk) (r : Result (Unit {0}) Fault) (b : Bench) (y : Sunk) → s ≡ status_after_writing Done r → CoversDeck name ss ls a x r b y → IsCovered name ss ls s a x b y
+is_covered name ss ls s a x r b y status h = record { result = r; status = status; text = h.text; sums = h.sums; covers = h.covers }
 
 -- a deck whose steps were written
-pub is_stepped : (ss : List Source) (deck : List ℕ) (ls : List (ℕ × DeckLine)) (s : Status) (a : Bench) (x : Sunk) (r : Result (Unit {0}) Fault) (b : Bench) (y : Sunk) (old new : ℕ) → s ≡ status_after_writing Done r → StepsDeck ss deck ls a x r b y old new → IsStepped ss deck ls s a x b y
-is_stepped ss deck ls s a x r b y old new status h = record { result = r; status = status; text = h.text; sums = h.sums.deck; shows = h.shows }
+pub is_stepped : (ss : List Source) (deck : List ℕ) (ls : List (ℕ × DeckLine)) (s : Status) (a : Bench) (x : Sunk) (r : Result (Unit {0}) Fault) (b : Bench) (y : Sunk) → s ≡ status_after_writing Done r → StepsDeck ss deck ls a x r b y → IsStepped ss deck ls s a x b y
+is_stepped ss deck ls s a x r b y status h = record { result = r; status = status; text = h.text; sums = h.sums; shows = h.shows }
 
 -- a deck whose coverage was not wholly written
-pub cover_fault : (name : List ℕ) (ss : List Source) (ls : List (ℕ × DeckLine)) (a : Bench) (x : Sunk) (r : Result (Unit {0}) JobFault) (b : Bench) (y : Sunk) (old new : ℕ) → r ≡ Err fault.WriteFault → CoversBy name ss ls a x r b y old new → IsCovered name ss ls WriteFault a x b y
-cover_fault name ss ls a x r b y old new is h =
-    let w : CoversBy name ss ls a x (Err fault.WriteFault) b y old new = subst (λ (q : Result (Unit {0}) JobFault). CoversBy name ss ls a x q b y old new) is h in
-    is_covered name ss ls WriteFault a x (Err w.0) b y old new refl w.1
+pub cover_fault : (name : List ℕ) (ss : List Source) (ls : List (ℕ × DeckLine)) (a : Bench) (x : Sunk) (r : Result (Unit {0}) JobFault) (b : Bench) (y : Sunk) → r ≡ Err fault.WriteFault → CoversBy name ss ls a x r b y → IsCovered name ss ls WriteFault a x b y
+cover_fault name ss ls a x r b y is h =
+    let w : CoversBy name ss ls a x (Err fault.WriteFault) b y = subst (λ (q : Result (Unit {0}) JobFault). CoversBy name ss ls a x q b y) is h in
+    is_covered name ss ls WriteFault a x (Err w.0) b y refl w.1
 
 -- ---- statuses
 

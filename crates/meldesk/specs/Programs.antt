@@ -3,8 +3,8 @@ use Rattle.std.specs.Prelude.{◌≡◌, ◌⊎◌, ℕ, List, Option, Result, O
 use Rattle.std.specs.declared.alloc.Global.{Global}
 use Rattle.std.specs.declared.string.String.{String}
 use Rattle.std.specs.Global.{Vec}
-use Rattle.mc_base.specs.model_device.specs.Device.{device_words}
-use Rattle.mc_base.specs.declared.refusals.NoMemory.{NoMemory as Memory}
+use Rattle.mc_words.specs.model_device.specs.Device.{device_words}
+use Rattle.mc_words.specs.model_device.specs.declared.memory.NoMemory.{NoMemory as Memory}
 use Rattle.mc_nvm.specs.Sim.{blank_sim, Sim}
 use Rattle.mc_script.specs.Benches.{bench_at}
 use Rattle.mc_streams.specs.declared.sink.Sink as sink

@@ -1,6 +1,6 @@
 -- The relation of the top call to its source, its sink and its device at each of its statuses.
 use Rattle.std.specs.Prelude.{◌≡◌, Bool, true, false, Option, Some, None, ⊤}
-use Rattle.mc_base.specs.model_device.specs.Counts.{Rose}
+use Rattle.mc_words.specs.model_device.specs.Counts.{Rose}
 use Rattle.mc_streams.specs.declared.sink.Sink as sink
 use Rattle.mc_streams.specs.declared.source.Source as source
 use Rattle.mc_script.specs.Benches.{bench_at, BenchMembers}

@@ -9,9 +9,9 @@ ghost use Rattle.meldesk.specs.Checks.{accepts, verdict_value, AddsVerdicts, Sho
 use crate::draft_text::DraftText;
 use desk_draft::{Loads, push_source_part};
 use itoa::Buffer;
-use mc_base::NoMemory;
 use mc_check::{CheckCause, Verdict, check};
 use mc_deck::{Deck, Line};
+use mc_words::NoMemory;
 use std::alloc::Global;
 
 // Adds a number in decimal.

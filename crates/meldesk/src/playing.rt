@@ -14,12 +14,12 @@ use crate::running::{desk_of, end};
 use desk_cover::{Sections, cover, trace};
 use desk_draft::Desk;
 use desk_steps::put_steps;
-use mc_base::Steps;
 use mc_deck::Deck;
 use mc_filter::{Rejection, Status, ended, read_input};
 use mc_nvm::Bench;
 use mc_script::JobFault;
 use mc_streams::{Sink, Source};
+use mc_words::Steps;
 use std::alloc::Global;
 use std::sync::ledger::Ledger;
 

@@ -4,9 +4,9 @@ ghost use Rattle.mc_filter.specs.Statuses.{IsNumberOf};
 ghost use Rattle.meldesk.specs.Programs.{streams, DoesDeskJob, IsShortOf, ProgramSays};
 
 use crate::running::meldesk;
-use mc_base::{NoMemory, Steps};
 use mc_filter::{Status, blank_device, job_words, number};
 use mc_streams::{Sink, Source};
+use mc_words::{NoMemory, Steps};
 use std::alloc::Global;
 use std::sync::ledger::{Blank, Ledger};
 

@@ -25,13 +25,13 @@ use crate::playing::show;
 use desk_draft::{Desk, Draft, Loads, Section, listing_of, read_draft, sources_of};
 use desk_explain::{Explained, explain};
 use desk_names::names_of;
-use mc_base::Steps;
 use mc_deck::DeckRefusal;
 use mc_filter::{
     INPUT_LIMIT, Rejection, Status, deck_of, ended, number, read_input, refused, reject, too_long,
 };
 use mc_nvm::Bench;
 use mc_streams::{Sink, Source, put_all};
+use mc_words::Steps;
 use std::alloc::Global;
 use std::sync::ledger::Ledger;
 

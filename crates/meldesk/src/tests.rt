@@ -2,9 +2,9 @@ ghost use Rattle.std.specs.Prelude.{◌≡◌, ◌<◌};
 
 use crate::purse::{DECK, DRAFT, LISTING, RECORD, TRACE, VERDICTS};
 use crate::running::meldesk;
-use mc_base::{NoMemory, Steps};
 use mc_filter::blank_device;
 use mc_streams::{MemSink, MemSource, read_all};
+use mc_words::{NoMemory, Steps};
 use std::alloc::{AllocError, Global};
 use std::marker::Brand;
 use std::sync::ledger::{Blank, Ledger};

@@ -1,6 +1,6 @@
 -- What is requested is complete if no call of source or sink fails.
 use Rattle.std.proofs.Common.{◌≡◌, ℕ, Option, Some, None, IfSome, subst}
-use Rattle.mc_base.specs.model_device.specs.Counts.{Rose}
+use Rattle.mc_words.specs.model_device.specs.Counts.{Rose}
 use Rattle.mc_filter.proofs.Statuses.{same_status, written_whole}
 use Rattle.mc_filter.proofs.Outside.{all_stands, complete_part}
 use Rattle.mc_filter.specs.Inputs.{TookLimited}

@@ -2,7 +2,7 @@
 use Rattle.std.proofs.Common.{◌≡◌, ◌≤◌, ◌+◌, ◌*◌, ◌-◌, ℕ, zero, suc, List, [], ◌∷◌, Bool, true, false, cond, length, map, Option, Some, None, refl, ap, subst, sym, arith}
 use Rattle.std.specs.Prelude.{◌&&◌, not, option_map, IfSome}
 use Rattle.mc_text.specs.model_text.specs.Text.{decimal_number, digits_onto, every, is_digit, is_empty}
-use Rattle.mc_base.specs.model_device.proofs.BoolLemmas.{and_first, and_second}
+use Rattle.mc_words.specs.model_device.proofs.BoolLemmas.{and_first, and_second}
 use Rattle.mc_text.specs.Reading.{capped_number}
 
 -- the greatest number that n and k more digits spell

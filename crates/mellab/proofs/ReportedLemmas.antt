@@ -4,7 +4,7 @@ use Rattle.std.specs.Prelude.{◌==◌}
 use Rattle.mc_streams.specs.declared.refusals.WriteFault.{WriteFault as Fault}
 use Rattle.mc_text.specs.Texts.{Puts}
 use Rattle.mc_deck.specs.model_play.specs.DeckGrammar.{DeckLine, deck_read}
-use Rattle.mc_base.specs.model_device.specs.Device.{blank_words, device_words}
+use Rattle.mc_words.specs.model_device.specs.Device.{blank_words, device_words}
 use Rattle.mc_lab.specs.Expectations.{ExpectedDeck, count_failed, expect_text, steady_steps, expected_deck_read}
 use Rattle.mc_lab.specs.Judged.{done_of}
 use Rattle.mc_lab.specs.declared.remark.Mark.TheVariants as mark

@@ -4,13 +4,13 @@ use Rattle.mc_streams.specs.declared.refusals.WriteFault.{WriteFault as Fault}
 use Rattle.mc_text.specs.Texts.{Puts}
 use Rattle.mc_deck.specs.model_play.specs.DeckGrammar.{DeckLine, deck_read}
 use Rattle.mc_deck.specs.model_play.specs.declared.deck.DeckCause.{DeckCause}
-use Rattle.prove_events.specs.model_rules.specs.Law.{AreKept, AreKeptBy}
-use Rattle.prove_events.specs.model_rules.specs.Reading.{RuleCause, app_rules_read}
-use Rattle.prove_events.specs.model_rules.specs.Rules.{AppRules, Target}
+use Rattle.prove_tables.specs.law_prove_closed.specs.law_rules.specs.Law.{AreKept, AreKeptBy}
+use Rattle.prove_tables.specs.law_prove_closed.specs.model_rule_text.specs.Reading.{RuleCause, app_rules_read}
+use Rattle.lab_app_rules.specs.model_rules.specs.Rules.{AppRules, Target}
 use Rattle.prove_tables.specs.law_prove_closed.specs.Decks.{TargetIsKept}
-use Rattle.prove_events.specs.declared.rules.Rules.{Rules}
-use Rattle.prove_events.specs.Rules.{AreRules}
-use Rattle.prove_rules.specs.Sums.{AreSums}
+use Rattle.lab_app_rules.specs.declared.rules.Rules.{Rules}
+use Rattle.lab_app_rules.specs.Rules.{AreRules}
+use Rattle.lab_app_rules.specs.Sums.{AreSums}
 use Rattle.prove_tables.specs.Reports.{IsReport}
 use Rattle.mc_filter.specs.Inputs.{ReadWhole}
 use Rattle.mc_filter.specs.Outside.{Outside}

@@ -1,13 +1,13 @@
 -- The parts of a job, and why a job is not done.
 use Rattle.std.specs.Prelude.{◌≡◌, ℕ, List, Result, Ok, Err}
-use Rattle.lab_rules.specs.law_explore.specs.Rules.{Exploration, ExplorationFault, exploration_read}
-use Rattle.lab_rules.specs.law_explore.specs.Search.{search_of}
+use Rattle.lab_moves.specs.law_explore_text.specs.law_explore.specs.Rules.{Exploration, ExplorationFault, exploration_read}
+use Rattle.lab_moves.specs.law_explore_text.specs.law_explore.specs.Search.{search_of}
 use Rattle.lab_moves.specs.law_explore_text.specs.Report.{text_within}
 use Rattle.lab_search.specs.Endings.{IsExplored}
-use Rattle.lab_rules.specs.law_explore.specs.States.{play_of_deck}
+use Rattle.lab_moves.specs.law_explore_text.specs.law_explore.specs.States.{play_of_deck}
 use Rattle.lab_moves.specs.law_histories.specs.Histories.{AppExploration, AppFault, app_exploration_read}
-use Rattle.prove_events.specs.Rules.{AreRules as AreAppRules}
-use Rattle.prove_events.specs.declared.rules.Rules.{Rules as CodeRules}
+use Rattle.lab_app_rules.specs.Rules.{AreRules as AreAppRules}
+use Rattle.lab_app_rules.specs.declared.rules.Rules.{Rules as CodeRules}
 use Rattle.mc_text.specs.Texts.{Sunk}
 use Rattle.lab_application.specs.Texts.{IsAppExplored}
 use Rattle.mc_lab.specs.Expectations.{ExpectedDeck, ExpectationFault}

@@ -1,6 +1,6 @@
 -- The relation of the top call to its environment at each of its statuses.
 use Rattle.std.specs.Prelude.{◌≡◌, ◌⊎◌, ℕ, ◌==◌, Bool, true, false, List, Option, Some, None, Result, Ok, Err}
-use Rattle.mc_base.specs.model_device.specs.Counts.{Rose}
+use Rattle.mc_words.specs.model_device.specs.Counts.{Rose}
 use Rattle.mc_streams.specs.declared.refusals.WriteFault.{WriteFault as Fault}
 use Rattle.mc_filter.specs.declared.status.Status.{Status}
 use Rattle.mc_filter.specs.declared.status.Status.TheVariants.{Done, Failed, Partial, WriteFault}

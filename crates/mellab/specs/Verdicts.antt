@@ -1,25 +1,25 @@
 -- The verdict on the input of a job: the text due, and whether all that is asked of it holds, or the one line that
 -- refuses the input.
 use Rattle.std.specs.Prelude.{◌≡◌, ℕ, Bool, true, false, ◌==◌, List, [], codes, Result, Ok, Err, ⊤}
-use Rattle.mc_base.specs.model_device.specs.Device.{blank_words, device_words}
+use Rattle.mc_words.specs.model_device.specs.Device.{blank_words, device_words}
 use Rattle.mc_deck.specs.model_play.specs.DeckGrammar.{DeckLine, deck_read}
 use Rattle.mc_deck.specs.model_play.specs.declared.deck.DeckCause.{DeckCause}
 use Rattle.mc_lab.specs.Expectations.{ExpectedDeck, ExpectationFault, DeckFault, NoAnswer, NoExpectation, expected_deck_read, steady_steps, expect_text, count_failed}
 use Rattle.mc_lab.specs.declared.remark.Mark.TheVariants as mark
 use Rattle.mc_lab.specs.Remarks.{Remark, remarks}
 use Rattle.mc_lab.specs.Sweeps.{is_whole, sweep_text}
-use Rattle.lab_rules.specs.law_explore.specs.Rules.{Exploration, ExplorationFault, LineFault, NoMove, NoRule, exploration_read}
-use Rattle.lab_rules.specs.law_explore.specs.Search.{Ending, All, AtDepth, Broken, TooMany, search_of}
+use Rattle.lab_moves.specs.law_explore_text.specs.law_explore.specs.Rules.{Exploration, ExplorationFault, LineFault, NoMove, NoRule, exploration_read}
+use Rattle.lab_moves.specs.law_explore_text.specs.law_explore.specs.Search.{Ending, All, AtDepth, Broken, TooMany, search_of}
 use Rattle.lab_moves.specs.law_explore_text.specs.Report.{text_within}
-use Rattle.lab_rules.specs.law_explore.specs.States.{play_of_deck}
+use Rattle.lab_moves.specs.law_explore_text.specs.law_explore.specs.States.{play_of_deck}
 use Rattle.lab_moves.specs.law_histories.specs.Histories.{AppExploration, AppFault, app_exploration_read, names_application}
 use Rattle.lab_moves.specs.law_histories.specs.Histories as histories
 use Rattle.lab_moves.specs.law_histories.specs.Searches.{Search as AppSearch, text_of_search}
 use Rattle.lab_application.specs.Texts.{IsFoundFrom}
-use Rattle.prove_events.specs.Rules.{AreRules as AreAppRules}
-use Rattle.prove_events.specs.declared.rules.Rules.{Rules as CodeRules}
-use Rattle.prove_events.specs.model_rules.specs.Rules.{AppRules}
-use Rattle.prove_events.specs.model_rules.specs.Reading.{RuleCause, app_rules_read}
+use Rattle.lab_app_rules.specs.Rules.{AreRules as AreAppRules}
+use Rattle.lab_app_rules.specs.declared.rules.Rules.{Rules as CodeRules}
+use Rattle.lab_app_rules.specs.model_rules.specs.Rules.{AppRules}
+use Rattle.prove_tables.specs.law_prove_closed.specs.model_rule_text.specs.Reading.{RuleCause, app_rules_read}
 use Rattle.prove_tables.specs.law_prove_closed.specs.Decks.{TargetIsKept}
 use Rattle.prove_rules.specs.Refused.{cause_word}
 use Rattle.prove_tables.specs.Reports.{IsReport}

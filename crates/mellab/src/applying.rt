@@ -1,8 +1,8 @@
 // The exploration of a deck whose rules speak of one application.
 ghost use Rattle.std.specs.Prelude.{◌≡◌, ℕ, List, IfErr, IfOk, Ok};
 ghost use Rattle.mc_deck.specs.model_play.specs.DeckGrammar.{deck_read, DeckLine};
-ghost use Rattle.lab_rules.specs.law_explore.specs.Rules.{Move};
-ghost use Rattle.lab_rules.specs.law_explore.specs.States.{play_of_deck};
+ghost use Rattle.lab_moves.specs.law_explore_text.specs.law_explore.specs.Rules.{Move};
+ghost use Rattle.lab_moves.specs.law_explore_text.specs.law_explore.specs.States.{play_of_deck};
 ghost use Rattle.lab_moves.specs.law_histories.specs.Histories.{app_exploration_read};
 ghost use Rattle.mc_filter.specs.Inputs.{Rejects};
 ghost use Rattle.mc_text.specs.Texts.{sunk};
@@ -16,11 +16,11 @@ use lab_application::explore_within;
 use lab_deck::{Application, ApplicationRefusal, read_application};
 use lab_record::Subject;
 use lab_search::Explored;
-use mc_base::Steps;
 use mc_deck::Deck;
 use mc_filter::{Rejection, Status, deck_of, refused};
 use mc_script::JobFault;
 use mc_streams::Sink;
+use mc_words::Steps;
 use std::alloc::Global;
 use std::sync::ledger::Ledger;
 

@@ -1,6 +1,6 @@
 // The exploration of a deck.
 ghost use Rattle.std.specs.Prelude.{◌≡◌, IfErr, IfOk};
-ghost use Rattle.lab_rules.specs.law_explore.specs.Rules.{exploration_read};
+ghost use Rattle.lab_moves.specs.law_explore_text.specs.law_explore.specs.Rules.{exploration_read};
 ghost use Rattle.lab_rules.specs.Meanings.{IsExplorationRead};
 ghost use Rattle.mc_text.specs.Texts.{sunk};
 ghost use Rattle.mc_filter.specs.Inputs.{Rejects};
@@ -13,10 +13,10 @@ use crate::applying::explore_application;
 use lab_moves::names_application;
 use lab_rules::{Exploration, ExplorationRefusal, read_exploration};
 use lab_search::{Explored, explore_within};
-use mc_base::Steps;
 use mc_filter::{Rejection, Status, read_input, refused};
 use mc_script::JobFault;
 use mc_streams::{Sink, Source};
+use mc_words::Steps;
 use std::alloc::Global;
 use std::sync::ledger::Ledger;
 

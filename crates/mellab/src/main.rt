@@ -12,6 +12,8 @@ mod program;
 mod proving;
 #[cfg(test)]
 mod reports;
+#[cfg(test)]
+mod ruled;
 mod running;
 #[cfg(test)]
 mod tests;

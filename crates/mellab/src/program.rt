@@ -4,9 +4,9 @@ ghost use Rattle.mc_filter.specs.Outside.{outside};
 ghost use Rattle.mellab.specs.Programs.{ProgramSays};
 
 use crate::running::mellab;
-use mc_base::{NoMemory, Steps};
 use mc_filter::{Status, job_words, number};
 use mc_streams::{Sink, Source};
+use mc_words::{NoMemory, Steps};
 use std::alloc::Global;
 use std::sync::ledger::{Blank, Ledger};
 

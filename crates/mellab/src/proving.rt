@@ -1,10 +1,10 @@
 // The proof of the rules of a deck.
 ghost use Rattle.std.specs.Prelude.{◌≡◌, IfErr, IfOk, Ok};
 ghost use Rattle.mc_deck.specs.model_play.specs.DeckGrammar.{deck_read};
-ghost use Rattle.prove_events.specs.model_rules.specs.Rules.{AppRules, Target};
-ghost use Rattle.prove_events.specs.model_rules.specs.Reading.{app_rules_read};
-ghost use Rattle.prove_events.specs.Rules.{AreRules};
-ghost use Rattle.prove_rules.specs.Sums.{AreSums};
+ghost use Rattle.lab_app_rules.specs.model_rules.specs.Rules.{AppRules, Target};
+ghost use Rattle.prove_tables.specs.law_prove_closed.specs.model_rule_text.specs.Reading.{app_rules_read};
+ghost use Rattle.lab_app_rules.specs.Rules.{AreRules};
+ghost use Rattle.lab_app_rules.specs.Sums.{AreSums};
 ghost use Rattle.mc_text.specs.Texts.{sunk};
 ghost use Rattle.mc_filter.specs.Inputs.{Rejects};
 ghost use Rattle.mc_filter.specs.Outside.{outside};
@@ -14,10 +14,10 @@ ghost use Rattle.mellab.specs.Statuses.{MellabDone};
 ghost use Rattle.mellab.specs.Verdicts.{refused_rules};
 
 use crate::running::status_by;
+use lab_app_rules::Rules;
 use mc_deck::Deck;
 use mc_filter::{Rejection, Status, deck_of, ended, read_input, refused};
 use mc_streams::{Sink, Source, put_all};
-use prove_events::Rules;
 use prove_rules::{RuleRefusal, read_named_rules};
 use prove_tables::prove;
 use std::alloc::Global;

@@ -18,13 +18,13 @@ use crate::about::describe;
 use crate::exploring::explore_input;
 use crate::job::{Job, Request, request_of};
 use crate::proving::prove_input;
-use mc_base::Steps;
 use mc_filter::{
     Rejection, Status, blank_device, deck_of, ended, number, read_input, refused, reject,
 };
 use mc_lab::{ExpectationRefusal, ExpectedDeck, Mark, expect, read_expected_deck, remarks, sweep};
 use mc_script::JobFault;
 use mc_streams::{Sink, Source, WriteFault, put_all};
+use mc_words::Steps;
 use std::alloc::Global;
 use std::sync::ledger::Ledger;
 

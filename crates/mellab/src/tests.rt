@@ -2,9 +2,10 @@ ghost use Rattle.std.specs.Prelude.{◌≡◌, ◌<◌};
 
 use crate::examples::EXAMPLES;
 use crate::reports::{REPORTS, Report};
+use crate::ruled::{RULED_DECKS, RuledDeck};
 use crate::running::mellab;
-use mc_base::{NoMemory, Steps};
 use mc_streams::{MemSink, MemSource, read_all};
+use mc_words::{NoMemory, Steps};
 use std::alloc::{AllocError, Global};
 use std::marker::Brand;
 use std::sync::ledger::{Blank, Ledger};
@@ -289,6 +290,51 @@ fn silent(rt: HostRuntime) -> Result<(), Fail> {
             "{}",
             str::from_utf8(end.text.as_slice()).unwrap_or("")
         );
+    }
+    Ok(())
+}
+
+// The deck of an application with rules.
+fn ruled_deck(alloc: Global, ruled: &RuledDeck) -> Result<String, AllocError> {
+    format!(in alloc;
+        "format\npower\napp a A000000001\n{}EXIT\nend\nload a 2 0\n#@ app a\n{}",
+        ruled.code, ruled.lines
+    )
+}
+
+// Explorations with rules of one application: each finds what its deck shows, or that nothing is broken.
+#[test]
+fn rules_of_an_application(rt: HostRuntime) -> Result<(), Fail> {
+    let alloc = rt.alloc();
+    let words = words(alloc, &["explore", "3"])?;
+    let words = words.as_slice();
+    for ruled in RULED_DECKS {
+        let deck = ruled_deck(alloc, ruled)?;
+        let end = ended(alloc, words, deck.as_bytes(), 400, &[])?;
+        assert!(rt;
+            end.is(ruled.status, ruled.text.as_bytes()),
+            "{}: {}",
+            ruled.shows,
+            str::from_utf8(end.text.as_slice()).unwrap_or("")
+        );
+    }
+    Ok(())
+}
+
+// An exploration with rules of one application, up to a fault of the sink at each byte.
+#[test]
+fn rules_at_a_fault(rt: HostRuntime) -> Result<(), Fail> {
+    let alloc = rt.alloc();
+    let words = words(alloc, &["explore", "3"])?;
+    let Some(ruled) = RULED_DECKS.last() else {
+        assert!(rt; false);
+        return Ok(());
+    };
+    let deck = ruled_deck(alloc, ruled)?;
+    let text = ruled.text.as_bytes();
+    for room in 0..text.len() {
+        let end = ended(alloc, words.as_slice(), deck.as_bytes(), room, &[])?;
+        assert!(rt; end.is(4, &text[..room]), "at {room}");
     }
     Ok(())
 }

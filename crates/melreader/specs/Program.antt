@@ -3,8 +3,8 @@ use Rattle.std.specs.Prelude.{◌≡◌, ◌⊎◌, ℕ, List, [], ◌∷◌, �
 use Rattle.std.specs.declared.alloc.Global.{Global}
 use Rattle.std.specs.declared.string.String.{String}
 use Rattle.std.specs.Global.{Vec}
-use Rattle.mc_base.specs.model_device.specs.Device.{device_words}
-use Rattle.mc_base.specs.declared.refusals.NoMemory.{NoMemory as Memory}
+use Rattle.mc_words.specs.model_device.specs.Device.{device_words}
+use Rattle.mc_words.specs.model_device.specs.declared.memory.NoMemory.{NoMemory as Memory}
 use Rattle.mc_streams.specs.declared.refusals.WriteFault.{WriteFault as Fault}
 use Rattle.mc_streams.specs.declared.sink.Sink as sink
 use Rattle.mc_streams.specs.declared.source.Source as source
@@ -111,9 +111,7 @@ module _ {S T E : Type 0} (s : source.Ghosts S) (t : sink.Ghosts T) (e : sink.Gh
     pub dev_old : Sim
     pub dev : Sim
     pub blank : dev_old ≡ blank_sim device_words
-    pub steps_old : ℕ
-    pub steps : ℕ
-    pub says : MelreaderSays (AreKept x.in_old x.in_new x.out_old x.out_new dev_old dev) status (outside s t e sim_members deck_old deck x.in_old x.in_new x.out_old x.out_new x.err_old x.err_new dev_old dev steps_old steps)
+    pub says : MelreaderSays (AreKept x.in_old x.in_new x.out_old x.out_new dev_old dev) status (outside s t e sim_members deck_old deck x.in_old x.in_new x.out_old x.out_new x.err_old x.err_new dev_old dev)
 
   -- such a session, or out of memory for its device
   abbrev pub SessionSays : Option Stream → Option Stream → Streams → Status → Type 0

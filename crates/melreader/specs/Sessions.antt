@@ -30,14 +30,14 @@ host_of s = record { left = s.left; faults = s.faults; moments = λ x. None }
 
 -- the environment, by the values of a call before and after it
 abbrev pub outside : {S T E N : Type 0} → source.Ghosts S → sink.Ghosts T → sink.Ghosts E → BenchMembers N
-    → Option Stream → Option Stream → S → S → T → T → E → E → N → N → ℕ → ℕ → ReaderOutside
-outside s t e n deck_old deck in_old in_new out_old out_new err_old err_new dev_old dev_new steps_old steps =
+    → Option Stream → Option Stream → S → S → T → T → E → E → N → N → ReaderOutside
+outside s t e n deck_old deck in_old in_new out_old out_new err_old err_new dev_old dev_new =
     record {
       deck_old = deck_old;
       deck = deck;
       err_old = sunk e err_old;
       err = sunk e err_new;
-      session = around (host_of s) t n in_old in_new out_old out_new dev_old dev_new steps_old steps;
+      session = around (host_of s) t n in_old in_new out_old out_new dev_old dev_new;
     }
 
 -- the input, the sink of answers and the device are unchanged

@@ -9,12 +9,12 @@ ghost use Rattle.melreader.specs.Sessions.{outside, AreKept, ReaderEnds, Melread
 
 use crate::deck::{blank_deck, deck_from};
 use crate::lines::put_short;
-use mc_base::Steps;
 use mc_deck::Deck;
 use mc_filter::{Rejection, Status, ended, number, reject};
 use mc_nvm::Bench;
 use mc_reader::{ServeError, serve};
 use mc_streams::{Sink, Source};
+use mc_words::Steps;
 use std::alloc::Global;
 use std::sync::ledger::Ledger;
 
@@ -54,7 +54,7 @@ fn session<S: Source, T: Sink, E: Sink, N: Bench, L: Ledger>(
     ensures { (a b : Option Stream) → HasDeck a b found
         → MelreaderSays (AreKept input.old input.new out.old out.new dev.old dev.new) result
         (outside S.Source T.Sink E.Sink N.Bench a b input.old input.new out.old out.new err.old err.new
-        dev.old dev.new steps.old steps.new) }
+        dev.old dev.new) }
 {
     match found {
         Ok(deck) => end(err, serve(alloc, &deck, input, out, dev, steps)),
@@ -86,8 +86,7 @@ pub fn melreader<D: Source, S: Source, T: Sink, E: Sink, N: Bench, L: Ledger>(
     ensures says { IsNumberOf
         (λ s. MelreaderSays (AreKept input.old input.new out.old out.new dev.old dev.new) s
         (outside S.Source T.Sink E.Sink N.Bench (stream_of_source D.Source deck.entry)
-        (stream_left D.Source deck.exit) input.old input.new out.old out.new err.old err.new dev.old dev.new
-        steps.old steps.new)) result }
+        (stream_left D.Source deck.exit) input.old input.new out.old out.new err.old err.new dev.old dev.new)) result }
 {
     match deck {
         Some(source) => {

@@ -3,9 +3,9 @@ ghost use Rattle.std.specs.Prelude.{◌≡◌, ◌<◌};
 
 use crate::running::melreader;
 use crate::selecting::{deck_path, program};
-use mc_base::{NoMemory, Steps};
 use mc_nvm::SimNvm;
 use mc_streams::{MemSink, MemSource, Source};
+use mc_words::{NoMemory, Steps};
 use std::alloc::{AllocError, Global};
 use std::marker::Brand;
 use std::sync::ledger::{Blank, Ledger};

@@ -4,6 +4,10 @@
 
 mod cause;
 mod device;
+mod memory;
+mod numbers;
 
 pub use cause::Cause;
 pub use device::Stop;
+pub use memory::NoMemory;
+pub use numbers::{bytes_of, number_of};

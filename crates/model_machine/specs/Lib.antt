@@ -9,5 +9,6 @@ pub mod Primitives
 pub mod Row
 pub mod Chain
 pub mod Words
+pub mod Shapes
 -- the libraries below that those above cite through this one
 pub use Rattle.model_device as model_device

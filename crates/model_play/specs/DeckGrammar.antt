@@ -7,7 +7,7 @@ use Rattle.model_play.specs.declared.deck.DeckCause.TheVariants as causes
 use Rattle.model_card.specs.declared.unit.UnitRefusal.{UnitRefusal}
 use Rattle.model_card.specs.declared.unit.UnitRefusal.TheVariants.{NoCode, TooLarge}
 use Rattle.model_card.specs.model_device.specs.Bytes.{lookup, zeros}
-use Rattle.model_text.specs.Text.{◌>>=◌, ok_as, err_as, only_if, begins, lines, with_numbers, fields, is_within, is_name, decimal_number, hex_bytes}
+use Rattle.model_text.specs.Text.{◌>>=◌, ok_as, err_as, only_if, begins, lines, with_numbers, fields, is_within, is_name, decimal_number, hex_bytes, is_end}
 use Rattle.model_card.specs.Units.{UnitParts, unit_read, made_dir, made_fci}
 use Rattle.model_text.specs.Assembly.{assembled_lines}
 
@@ -172,11 +172,6 @@ unit_within u = only_if (nat_lt 0 (length u.code)) NoCode u >>= λ u. only_if (n
 abbrev pub is_data : List (List ℕ) → Bool
 is_data [] = false
 is_data (word ∷ rest) = bytes_eq word (codes "DATA")
-
--- whether a line ends a section
-abbrev pub is_end : List (List ℕ) → Bool
-is_end (word ∷ []) = bytes_eq word (codes "end")
-is_end other = false
 
 -- the bytes of a line `DATA HEX`, and none of any other line
 abbrev pub data_hex : List (List ℕ) → Result (List ℕ) DeckCause

@@ -9,8 +9,8 @@ pub mod View
 pub mod ReadyAgain
 pub mod Laws
 pub mod Generator
-pub mod Patterns
 pub mod Words
+pub mod RuleLines
 -- the libraries below that those above cite through this one
 pub use Rattle.model_card.specs.model_device as model_device
 pub use Rattle.model_card.specs.model_machine as model_machine

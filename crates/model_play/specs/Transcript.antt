@@ -1,17 +1,9 @@
 -- The text that a play writes: for each line that has a result its number, a blank, the result and a line feed.
-use Rattle.std.specs.Prelude.{ℕ, ◌/◌, ◌%◌, List, [], ◌∷◌, ◌++◌, Option, Some, None, codes, decimal}
-use Rattle.model_card.specs.model_machine.specs.Words.{abend_code}
-use Rattle.model_text.specs.Listing.{hex_text, hex_digit}
+use Rattle.std.specs.Prelude.{ℕ, List, [], ◌∷◌, ◌++◌, Option, Some, None, codes, decimal}
+use Rattle.model_text.specs.Listing.{hex_text}
+use Rattle.model_text.specs.TurnText.{outcome_text}
 use Rattle.model_card.specs.model_device.specs.Words.{cause_text}
-use Rattle.model_card.specs.model_device.specs.declared.cause.Cause.{Cause}
-use Rattle.model_card.specs.model_device.specs.Bytes.{bytes2}
-use Rattle.model_card.specs.model_machine.specs.Chain.{Outcome, Reply, Abended}
 use Rattle.model_play.specs.Play.{LineResult, Formatted, Ready, Unusable, OffAt, FailureStop, NoCard, Silenced, Answered, Static, Absent, Step}
-
--- the text of an outcome
-abbrev pub outcome_text : Outcome → List ℕ
-outcome_text (Reply body sw) = hex_text (body ++ bytes2 sw)
-outcome_text (Abended cause) = codes "abend " ++ hex_text (abend_code cause ∷ [])
 
 -- the text of static bytes
 abbrev pub static_text : List ℕ → List ℕ

@@ -5,8 +5,8 @@ use Rattle.model_rules.specs.model_machine.specs.declared.machine.Abend.{Abend}
 use Rattle.model_rules.specs.model_machine.specs.Frame.{dynamic_base, public_base}
 use Rattle.model_rules.specs.model_machine.specs.Chain.{Abended}
 use Rattle.model_rules.specs.model_device.specs.Card.{App}
-use Rattle.model_rules.specs.model_play.specs.Transcript.{outcome_text}
-use Rattle.model_rules.specs.law_explore.specs.Matching.{fits}
+use Rattle.model_rules.specs.model_text.specs.TurnText.{outcome_text}
+use Rattle.model_rules.specs.model_events.specs.Matching.{fits}
 use Rattle.model_rules.specs.Rules.{Trigger, AtTurn, AtCommand, AtAnswer, AtSession, OnLine, AppRules}
 use Rattle.model_rules.specs.Keeping.{Amounts, Break, ByAbend, OnTurn, OnSession, after_occasion, after_lines, after_line, line_of}
 use Rattle.model_prove.specs.Sets.{Set, is_in, is_subset}

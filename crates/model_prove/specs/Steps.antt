@@ -13,7 +13,7 @@ use Rattle.model_rules.specs.model_machine.specs.Primitives.{Around, Then, Goes,
 use Rattle.model_rules.specs.model_machine.specs.Row.{causes, first_cause}
 use Rattle.model_rules.specs.model_machine.specs.Chain.{frame_at}
 use Rattle.model_rules.specs.model_machine.specs.declared.instruction.Ins.TheVariants as ins
-use Rattle.model_rules.specs.law_rows.specs.Shapes.{Act, Stays, Answers, Jumps, Calls, Returns, Pushes, Replaces, Writes, Protects, Shape, shape}
+use Rattle.model_rules.specs.model_machine.specs.Shapes.{Act, Stays, Answers, Jumps, Calls, Returns, Pushes, Replaces, Writes, Protects, Shape, shape}
 use Rattle.model_rules.specs.Keeping.{Amounts}
 use Rattle.model_prove.specs.Sets.{Set, is_in, all_bytes, common, is_empty, union, numbers_from}
 use Rattle.model_prove.specs.Facts.{Facts, values_at, values_from, know, know_all, know_bytes, within, without_bytes, narrow, narrow_all}

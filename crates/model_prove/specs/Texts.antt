@@ -3,8 +3,8 @@
 use Rattle.std.specs.Prelude.{ℕ, zero, suc, ◌+◌, Bool, true, false, cond, not, ◌&&◌, ◌||◌, ◌==◌, List, [], ◌∷◌, ◌++◌, length, map, flat_map, filter, bytes_eq, codes, Option, Some, None}
 use Rattle.model_rules.specs.model_device.specs.Bytes.{has_name}
 use Rattle.model_rules.specs.model_text.specs.Listing.{hex_text}
-use Rattle.model_rules.specs.model_play.specs.Patterns.{is_star, is_any}
-use Rattle.model_rules.specs.law_explore.specs.Matching.{plain}
+use Rattle.model_rules.specs.model_events.specs.Patterns.{is_star, is_any}
+use Rattle.model_rules.specs.model_events.specs.Matching.{plain}
 use Rattle.model_prove.specs.Sets.{Set}
 use Rattle.model_prove.specs.Keys.{same_lists}
 

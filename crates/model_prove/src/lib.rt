@@ -2,7 +2,6 @@
 #![tactic(auto)]
 
 mod laws;
-mod rows;
 mod set_rows;
 
 pub use model_rules::model_machine;

@@ -2,7 +2,7 @@
 ghost use Rattle.std.specs.Prelude.{◌≡◌, [], ◌∷◌, codes, length, true, false, Some, None};
 ghost use Rattle.model_prove.specs.Sets.{union, common, numbers_from};
 ghost use Rattle.model_prove.specs.Digits.{Minus, Plus, arcs, digits_to};
-ghost use Rattle.model_rules.specs.law_explore.specs.Matching.{plain};
+ghost use Rattle.model_rules.specs.model_events.specs.Matching.{plain};
 ghost use Rattle.model_prove.specs.Texts.{opened, after_text, is_match};
 ghost use Rattle.model_prove.specs.Between.{rounded, headers, classes_of};
 ghost use Rattle.model_prove.specs.Reach.{target_choices};

@@ -1,9 +1,9 @@
 -- What happens to one application in a play, as its rules count it: the instructions that were done and those that
 -- abended, commands and their answers, and the sessions of the application alone. The newest event comes first.
 use Rattle.std.specs.Prelude.{ℕ, Bool, true, false, List, Option, Some, None}
-use Rattle.law_explore.specs.model_machine.specs.declared.machine.Abend.{Abend}
-use Rattle.law_explore.specs.model_machine.specs.Chain.{Outcome}
-use Rattle.law_promise.specs.History.{Deed, Watch}
+use Rattle.model_events.specs.model_machine.specs.declared.machine.Abend.{Abend}
+use Rattle.model_events.specs.model_machine.specs.Chain.{Outcome}
+use Rattle.model_events.specs.Deeds.{Deed, Watch}
 
 -- An instruction was done in a frame of the application; one ended with an abend other than 07; a command reached it,
 -- with its bytes; it was answered; a session of it began or ended.

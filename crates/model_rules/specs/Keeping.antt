@@ -1,16 +1,16 @@
 -- What a history breaks: allowances and sums along the events of an application, and what always holds of its static
 -- bytes.
 use Rattle.std.specs.Prelude.{ℕ, ◌+◌, ◌-◌, ◌%◌, ◌^◌, Bool, true, false, cond, not, ◌&&◌, ◌||◌, nat_le, ◌==◌, List, [], ◌∷◌, take, drop, map, bytes_eq, is_ok, slice_index, Option, Some, None, Result, Ok, Err}
-use Rattle.law_explore.specs.model_machine.specs.declared.instruction.Ins.{Ins}
-use Rattle.law_explore.specs.model_machine.specs.declared.instruction.Ins.TheVariants as ins
-use Rattle.law_explore.specs.model_device.specs.Bytes.{num}
-use Rattle.law_explore.specs.model_text.specs.Text.{◌>>=◌}
-use Rattle.law_explore.specs.model_text.specs.Listing.{hex_text}
-use Rattle.law_explore.specs.model_machine.specs.Primitives.{Primitive, SetProtection, primitive}
-use Rattle.law_explore.specs.model_play.specs.Transcript.{outcome_text}
-use Rattle.law_promise.specs.History.{Deed}
-use Rattle.law_explore.specs.Matching.{fits}
-use Rattle.law_explore.specs.Tries.{turn_text, amount_of, with_amount}
+use Rattle.model_events.specs.model_machine.specs.declared.instruction.Ins.{Ins}
+use Rattle.model_events.specs.model_machine.specs.declared.instruction.Ins.TheVariants as ins
+use Rattle.model_events.specs.model_device.specs.Bytes.{num}
+use Rattle.model_events.specs.model_text.specs.Text.{◌>>=◌}
+use Rattle.model_events.specs.model_text.specs.Listing.{hex_text}
+use Rattle.model_events.specs.model_machine.specs.Primitives.{Primitive, SetProtection, primitive}
+use Rattle.model_events.specs.model_text.specs.TurnText.{outcome_text}
+use Rattle.model_events.specs.Deeds.{Deed}
+use Rattle.model_events.specs.Matching.{fits}
+use Rattle.model_events.specs.Amounts.{turn_text, amount_of, with_amount}
 use Rattle.model_rules.specs.Rules.{Trigger, AtTurn, AtCommand, AtAnswer, AtSession, Action, Allows, Spends, Needs, OnLine, Amount, Constant, PublicBytes, SumLine, Range, Total, AppRules}
 use Rattle.model_rules.specs.Happenings.{Event, Did, Failed, Commanded, Answers, Session, History}
 

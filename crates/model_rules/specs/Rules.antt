@@ -1,7 +1,7 @@
 -- The rules of one application as data: allowances and what events do to them, amounts that are summed, ranges of
 -- static bytes, and that no instruction abends.
 use Rattle.std.specs.Prelude.{ℕ, Bool, List, [], Option, None}
-use Rattle.law_explore.specs.model_device.specs.Card.{App}
+use Rattle.model_events.specs.model_device.specs.Card.{App}
 
 -- ---- events
 

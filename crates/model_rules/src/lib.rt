@@ -1,10 +1,4 @@
-//! Rules of an application over the history of what happens to it: definitions, what a sound analysis gives, and worked
-//! rows.
+//! Rules of an application over the history of what happens to it: their parts, its events, and when they are broken.
 #![tactic(auto)]
 
-mod play_rows;
-mod refusal_rows;
-mod rule;
-
-pub use law_explore::model_machine;
-pub use rule::{RuleAnalysis, covers};
+pub use model_events::model_machine;

@@ -6,7 +6,7 @@ use Rattle.model_prove.specs.model_machine.specs.declared.instruction.DecodeFaul
 use Rattle.model_prove.specs.model_machine.specs.Code.{instruction_at}
 use Rattle.model_prove.specs.model_machine.specs.Primitives.{Around, Then, Exits}
 use Rattle.model_prove.specs.model_machine.specs.Chain.{frame_at}
-use Rattle.model_prove.specs.law_rows.specs.Shapes.{Shape, shape}
+use Rattle.model_prove.specs.model_machine.specs.Shapes.{Shape, shape}
 use Rattle.model_prove.specs.model_rules.specs.Rules.{SumLine, Total, AppRules}
 use Rattle.model_prove.specs.model_rules.specs.Keeping.{Amounts, Break, OnTurn, after_occasion, line_of, mode_of, first_sums, are_totals}
 use Rattle.model_prove.specs.Facts.{Facts}

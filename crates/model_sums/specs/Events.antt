@@ -1,7 +1,7 @@
 -- How the event of an instruction moves what is known for sums, and where totals are asked.
 use Rattle.std.specs.Prelude.{ℕ, ◌+◌, ◌-◌, nat_le, Bool, true, false, cond, not, ◌&&◌, ◌||◌, ◌==◌, List, [], ◌∷◌, bytes_eq, Option, Some, None}
 use Rattle.model_prove.specs.model_machine.specs.Frame.{public_base, public_end}
-use Rattle.model_prove.specs.law_explore.specs.Matching.{fits}
+use Rattle.model_prove.specs.model_events.specs.Matching.{fits}
 use Rattle.model_prove.specs.model_rules.specs.Rules.{Amount, Constant, PublicBytes, SumLine, Total}
 use Rattle.model_prove.specs.Digits.{same}
 use Rattle.model_sums.specs.Forms.{Form, number}

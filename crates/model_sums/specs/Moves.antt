@@ -5,7 +5,7 @@ use Rattle.model_prove.specs.model_machine.specs.declared.instruction.Ins.TheVar
 use Rattle.model_prove.specs.model_device.specs.Bytes.{num}
 use Rattle.model_prove.specs.model_machine.specs.Frame.{Frame, dynamic_base, dynamic_end, public_base, public_end}
 use Rattle.model_prove.specs.model_machine.specs.Primitives.{Then, Goes, Exits, Delegates}
-use Rattle.model_prove.specs.law_rows.specs.Shapes.{Act, Stays, Answers, Jumps, Calls, Returns, Pushes, Replaces, Writes, Protects, Shape}
+use Rattle.model_prove.specs.model_machine.specs.Shapes.{Act, Stays, Answers, Jumps, Calls, Returns, Pushes, Replaces, Writes, Protects, Shape}
 use Rattle.model_prove.specs.model_rules.specs.Rules.{Total}
 use Rattle.model_prove.specs.Sets.{numbers_from}
 use Rattle.model_prove.specs.Digits.{Operation, Plus, Minus, And, Or, Xor}

@@ -3,4 +3,3 @@
 #![tactic(auto)]
 
 mod rows;
-mod table_rows;

@@ -1,5 +1,5 @@
 -- Texts: lines, fields, names and numbers, hexadecimal digits, and code that is written in them.
-use Rattle.std.specs.Prelude.{ℕ, suc, ◌+◌, ◌-◌, ◌*◌, Bool, true, false, cond, not, ◌&&◌, ◌||◌, nat_le, ◌==◌, List, [], ◌∷◌, ◌++◌, map, length, filter, Option, Some, None, option_map, option_and_then, ok_or, Result, Ok, Err}
+use Rattle.std.specs.Prelude.{ℕ, suc, ◌+◌, ◌-◌, ◌*◌, Bool, true, false, cond, not, ◌&&◌, ◌||◌, nat_le, ◌==◌, List, [], ◌∷◌, ◌++◌, map, length, filter, Option, Some, None, option_map, option_and_then, ok_or, bytes_eq, codes, Result, Ok, Err}
 use Rattle.model_machine.specs.model_device.specs.Limits.{most_code}
 
 -- ---- results in turn
@@ -182,3 +182,20 @@ code_text_read t = do
   vs ← code_digits (with_numbers 1 (lines t))
   code ← ok_or (bytes_of_digits vs) (BadHex (length (lines t)))
   only_if (nat_le (length code) most_code) TooLarge code
+
+-- ---- sections
+
+-- whether a line ends a section
+abbrev pub is_end : List (List ℕ) → Bool
+is_end (word ∷ []) = bytes_eq word (codes "end")
+is_end other = false
+
+-- whether the first field of a line is this word
+abbrev pub begins_with : List ℕ → List (List ℕ) → Bool
+begins_with word [] = false
+begins_with word (f ∷ fs) = bytes_eq f word
+
+-- whether the line after one with these fields is in a section, by whether this one is
+abbrev pub stays_inside : Bool → List (List ℕ) → Bool
+stays_inside false fs = begins_with (codes "app") fs
+stays_inside true fs = not (is_end fs)

@@ -1,9 +1,10 @@
--- The line of an executed instruction in a trace.
+-- The line of an executed instruction in a trace, and the text of an outcome.
 use Rattle.std.specs.Prelude.{ℕ, ◌+◌, Bool, cond, List, [], ◌∷◌, ◌++◌, Option, Some, None, codes}
 use Rattle.model_machine.specs.declared.instruction.Ins.{Ins}
 use Rattle.model_machine.specs.model_device.specs.Bytes.{bytes2}
 use Rattle.model_text.specs.Listing.{text_of, hex_text}
-use Rattle.model_machine.specs.Chain.{Turn}
+use Rattle.model_machine.specs.Words.{abend_code}
+use Rattle.model_machine.specs.Chain.{Turn, Outcome, Reply, Abended}
 
 -- the text of an instruction, or `?`
 abbrev pub ins_text : Option Ins → List ℕ
@@ -24,3 +25,8 @@ turn_line t =
 abbrev pub turn_lines : List Turn → List ℕ
 turn_lines [] = []
 turn_lines (t ∷ ts) = turn_line t ++ turn_lines ts
+
+-- the text of an outcome
+abbrev pub outcome_text : Outcome → List ℕ
+outcome_text (Reply body sw) = hex_text (body ++ bytes2 sw)
+outcome_text (Abended cause) = codes "abend " ++ hex_text (abend_code cause ∷ [])

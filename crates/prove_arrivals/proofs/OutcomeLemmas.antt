@@ -10,7 +10,7 @@ use Rattle.prove_facts.specs.model_prove.specs.Steps as steps
 use Rattle.prove_spots.specs.Grounds.{Ground, spot_of}
 use Rattle.mc_arith.specs.model_machine.specs.Frame.{Frame}
 use Rattle.mc_arith.specs.model_machine.specs.Primitives.{Then, Goes, Exits, Delegates}
-use Rattle.prove_facts.specs.law_rows.specs.Shapes.{Shape}
+use Rattle.mc_arith.specs.model_machine.specs.Shapes.{Shape}
 use Rattle.prove_facts.specs.model_prove.specs.Facts.{values_at}
 use Rattle.prove_facts.specs.model_prove.specs.Reach.{Coarse}
 use Rattle.prove_facts.specs.model_prove.specs.Work.{Work}

@@ -4,8 +4,8 @@ use Rattle.prove_facts.specs.model_prove.specs.Keys.{Start, Known, Tables}
 use Rattle.prove_facts.specs.model_prove.specs.Arrivals.{Setting, Arrival}
 use Rattle.prove_facts.specs.model_prove.specs.Tables.{includes_all}
 use Rattle.prove_facts.specs.model_prove.specs.Steps as steps
-use Rattle.prove_events.specs.Rules.{AreLines}
-use Rattle.prove_events.specs.Rules as rules
+use Rattle.lab_app_rules.specs.Rules.{AreLines}
+use Rattle.lab_app_rules.specs.Rules as rules
 use Rattle.prove_keys.specs.declared.keys.Begun.{Begun}
 use Rattle.prove_keys.specs.Keys.{start_of, amounts_of}
 use Rattle.prove_keys.specs.Tables.{tables_of, AreWhole}

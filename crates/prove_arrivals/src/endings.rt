@@ -8,7 +8,7 @@ ghost use Rattle.prove_arrivals.specs.Subjects.{Accepts, IsOver, classes_in, kno
 use crate::landings::{idle, in_session};
 use crate::subject::Subject;
 use mc_arith::model_machine::Abend;
-use mc_base::NoMemory;
+use model_device::NoMemory;
 use prove_facts::Facts;
 use prove_keys::Begun;
 use prove_occasions::{abend_results, after_answer, after_session};

@@ -16,7 +16,7 @@ use crate::replies::LENGTH;
 use crate::subject::Subject;
 use crate::turns::{Row, turned};
 use mc_arith::model_machine::Abend;
-use mc_base::NoMemory;
+use model_device::NoMemory;
 use prove_keys::Begun;
 use prove_patterns::{Lengths, lengths_of};
 use prove_scenes::Next;

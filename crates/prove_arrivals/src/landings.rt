@@ -10,7 +10,7 @@ ghost use Rattle.prove_keys.specs.Keys.{amounts_of, moment_of, place_of};
 ghost use Rattle.prove_arrivals.specs.Subjects.{Accepts, IsOver, IsSubject, classes_in, known_in, spot_in, tables_in};
 
 use crate::subject::Subject;
-use mc_base::NoMemory;
+use model_device::NoMemory;
 use prove_facts::{Fact, Facts};
 use prove_keys::{Begun, MomentKey, PlaceKey};
 use prove_spots::{Spot, with_part};

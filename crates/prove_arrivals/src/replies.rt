@@ -9,7 +9,7 @@ ghost use Rattle.prove_arrivals.specs.Subjects.{Accepts, IsOver, IsSubject, know
 use crate::endings::answered;
 use crate::landings::idle;
 use crate::subject::Subject;
-use mc_base::NoMemory;
+use model_device::NoMemory;
 use prove_keys::Begun;
 use prove_spots::Spot;
 use std::alloc::Global;

@@ -2,7 +2,7 @@
 ghost use Rattle.std.specs.Prelude.{◌≡◌, [], get_or, IfSome};
 ghost use Rattle.prove_arrivals.specs.Subjects.{classes_in};
 
-use prove_events::On;
+use lab_app_rules::On;
 use prove_keys::Tables;
 use prove_patterns::Replies;
 use prove_scenes::Sizes;

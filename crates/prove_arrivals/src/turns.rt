@@ -18,7 +18,7 @@ use crate::landings::at_place;
 use crate::replies::exited;
 use crate::subject::Subject;
 use mc_arith::model_machine::Abend;
-use mc_base::NoMemory;
+use model_device::NoMemory;
 use prove_events::TurnEvent;
 use prove_keys::Begun;
 use prove_occasions::after_turn;

@@ -2,7 +2,7 @@
 use Rattle.std.proofs.Common.{◌≡◌, ℕ, true, false, ◌&&◌, List, [], ◌∷◌, ◌++◌, ◌-◌, length, map, Option, Some, None, Result, Ok, Err, IfOk, IfSome, refl, sym, subst, ap, ◌∙◌}
 use Rattle.std.proofs.lemmas.Bool.{and_from}
 use Rattle.std.proofs.lemmas.List.{length-map}
-use Rattle.mc_base.specs.model_device.specs.Bytes.{zeros}
+use Rattle.model_device.specs.Bytes.{zeros}
 use Rattle.prove_facts.specs.model_rules.specs.Rules.{AppRules, Target}
 use Rattle.prove_facts.specs.model_rules.specs.Keeping.{Amounts}
 use Rattle.prove_facts.specs.model_prove.specs.Facts.{Facts, know_bytes}
@@ -10,10 +10,10 @@ use Rattle.prove_facts.specs.model_prove.specs.Keys as known
 use Rattle.prove_facts.specs.model_prove.specs.Arrivals.{AtMoment, Setting}
 use Rattle.prove_facts.specs.model_prove.specs.Between.{classes, created}
 use Rattle.prove_facts.specs.model_prove.specs.Tables.{includes, is_closed, moments_closed, places_closed}
-use Rattle.prove_events.specs.declared.rules.Named.{Named}
-use Rattle.prove_events.specs.declared.rules.On.{On}
-use Rattle.prove_events.specs.declared.rules.Rules.{Rules}
-use Rattle.prove_events.specs.Rules.{AreLines, AreRules, allowance_of, name_of}
+use Rattle.lab_app_rules.specs.declared.rules.Named.{Named}
+use Rattle.lab_app_rules.specs.declared.rules.On.{On}
+use Rattle.lab_app_rules.specs.declared.rules.Rules.{Rules}
+use Rattle.lab_app_rules.specs.Rules.{AreLines, AreRules, allowance_of, name_of}
 use Rattle.prove_keys.specs.Keys.{amounts_of}
 use Rattle.prove_arrivals.specs.declared.subject.Subject.{Subject}
 use Rattle.prove_arrivals.specs.Subjects.{IsOver, IsSubject, tables_in}

@@ -6,7 +6,7 @@ ghost use Rattle.prove_facts.specs.model_prove.specs.Tables.{includes};
 ghost use Rattle.prove_keys.specs.Keys.{amounts_of, place_of, start_of};
 ghost use Rattle.prove_arrivals.specs.Subjects.{IsOver, start_in, tables_in};
 
-use mc_base::NoMemory;
+use model_device::NoMemory;
 use prove_arrivals::Subject;
 use prove_facts::Facts;
 use prove_keys::{Begun, DYNAMIC, Last, LastSaid, PlaceKey, Registers};

@@ -1,18 +1,18 @@
 // The moment at which an application is created.
 ghost use Rattle.std.specs.Prelude.{◌≡◌, ◌-◌, ◌++◌, true, [], length, map, IfOk, IfSome};
-ghost use Rattle.mc_base.specs.model_device.specs.Bytes.{zeros};
+ghost use Rattle.model_device.specs.Bytes.{zeros};
 ghost use Rattle.prove_facts.specs.model_rules.specs.Rules.{AppRules, Target};
 ghost use Rattle.prove_facts.specs.model_prove.specs.Between as between;
 ghost use Rattle.prove_facts.specs.model_prove.specs.Facts as known;
 ghost use Rattle.prove_facts.specs.model_prove.specs.Tables.{includes};
-ghost use Rattle.prove_events.specs.Rules.{AreRules, name_of};
+ghost use Rattle.lab_app_rules.specs.Rules.{AreRules, name_of};
 ghost use Rattle.prove_arrivals.specs.Subjects.{IsSubject, tables_in};
 
 use crate::knowing::{know_bytes, zero_bytes};
 use crate::moments::at_moment;
-use mc_base::NoMemory;
+use lab_app_rules::{Load, Named, Rules};
+use model_device::NoMemory;
 use prove_arrivals::Subject;
-use prove_events::{Load, Named, Rules};
 use prove_facts::Facts;
 use std::alloc::Global;
 

@@ -1,13 +1,13 @@
 // What is known of bytes as a moment ends.
 ghost use Rattle.std.specs.Prelude.{◌≡◌, ◌+◌, ◌-◌, true, [], ◌∷◌, map, IfOk, IfSome};
-ghost use Rattle.mc_base.specs.model_device.specs.Bytes.{zeros};
+ghost use Rattle.model_device.specs.Bytes.{zeros};
 ghost use Rattle.prove_facts.specs.model_prove.specs.Arrivals.{Setting};
 ghost use Rattle.prove_facts.specs.model_prove.specs.Between as between;
 ghost use Rattle.prove_facts.specs.model_prove.specs.Facts as known;
 ghost use Rattle.prove_facts.specs.Sets.{set_of};
 ghost use Rattle.prove_scenes.specs.Scenes.{IsSized};
 
-use mc_base::NoMemory;
+use model_device::NoMemory;
 use prove_facts::{Facts, Values};
 use prove_keys::{DYNAMIC, PUBLIC};
 use prove_scenes::Sizes;

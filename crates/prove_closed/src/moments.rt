@@ -12,7 +12,7 @@ ghost use Rattle.prove_arrivals.specs.Subjects.{Accepts, IsOver, classes_in, sta
 use crate::beginnings::begins;
 use crate::classes::number_of;
 use crate::knowing::{know_command, own_facts, with_zero_session};
-use mc_base::NoMemory;
+use model_device::NoMemory;
 use prove_arrivals::Subject;
 use prove_facts::Facts;
 use prove_keys::{Begun, MomentKey};

@@ -10,7 +10,7 @@ ghost use Rattle.prove_keys.specs.Known.{kept_of, known_of};
 ghost use Rattle.prove_keys.specs.Tables.{places_of, IsWholePlace};
 ghost use Rattle.prove_arrivals.specs.Subjects.{Accepts, IsOver, IsSubject, classes_in, known_in, spot_in, tables_in};
 
-use mc_base::NoMemory;
+use model_device::NoMemory;
 use prove_arrivals::Subject;
 use prove_facts::Facts;
 use prove_keys::{Known, PackedKnown, PlaceKey};

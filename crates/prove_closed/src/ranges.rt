@@ -2,10 +2,10 @@
 ghost use Rattle.std.specs.Prelude.{◌≡◌, true, map};
 ghost use Rattle.prove_facts.specs.model_prove.specs.Between as between;
 ghost use Rattle.prove_facts.specs.model_prove.specs.Tables.{keeps_ranges};
-ghost use Rattle.prove_events.specs.Rules.{range_of};
+ghost use Rattle.lab_app_rules.specs.Rules.{range_of};
 ghost use Rattle.prove_facts.specs.Sets.{set_of};
 
-use prove_events::Always;
+use lab_app_rules::Always;
 use prove_facts::{Facts, Values};
 
 // The values from one to another.

@@ -7,7 +7,7 @@ ghost use Rattle.prove_digits.specs.Ways.{operation_of, way_value, ways_found, v
 use crate::states::States;
 use crate::steps::{Step, step_of};
 use crate::trios::Trio;
-use mc_base::NoMemory;
+use model_device::NoMemory;
 use prove_facts::{Values, push};
 use std::alloc::Global;
 

@@ -1,6 +1,4 @@
-pub mod Rules
 -- the libraries below that those above cite through this one
 pub use Rattle.mc_text.specs.model_text as model_text
 pub use Rattle.prove_facts.specs.model_rules as model_rules
-pub use Rattle.prove_facts.specs.law_promise as law_promise
-pub use Rattle.lab_match.specs.law_explore as law_explore
+pub use Rattle.lab_app_rules as lab_app_rules

@@ -2,7 +2,7 @@
 use crate::command_classes::Class;
 use crate::patterns::{number_in, set_states};
 use indexmap::IndexSet;
-use mc_base::NoMemory;
+use model_device::NoMemory;
 use prove_facts::{Values, push};
 use std::alloc::Global;
 

@@ -1,8 +1,8 @@
 // The classes of commands that the `command` and `answer` lines tell apart.
 use crate::patterns::{Patterns, Reached, any_bytes, number_in};
-use crate::rules::{Event, On};
 use indexmap::IndexSet;
-use mc_base::NoMemory;
+use lab_app_rules::{Event, On};
+use model_device::NoMemory;
 use prove_facts::{Values, push};
 use std::alloc::Global;
 

@@ -1,8 +1,8 @@
 // What an event does to the allowances.
 use crate::command_classes::Class;
-use crate::rules::{Effect, Event, On};
+use lab_app_rules::{Effect, Event, On};
 use lab_match::fits;
-use mc_base::NoMemory;
+use model_device::NoMemory;
 use prove_facts::push;
 use std::alloc::Global;
 

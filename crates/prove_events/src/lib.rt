@@ -7,13 +7,9 @@ mod answer_lines;
 mod command_classes;
 mod firing;
 mod patterns;
-mod rules;
 mod turns;
 
 pub use answer_lines::answers;
 pub use command_classes::{Class, classes};
 pub use firing::{Firing, abend_lines, fire, lines_in, lines_of};
-pub use rules::{
-    Always, Amount, Balance, CodeLine, Effect, Event, Load, Named, On, Rules, SignedSum,
-};
 pub use turns::{TurnEvent, turn_lines};

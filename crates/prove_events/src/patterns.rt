@@ -1,6 +1,6 @@
 // Patterns walked along all texts of hexadecimal digits at once.
 use indexmap::IndexSet;
-use mc_base::NoMemory;
+use model_device::NoMemory;
 use prove_facts::{Values, push};
 use std::alloc::Global;
 

@@ -1,8 +1,8 @@
 // The lines that an instruction matches that was done.
-use crate::rules::{Event, On};
+use lab_app_rules::{Event, On};
 use lab_match::fits;
-use mc_base::{NoMemory, bytes_of};
 use mc_text::digit;
+use model_device::{NoMemory, bytes_of};
 use prove_facts::push;
 use std::alloc::Global;
 

@@ -4,9 +4,5 @@ pub mod Packing
 pub mod Sets
 -- the libraries below that those above cite through this one
 pub use Rattle.model_prove.specs.model_text as model_text
-pub use Rattle.model_prove.specs.model_play as model_play
 pub use Rattle.model_prove.specs.model_rules as model_rules
 pub use Rattle.model_prove as model_prove
-pub use Rattle.model_prove.specs.law_rows as law_rows
-pub use Rattle.model_prove.specs.law_promise as law_promise
-pub use Rattle.model_prove.specs.law_explore as law_explore

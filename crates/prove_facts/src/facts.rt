@@ -7,7 +7,7 @@ ghost use Rattle.prove_facts.specs.Facts.{fact_of, facts_of, AreSparse, AreBelow
 
 use crate::growth::push;
 use crate::values::Values;
-use mc_base::NoMemory;
+use model_device::NoMemory;
 use std::alloc::Global;
 use std::marker::Model;
 

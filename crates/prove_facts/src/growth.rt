@@ -1,7 +1,7 @@
 // Lists that grow.
 ghost use Rattle.std.specs.Prelude.{◌≡◌, [], ◌∷◌, ◌++◌, OnOk};
 
-use mc_base::NoMemory;
+use model_device::NoMemory;
 
 /// Appends a value to a list.
 ///

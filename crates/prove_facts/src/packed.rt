@@ -8,7 +8,7 @@ ghost use Rattle.prove_facts.specs.Packed.{ones_of, among, AreApart};
 use crate::facts::{Fact, Facts, are_covered, from_address, is_covered, passed, rest_from};
 use crate::growth::push;
 use crate::values::Values;
-use mc_base::NoMemory;
+use model_device::NoMemory;
 use std::alloc::Global;
 use std::marker::Model;
 

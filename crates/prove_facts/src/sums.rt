@@ -1,6 +1,6 @@
 // Sums: origins of bytes, and linear forms in the public bytes of a frame's beginning.
 use crate::growth::push;
-use mc_base::NoMemory;
+use model_device::NoMemory;
 use std::alloc::Global;
 
 /// Where the dynamic and the public segment begin.

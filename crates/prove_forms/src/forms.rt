@@ -4,7 +4,7 @@ ghost use Rattle.model_sums.specs.Forms as forms;
 ghost use Rattle.prove_forms.specs.Forms.{modulus, term_value, terms_value, form_value, FormIs, place_in, wrapped_term, wrapped_terms, multiples, IsConstant, IsNothing};
 
 use crate::numbers::{LONGEST, is_multiple, mask, sum};
-use mc_base::NoMemory;
+use model_device::NoMemory;
 use prove_facts::push;
 use std::alloc::Global;
 

@@ -4,7 +4,7 @@ ghost use Rattle.model_sums.specs.model_machine.specs.Frame.{public_base};
 ghost use Rattle.model_sums.specs.Origins as origins;
 ghost use Rattle.prove_forms.specs.Origins.{origin_value, origin_values, listed_values, origins_value, listed_from};
 
-use mc_base::NoMemory;
+use model_device::NoMemory;
 use prove_facts::push;
 use std::alloc::Global;
 

@@ -6,7 +6,7 @@ ghost use Rattle.prove_forms.specs.Origins.{origin_value, origin_values};
 
 use crate::forms::Form;
 use crate::origins::Origin;
-use mc_base::NoMemory;
+use model_device::NoMemory;
 use std::alloc::Global;
 
 // Returns the number that a byte is, if its origin is known.

@@ -7,7 +7,7 @@ ghost use Rattle.prove_keys.specs.Compares.{compare_of, said};
 ghost use Rattle.prove_keys.specs.Known.{HoldsAlike, kept_of, known_of, settled_of};
 
 use crate::compares::{Last, LastSaid};
-use mc_base::NoMemory;
+use model_device::NoMemory;
 use prove_facts::{Facts, PackedFacts, Sums};
 use std::alloc::Global;
 

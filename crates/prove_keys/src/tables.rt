@@ -12,7 +12,7 @@ use crate::compares::LastSaid;
 use crate::keys::{Begun, MomentKey, PlaceKey};
 use crate::known::PackedKnown;
 use indexmap::IndexSet;
-use mc_base::NoMemory;
+use model_device::NoMemory;
 use prove_facts::Facts;
 use std::alloc::Global;
 

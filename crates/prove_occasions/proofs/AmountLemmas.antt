@@ -5,11 +5,11 @@ use Rattle.std.proofs.lemmas.Slice.Eq.{bytes_eq-Decides}
 use Rattle.std.proofs.lemmas.Option.{same_Some}
 use Rattle.model_text.specs.model_device.specs.Bytes.{lookup}
 use Rattle.model_text.specs.Text.{is_blank, is_empty, is_within}
-use Rattle.lab_match.specs.law_explore.specs.Matching.{fits, matches, plain, small}
-use Rattle.lab_match.specs.law_explore.specs.Tries.{with_amount}
+use Rattle.lab_app_rules.specs.model_events.specs.Matching.{fits, matches, plain, small}
+use Rattle.lab_app_rules.specs.model_events.specs.Amounts.{with_amount}
 use Rattle.prove_facts.specs.model_rules.specs.Keeping.{Amounts}
 use Rattle.lab_match.proofs.MatchingLemmas.{plain_blank, plain_kept}
-use Rattle.prove_events.specs.Rules.{AreDistinct, is_named}
+use Rattle.lab_app_rules.specs.Rules.{AreDistinct, is_named}
 use Rattle.prove_keys.specs.Keys.{amounts_of}
 
 -- ---- names

@@ -4,16 +4,16 @@ use Rattle.std.proofs.Math.ListN.{length-set}
 use Rattle.std.specs.Prelude.{nat_le, option_and_then, slice_get, slice_set, unwrap_or}
 use Rattle.std.proofs.lemmas.Option.{option_and_then_some, same_Some}
 use Rattle.model_text.specs.Text.{◌>>=◌}
-use Rattle.lab_match.specs.law_explore.specs.Matching.{fits}
-use Rattle.lab_match.specs.law_explore.specs.Tries.{amount_of, with_amount}
+use Rattle.lab_app_rules.specs.model_events.specs.Matching.{fits}
+use Rattle.lab_app_rules.specs.model_events.specs.Amounts.{amount_of, with_amount}
 use Rattle.prove_facts.specs.model_rules.specs.Rules.{Trigger, AtTurn, AtCommand, AtAnswer, AtSession, Action, Allows, Spends, Needs, OnLine}
 use Rattle.prove_facts.specs.model_rules.specs.Keeping.{Amounts, Break, OnTurn, OnSession, applies, if_enough, after_action, after_line, after_lines, after_occasion}
 use Rattle.prove_facts.specs.model_prove.specs.Arrivals.{after_pick, after_picks}
-use Rattle.prove_events.specs.declared.rules.Event.{Event}
-use Rattle.prove_events.specs.declared.rules.Effect.{Effect}
-use Rattle.prove_events.specs.declared.rules.Effect.TheVariants as effect
-use Rattle.prove_events.specs.declared.rules.On.{On}
-use Rattle.prove_events.specs.Rules.{AreLines, AreDistinct, FirstLine, IsLine, IsTrigger, deed_of}
+use Rattle.lab_app_rules.specs.declared.rules.Event.{Event}
+use Rattle.lab_app_rules.specs.declared.rules.Effect.{Effect}
+use Rattle.lab_app_rules.specs.declared.rules.Effect.TheVariants as effect
+use Rattle.lab_app_rules.specs.declared.rules.On.{On}
+use Rattle.lab_app_rules.specs.Rules.{AreLines, AreDistinct, FirstLine, IsLine, IsTrigger, deed_of}
 use Rattle.prove_keys.specs.Keys.{amounts_of}
 use Rattle.prove_occasions.specs.declared.amounts.Occasion.TheVariants as occasion
 use Rattle.prove_occasions.specs.Amounts.{after_marked, after_tested, amount_after, amounts_after, amounts_by, first_mark, is_due, is_of_allowance, is_session, is_turn, marks_after, with_amount_at, AreAfter, AreLinesOver}

@@ -1,12 +1,12 @@
 -- Which lines apply to a command and to its answer, in the code and in the definition.
 use Rattle.std.proofs.Common.{◌≡◌, ℕ, List, [], ◌∷◌, ◌++◌, map, Bool, true, false, not, ◌&&◌, ◌||◌, Option, Some, None, refl, ap, ◌∙◌}
-use Rattle.lab_match.specs.law_explore.specs.Matching.{fits}
+use Rattle.lab_app_rules.specs.model_events.specs.Matching.{fits}
 use Rattle.prove_facts.specs.model_rules.specs.Rules.{Trigger, AtTurn, AtCommand, AtAnswer, AtSession, Action, OnLine}
 use Rattle.prove_facts.specs.model_prove.specs.Arrivals as arrivals
 use Rattle.prove_facts.specs.model_prove.specs.Arrivals.{pick, command_picks, answer_picks, answered_picks, with_results, pattern_of_result, result_patterns}
-use Rattle.prove_events.specs.declared.rules.Event.{Event}
-use Rattle.prove_events.specs.declared.rules.On.{On}
-use Rattle.prove_events.specs.Rules.{AreLines, FirstLine, IsTrigger, deed_of}
+use Rattle.lab_app_rules.specs.declared.rules.Event.{Event}
+use Rattle.lab_app_rules.specs.declared.rules.On.{On}
+use Rattle.lab_app_rules.specs.Rules.{AreLines, FirstLine, IsTrigger, deed_of}
 use Rattle.prove_occasions.specs.Amounts.{first_mark, is_answer, is_command, marks_after}
 use Rattle.prove_occasions.specs.Picks.{answer_marks, command_marks, mark_if, result_marks}
 use Rattle.prove_occasions.proofs.AmountLemmas.{fits_plain}

@@ -1,14 +1,14 @@
 -- What events do to the amounts of the allowances, as the code computes it on its own lines.
 use Rattle.std.specs.Prelude.{◌≡◌, ℕ, ◌-◌, Bool, true, false, cond, ◌&&◌, nat_le, List, [], ◌∷◌, length, drop, slice_get, slice_set, slice_index_or, Option, Some, None, option_and_then, Result, Ok}
-use Rattle.lab_match.specs.law_explore.specs.Matching.{fits}
+use Rattle.lab_app_rules.specs.model_events.specs.Matching.{fits}
 use Rattle.prove_facts.specs.model_rules.specs.Rules.{OnLine}
 use Rattle.prove_facts.specs.model_rules.specs.Keeping.{Amounts, Break}
-use Rattle.prove_events.specs.declared.rules.Event.{Event}
-use Rattle.prove_events.specs.declared.rules.Event.TheVariants as event
-use Rattle.prove_events.specs.declared.rules.Effect.{Effect}
-use Rattle.prove_events.specs.declared.rules.Effect.TheVariants as effect
-use Rattle.prove_events.specs.declared.rules.On.{On}
-use Rattle.prove_events.specs.Rules.{AreLines, AreDistinct}
+use Rattle.lab_app_rules.specs.declared.rules.Event.{Event}
+use Rattle.lab_app_rules.specs.declared.rules.Event.TheVariants as event
+use Rattle.lab_app_rules.specs.declared.rules.Effect.{Effect}
+use Rattle.lab_app_rules.specs.declared.rules.Effect.TheVariants as effect
+use Rattle.lab_app_rules.specs.declared.rules.On.{On}
+use Rattle.lab_app_rules.specs.Rules.{AreLines, AreDistinct}
 use Rattle.prove_keys.specs.Keys.{amounts_of}
 use Rattle.prove_occasions.specs.declared.amounts.Occasion.{Occasion}
 use Rattle.prove_occasions.specs.declared.amounts.Occasion.TheVariants as occasion

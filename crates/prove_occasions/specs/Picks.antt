@@ -1,7 +1,7 @@
 -- Which lines apply to a command and to its answer, as the code computes it on its own lines.
 use Rattle.std.specs.Prelude.{ℕ, Bool, true, false, ◌&&◌, ◌||◌, List, [], ◌∷◌, ◌++◌}
-use Rattle.lab_match.specs.law_explore.specs.Matching.{fits}
-use Rattle.prove_events.specs.declared.rules.On.{On}
+use Rattle.lab_app_rules.specs.model_events.specs.Matching.{fits}
+use Rattle.lab_app_rules.specs.declared.rules.On.{On}
 use Rattle.prove_occasions.specs.Amounts.{first_mark, is_answer, is_command, is_of_allowance, marks_after}
 
 -- a mark, if a line is about an allowance

@@ -6,9 +6,9 @@ ghost use Rattle.prove_keys.specs.Keys.{amounts_of};
 ghost use Rattle.prove_occasions.specs.Amounts.{after_marked, after_tested, amount_after, amounts_after, first_mark, is_about, is_due, is_of_allowance, marks_after, AreAfter, AreLinesOver};
 
 use crate::lines::{is_of_allowance, is_session, is_turn};
+use lab_app_rules::{Effect, On};
 use lab_match::fits;
-use mc_base::NoMemory;
-use prove_events::{Effect, On};
+use model_device::NoMemory;
 use std::alloc::Global;
 
 /// What `turn` and `session` lines are matched with: the line of an instruction, or that a session begins or ends.

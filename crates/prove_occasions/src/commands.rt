@@ -1,21 +1,21 @@
 // What a command and its answer do to the allowances.
 ghost use Rattle.std.specs.Prelude.{◌≡◌, ◌&&◌, ◌++◌, ℕ, List, map, IfOk, IfSome, OnOk};
-ghost use Rattle.lab_match.specs.law_explore.specs.Matching.{fits};
+ghost use Rattle.lab_app_rules.specs.model_events.specs.Matching.{fits};
 ghost use Rattle.model_text.specs.model_machine.specs.Chain.{Abended};
-ghost use Rattle.lab_match.specs.model_play.specs.Transcript.{outcome_text};
+ghost use Rattle.model_text.specs.TurnText.{outcome_text};
 ghost use Rattle.prove_facts.specs.model_rules.specs.Rules.{OnLine};
 ghost use Rattle.prove_facts.specs.model_prove.specs.Arrivals.{after_picks, answer_picks, answered_picks, command_picks, result_patterns};
-ghost use Rattle.prove_events.specs.Rules.{AreLines};
+ghost use Rattle.lab_app_rules.specs.Rules.{AreLines};
 ghost use Rattle.prove_keys.specs.Keys.{amounts_of};
 ghost use Rattle.prove_occasions.specs.Amounts.{first_mark, is_answer, is_command, is_of_allowance, AreAfter, AreLinesOver};
 ghost use Rattle.prove_occasions.specs.Picks.{answer_marks, command_marks, has_result, mark_if, result_marks};
 
 use crate::amounts::{first_mark, keep_marked, marks_after};
 use crate::lines::{has_mark, has_result, is_answer, is_command, is_of_allowance};
+use lab_app_rules::On;
 use lab_match::fits;
-use mc_base::NoMemory;
+use model_device::NoMemory;
 use model_text::model_machine::Abend;
-use prove_events::On;
 use prove_facts::push;
 use std::alloc::Global;
 

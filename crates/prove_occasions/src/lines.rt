@@ -3,7 +3,7 @@ ghost use Rattle.std.specs.Prelude.{◌≡◌, ◌&&◌, ◌||◌};
 ghost use Rattle.prove_occasions.specs.Amounts.{is_answer, is_command, is_of_allowance, is_session, is_turn};
 ghost use Rattle.prove_occasions.specs.Picks.{has_mark, has_result};
 
-use prove_events::{Effect, Event, On};
+use lab_app_rules::{Effect, Event, On};
 
 /// Returns whether an effect is one on an allowance, and not on a sum.
 pub fn is_of_allowance(effect: &Effect) -> bool

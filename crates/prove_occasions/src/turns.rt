@@ -12,9 +12,10 @@ ghost use Rattle.prove_occasions.specs.Turns.{line_of_turn, whole_line};
 
 use crate::amounts::{Occasion, keep_on};
 use arrayvec::ArrayVec;
-use mc_base::{NoMemory, bytes_of};
+use lab_app_rules::On;
 use mc_text::{add, add_hex, cut};
-use prove_events::{On, TurnEvent};
+use model_device::{NoMemory, bytes_of};
+use prove_events::TurnEvent;
 use std::alloc::Global;
 
 // The most characters of an instruction.

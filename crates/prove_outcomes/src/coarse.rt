@@ -3,7 +3,7 @@ use crate::shared::any_bytes;
 use crate::splitting::{Span, reach};
 use crate::state::{Segment, Sizes, State, where_is};
 use crate::step::{Step, abend, goes_or_wrote, limit};
-use mc_base::NoMemory;
+use model_device::NoMemory;
 use prove_facts::{Origin, Values, push};
 use std::alloc::Global;
 

@@ -1,7 +1,7 @@
 // Rows that compute on digits: their outcomes by final flags, narrowed operands, and the last compare.
 use crate::state::{Segment, Sizes, State, plain, where_is};
 use crate::step::{Step, goes_or_wrote, limit};
-use mc_base::NoMemory;
+use model_device::NoMemory;
 use prove_digits::{Digit, Way, ways};
 use prove_facts::{Form, Origin, Values, form_of, mask, push};
 use prove_keys::{Bounds, Last, Order};

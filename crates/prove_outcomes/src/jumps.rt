@@ -2,7 +2,7 @@
 use crate::shared::known_word;
 use crate::state::{Sizes, State};
 use crate::step::{Step, abend, goes};
-use mc_base::NoMemory;
+use model_device::NoMemory;
 use prove_facts::{Values, push};
 use prove_keys::Call;
 use std::alloc::Global;

@@ -5,7 +5,7 @@ use crate::shared::{after_pop, top, values_in, with_flags};
 use crate::splitting::{number_at, split};
 use crate::state::{Segment, Sizes, State, is_outside};
 use crate::step::{Step, abend};
-use mc_base::NoMemory;
+use model_device::NoMemory;
 use prove_digits::Digit;
 use prove_facts::Values;
 use prove_keys::Last;

@@ -6,7 +6,7 @@ use crate::shifts::{bits, shift};
 use crate::splitting::{MOST, number_at, split};
 use crate::state::{Byte, Sizes, State, is_outside, known_byte, plain, where_is};
 use crate::step::{Step, abend, goes, goes_or_wrote, limit};
-use mc_base::NoMemory;
+use model_device::NoMemory;
 use prove_facts::{Values, push};
 use std::alloc::Global;
 

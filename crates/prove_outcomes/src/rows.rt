@@ -7,7 +7,7 @@ use crate::shared::{any_bytes, known_word, top, values_at};
 use crate::splitting::{number_at, split};
 use crate::state::{Byte, Sizes, State, constant, is_outside, known_byte, plain, where_is};
 use crate::step::{Step, abend, goes, goes_or_wrote, limit};
-use mc_base::{NoMemory, bytes_of};
+use model_device::{NoMemory, bytes_of};
 use prove_digits::Digit;
 use prove_facts::model_machine::Ins;
 use prove_facts::{Block, Values, push};

@@ -1,7 +1,7 @@
 // Small parts of the rows: bytes on top of the stack, values of sets, flags.
 use crate::state::{Byte, Sizes, State, known_byte, plain};
 use crate::step::{Step, goes};
-use mc_base::{NoMemory, bytes_of};
+use model_device::{NoMemory, bytes_of};
 use prove_facts::{Values, push};
 use std::alloc::Global;
 

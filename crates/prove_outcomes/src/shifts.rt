@@ -4,7 +4,7 @@ use crate::shared::{any_bytes, top, with_flags};
 use crate::splitting::split;
 use crate::state::{Byte, Sizes, State, known_byte};
 use crate::step::{Step, abend};
-use mc_base::NoMemory;
+use model_device::NoMemory;
 use prove_digits::Digit;
 use prove_facts::{mask, push};
 use std::alloc::Global;

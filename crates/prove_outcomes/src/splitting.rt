@@ -1,6 +1,6 @@
 // Bytes that decide an address, a length or an index: each combination of their values by itself, or what all could reach.
 use crate::state::Sizes;
-use mc_base::NoMemory;
+use model_device::NoMemory;
 use prove_facts::{Values, push};
 use prove_keys::{DYNAMIC, PUBLIC, PUBLIC_END};
 use std::alloc::Global;

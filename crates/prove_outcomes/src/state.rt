@@ -1,5 +1,5 @@
 // A frame of the application: its registers, its open calls, and what is known of its bytes.
-use mc_base::NoMemory;
+use model_device::NoMemory;
 use prove_facts::{Block, Facts, Form, Origin, Values, push};
 use prove_keys::{Call, DYNAMIC, DYNAMIC_END, Known, PUBLIC, PUBLIC_END, Registers, touches};
 use std::alloc::Global;

@@ -1,6 +1,6 @@
 // What an instruction can do.
 use crate::state::{Segment, Sizes, State};
-use mc_base::NoMemory;
+use model_device::NoMemory;
 use prove_facts::push;
 
 /// One outcome of an instruction, before its event.

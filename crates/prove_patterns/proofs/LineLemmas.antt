@@ -7,9 +7,9 @@ use Rattle.prove_facts.specs.model_prove.specs.Between as between
 use Rattle.prove_facts.specs.model_prove.specs.Between.{apdu_pattern, apdu_patterns}
 use Rattle.prove_facts.specs.model_prove.specs.Arrivals as arrivals
 use Rattle.prove_facts.specs.model_prove.specs.Arrivals.{pattern_of_result}
-use Rattle.prove_events.specs.declared.rules.Event.{Event}
-use Rattle.prove_events.specs.declared.rules.On.{On}
-use Rattle.prove_events.specs.Rules.{AreLines, FirstLine, IsTrigger, deed_of}
+use Rattle.lab_app_rules.specs.declared.rules.Event.{Event}
+use Rattle.lab_app_rules.specs.declared.rules.On.{On}
+use Rattle.lab_app_rules.specs.Rules.{AreLines, FirstLine, IsTrigger, deed_of}
 use Rattle.prove_patterns.specs.Lines.{opened_plain, is_some, has_command, has_result, command_patterns, result_patterns}
 use Rattle.prove_patterns.specs.Headers.{headers_from}
 use Rattle.prove_patterns.specs.Classes.{classes_onto}

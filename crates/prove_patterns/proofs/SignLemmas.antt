@@ -4,8 +4,8 @@ use Rattle.std.specs.Prelude.{not, ◌&&◌, ◌==◌, map, filter}
 use Rattle.std.proofs.lemmas.Bool.{and_parts, or_cases, eqb-true}
 use Rattle.prove_facts.specs.model_text.specs.Text.{is_blank}
 use Rattle.prove_facts.specs.model_text.specs.Listing.{hex_digit, hex_text}
-use Rattle.prove_facts.specs.model_play.specs.Patterns.{without_blanks}
-use Rattle.prove_facts.specs.law_explore.specs.Matching.{small, plain}
+use Rattle.lab_app_rules.specs.model_events.specs.Patterns.{without_blanks}
+use Rattle.lab_app_rules.specs.model_events.specs.Matching.{small, plain}
 use Rattle.prove_facts.specs.model_prove.specs.Sets.{Set, is_in, numbers_from}
 use Rattle.prove_facts.specs.model_prove.specs.Texts.{Opens, hex_digits, after_text, all_after, with_opens, after_bytes, after_each, after_character}
 use Rattle.prove_facts.specs.model_prove.proofs.SetLemmas.{is_between}

@@ -2,8 +2,8 @@
 use Rattle.std.proofs.Common.{◌≡◌, ◌∙◌, ℕ, suc, ◌-◌, ◌<◌, ◌≤◌, Bool, true, false, cond, List, [], ◌∷◌, length, get_or, take, drop, ap, subst, sym, refl, inl, inr, arith, drop-cons, length-drop}
 use Rattle.std.specs.Prelude.{◌||◌, ◌==◌, bytes_eq}
 use Rattle.std.proofs.lemmas.Bool.{or_cases, eqb-true}
-use Rattle.mc_base.specs.model_device.specs.Bytes.{has_name}
-use Rattle.mc_base.specs.model_device.proofs.MapLemmas.{name_is_itself, same_name}
+use Rattle.model_device.specs.Bytes.{has_name}
+use Rattle.model_device.proofs.MapLemmas.{name_is_itself, same_name}
 use Rattle.std.proofs.Math.Seq.{take-length}
 use Rattle.prove_facts.specs.model_prove.specs.Texts.{Open, both_ways, with_way, openings}
 

@@ -1,10 +1,10 @@
 -- The patterns of the lines of the code, as the definition has them.
 use Rattle.std.specs.Prelude.{ℕ, Bool, true, false, cond, ◌&&◌, List, [], ◌∷◌, Option, Some, None}
 use Rattle.prove_facts.specs.model_prove.specs.Texts.{Open, is_none_left, openings_unless}
-use Rattle.prove_events.specs.declared.rules.Event.{Event}
-use Rattle.prove_events.specs.declared.rules.Event.TheVariants.{Turn, Command, Answer, Session}
-use Rattle.prove_events.specs.declared.rules.On.{On}
-use Rattle.prove_events.specs.Rules.{deed_of}
+use Rattle.lab_app_rules.specs.declared.rules.Event.{Event}
+use Rattle.lab_app_rules.specs.declared.rules.Event.TheVariants.{Turn, Command, Answer, Session}
+use Rattle.lab_app_rules.specs.declared.rules.On.{On}
+use Rattle.lab_app_rules.specs.Rules.{deed_of}
 
 -- a plain pattern before any text; an empty one matches nothing
 abbrev pub opened_plain : List ℕ → Open

@@ -8,7 +8,7 @@ ghost use Rattle.prove_patterns.specs.Opens.{many_of};
 ghost use Rattle.prove_patterns.specs.Replies.{combinations_of, with_combination};
 
 use crate::opens::{Opens, matches_of};
-use mc_base::NoMemory;
+use model_device::NoMemory;
 use prove_facts::prepend;
 use std::alloc::Global;
 

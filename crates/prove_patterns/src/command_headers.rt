@@ -10,7 +10,7 @@ ghost use Rattle.prove_patterns.specs.Headers.{groups_of, header_of, headers_of,
 
 use crate::opens::{Opens, each_after, same_opens};
 use crate::ways::{Open, digit_sign};
-use mc_base::NoMemory;
+use model_device::NoMemory;
 use prove_facts::{Values, push};
 use std::alloc::Global;
 

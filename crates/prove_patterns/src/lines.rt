@@ -1,12 +1,12 @@
 // The patterns of the lines that speak of commands and of their answers.
 ghost use Rattle.std.specs.Prelude.{◌≡◌, map, IfOk};
-ghost use Rattle.prove_events.specs.Rules.{deed_of};
+ghost use Rattle.lab_app_rules.specs.Rules.{deed_of};
 ghost use Rattle.prove_patterns.specs.Opens.{opens_of};
 ghost use Rattle.prove_patterns.specs.Lines.{is_some, has_command, has_result, opened_plain, command_patterns, result_patterns};
 
 use crate::opens::{Opens, opened};
-use mc_base::NoMemory;
-use prove_events::{Effect, Event, On};
+use lab_app_rules::{Effect, Event, On};
+use model_device::NoMemory;
 use prove_facts::push;
 use std::alloc::Global;
 

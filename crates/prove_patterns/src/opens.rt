@@ -7,7 +7,7 @@ ghost use Rattle.prove_patterns.specs.Ways.{texts};
 ghost use Rattle.prove_patterns.specs.Opens.{open_of, opens_of};
 
 use crate::ways::{Open, after_byte, after_character, is_match, openings};
-use mc_base::NoMemory;
+use model_device::NoMemory;
 use prove_facts::push;
 use std::alloc::Global;
 

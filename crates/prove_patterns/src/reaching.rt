@@ -7,7 +7,7 @@ ghost use Rattle.prove_patterns.specs.Opens.{opens_of, many_of};
 
 use crate::opens::{Opens, all_after, each_after, same_opens};
 use crate::ways::{Open, digit_sign};
-use mc_base::NoMemory;
+use model_device::NoMemory;
 use prove_facts::{Values, prepend, push};
 use std::alloc::Global;
 

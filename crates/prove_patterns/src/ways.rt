@@ -1,10 +1,10 @@
 // What is left of one pattern, on each open way.
 ghost use Rattle.std.specs.Prelude.{◌≡◌, ◌<◌, ◌≤◌, ℕ, length, get_or, IfOk, OnOk, []};
-ghost use Rattle.mc_base.specs.model_device.specs.Bytes.{has_name};
+ghost use Rattle.model_device.specs.Bytes.{has_name};
 ghost use Rattle.prove_facts.specs.model_prove.specs.Texts.{with_way, both_ways, openings, way_after, after_character, after_text, is_match};
 ghost use Rattle.prove_patterns.specs.Ways.{texts, ways_of, byte_digits, digit_sign};
 
-use mc_base::NoMemory;
+use model_device::NoMemory;
 use prove_facts::prepend;
 use std::alloc::Global;
 

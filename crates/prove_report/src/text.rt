@@ -5,9 +5,9 @@ ghost use Rattle.prove_report.specs.Reports.{is_of_lines, verdict_words, IsRepor
 use crate::way_text::add_way;
 use crate::ways::{Key, Walk, walk_to_faults};
 use itoa::Buffer;
-use mc_base::{NoMemory, bytes_of};
 use mc_isa::{decode, text_of};
 use mc_text::digit;
+use model_device::{NoMemory, bytes_of};
 use prove_facts::{Fact, Facts, Values};
 use prove_keys::{DYNAMIC, MomentKey, Tables};
 use prove_search::{Break, Found, Rule, Subject, all_keep, code_of};

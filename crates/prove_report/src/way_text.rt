@@ -1,10 +1,11 @@
 // The text of a way: what a terminal does, and the lines or places of the code.
 use crate::text::{add, add_number, add_values, add_word};
 use crate::ways::Key;
-use mc_base::NoMemory;
+use lab_app_rules::CodeLine;
 use mc_isa::decode;
 use mc_isa::model_machine::Ins;
-use prove_events::{Class, CodeLine};
+use model_device::NoMemory;
+use prove_events::Class;
 use prove_facts::{Facts, Values};
 use prove_keys::{Begun, Tables};
 use prove_search::{Subject, code_of};

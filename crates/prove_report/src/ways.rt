@@ -1,5 +1,5 @@
 // The shortest ways to what is broken: from the creation, over the keys of finished tables.
-use mc_base::NoMemory;
+use model_device::NoMemory;
 use prove_facts::push;
 use prove_keys::{Begun, PlaceKey, Tables};
 use prove_search::{

@@ -3,15 +3,15 @@ use Rattle.std.proofs.Common.{◌≡◌, ◌<◌, ◌≤◌, ◌-◌, ℕ, suc, 
 use Rattle.std.specs.Prelude.{◌&&◌, nat_le, nat_lt, bytes_eq, codes, is_none, is_some, ok_or}
 use Rattle.mc_text.specs.model_text.specs.Text.{◌>>=◌, ok_as, only_if}
 use Rattle.mc_text.specs.model_text.specs.Assembly.{natural}
-use Rattle.lab_match.specs.model_play.specs.declared.deck.DeckCause.{DeckCause}
-use Rattle.lab_match.specs.model_play.specs.declared.deck.DeckCause.TheVariants.{BadLine, BadNumber, OutOfRange, UnknownName}
-use Rattle.lab_match.specs.model_play.specs.DeckGrammar.{name_field, number_field}
-use Rattle.lab_match.specs.law_explore.specs.Rules.{begins_with}
+use Rattle.model_rule_text.specs.model_play.specs.declared.deck.DeckCause.{DeckCause}
+use Rattle.model_rule_text.specs.model_play.specs.declared.deck.DeckCause.TheVariants.{BadLine, BadNumber, OutOfRange, UnknownName}
+use Rattle.model_rule_text.specs.model_play.specs.DeckGrammar.{name_field, number_field}
+use Rattle.model_rule_text.specs.model_text.specs.Text.{begins_with}
 use Rattle.prove_facts.specs.model_rules.specs.Rules.{AppRules, Range, Target, Total}
-use Rattle.prove_facts.specs.model_rules.specs.Reading.{Deck, NoApplication, RuleCause, always_line, are_names, are_sums, ends_of, of_deck, sign_of, static_field, static_size, terms_of, unless, with_app, with_range, with_total}
-use Rattle.prove_events.specs.declared.rules.Always.{Always}
-use Rattle.prove_events.specs.declared.rules.Balance.{Balance}
-use Rattle.prove_events.specs.Rules.{allowance_of, name_of, range_of}
+use Rattle.model_rule_text.specs.Reading.{Deck, NoApplication, RuleCause, always_line, are_names, are_sums, ends_of, of_deck, sign_of, static_field, static_size, terms_of, unless, with_app, with_range, with_total}
+use Rattle.lab_app_rules.specs.declared.rules.Always.{Always}
+use Rattle.lab_app_rules.specs.declared.rules.Balance.{Balance}
+use Rattle.lab_app_rules.specs.Rules.{allowance_of, name_of, range_of}
 use Rattle.prove_rules.specs.declared.always.SignedName.{SignedName}
 use Rattle.prove_rules.specs.declared.always.TotalForm.{TotalForm}
 use Rattle.prove_rules.specs.declared.fault.Fault.{Fault}
@@ -23,7 +23,7 @@ use Rattle.prove_rules.specs.Always.{term_of, AreNoSums, IsRangeRead, IsTotalFor
 use Rattle.prove_rules.specs.Fields.{two_of, IsNumber}
 use Rattle.prove_rules.specs.Partials.{place_of, ArePart, AreListsRead, IsTarget}
 use Rattle.prove_rules.specs.Refused.{cause_value, Faulty}
-use Rattle.prove_rules.specs.Sums.{AreTotals, IsTotal}
+use Rattle.lab_app_rules.specs.Sums.{AreTotals, IsTotal}
 use Rattle.prove_rules.proofs.FieldLemmas.{ends_refused, AreEndsRead}
 use Rattle.prove_rules.proofs.OnLemmas.{is_target, no_target, target_is}
 use Rattle.prove_rules.proofs.PlaceLemmas.{map_more, place_none, place_some}

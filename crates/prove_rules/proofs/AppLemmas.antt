@@ -1,18 +1,18 @@
 -- The lines of the application, of allowances and sums, and of abends.
 use Rattle.std.proofs.Common.{◌≡◌, ◌-◌, ◌≤◌, ℕ, zero, suc, List, [], ◌∷◌, ◌++◌, Bool, true, false, length, map, Option, Some, None, Result, Ok, Err, length-append, arith, refl, sym, ap, subst, ◌∙◌}
 use Rattle.std.specs.Prelude.{◌&&◌, nat_le, bytes_eq, codes, is_none, is_some, ok_or}
-use Rattle.mc_base.specs.model_device.specs.Bytes.{lookup, zeros, AreBytes}
+use Rattle.mc_words.specs.model_device.specs.Bytes.{lookup, zeros, AreBytes}
 use Rattle.mc_text.specs.model_text.specs.Text.{◌>>=◌, only_if}
 use Rattle.mc_unit.specs.model_card.specs.Manager.{fits_limits}
-use Rattle.lab_match.specs.model_play.specs.DeckGrammar.{name_field}
-use Rattle.lab_match.specs.model_play.specs.declared.deck.DeckCause.{DeckCause}
-use Rattle.lab_match.specs.model_play.specs.declared.deck.DeckCause.TheVariants.{BadLine, NameTwice, OutOfRange, UnknownName}
-use Rattle.lab_match.specs.law_explore.specs.Rules.{name_and_amount}
+use Rattle.model_rule_text.specs.model_play.specs.DeckGrammar.{name_field}
+use Rattle.model_rule_text.specs.model_play.specs.declared.deck.DeckCause.{DeckCause}
+use Rattle.model_rule_text.specs.model_play.specs.declared.deck.DeckCause.TheVariants.{BadLine, NameTwice, OutOfRange, UnknownName}
+use Rattle.model_rule_text.specs.model_play.specs.RuleLines.{name_and_amount}
 use Rattle.prove_facts.specs.model_rules.specs.Rules.{AppRules, Target}
-use Rattle.prove_facts.specs.model_rules.specs.Reading.{AllowLine, AppLine, AppWord, Deck, LoadLine, NeverLine, NoApplication, RuleCause, SumWord, app_rule, of_deck, sizes_of, target_of, unless, with_app, with_never, with_target}
-use Rattle.prove_events.specs.declared.rules.Load.{Load}
-use Rattle.prove_events.specs.declared.rules.Named.{Named}
-use Rattle.prove_events.specs.Rules.{allowance_of, IsCreated}
+use Rattle.model_rule_text.specs.Reading.{AllowLine, AppLine, AppWord, Deck, LoadLine, NeverLine, NoApplication, RuleCause, SumWord, app_rule, of_deck, sizes_of, target_of, unless, with_app, with_never, with_target}
+use Rattle.lab_app_rules.specs.declared.rules.Load.{Load}
+use Rattle.lab_app_rules.specs.declared.rules.Named.{Named}
+use Rattle.lab_app_rules.specs.Rules.{allowance_of, IsCreated}
 use Rattle.prove_rules.specs.declared.load.Found.{Found}
 use Rattle.prove_rules.specs.declared.partial.Partial.{Partial}
 use Rattle.prove_rules.specs.declared.fault.Fault.{Fault}

@@ -2,8 +2,8 @@
 use Rattle.std.proofs.Common.{◌≡◌, ◌+◌, ◌≤◌, ℕ, suc, List, [], ◌∷◌, ◌++◌, Bool, length, Some, Result, Ok, Err, arith, refl, sym, ap, ◌∙◌}
 use Rattle.std.specs.Prelude.{◌==◌}
 use Rattle.mc_text.specs.model_text.specs.Text.{◌>>=◌, lines, ok_as, with_numbers}
-use Rattle.lab_match.specs.model_play.specs.declared.deck.DeckCause.{DeckCause}
-use Rattle.lab_match.specs.model_play.specs.DeckGrammar.{deck_lines, deck_read, turn_at, DeckLine, LineTurn, Mode}
+use Rattle.model_rule_text.specs.model_play.specs.declared.deck.DeckCause.{DeckCause}
+use Rattle.model_rule_text.specs.model_play.specs.DeckGrammar.{deck_lines, deck_read, turn_at, DeckLine, LineTurn, Mode}
 use Rattle.mc_text.specs.Reading.{next_line}
 use Rattle.mc_text.proofs.ReadingLemmas.{lines_at, lines_from}
 

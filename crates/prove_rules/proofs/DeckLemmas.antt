@@ -2,17 +2,18 @@
 use Rattle.std.proofs.Common.{◌≡◌, ◌<◌, ℕ, suc, Bool, true, false, not, cond, List, [], ◌∷◌, ◌++◌, Option, Some, None, Result, Ok, Err, arith, refl, sym, ap, ◌∙◌}
 use Rattle.std.specs.Prelude.{◌==◌, ◌&&◌, ◌||◌, ⊤, bytes_eq, codes, is_some, nat_lt, ok_or, IfOk}
 use Rattle.std.proofs.lemmas.Bool.{eqb-true}
-use Rattle.mc_base.specs.model_device.specs.Bytes.{lookup}
-use Rattle.mc_base.specs.model_device.proofs.MapLemmas.{each_found}
+use Rattle.mc_words.specs.model_device.specs.Bytes.{lookup}
+use Rattle.mc_words.specs.model_device.proofs.MapLemmas.{each_found}
 use Rattle.mc_text.specs.model_text.specs.Text.{ok_as, err_as, only_if, ◌>>=◌, begins, fields, lines, with_numbers}
 use Rattle.mc_unit.specs.model_card.specs.Units.{unit_read}
-use Rattle.lab_match.specs.model_play.specs.declared.deck.DeckCause.{DeckCause}
-use Rattle.lab_match.specs.model_play.specs.declared.deck.DeckCause.TheVariants.{BadLine, LateLine, UnknownName}
-use Rattle.lab_match.specs.model_play.specs.declared.deck.DeckCause.TheVariants as causes
-use Rattle.lab_match.specs.model_play.specs.DeckGrammar.{hex_field, aid_field, fill_field, name_field, number_field, Context, DeckLine, Section, Stated, Says, Opens, Word, FormatWord, PowerWord, UnitWord, AppWord, LoadWord, SelectWord, DeleteWord, DumpWord, ApduWord, BudgetWord, CutWord, FailWord, PokeWord, deck_words, new_name, early, with_unit, statement_of, LineTurn, Mode, Between, Within, between, within, turn_at, turn_in, turn_of, section_unit, is_end, deck_lines, deck_read}
-use Rattle.lab_match.specs.model_play.specs.DeckGrammar as line
-use Rattle.lab_match.specs.law_explore.specs.Rules.{begins_with, stays_inside}
-use Rattle.prove_facts.specs.model_rules.specs.Reading.{load_names}
+use Rattle.model_rule_text.specs.model_play.specs.declared.deck.DeckCause.{DeckCause}
+use Rattle.model_rule_text.specs.model_play.specs.declared.deck.DeckCause.TheVariants.{BadLine, LateLine, UnknownName}
+use Rattle.model_rule_text.specs.model_play.specs.declared.deck.DeckCause.TheVariants as causes
+use Rattle.model_rule_text.specs.model_play.specs.DeckGrammar.{hex_field, aid_field, fill_field, name_field, number_field, Context, DeckLine, Section, Stated, Says, Opens, Word, FormatWord, PowerWord, UnitWord, AppWord, LoadWord, SelectWord, DeleteWord, DumpWord, ApduWord, BudgetWord, CutWord, FailWord, PokeWord, deck_words, new_name, early, with_unit, statement_of, LineTurn, Mode, Between, Within, between, within, turn_at, turn_in, turn_of, section_unit, deck_lines, deck_read}
+use Rattle.model_rule_text.specs.model_text.specs.Text.{is_end}
+use Rattle.model_rule_text.specs.model_play.specs.DeckGrammar as line
+use Rattle.model_rule_text.specs.model_text.specs.Text.{begins_with, stays_inside}
+use Rattle.model_rule_text.specs.Reading.{load_names}
 use Rattle.prove_rules.specs.Loads.{first_named, loaded, loaded_at}
 use Rattle.prove_rules.proofs.LoadLemmas.{alike, first_above, named_by, names_rise, not_lower, unlike}
 

@@ -3,8 +3,8 @@ use Rattle.std.proofs.Common.{◌≡◌, ◌<◌, ◌≤◌, ℕ, suc, not, Bor,
 use Rattle.std.specs.Prelude.{◌==◌, nat_le, bytes_eq, codes, cond, is_some, option_map}
 use Rattle.mc_text.specs.model_text.specs.Text.{◌>>=◌, first_cut, halves_with_character, ok_as, pieces, pieces_with_character}
 use Rattle.mc_text.specs.Reading.{capped_number}
-use Rattle.lab_match.specs.model_play.specs.declared.deck.DeckCause.TheVariants.{BadLine}
-use Rattle.prove_facts.specs.model_rules.specs.Reading.{Deck, RuleCause, bracketed, ends_in, ends_of, has_no_bracket, register_and_text, register_field, static_field, unless}
+use Rattle.model_rule_text.specs.model_play.specs.declared.deck.DeckCause.TheVariants.{BadLine}
+use Rattle.model_rule_text.specs.Reading.{Deck, RuleCause, bracketed, ends_in, ends_of, has_no_bracket, register_and_text, register_field, static_field, unless}
 use Rattle.prove_rules.specs.Fields.{two_of, IsNumber}
 
 -- ---- pieces by their first cut

@@ -2,14 +2,14 @@
 use Rattle.std.proofs.Common.{◌≡◌, ◌+◌, ◌<◌, ◌≤◌, ℕ, suc, List, [], ◌∷◌, ◌++◌, Bool, true, false, not, cond, drop, drop-cons, add-one, Option, Some, None, arith, refl, sym, ap, subst, ◌∙◌}
 use Rattle.std.specs.Prelude.{◌==◌, ◌&&◌, nat_lt, codes, slice_get, is_some, MatchOption}
 use Rattle.std.proofs.lemmas.Option.{slice_get_within, get_or_from_slice_get}
-use Rattle.mc_base.specs.model_device.specs.Bytes.{lookup}
+use Rattle.mc_words.specs.model_device.specs.Bytes.{lookup}
 use Rattle.mc_text.specs.model_text.specs.Text.{fields, lines, with_numbers}
 use Rattle.mc_unit.specs.model_machine.specs.Primitives.{entry_of_number}
-use Rattle.lab_match.specs.model_play.specs.DeckGrammar.{DeckLine}
-use Rattle.lab_match.specs.law_explore.specs.Rules.{begins_with, stays_inside}
+use Rattle.model_rule_text.specs.model_play.specs.DeckGrammar.{DeckLine}
+use Rattle.model_rule_text.specs.model_text.specs.Text.{begins_with, stays_inside}
 use Rattle.mc_text.specs.Reading.{next_line}
 use Rattle.mc_text.proofs.ReadingLemmas.{lines_at, lines_from}
-use Rattle.prove_facts.specs.model_rules.specs.Reading.{LoadLine, load_names, load_under, loads_of}
+use Rattle.model_rule_text.specs.Reading.{LoadLine, load_names, load_under, loads_of}
 use Rattle.prove_rules.specs.declared.load.Found.{Found}
 use Rattle.prove_rules.specs.Loads.{first_named, is_second, loaded, loaded_at, loaded_line, loads_in, IsLoad, IsLoadOf}
 

@@ -1,23 +1,23 @@
 -- `on` lines by their parts.
 use Rattle.std.proofs.Common.{arith, ◌≡◌, ℕ, List, [], ◌∷◌, ◌++◌, Bool, true, false, not, cond, length, map, Option, Some, None, Ok, Err, Result, refl, sym, ap, subst, ◌∙◌}
 use Rattle.std.specs.Prelude.{◌==◌, bytes_eq, codes, is_none, is_some, ok_or}
-use Rattle.mc_base.specs.model_device.specs.Bytes.{lookup}
+use Rattle.mc_words.specs.model_device.specs.Bytes.{lookup}
 use Rattle.mc_text.specs.model_text.specs.Text.{◌>>=◌, fields, is_empty, only_if}
-use Rattle.lab_match.specs.model_play.specs.declared.deck.DeckCause.{DeckCause}
-use Rattle.lab_match.specs.model_play.specs.declared.deck.DeckCause.TheVariants.{BadLine, UnknownName}
-use Rattle.lab_match.specs.model_play.specs.DeckGrammar.{name_field}
-use Rattle.lab_match.specs.law_explore.specs.Rules.{full_parts, name_and_amount, parts_at, parts_of, Parts}
+use Rattle.model_rule_text.specs.model_play.specs.declared.deck.DeckCause.{DeckCause}
+use Rattle.model_rule_text.specs.model_play.specs.declared.deck.DeckCause.TheVariants.{BadLine, UnknownName}
+use Rattle.model_rule_text.specs.model_play.specs.DeckGrammar.{name_field}
+use Rattle.model_rule_text.specs.model_play.specs.RuleLines.{full_parts, name_and_amount, parts_at, parts_of, Parts}
 use Rattle.prove_facts.specs.model_rules.specs.Rules as rules
 use Rattle.prove_facts.specs.model_rules.specs.Rules.{AppRules, AtAnswer, AtCommand, AtSession, AtTurn, OnLine, SumLine, Target, Trigger}
-use Rattle.prove_facts.specs.model_rules.specs.Reading as reading
-use Rattle.prove_facts.specs.model_rules.specs.Reading.{AmountForm, AmountRead, Deck, EventWord, NoApplication, OnAllowance, OnSum, RuleCause, action_words, amount_of_read, amount_read, bare_parts, event_words, form_of_amount, gives_words, has_no_bracket, of_deck, on_line, rule_name, turn_words, unless, with_app, with_deed, with_event_line, with_move_at, with_on}
-use Rattle.prove_events.specs.declared.rules.Effect.{Effect}
-use Rattle.prove_events.specs.declared.rules.Event.{Event}
-use Rattle.prove_events.specs.declared.rules.Event.TheVariants as event
-use Rattle.prove_events.specs.declared.rules.Amount.{Amount}
-use Rattle.prove_events.specs.declared.rules.Named.{Named}
-use Rattle.prove_events.specs.declared.rules.On.{On}
-use Rattle.prove_events.specs.Rules.{allowance_of, deed_of, name_of, IsCreated, IsTrigger}
+use Rattle.model_rule_text.specs.Reading as reading
+use Rattle.model_rule_text.specs.Reading.{AmountForm, AmountRead, Deck, EventWord, NoApplication, OnAllowance, OnSum, RuleCause, action_words, amount_of_read, amount_read, bare_parts, event_words, form_of_amount, gives_words, has_no_bracket, of_deck, on_line, rule_name, turn_words, unless, with_app, with_deed, with_event_line, with_move_at, with_on}
+use Rattle.lab_app_rules.specs.declared.rules.Effect.{Effect}
+use Rattle.lab_app_rules.specs.declared.rules.Event.{Event}
+use Rattle.lab_app_rules.specs.declared.rules.Event.TheVariants as event
+use Rattle.lab_app_rules.specs.declared.rules.Amount.{Amount}
+use Rattle.lab_app_rules.specs.declared.rules.Named.{Named}
+use Rattle.lab_app_rules.specs.declared.rules.On.{On}
+use Rattle.lab_app_rules.specs.Rules.{allowance_of, deed_of, name_of, IsCreated, IsTrigger}
 use Rattle.prove_rules.specs.declared.load.Found.{Found}
 use Rattle.prove_rules.specs.declared.on.Head.{Head}
 use Rattle.prove_rules.specs.declared.partial.Partial.{Partial}
@@ -28,7 +28,8 @@ use Rattle.prove_rules.specs.declared.fault.Fault.TheVariants as fault
 use Rattle.prove_rules.specs.declared.fault.RuleCause.TheVariants as cause
 use Rattle.prove_rules.specs.declared.public.AmountForm.{AmountForm as CodeForm}
 use Rattle.prove_rules.specs.declared.public.AmountRead.{AmountRead as CodeRead}
-use Rattle.prove_rules.specs.Fields.{amount_value, form_value, two_of, IsAmountRead, IsReadOf}
+use Rattle.lab_app_rules.specs.Sums.{amount_value}
+use Rattle.prove_rules.specs.Fields.{form_value, two_of, IsAmountRead, IsReadOf}
 use Rattle.prove_rules.specs.Ons.{result_parts, HasResult, HasWord, IsAllowanceEffect, IsEffect, IsHead, IsOnRead, IsSumEffect, IsTimely, IsTriggerOf, MoreLines}
 use Rattle.prove_rules.specs.Parts.{action_value, deeds_value, event_value, HasNoParts, HasParts}
 use Rattle.prove_rules.specs.Partials.{place_of, ArePart, AreListsRead, IsTarget}

@@ -1,10 +1,10 @@
 -- The fields of a line up to a word, one after the other.
 use Rattle.std.proofs.Common.{◌≡◌, ℕ, List, [], ◌∷◌, ◌++◌, Option, Some, None, Bool, true, false, append-nil, append_assoc, refl, sym, ap, subst, ◌∙◌}
-use Rattle.mc_base.specs.model_device.specs.Bytes.{lookup}
+use Rattle.mc_words.specs.model_device.specs.Bytes.{lookup}
 use Rattle.mc_text.specs.model_text.specs.Text.{fields, is_blank, is_empty}
-use Rattle.lab_match.specs.law_explore.specs.Matching.{plain, small}
-use Rattle.lab_match.specs.law_explore.specs.Rules.{parts_at, parts_of, with_front, Parts}
-use Rattle.lab_match.specs.model_play.specs.declared.deck.DeckCause.TheVariants.{BadLine}
+use Rattle.model_rule_text.specs.model_events.specs.Matching.{plain, small}
+use Rattle.model_rule_text.specs.model_play.specs.RuleLines.{parts_at, parts_of, with_front, Parts}
+use Rattle.model_rule_text.specs.model_play.specs.declared.deck.DeckCause.TheVariants.{BadLine}
 use Rattle.prove_rules.specs.declared.fault.Fault.{Fault}
 use Rattle.prove_rules.specs.declared.fault.Fault.TheVariants as fault
 use Rattle.prove_rules.specs.declared.fault.RuleCause.TheVariants as cause

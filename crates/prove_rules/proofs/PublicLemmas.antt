@@ -3,11 +3,11 @@ use Rattle.std.proofs.Common.{◌≡◌, ◌-◌, ◌<◌, ◌≤◌, ℕ, zero,
 use Rattle.std.specs.Prelude.{◌&&◌, ◌||◌, nat_le, nat_lt, ℤ, pos, bytes_eq, codes, option_map, ok_or}
 use Rattle.mc_text.specs.model_text.specs.Text.{◌>>=◌, begins, decimal_number, ok_as}
 use Rattle.mc_text.specs.model_text.specs.Assembly.{minus, natural, signed_number}
-use Rattle.lab_match.specs.model_play.specs.declared.deck.DeckCause.TheVariants.{BadLine, BadNumber, OutOfRange}
+use Rattle.model_rule_text.specs.model_play.specs.declared.deck.DeckCause.TheVariants.{BadLine, BadNumber, OutOfRange}
 use Rattle.mc_text.specs.Reading.{capped_number}
 use Rattle.prove_facts.specs.model_rules.specs.Rules as rules
-use Rattle.prove_facts.specs.model_rules.specs.Reading as reading
-use Rattle.prove_facts.specs.model_rules.specs.Reading.{Deck, OfBytes, RuleCause, amount_read, ends_of, form_at_register, form_of_amount, place_from, public_amount, register_field, unless}
+use Rattle.model_rule_text.specs.Reading as reading
+use Rattle.model_rule_text.specs.Reading.{Deck, OfBytes, RuleCause, amount_read, ends_of, form_at_register, form_of_amount, place_from, public_amount, register_field, unless}
 use Rattle.prove_rules.specs.Fields.{IsAmountRead, IsNumber, IsPlace}
 use Rattle.prove_rules.specs.declared.public.AmountRead.TheVariants as read
 use Rattle.prove_rules.proofs.FieldLemmas.{capped_same}

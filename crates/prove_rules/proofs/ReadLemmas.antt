@@ -1,19 +1,20 @@
 -- The lines of a text, read rule by rule.
 use Rattle.std.proofs.Common.{◌≡◌, ◌+◌, ℕ, List, [], ◌∷◌, Bool, true, false, not, cond, length, map, Some, None, Result, Ok, Err, arith, refl, sym, ap, subst, ◌∙◌}
 use Rattle.std.specs.Prelude.{◌&&◌, codes, is_some, ok_or, IfErr, IfOk}
-use Rattle.mc_base.specs.model_device.specs.Bytes.{lookup}
+use Rattle.mc_words.specs.model_device.specs.Bytes.{lookup}
 use Rattle.mc_text.specs.model_text.specs.Text.{◌>>=◌, err_as, fields, lines, only_if, with_numbers}
-use Rattle.lab_match.specs.model_play.specs.declared.deck.DeckCause.TheVariants.{BadLine}
-use Rattle.lab_match.specs.model_play.specs.DeckGrammar.{deck_read, DeckLine}
-use Rattle.lab_match.specs.law_explore.specs.Rules.{is_marked, line_if, marked_lines, stays_inside}
+use Rattle.model_rule_text.specs.model_play.specs.declared.deck.DeckCause.TheVariants.{BadLine}
+use Rattle.model_rule_text.specs.model_play.specs.DeckGrammar.{deck_read, DeckLine}
+use Rattle.model_rule_text.specs.model_play.specs.RuleLines.{is_marked, line_if, marked_lines}
+use Rattle.model_rule_text.specs.model_text.specs.Text.{stays_inside}
 use Rattle.prove_facts.specs.model_rules.specs.Rules.{no_app_rules, AppRules, Target}
-use Rattle.prove_facts.specs.model_rules.specs.Reading.{AppWord, Deck, LoadLine, NoApplication, MoveLine, OnWord, AlwaysLine, RuleCause, always_line, app_line, app_rule, app_rules_from, app_rules_read, app_words, on_line, with_some_app}
+use Rattle.model_rule_text.specs.Reading.{AppWord, Deck, LoadLine, NoApplication, MoveLine, OnWord, AlwaysLine, RuleCause, always_line, app_line, app_rule, app_rules_from, app_rules_read, app_words, on_line, with_some_app}
 use Rattle.mc_text.specs.Reading.{next_line}
-use Rattle.prove_events.specs.declared.rules.Rules.{Rules}
-use Rattle.prove_events.specs.declared.rules.Named.{Named}
-use Rattle.prove_events.specs.declared.rules.Balance.{Balance}
-use Rattle.prove_events.specs.declared.rules.On.{On}
-use Rattle.prove_events.specs.Rules.{allowance_of, name_of, range_of, AreDistinct, AreLines, AreRules}
+use Rattle.lab_app_rules.specs.declared.rules.Rules.{Rules}
+use Rattle.lab_app_rules.specs.declared.rules.Named.{Named}
+use Rattle.lab_app_rules.specs.declared.rules.Balance.{Balance}
+use Rattle.lab_app_rules.specs.declared.rules.On.{On}
+use Rattle.lab_app_rules.specs.Rules.{allowance_of, name_of, range_of, AreDistinct, AreLines, AreRules}
 use Rattle.prove_rules.specs.declared.fault.Fault.{Fault}
 use Rattle.prove_rules.specs.declared.fault.Fault.TheVariants as fault
 use Rattle.prove_rules.specs.declared.fault.RuleCause.TheVariants as cause
@@ -25,7 +26,7 @@ use Rattle.prove_rules.specs.Loads.{loads_in}
 use Rattle.prove_rules.specs.Partials.{ArePart, ArePartRead, IsFinished}
 use Rattle.prove_rules.proofs.LoadLemmas.{no_lines, numbered}
 use Rattle.prove_rules.specs.Refused.{refusal_at, Faulty, RefusesRules}
-use Rattle.prove_rules.specs.Sums.{AreSumLines, AreSums, AreTotals}
+use Rattle.lab_app_rules.specs.Sums.{AreSumLines, AreSums, AreTotals}
 use Rattle.prove_rules.proofs.OnLemmas.{no_target, target_is}
 use Rattle.prove_rules.proofs.SumLemmas.{totals_count}
 

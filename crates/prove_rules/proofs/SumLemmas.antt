@@ -2,17 +2,17 @@
 use Rattle.std.proofs.Common.{arith, ◌≡◌, ◌<◌, ◌+◌, ℕ, suc, List, [], ◌∷◌, ◌++◌, Bool, not, map, length, drop, drop-cons, get_or, add-one, append-nil, append_assoc, Option, Some, None, refl, sym, ap, subst, ◌∙◌}
 use Rattle.std.specs.Prelude.{slice_get}
 use Rattle.prove_facts.specs.model_rules.specs.Rules.{Action, SumLine, Total}
-use Rattle.prove_events.specs.declared.rules.Amount.{Amount}
-use Rattle.prove_events.specs.declared.rules.Balance.{Balance}
-use Rattle.prove_events.specs.declared.rules.Effect.{Effect}
-use Rattle.prove_events.specs.declared.rules.Named.{Named}
-use Rattle.prove_events.specs.declared.rules.On.{On}
-use Rattle.prove_events.specs.declared.rules.SignedSum.{SignedSum}
-use Rattle.prove_events.specs.Rules.{allowance_of, deed_of, name_of}
+use Rattle.lab_app_rules.specs.declared.rules.Amount.{Amount}
+use Rattle.lab_app_rules.specs.declared.rules.Balance.{Balance}
+use Rattle.lab_app_rules.specs.declared.rules.Effect.{Effect}
+use Rattle.lab_app_rules.specs.declared.rules.Named.{Named}
+use Rattle.lab_app_rules.specs.declared.rules.On.{On}
+use Rattle.lab_app_rules.specs.declared.rules.SignedSum.{SignedSum}
+use Rattle.lab_app_rules.specs.Rules.{allowance_of, deed_of, name_of}
 use Rattle.prove_rules.specs.declared.always.SignedName.{SignedName}
 use Rattle.prove_rules.specs.Always.{term_of}
 use Rattle.prove_rules.specs.Partials.{place_of}
-use Rattle.prove_rules.specs.Sums.{move_of, AreSumLines, AreTerms, AreTotals, FirstSumLine, IsSumRule, IsTotal}
+use Rattle.lab_app_rules.specs.Sums.{move_of, AreSumLines, AreTerms, AreTotals, FirstSumLine, IsSumRule, IsTotal}
 use Rattle.prove_rules.proofs.PlaceLemmas.{get_more, place_get}
 
 -- ---- lines

@@ -1,12 +1,12 @@
 -- `always` lines as the code reads them.
 use Rattle.std.specs.Prelude.{◌≡◌, ◌<◌, ◌≤◌, ◌-◌, ℕ, suc, Bool, not, List, [], ◌∷◌, map, Some, Ok, true, false, ⊤}
-use Rattle.lab_match.specs.model_play.specs.DeckGrammar.{number_field}
-use Rattle.lab_match.specs.model_play.specs.declared.deck.DeckCause.TheVariants.{UnknownName}
+use Rattle.model_rule_text.specs.model_play.specs.DeckGrammar.{number_field}
+use Rattle.model_rule_text.specs.model_play.specs.declared.deck.DeckCause.TheVariants.{UnknownName}
 use Rattle.mc_text.specs.model_text.specs.Assembly.{natural}
-use Rattle.prove_facts.specs.model_rules.specs.Reading.{are_names, are_sums, ends_of, terms_of}
-use Rattle.prove_events.specs.declared.rules.Always.{Always}
-use Rattle.prove_events.specs.declared.rules.Balance.{Balance}
-use Rattle.prove_events.specs.Rules.{allowance_of, name_of}
+use Rattle.model_rule_text.specs.Reading.{are_names, are_sums, ends_of, terms_of}
+use Rattle.lab_app_rules.specs.declared.rules.Always.{Always}
+use Rattle.lab_app_rules.specs.declared.rules.Balance.{Balance}
+use Rattle.lab_app_rules.specs.Rules.{allowance_of, name_of}
 use Rattle.prove_rules.specs.declared.always.SignedName.{SignedName}
 use Rattle.prove_rules.specs.declared.always.TotalForm.{TotalForm}
 use Rattle.prove_rules.specs.declared.fault.Fault.{Fault}
@@ -14,7 +14,7 @@ use Rattle.prove_rules.specs.declared.fault.Fault.TheVariants as fault
 use Rattle.prove_rules.specs.declared.fault.RuleCause.TheVariants as cause
 use Rattle.prove_rules.specs.declared.load.Found.{Found}
 use Rattle.prove_rules.specs.declared.partial.Partial.{Partial}
-use Rattle.prove_rules.specs.Sums.{AreTerms}
+use Rattle.lab_app_rules.specs.Sums.{AreTerms}
 
 -- a term of a total: whether it is added, and its name
 abbrev pub term_of : SignedName → Bool × List ℕ

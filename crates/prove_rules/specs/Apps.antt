@@ -1,8 +1,8 @@
 -- The line that names the application, as the code reads it.
 use Rattle.std.specs.Prelude.{◌≡◌, ℕ, List, [], ◌∷◌, true, Option, Some, None, Ok}
-use Rattle.mc_base.specs.model_device.specs.Bytes.{lookup}
-use Rattle.lab_match.specs.model_play.specs.DeckGrammar.{name_field}
-use Rattle.prove_facts.specs.model_rules.specs.Reading.{LoadLine}
+use Rattle.mc_words.specs.model_device.specs.Bytes.{lookup}
+use Rattle.model_rule_text.specs.model_play.specs.DeckGrammar.{name_field}
+use Rattle.model_rule_text.specs.Reading.{LoadLine}
 use Rattle.prove_rules.specs.declared.load.Found.{Found}
 use Rattle.prove_rules.specs.declared.partial.Partial.{Partial}
 use Rattle.prove_rules.specs.Loads.{is_accepted, IsLoadOf}

@@ -1,12 +1,9 @@
 -- Numbers and amounts in the fields of rules.
-use Rattle.std.specs.Prelude.{◌≡◌, ◌<◌, ◌≤◌, ◌-◌, ℕ, ℤ, Bool, List, [], ◌∷◌, option_map, Option, Some, None, Result, Ok, Err}
+use Rattle.std.specs.Prelude.{◌≡◌, ◌<◌, ◌≤◌, ℕ, ℤ, Bool, List, [], ◌∷◌, option_map, Option, Some, None, Result, Ok, Err}
 use Rattle.mc_text.specs.Reading.{capped_number}
 use Rattle.mc_text.specs.model_text.specs.Assembly.{signed_number}
-use Rattle.prove_facts.specs.model_rules.specs.Rules as rules
-use Rattle.prove_facts.specs.model_rules.specs.Reading as reading
-use Rattle.prove_facts.specs.model_rules.specs.Reading.{place_from}
-use Rattle.prove_events.specs.declared.rules.Amount.{Amount}
-use Rattle.prove_events.specs.declared.rules.Amount.TheVariants as amount
+use Rattle.model_rule_text.specs.Reading as reading
+use Rattle.model_rule_text.specs.Reading.{place_from}
 use Rattle.prove_rules.specs.declared.public.AmountForm.{AmountForm}
 use Rattle.prove_rules.specs.declared.public.AmountForm.TheVariants as form
 use Rattle.prove_rules.specs.declared.public.AmountRead.{AmountRead}
@@ -26,11 +23,6 @@ pub record IsNumber (o : Option ℕ) (n : ℕ) : Type 0 where
   pub high : 4294967296 ≤ n → 4294967296 ≤ number
 
 -- ---- amounts
-
--- an amount of a sum, as the definition has it: places count from the public segment's beginning
-abbrev pub amount_value : Amount → rules.Amount
-amount_value (amount.Number k) = rules.Constant k
-amount_value (amount.Public at n) = rules.PublicBytes (at - 49152) n
 
 -- the form of an amount, as the definition has it
 abbrev pub form_value : AmountForm → reading.AmountForm

@@ -8,4 +8,3 @@ pub mod Partials
 pub mod Parts
 pub mod Refused
 pub mod Rows
-pub mod Sums

@@ -1,13 +1,13 @@
 -- The rules of lines, one after the other.
 use Rattle.std.specs.Prelude.{ℕ, Bool, false, cond, not, ◌&&◌, List, [], ◌∷◌, bytes_eq, codes, ok_or, Result, Ok, Err}
-use Rattle.mc_base.specs.model_device.specs.Bytes.{lookup}
+use Rattle.mc_words.specs.model_device.specs.Bytes.{lookup}
 use Rattle.mc_text.specs.model_text.specs.Text.{◌>>=◌, fields, lines, with_numbers}
-use Rattle.lab_match.specs.model_play.specs.DeckGrammar.{DeckLine}
-use Rattle.lab_match.specs.model_play.specs.declared.deck.DeckCause.TheVariants.{BadLine}
-use Rattle.lab_match.specs.law_explore.specs.Rules.{is_marked, marked_lines}
+use Rattle.model_rule_text.specs.model_play.specs.DeckGrammar.{DeckLine}
+use Rattle.model_rule_text.specs.model_play.specs.declared.deck.DeckCause.TheVariants.{BadLine}
+use Rattle.model_rule_text.specs.model_play.specs.RuleLines.{is_marked, marked_lines}
 use Rattle.prove_facts.specs.model_rules.specs.Rules.{AppRules, no_app_rules}
-use Rattle.prove_facts.specs.model_rules.specs.Reading as reading
-use Rattle.prove_facts.specs.model_rules.specs.Reading.{LoadLine, RuleCause, Deck, AppWord, app_line, app_rule, app_rules_from, app_words}
+use Rattle.model_rule_text.specs.Reading as reading
+use Rattle.model_rule_text.specs.Reading.{LoadLine, RuleCause, Deck, AppWord, app_line, app_rule, app_rules_from, app_words}
 use Rattle.prove_rules.specs.Loads.{loads_in}
 use Rattle.prove_rules.specs.declared.reading.Kind.{Kind}
 use Rattle.prove_rules.specs.declared.reading.Kind.TheVariants as kind

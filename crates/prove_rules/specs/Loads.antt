@@ -1,12 +1,12 @@
 -- The `load` lines of a deck as the code finds them.
 use Rattle.std.specs.Prelude.{◌≡◌, ℕ, Bool, false, cond, nat_le, nat_lt, ◌==◌, ◌&&◌, List, [], ◌∷◌, bytes_eq, length, Option, Some, None}
-use Rattle.mc_base.specs.model_device.specs.Bytes.{AreBytes}
+use Rattle.mc_words.specs.model_device.specs.Bytes.{AreBytes}
 use Rattle.mc_text.specs.model_text.specs.Text.{lines, with_numbers}
-use Rattle.lab_match.specs.model_play.specs.DeckGrammar.{DeckLine}
-use Rattle.lab_match.specs.model_play.specs.DeckGrammar as line
-use Rattle.prove_facts.specs.model_rules.specs.Reading.{LoadLine, load_names, loads_of}
+use Rattle.model_rule_text.specs.model_play.specs.DeckGrammar.{DeckLine}
+use Rattle.model_rule_text.specs.model_play.specs.DeckGrammar as line
+use Rattle.model_rule_text.specs.Reading.{LoadLine, load_names, loads_of}
 use Rattle.mc_deck.specs.Lines.{GoodUnit}
-use Rattle.prove_events.specs.declared.rules.Load.{Load}
+use Rattle.lab_app_rules.specs.declared.rules.Load.{Load}
 use Rattle.prove_rules.specs.declared.load.Found.{Found}
 
 -- the `load` lines of a deck's text, each under the name of its unit

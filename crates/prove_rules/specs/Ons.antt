@@ -1,28 +1,28 @@
 -- `on` lines as the code reads them.
 use Rattle.std.specs.Prelude.{◌≡◌, ℕ, Bool, true, false, List, [], ◌∷◌, ◌++◌, map, Option, Some, None, Result, Ok, ⊤}
 use Rattle.mc_text.specs.model_text.specs.Text.{◌>>=◌, fields, is_empty}
-use Rattle.lab_match.specs.model_play.specs.DeckGrammar.{name_field}
-use Rattle.lab_match.specs.law_explore.specs.Matching.{plain}
-use Rattle.lab_match.specs.law_explore.specs.Rules.{full_parts, name_and_amount, parts_of, Parts}
+use Rattle.model_rule_text.specs.model_play.specs.DeckGrammar.{name_field}
+use Rattle.model_rule_text.specs.model_events.specs.Matching.{plain}
+use Rattle.model_rule_text.specs.model_play.specs.RuleLines.{full_parts, name_and_amount, parts_of, Parts}
 use Rattle.prove_facts.specs.model_rules.specs.Rules as rules
 use Rattle.prove_facts.specs.model_rules.specs.Rules.{AppRules, OnLine, SumLine, Trigger, AtTurn, AtCommand, AtAnswer, AtSession}
-use Rattle.prove_facts.specs.model_rules.specs.Reading as reading
-use Rattle.prove_facts.specs.model_rules.specs.Reading.{AmountForm, AmountRead, RuleCause, action_words, amount_of_read, amount_read, form_of_amount, gives_words, has_no_bracket, of_deck, with_deed, with_event_line}
-use Rattle.prove_events.specs.declared.rules.Amount.{Amount}
-use Rattle.prove_events.specs.declared.rules.Effect.{Effect}
-use Rattle.prove_events.specs.declared.rules.Event.{Event}
-use Rattle.prove_events.specs.declared.rules.Event.TheVariants as event
-use Rattle.prove_events.specs.declared.rules.On.{On}
-use Rattle.prove_events.specs.Rules.{allowance_of, deed_of, IsLine}
+use Rattle.model_rule_text.specs.Reading as reading
+use Rattle.model_rule_text.specs.Reading.{AmountForm, AmountRead, RuleCause, action_words, amount_of_read, amount_read, form_of_amount, gives_words, has_no_bracket, of_deck, with_deed, with_event_line}
+use Rattle.lab_app_rules.specs.declared.rules.Amount.{Amount}
+use Rattle.lab_app_rules.specs.declared.rules.Effect.{Effect}
+use Rattle.lab_app_rules.specs.declared.rules.Event.{Event}
+use Rattle.lab_app_rules.specs.declared.rules.Event.TheVariants as event
+use Rattle.lab_app_rules.specs.declared.rules.On.{On}
+use Rattle.lab_app_rules.specs.Rules.{allowance_of, deed_of, IsLine}
 use Rattle.prove_rules.specs.declared.load.Found.{Found}
 use Rattle.prove_rules.specs.declared.partial.Partial.{Partial}
 use Rattle.prove_rules.specs.declared.on.Head.{Head}
 use Rattle.prove_rules.specs.declared.parts.Deeds.{Deeds}
 use Rattle.prove_rules.specs.declared.parts.Deeds.TheVariants as deeds
-use Rattle.prove_rules.specs.Fields.{amount_value}
+use Rattle.lab_app_rules.specs.Sums.{amount_value}
 use Rattle.prove_rules.specs.Parts.{action_value, deeds_value, effect_words, event_value, HasParts}
 use Rattle.prove_rules.specs.Partials.{place_of}
-use Rattle.prove_rules.specs.Sums.{move_of, IsSumRule}
+use Rattle.lab_app_rules.specs.Sums.{move_of, IsSumRule}
 
 -- ---- up to the word
 

@@ -1,22 +1,22 @@
 -- The rules of the lines so far, as the code has them, and those of the definition that they are.
 use Rattle.std.specs.Prelude.{◌≡◌, ℕ, suc, cond, List, [], ◌∷◌, ◌++◌, map, bytes_eq, is_none, option_map, Option, Some, None, Result, Ok, Err, ⊤}
-use Rattle.mc_base.specs.model_device.specs.Bytes.{lookup}
-use Rattle.lab_match.specs.law_explore.specs.Rules.{name_and_amount}
+use Rattle.mc_words.specs.model_device.specs.Bytes.{lookup}
+use Rattle.model_rule_text.specs.model_play.specs.RuleLines.{name_and_amount}
 use Rattle.mc_text.specs.model_text.specs.Text.{◌>>=◌}
-use Rattle.lab_match.specs.model_play.specs.declared.deck.DeckCause.TheVariants.{NameTwice}
-use Rattle.prove_facts.specs.model_rules.specs.Reading.{of_deck, unless}
+use Rattle.model_rule_text.specs.model_play.specs.declared.deck.DeckCause.TheVariants.{NameTwice}
+use Rattle.model_rule_text.specs.Reading.{of_deck, unless}
 use Rattle.prove_facts.specs.model_rules.specs.Rules.{AppRules, Target}
-use Rattle.prove_events.specs.declared.rules.Always.{Always}
-use Rattle.prove_events.specs.declared.rules.Balance.{Balance}
-use Rattle.prove_events.specs.declared.rules.Named.{Named}
-use Rattle.prove_events.specs.declared.rules.On.{On}
-use Rattle.prove_events.specs.declared.rules.Rules.{Rules}
-use Rattle.prove_events.specs.Rules.{allowance_of, name_of, range_of, AreDistinct, AreLines, IsCreated}
+use Rattle.lab_app_rules.specs.declared.rules.Always.{Always}
+use Rattle.lab_app_rules.specs.declared.rules.Balance.{Balance}
+use Rattle.lab_app_rules.specs.declared.rules.Named.{Named}
+use Rattle.lab_app_rules.specs.declared.rules.On.{On}
+use Rattle.lab_app_rules.specs.declared.rules.Rules.{Rules}
+use Rattle.lab_app_rules.specs.Rules.{allowance_of, name_of, range_of, AreDistinct, AreLines, IsCreated}
 use Rattle.prove_rules.specs.declared.fault.Fault.{Fault}
 use Rattle.prove_rules.specs.declared.load.Found.{Found}
 use Rattle.prove_rules.specs.declared.partial.Partial.{Partial}
 use Rattle.prove_rules.specs.Refused.{Faulty}
-use Rattle.prove_rules.specs.Sums.{AreSumLines, AreTotals}
+use Rattle.lab_app_rules.specs.Sums.{AreSumLines, AreTotals}
 
 -- the place of a name among allowances or sums
 abbrev pub place_of : List (List ℕ × ℕ) → List ℕ → Option ℕ

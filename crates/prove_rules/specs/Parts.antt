@@ -1,14 +1,14 @@
 -- The parts of an `on` line as the code has them.
 use Rattle.std.specs.Prelude.{◌≡◌, ℕ, Bool, true, false, List, Option, Some, None, ⊤}
 use Rattle.mc_text.specs.model_text.specs.Text.{fields, is_empty}
-use Rattle.lab_match.specs.law_explore.specs.Matching.{plain}
-use Rattle.lab_match.specs.law_explore.specs.Rules.{Parts}
+use Rattle.model_rule_text.specs.model_events.specs.Matching.{plain}
+use Rattle.model_rule_text.specs.model_play.specs.RuleLines.{Parts}
 use Rattle.prove_facts.specs.model_rules.specs.Rules as rules
-use Rattle.prove_facts.specs.model_rules.specs.Reading as reading
-use Rattle.prove_facts.specs.model_rules.specs.Reading.{action_words, turn_words}
-use Rattle.lab_match.specs.model_play.specs.declared.deck.DeckCause.TheVariants.{BadLine}
-use Rattle.prove_events.specs.declared.rules.Event.{Event}
-use Rattle.prove_events.specs.declared.rules.Event.TheVariants as event
+use Rattle.model_rule_text.specs.Reading as reading
+use Rattle.model_rule_text.specs.Reading.{action_words, turn_words}
+use Rattle.model_rule_text.specs.model_play.specs.declared.deck.DeckCause.TheVariants.{BadLine}
+use Rattle.lab_app_rules.specs.declared.rules.Event.{Event}
+use Rattle.lab_app_rules.specs.declared.rules.Event.TheVariants as event
 use Rattle.prove_rules.specs.declared.fault.Fault.{Fault}
 use Rattle.prove_rules.specs.declared.fault.Fault.TheVariants as fault
 use Rattle.prove_rules.specs.declared.fault.RuleCause.TheVariants as cause

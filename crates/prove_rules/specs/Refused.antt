@@ -1,7 +1,7 @@
 -- The refusals of rules: those of the definition, or out of memory.
 use Rattle.std.specs.Prelude.{◌≡◌, ℕ, List, codes, Result, Err, ⊤}
-use Rattle.lab_match.specs.model_play.specs.Words.{deck_word}
-use Rattle.prove_facts.specs.model_rules.specs.Reading as reading
+use Rattle.model_rule_text.specs.model_play.specs.Words.{deck_word}
+use Rattle.model_rule_text.specs.Reading as reading
 use Rattle.prove_rules.specs.declared.fault.Fault.{Fault}
 use Rattle.prove_rules.specs.declared.fault.Fault.TheVariants as fault
 use Rattle.prove_rules.specs.declared.fault.RuleCause.{RuleCause}

@@ -1,8 +1,8 @@
 -- What is read of the rules of a deck, for rows that compute it.
 use Rattle.std.specs.Prelude.{ℕ, List, ◌++◌, codes, Result, Ok, Err}
 use Rattle.prove_facts.specs.model_rules.specs.Rules.{AppRules}
-use Rattle.prove_facts.specs.model_rules.specs.Reading.{RuleCause, app_rules_read}
-use Rattle.prove_facts.specs.model_rules.specs.Decks.{with_rules}
+use Rattle.model_rule_text.specs.Reading.{RuleCause, app_rules_read}
+use Rattle.model_rule_text.specs.Decks.{with_rules}
 
 -- rules are read, or a line is refused
 pub data Answer : Type 0 where

@@ -1,23 +1,23 @@
 // `always` lines.
 ghost use Rattle.std.specs.Prelude.{◌≡◌, ◌≤◌, ◌&&◌, nat_le, ◌∷◌, ℕ, List, false, map, codes, not, Err, IfErr, IfOk, MatchOption, Ok, OnOk, true};
 ghost use Rattle.mc_text.specs.model_text.specs.Text.{fields};
-ghost use Rattle.lab_match.specs.law_explore.specs.Rules.{begins_with};
+ghost use Rattle.model_rule_text.specs.model_text.specs.Text.{begins_with};
 ghost use Rattle.prove_facts.specs.model_rules.specs.Rules.{AppRules};
-ghost use Rattle.lab_match.specs.model_play.specs.declared.deck.DeckCause.TheVariants.{BadLine};
-ghost use Rattle.prove_facts.specs.model_rules.specs.Reading.{always_line, are_names, are_sums, sign_of, static_field, terms_of, with_total, Deck};
-ghost use Rattle.prove_events.specs.Rules.{allowance_of, name_of};
+ghost use Rattle.model_rule_text.specs.model_play.specs.declared.deck.DeckCause.TheVariants.{BadLine};
+ghost use Rattle.model_rule_text.specs.Reading.{always_line, are_names, are_sums, sign_of, static_field, terms_of, with_total, Deck};
+ghost use Rattle.lab_app_rules.specs.Rules.{allowance_of, name_of};
 ghost use Rattle.prove_rules.specs.Always.{term_of, AreNoSums, IsRangeRead, IsTotalForm, IsTotalRead};
 ghost use Rattle.prove_rules.specs.Partials.{ArePart, ArePartRead};
 ghost use Rattle.prove_rules.specs.Refused.{Faulty};
-ghost use Rattle.prove_rules.specs.Sums.{AreTerms};
+ghost use Rattle.lab_app_rules.specs.Sums.{AreTerms};
 
 use crate::fault::{Fault, bad_line, refused};
 use crate::field::{amount_field, assembly_number, name_field, two_fields};
 use crate::partial::{Partial, named_load, place_of};
 use crate::range::{range_ends, static_field};
+use lab_app_rules::{Always, Balance, Named, SignedSum};
 use lab_match::first_field;
-use lab_match::model_play::DeckCause;
-use prove_events::{Always, Balance, Named, SignedSum};
+use mc_deck::DeckCause;
 use prove_facts::push;
 use std::alloc::Global;
 

@@ -1,9 +1,9 @@
 // The line that names the application, and the lines of allowances, sums and abends.
 ghost use Rattle.std.specs.Prelude.{◌≡◌, ◌≤◌, ◌∷◌, [], ℕ, List, None, Ok, length, IfErr, IfOk, MatchOption, OnOk};
 ghost use Rattle.mc_text.specs.model_text.specs.Text.{fields, lines};
-ghost use Rattle.lab_match.specs.model_play.specs.DeckGrammar.{deck_read};
+ghost use Rattle.model_rule_text.specs.model_play.specs.DeckGrammar.{deck_read};
 ghost use Rattle.prove_facts.specs.model_rules.specs.Rules.{AppRules};
-ghost use Rattle.prove_facts.specs.model_rules.specs.Reading.{app_rule, AllowLine, AppLine, LoadLine, NeverLine, SumWord};
+ghost use Rattle.model_rule_text.specs.Reading.{app_rule, AllowLine, AppLine, LoadLine, NeverLine, SumWord};
 ghost use Rattle.prove_rules.specs.Loads.{is_accepted, loads_in};
 ghost use Rattle.prove_rules.specs.Apps.{one_of, IsAppRead};
 ghost use Rattle.prove_rules.specs.Partials.{ArePart, ArePartRead, HasFault, IsMoreNamed};
@@ -14,10 +14,9 @@ use crate::field::{name_and_amount, name_field};
 use crate::lines::code_lines;
 use crate::load::{Found, load_of};
 use crate::partial::{Partial, named_load, place_of};
+use lab_app_rules::{Load, Named};
 use lab_match::first_field;
-use lab_match::model_play::DeckCause;
-use mc_deck::Deck;
-use prove_events::{Load, Named};
+use mc_deck::{Deck, DeckCause};
 use prove_facts::push;
 use std::alloc::Global;
 

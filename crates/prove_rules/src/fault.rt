@@ -1,12 +1,12 @@
 // Why a line is no rule.
 ghost use Rattle.std.specs.Prelude.{◌≡◌};
-ghost use Rattle.lab_match.specs.model_play.specs.declared.deck.DeckCause.TheVariants.{BadLine};
+ghost use Rattle.model_rule_text.specs.model_play.specs.declared.deck.DeckCause.TheVariants.{BadLine};
 ghost use Rattle.prove_rules.specs.declared.fault.Fault.TheVariants.{Cause};
 ghost use Rattle.prove_rules.specs.declared.fault.RuleCause.TheVariants.{Deck};
 ghost use Rattle.prove_rules.specs.Refused.{cause_value, cause_word};
 
-use lab_match::model_play::DeckCause;
-use mc_base::NoMemory;
+use mc_deck::DeckCause;
+use mc_words::NoMemory;
 use std::alloc::AllocError;
 
 /// Why a line is no rule: a cause that lines of decks have too, or that no line above names the application.

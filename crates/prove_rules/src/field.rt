@@ -2,15 +2,14 @@
 ghost use Rattle.std.specs.Prelude.{◌≡◌, ◌∷◌, [], Ok, Err, None, IfErr, IfOk, MatchResult};
 ghost use Rattle.mc_text.specs.model_text.specs.Text.{fields};
 ghost use Rattle.mc_text.specs.model_text.specs.Assembly.{natural};
-ghost use Rattle.lab_match.specs.model_play.specs.declared.deck.DeckCause.TheVariants.{BadLine, BadNumber};
-ghost use Rattle.lab_match.specs.model_play.specs.DeckGrammar.{name_field, number_field};
-ghost use Rattle.lab_match.specs.law_explore.specs.Rules.{name_and_amount};
+ghost use Rattle.model_rule_text.specs.model_play.specs.declared.deck.DeckCause.TheVariants.{BadLine, BadNumber};
+ghost use Rattle.model_rule_text.specs.model_play.specs.DeckGrammar.{name_field, number_field};
+ghost use Rattle.model_rule_text.specs.model_play.specs.RuleLines.{name_and_amount};
 ghost use Rattle.prove_rules.specs.Fields.{two_of, IsNumber};
 
 use lab_match::first_field;
-use lab_match::model_play::DeckCause;
 use mc_asm::natural;
-use mc_deck::number_field;
+use mc_deck::{DeckCause, number_field};
 use mc_text::has_name_characters;
 
 /// Returns a name: 1 to 32 letters, digits and underscores.

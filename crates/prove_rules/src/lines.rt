@@ -1,10 +1,10 @@
 // The lines of an application's code.
+use lab_app_rules::CodeLine;
 use lab_match::{first_field, stays_inside};
 use mc_asm::size_of_line;
-use mc_base::NoMemory;
 use mc_deck::{ends_section, has_data};
 use mc_text::next_line;
-use prove_events::CodeLine;
+use mc_words::NoMemory;
 use prove_facts::push;
 use std::alloc::Global;
 

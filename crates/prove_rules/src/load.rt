@@ -1,17 +1,17 @@
 // The application of a name: as the deck's first line creates it that loads it.
 ghost use Rattle.std.specs.Prelude.{◌≡◌, ◌<◌, ◌≤◌, ◌&&◌, codes, false, not, length, slice_get, MatchOption, None, Ok};
 ghost use Rattle.mc_text.specs.model_text.specs.Text.{fields, lines, with_numbers};
-ghost use Rattle.mc_base.specs.model_device.specs.Bytes.{lookup, AreBytes};
-ghost use Rattle.lab_match.specs.law_explore.specs.Rules.{begins_with};
-ghost use Rattle.lab_match.specs.model_play.specs.DeckGrammar.{deck_read};
-ghost use Rattle.prove_facts.specs.model_rules.specs.Reading.{load_names};
+ghost use Rattle.mc_words.specs.model_device.specs.Bytes.{lookup, AreBytes};
+ghost use Rattle.model_rule_text.specs.model_text.specs.Text.{begins_with};
+ghost use Rattle.model_rule_text.specs.model_play.specs.DeckGrammar.{deck_read};
+ghost use Rattle.model_rule_text.specs.Reading.{load_names};
 ghost use Rattle.prove_rules.specs.Loads.{first_named, is_second, loaded_at, loaded_line, loads_in, IsLoadOf};
 
+use lab_app_rules::Load;
 use lab_match::{begins_with, first_field, stays_inside};
-use mc_base::Aid;
 use mc_deck::{Deck, Line};
 use mc_text::next_line;
-use prove_events::Load;
+use mc_words::Aid;
 
 /// What a line of a deck loads: the name of the application, and how it is created.
 #[derive(Clone, Copy, Debug)]

@@ -1,10 +1,10 @@
 // `on` lines.
 ghost use Rattle.std.specs.Prelude.{◌≡◌, ℕ, List, false, true, map, IfErr, IfOk, OnOk, Some};
 ghost use Rattle.mc_text.specs.model_text.specs.Text.{fields, is_empty};
-ghost use Rattle.lab_match.specs.law_explore.specs.Rules.{full_parts, parts_of};
+ghost use Rattle.model_rule_text.specs.model_play.specs.RuleLines.{full_parts, parts_of};
 ghost use Rattle.prove_facts.specs.model_rules.specs.Rules.{AppRules, AtTurn, Trigger};
-ghost use Rattle.prove_facts.specs.model_rules.specs.Reading.{bare_parts, of_deck, on_line, with_deed, with_event_line, OnAllowance, OnSum};
-ghost use Rattle.prove_events.specs.Rules.{deed_of, name_of};
+ghost use Rattle.model_rule_text.specs.Reading.{bare_parts, of_deck, on_line, with_deed, with_event_line, OnAllowance, OnSum};
+ghost use Rattle.lab_app_rules.specs.Rules.{deed_of, name_of};
 ghost use Rattle.prove_rules.specs.Parts.{action_value, deeds_value, effect_words, event_value, HasNoParts};
 ghost use Rattle.prove_rules.specs.Partials.{ArePart, ArePartRead};
 ghost use Rattle.prove_rules.specs.Refused.{Faulty};
@@ -15,9 +15,9 @@ use crate::field::{name_and_amount, name_field, two_fields};
 use crate::partial::{Partial, named_load, place_of};
 use crate::parts::{Action, Deeds, answer_parts, effect_parts, event_named};
 use crate::public::{amount_form, amount_of, amount_read};
+use lab_app_rules::{Effect, Event, On};
 use lab_match::first_field;
-use lab_match::model_play::DeckCause;
-use prove_events::{Effect, Event, On};
+use mc_deck::DeckCause;
 use prove_facts::push;
 use std::alloc::Global;
 

@@ -1,13 +1,13 @@
 // The rules of the lines so far.
 ghost use Rattle.std.specs.Prelude.{◌≡◌, ℕ, List, map, IfErr, IfOk, None, Some};
-ghost use Rattle.prove_events.specs.Rules.{allowance_of};
+ghost use Rattle.lab_app_rules.specs.Rules.{allowance_of};
 ghost use Rattle.prove_rules.specs.declared.fault.Fault.TheVariants.{Cause};
 ghost use Rattle.prove_rules.specs.declared.fault.RuleCause.TheVariants.{NoApplication};
 ghost use Rattle.prove_rules.specs.Partials.{place_of};
 
 use crate::fault::{Fault, RuleCause};
 use crate::load::Found;
-use prove_events::{Always, Balance, CodeLine, Load, Named, On};
+use lab_app_rules::{Always, Balance, CodeLine, Load, Named, On};
 
 /// The rules so far, before and after the application is named.
 #[derive(Drop)]

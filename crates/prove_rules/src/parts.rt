@@ -1,17 +1,17 @@
 // The parts of an `on` line: a pattern, and the word after it.
 ghost use Rattle.std.specs.Prelude.{◌≡◌, ◌++◌, None, Some, cond, true, option_map, IfErr, IfOk, OnOk};
-ghost use Rattle.mc_base.specs.model_device.specs.Bytes.{lookup};
+ghost use Rattle.mc_words.specs.model_device.specs.Bytes.{lookup};
 ghost use Rattle.mc_text.specs.model_text.specs.Text.{fields};
-ghost use Rattle.lab_match.specs.law_explore.specs.Matching.{plain};
-ghost use Rattle.lab_match.specs.law_explore.specs.Rules.{parts_of};
-ghost use Rattle.prove_facts.specs.model_rules.specs.Reading.{action_words, event_words, gives_words, turn_words};
+ghost use Rattle.model_rule_text.specs.model_events.specs.Matching.{plain};
+ghost use Rattle.model_rule_text.specs.model_play.specs.RuleLines.{parts_of};
+ghost use Rattle.model_rule_text.specs.Reading.{action_words, event_words, gives_words, turn_words};
 ghost use Rattle.prove_rules.specs.Parts.{action_deeds, deeds_value, effect_words, event_value, HasNoParts, HasParts};
 
 use crate::fault::{Fault, bad_line};
+use lab_app_rules::Event;
 use lab_match::{first_field, small};
-use mc_base::NoMemory;
 use mc_text::is_blank;
-use prove_events::Event;
+use mc_words::NoMemory;
 use prove_facts::push;
 use std::alloc::Global;
 

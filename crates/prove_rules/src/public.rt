@@ -3,16 +3,17 @@ ghost use Rattle.std.specs.Prelude.{◌≡◌, ◌||◌, ℕ, Err, IfErr, IfOk, 
 ghost use Rattle.mc_text.specs.Reading.{capped_number};
 ghost use Rattle.mc_text.specs.model_text.specs.Assembly.{minus, signed_number};
 ghost use Rattle.mc_text.specs.model_text.specs.Text.{begins};
-ghost use Rattle.lab_match.specs.model_play.specs.declared.deck.DeckCause.TheVariants.{BadLine, BadNumber};
-ghost use Rattle.prove_facts.specs.model_rules.specs.Reading as reading;
-ghost use Rattle.prove_facts.specs.model_rules.specs.Reading.{amount_of_read, amount_read, form_of_amount, has_no_bracket, place_from, public_amount, Deck};
-ghost use Rattle.prove_rules.specs.Fields.{amount_value, form_value, IsAmountRead, IsPlace, IsReadOf};
+ghost use Rattle.model_rule_text.specs.model_play.specs.declared.deck.DeckCause.TheVariants.{BadLine, BadNumber};
+ghost use Rattle.model_rule_text.specs.Reading as reading;
+ghost use Rattle.model_rule_text.specs.Reading.{amount_of_read, amount_read, form_of_amount, has_no_bracket, place_from, public_amount, Deck};
+ghost use Rattle.lab_app_rules.specs.Sums.{amount_value};
+ghost use Rattle.prove_rules.specs.Fields.{form_value, IsAmountRead, IsPlace, IsReadOf};
 
 use crate::field::{amount_field, assembly_number};
 use crate::range::{range_ends, register_field};
-use lab_match::model_play::DeckCause;
+use lab_app_rules::Amount;
+use mc_deck::DeckCause;
 use mc_text::{cut, decimal_number};
-use prove_events::Amount;
 
 /// The address of the public segment.
 const PUBLIC: u16 = 0xC000;

@@ -1,8 +1,8 @@
 // What stands between brackets, and the ends of ranges.
 ghost use Rattle.std.specs.Prelude.{◌≡◌, ◌==◌, Ok, Err, option_map, MatchOption};
 ghost use Rattle.mc_text.specs.model_text.specs.Text.{pieces};
-ghost use Rattle.lab_match.specs.model_play.specs.declared.deck.DeckCause.TheVariants.{BadLine};
-ghost use Rattle.prove_facts.specs.model_rules.specs.Reading.{ends_of, register_field, static_field, Deck};
+ghost use Rattle.model_rule_text.specs.model_play.specs.declared.deck.DeckCause.TheVariants.{BadLine};
+ghost use Rattle.model_rule_text.specs.Reading.{ends_of, register_field, static_field, Deck};
 ghost use Rattle.prove_rules.specs.Fields.{two_of};
 
 use mc_text::cut;

@@ -1,30 +1,30 @@
 // The rules of a deck for one application, line by line.
 ghost use Rattle.std.specs.Prelude.{◌≡◌, ◌≤◌, ◌∷◌, codes, false, length, option_map, true, IfErr, IfOk, MatchOption, None, Ok, OnOk};
-ghost use Rattle.mc_base.specs.model_device.specs.Bytes.{lookup};
+ghost use Rattle.mc_words.specs.model_device.specs.Bytes.{lookup};
 ghost use Rattle.mc_text.specs.model_text.specs.Text.{fields, lines};
-ghost use Rattle.lab_match.specs.model_play.specs.DeckGrammar.{deck_read};
-ghost use Rattle.lab_match.specs.law_explore.specs.Rules.{is_marked};
+ghost use Rattle.model_rule_text.specs.model_play.specs.DeckGrammar.{deck_read};
+ghost use Rattle.model_rule_text.specs.model_play.specs.RuleLines.{is_marked};
 ghost use Rattle.prove_facts.specs.model_rules.specs.Rules.{no_app_rules, AppRules, Target};
-ghost use Rattle.prove_facts.specs.model_rules.specs.Reading.{app_rule, app_rules_read, app_words};
-ghost use Rattle.prove_events.specs.Rules.{AreRules};
+ghost use Rattle.model_rule_text.specs.Reading.{app_rule, app_rules_read, app_words};
+ghost use Rattle.lab_app_rules.specs.Rules.{AreRules};
 ghost use Rattle.prove_rules.specs.declared.fault.RuleCause.TheVariants.{NoApplication};
 ghost use Rattle.prove_rules.specs.declared.fault.RuleRefusal.TheVariants.{At};
 ghost use Rattle.prove_rules.specs.Lines.{is_plain_mark, kind_value, lines_read, rule_of, rules_with};
 ghost use Rattle.prove_rules.specs.Loads.{loads_in};
 ghost use Rattle.prove_rules.specs.Partials.{ArePart, ArePartRead, IsFinished};
 ghost use Rattle.prove_rules.specs.Refused.{refusal_at, Faulty, RefusesRules};
-ghost use Rattle.prove_rules.specs.Sums.{AreSums};
+ghost use Rattle.lab_app_rules.specs.Sums.{AreSums};
 
 use crate::always::add_always;
 use crate::app::{Source, add_allowance, add_app, add_never, add_sum};
 use crate::fault::{Fault, RuleCause, RuleRefusal, bad_line};
 use crate::on::add_on;
 use crate::partial::Partial;
+use lab_app_rules::Rules;
 use lab_match::{first_field, stays_inside};
-use mc_base::Aid;
 use mc_deck::Deck;
 use mc_text::next_line;
-use prove_events::Rules;
+use mc_words::Aid;
 use std::alloc::Global;
 
 /// What the word of a rule makes of its line.

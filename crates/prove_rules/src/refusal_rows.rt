@@ -3,15 +3,8 @@
 // Worked rows: malformed lines of rules, each with the refusal of the definition. Rules begin at line 9 of their decks.
 // `tools/tests/test_refusals.py` asks the program of the same lines.
 ghost use Rattle.std.specs.Prelude.{◌≡◌, codes};
-ghost use Rattle.lab_match.specs.model_play.specs.declared.deck.DeckCause.TheVariants.{
-  BadLine,
-  BadName,
-  BadNumber,
-  NameTwice,
-  OutOfRange,
-  UnknownName,
-};
-ghost use Rattle.prove_facts.specs.model_rules.specs.Reading.{Deck, NoApplication};
+ghost use Rattle.model_rule_text.specs.model_play.specs.declared.deck.DeckCause.TheVariants.{BadLine, BadName, BadNumber, NameTwice, OutOfRange, UnknownName};
+ghost use Rattle.model_rule_text.specs.Reading.{Deck, NoApplication};
 ghost use Rattle.prove_rules.specs.Rows.{named, unnamed, Read, Refused};
 
 /// Words of lines, their fields and their names.

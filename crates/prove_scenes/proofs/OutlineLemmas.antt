@@ -6,7 +6,7 @@ use Rattle.model_machine.specs.declared.instruction.Ins.{Ins}
 use Rattle.model_machine.specs.declared.machine.Abend.TheVariants.{A08}
 use Rattle.model_machine.specs.Frame.{Frame}
 use Rattle.model_machine.specs.Primitives.{Then, Goes, Exits, Delegates}
-use Rattle.law_rows.specs.Shapes.{Act, Stays, Answers, Jumps, Calls, Returns, Pushes, Replaces, Writes, Protects, Shape}
+use Rattle.model_machine.specs.Shapes.{Act, Stays, Answers, Jumps, Calls, Returns, Pushes, Replaces, Writes, Protects, Shape}
 use Rattle.model_prove.specs.Sets.{Set}
 use Rattle.model_prove.specs.Facts.{values_from}
 use Rattle.model_prove.specs.Work.{Work, AsShaped, Copies, Works, Searches, AnyZ, Counted, NoFact}

@@ -5,7 +5,7 @@ use Rattle.std.specs.Prelude.{◌≡◌, ℕ, Bool, List, [], ◌∷◌, length,
 use Rattle.model_machine.specs.declared.instruction.Ins.{Ins}
 use Rattle.model_machine.specs.model_device.specs.Bytes.{zeros}
 use Rattle.model_machine.specs.Primitives.{Then, Goes, Exits, Delegates}
-use Rattle.law_rows.specs.Shapes.{Act, Stays, Answers, Jumps, Calls, Returns, Pushes, Replaces, Writes, Protects, Shape}
+use Rattle.model_machine.specs.Shapes.{Act, Stays, Answers, Jumps, Calls, Returns, Pushes, Replaces, Writes, Protects, Shape}
 use Rattle.model_machine.specs.declared.machine.Abend.{Abend}
 use Rattle.model_prove.specs.Work.{Work, AsShaped, Copies, Works, Searches, AnyZ, Counted, NoFact}
 use Rattle.model_prove.specs.Arrivals.{Setting}

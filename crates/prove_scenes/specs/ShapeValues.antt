@@ -1,7 +1,7 @@
 -- The shape of a row as the definition's value.
 use Rattle.std.specs.Prelude.{[]}
 use Rattle.model_machine.specs.Primitives as model
-use Rattle.law_rows.specs.Shapes as shapes
+use Rattle.model_machine.specs.Shapes as shapes
 use Rattle.prove_scenes.specs.declared.shapes.Act.{Act}
 use Rattle.prove_scenes.specs.declared.shapes.Act.TheVariants as act
 use Rattle.prove_scenes.specs.declared.shapes.Next.{Next}

@@ -1,7 +1,7 @@
 -- Shifts of the top of the stack.
 use Rattle.std.specs.Prelude.{ℕ, List}
 use Rattle.model_machine.specs.Blocks.{Worked, shift_left_block, shift_right_block}
-use Rattle.law_rows.specs.Shapes.{Replaces, Shape, flagged}
+use Rattle.model_machine.specs.Shapes.{Replaces, Shape, flagged}
 use Rattle.prove_scenes.specs.declared.prim_shaping.Side.{Side}
 use Rattle.prove_scenes.specs.declared.prim_shaping.Side.TheVariants as side
 

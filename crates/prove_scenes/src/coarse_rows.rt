@@ -1,7 +1,7 @@
 // Rows whose deciding bytes have too many combinations.
 ghost use Rattle.std.specs.Prelude.{◌≡◌, ℕ, List, IfSome, option_map};
-ghost use Rattle.law_rows.specs.Shapes as shapes;
-ghost use Rattle.mc_prims.specs.Table as table;
+ghost use Rattle.model_machine.specs.Shapes as shapes;
+ghost use Rattle.mc_isa.specs.Primitives as table;
 ghost use Rattle.model_machine.specs.Primitives as model;
 ghost use Rattle.model_prove.specs.Facts.{Facts};
 ghost use Rattle.model_prove.specs.Reach as reach;
@@ -15,7 +15,7 @@ use crate::prim_shaping::delegates;
 use crate::scene::Scene;
 use crate::shapes::{Act, Next, Shape};
 use crate::shaping::goes;
-use mc_prims::Primitive;
+use mc_isa::Primitive;
 use model_machine::Ins;
 
 /// Lengths of a write: one, those of a name after its length, or those from 1 to 255 that two bytes may be.
@@ -121,7 +121,7 @@ fn is_delegation(primitive: Option<Primitive>) -> bool
 
 /// Returns the shape of a row of too many combinations, as far as it matters: DT, whether it stays, the flags if it
 /// writes or leads on, and what comes next. `None` is returned for the rows that no byte decides.
-#[tactic(auto, unfolding(law_rows::specs::Shapes::shape))]
+#[tactic(auto, unfolding(model_machine::specs::Shapes::shape))]
 pub fn coarse_shape(ins: &Ins, scene: &Scene, around: &Around) -> Option<Shape>
     ensures { (k : Facts) → IfSome result (λ h. shape_value h ≡ coarse_outlined (reach.coarse ins.now scene.now.frame k)
         (shapes.shape ins.now scene.now.frame scene.now.public (around_value around.now))) }
@@ -156,7 +156,7 @@ fn pair_coarse_shape(
 }
 
 // The shape of a primitive of too many combinations.
-#[tactic(auto, unfolding(law_rows::specs::Shapes::prim_shape))]
+#[tactic(auto, unfolding(model_machine::specs::Shapes::prim_shape))]
 fn prim_coarse_shape(
     primitive: Primitive,
     args: &[u8; 3],
@@ -195,7 +195,7 @@ fn acts(dt: u16) -> Shape
 }
 
 // The shape of the delegator's name, which may be none.
-#[tactic(auto, unfolding(law_rows::specs::Shapes::prim_shape))]
+#[tactic(auto, unfolding(model_machine::specs::Shapes::prim_shape))]
 fn reports(scene: &Scene, around: &Around) -> Shape
     ensures { (args : List ℕ) (k : Facts) → shape_value result
         ≡ coarse_outlined (reach.prim_coarse model.DelegatorAid args scene.now.frame k)

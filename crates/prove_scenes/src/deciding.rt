@@ -1,7 +1,7 @@
 // The bytes whose values decide an address, a length or an index of an instruction.
 ghost use Rattle.std.specs.Prelude.{◌≡◌, ◌≤◌, ◌<◌, ◌+◌, ◌==◌, ◌++◌, [], ◌∷◌, Some, cond, option_map};
 ghost use Rattle.arrayvec.specs.ArrayVec.{array_vec_len};
-ghost use Rattle.mc_prims.specs.Table as table;
+ghost use Rattle.mc_isa.specs.Primitives as table;
 ghost use Rattle.model_prove.specs.Reach.{takes_target};
 ghost use Rattle.model_prove.specs.Splits as splits;
 ghost use Rattle.model_prove.specs.Steps as steps;
@@ -9,7 +9,7 @@ ghost use Rattle.prove_scenes.specs.Deciders.{places_value};
 
 use crate::scene::Scene;
 use arrayvec::ArrayVec;
-use mc_prims::Primitive;
+use mc_isa::Primitive;
 use model_machine::Ins;
 
 /// Addresses, one after another from one on.

@@ -8,7 +8,7 @@ ghost use Rattle.prove_scenes.specs.Places.{place_value};
 
 use crate::scene::{DYNAMIC, PUBLIC, PUBLIC_END, Scene};
 use crate::words::words_of;
-use mc_base::number_of;
+use model_device::number_of;
 
 /// A segment, and a place in it.
 #[derive(Clone, Copy, Debug, PartialEq, Eq)]

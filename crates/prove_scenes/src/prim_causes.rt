@@ -4,7 +4,7 @@ ghost use Rattle.model_machine.specs.declared.machine.Abend.TheVariants.{A04, A0
 ghost use Rattle.model_machine.specs.Frame.{is_outside, is_over, is_under};
 ghost use Rattle.model_machine.specs.Primitives as model;
 ghost use Rattle.model_machine.specs.Row.{first_cause};
-ghost use Rattle.mc_prims.specs.Table.{cipher_of, primitive_of};
+ghost use Rattle.mc_isa.specs.Primitives.{cipher_of, primitive_of};
 ghost use Rattle.prove_scenes.specs.Counting.{counted_causes};
 ghost use Rattle.prove_scenes.specs.Heads.{around_value, first_causes};
 ghost use Rattle.prove_scenes.specs.Scenes.{frame_to};
@@ -13,7 +13,7 @@ use crate::around::Around;
 use crate::counting::{Counted, and, first_of, or};
 use crate::operands::in_range;
 use crate::scene::Scene;
-use mc_prims::{Cipher, Primitive};
+use mc_isa::{Cipher, Primitive};
 use model_machine::Abend;
 
 /// Which causes count, and whether the two that come before all others of a primitive hold.

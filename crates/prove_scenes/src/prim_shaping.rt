@@ -1,11 +1,11 @@
 // The shape of a primitive in a scene.
 ghost use Rattle.std.specs.Prelude.{◌≡◌, ◌≤◌, ◌<◌, ◌*◌, ◌-◌, ◌+◌, [], ◌∷◌, true, false, List, ℕ, None, length, IfSome};
 ghost use Rattle.model_machine.specs.model_device.specs.Bytes.{zeros};
-ghost use Rattle.law_rows.specs.Shapes as shapes;
+ghost use Rattle.model_machine.specs.Shapes as shapes;
 ghost use Rattle.model_machine.specs.Frame.{bytes_at, top};
 ghost use Rattle.model_machine.specs.Primitives as model;
 ghost use Rattle.model_prove.specs.Work as work;
-ghost use Rattle.mc_prims.specs.Table.{cipher_of, primitive_of};
+ghost use Rattle.mc_isa.specs.Primitives.{cipher_of, primitive_of};
 ghost use Rattle.prove_scenes.specs.Heads.{around_value};
 ghost use Rattle.prove_scenes.specs.Outlines.{outlined};
 ghost use Rattle.prove_scenes.specs.Scenes.{frame_to};
@@ -19,7 +19,7 @@ use crate::shaping::{goes, pushes, writes, zeros_of};
 use crate::working::{Bytes, byte_alone, no_bytes, same_bytes};
 use arrayvec::ArrayVec;
 use mc_arith::{Flags, shift_left, shift_right};
-use mc_prims::{Cipher, Primitive};
+use mc_isa::{Cipher, Primitive};
 
 /// The direction of a shift.
 #[derive(Clone, Copy, Debug, PartialEq, Eq)]
@@ -49,7 +49,7 @@ pub fn prim_shape(
 }
 
 // The shape of a primitive.
-#[tactic(auto, unfolding(law_rows::specs::Shapes::prim_shape))]
+#[tactic(auto, unfolding(model_machine::specs::Shapes::prim_shape))]
 fn primitive_shape(
     primitive: Primitive,
     scene: &Scene,
@@ -93,7 +93,7 @@ fn replaces(dt: u16) -> Shape
 }
 
 // The flags from the stack.
-#[tactic(auto, unfolding(law_rows::specs::Shapes::prim_shape))]
+#[tactic(auto, unfolding(model_machine::specs::Shapes::prim_shape))]
 fn store_flags(scene: &Scene) -> Shape
     ensures { (args : List ℕ) (x : model.Around) → shape_value result
         ≡ shapes.prim_shape model.StoreCcr args scene.now.frame scene.now.public x }
@@ -184,7 +184,7 @@ fn zeros_after(number: u8) -> Bytes
 }
 
 // A digest.
-#[tactic(auto, using(law_machine::proofs::BlockSizes::digest_length), unfolding(law_rows::specs::Shapes::prim_shape))]
+#[tactic(auto, using(law_machine::proofs::BlockSizes::digest_length), unfolding(model_machine::specs::Shapes::prim_shape))]
 fn digest(scene: &Scene) -> Shape
     ensures { (args : List ℕ) (x : model.Around) → shape_value result ≡ outlined work.NoFact
         (shapes.prim_shape model.Digest args scene.now.frame scene.now.public x) }
@@ -213,7 +213,7 @@ fn turn(scene: &Scene, cipher: Cipher, n: u8) -> Option<Shape>
 }
 
 // A signature over a message of n bytes; none if its row abends.
-#[tactic(auto, using(law_machine::proofs::BlockSizes::signature_length), unfolding(law_rows::specs::Shapes::prim_shape))]
+#[tactic(auto, using(law_machine::proofs::BlockSizes::signature_length), unfolding(model_machine::specs::Shapes::prim_shape))]
 fn sign(scene: &Scene, cipher: Cipher, args: &[u8; 3]) -> Option<Shape>
     ensures { (x : model.Around) → IfSome result (λ h. shape_value h ≡ outlined work.NoFact
         (shapes.prim_shape (model.Sign (cipher_of cipher)) args.now scene.now.frame scene.now.public x)) }
@@ -230,7 +230,7 @@ fn sign(scene: &Scene, cipher: Cipher, args: &[u8; 3]) -> Option<Shape>
 }
 
 // A shift of the top n bytes; none if its row abends.
-#[tactic(auto, unfolding(law_rows::specs::Shapes::prim_shape))]
+#[tactic(auto, unfolding(model_machine::specs::Shapes::prim_shape))]
 fn shift(scene: &Scene, side: Side, n: u8, by: u8) -> Option<Shape>
     ensures { IfSome result (λ h. shape_value h ≡ shift_shape scene.now.frame.dt
         (shift_block side (top scene.now.frame n) by)) }

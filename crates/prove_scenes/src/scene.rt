@@ -7,7 +7,7 @@ ghost use Rattle.model_prove.specs.Splits.{stand_in, with_byte, with_values};
 ghost use Rattle.prove_scenes.specs.Scenes.{IsSized, HasRegisters, EndsInStack, scene_of, stack_under};
 
 use crate::segment::Segment;
-use mc_base::{NoMemory, bytes_of};
+use model_device::{NoMemory, bytes_of};
 use std::alloc::Global;
 use std::marker::Model;
 

@@ -3,7 +3,7 @@ ghost use Rattle.std.specs.Prelude.{◌≡◌, ◌≤◌, ◌<◌, ◌+◌, leng
 ghost use Rattle.model_machine.specs.model_device.specs.Bytes.{splice, zeros};
 ghost use Rattle.prove_scenes.specs.Segments.{laid};
 
-use mc_base::NoMemory;
+use model_device::NoMemory;
 use std::alloc::Global;
 use std::marker::Model;
 

@@ -1,7 +1,7 @@
 // The shape of an instruction's row in a scene.
 ghost use Rattle.std.specs.Prelude.{◌≡◌, ◌≤◌, ◌*◌, [], None, length, IfSome};
 ghost use Rattle.model_machine.specs.model_device.specs.Bytes.{zeros};
-ghost use Rattle.law_rows.specs.Shapes as shapes;
+ghost use Rattle.model_machine.specs.Shapes as shapes;
 ghost use Rattle.model_machine.specs.Primitives as model;
 ghost use Rattle.model_machine.specs.Row as row;
 ghost use Rattle.model_prove.specs.Work.{work};
@@ -20,7 +20,7 @@ use model_machine::Ins;
 
 /// Returns the shape of an instruction's row in a scene, as far as it matters: of the bytes that it copies, or that
 /// have no fact, zeros are given, and of those that it works on none. `None` is returned only if the row abends.
-#[tactic(auto, unfolding(law_rows::specs::Shapes::shape))]
+#[tactic(auto, unfolding(model_machine::specs::Shapes::shape))]
 pub fn shape_of(ins: &Ins, scene: &Scene, around: &Around) -> Option<Shape>
     ensures { IfSome result (λ h. shape_value h ≡ outlined (work ins.now scene.now.frame scene.now.public)
         (shapes.shape ins.now scene.now.frame scene.now.public (around_value around.now))) }
@@ -96,7 +96,7 @@ fn answers(scene: &Scene, sw: Option<u16>, la: Option<u16>, next: Next) -> Shape
 }
 
 // The rows that go to another place.
-#[tactic(auto, unfolding(law_rows::specs::Shapes::shape))]
+#[tactic(auto, unfolding(model_machine::specs::Shapes::shape))]
 fn flow_shape(ins: &Ins, scene: &Scene) -> Shape
     requires { IsFlowRow ins.now }
     ensures { (x : model.Around) → shape_value result ≡ outlined (work ins.now scene.now.frame scene.now.public)
@@ -134,7 +134,7 @@ fn flow_shape(ins: &Ins, scene: &Scene) -> Shape
 }
 
 // The rows that push a constant, or pop.
-#[tactic(auto, unfolding(law_rows::specs::Shapes::shape))]
+#[tactic(auto, unfolding(model_machine::specs::Shapes::shape))]
 fn stack_shape(ins: &Ins, scene: &Scene) -> Shape
     requires { IsStackRow ins.now }
     ensures { (x : model.Around) → shape_value result ≡ outlined (work ins.now scene.now.frame scene.now.public)
@@ -167,7 +167,7 @@ pub fn writes(dt: u16, at: u16, count: u16, bytes: Bytes) -> Shape
 }
 
 // The rows between the stack and a segment, and of addresses.
-#[tactic(auto, unfolding(law_rows::specs::Shapes::shape))]
+#[tactic(auto, unfolding(model_machine::specs::Shapes::shape))]
 fn transfer_shape(ins: &Ins, scene: &Scene) -> Shape
     requires { IsTransfer ins.now }
     ensures { (x : model.Around) → shape_value result ≡ outlined (work ins.now scene.now.frame scene.now.public)
@@ -211,7 +211,7 @@ pub fn zeros_of(bytes: &[u8]) -> Bytes
 }
 
 // The rows of a byte or a word with an immediate operand. But for those that set it, they work on their bytes.
-#[tactic(auto, unfolding(law_rows::specs::Shapes::shape))]
+#[tactic(auto, unfolding(model_machine::specs::Shapes::shape))]
 fn immediate_shape(ins: &Ins, scene: &Scene) -> Shape
     requires { IsImmediate ins.now }
     ensures { (x : model.Around) → shape_value result ≡ outlined (work ins.now scene.now.frame scene.now.public)
@@ -231,7 +231,7 @@ fn immediate_shape(ins: &Ins, scene: &Scene) -> Shape
 }
 
 // The rows of n bytes at a place, all of which work on their bytes.
-#[tactic(auto, unfolding(law_rows::specs::Shapes::shape))]
+#[tactic(auto, unfolding(model_machine::specs::Shapes::shape))]
 fn block_shape(ins: &Ins, scene: &Scene) -> Shape
     requires { IsBlockRow ins.now }
     ensures { (x : model.Around) → shape_value result ≡ outlined (work ins.now scene.now.frame scene.now.public)

@@ -7,13 +7,13 @@ ghost use Rattle.model_machine.specs.Primitives as model;
 ghost use Rattle.model_machine.specs.Row as row;
 ghost use Rattle.model_prove.specs.Digits.{Minus};
 ghost use Rattle.model_prove.specs.Work as work;
-ghost use Rattle.mc_prims.specs.Table.{primitive_of};
+ghost use Rattle.mc_isa.specs.Primitives.{primitive_of};
 ghost use Rattle.prove_scenes.specs.Works.{operation_value, work_value};
 
 use crate::scene::Scene;
 use arrayvec::ArrayVec;
-use mc_base::bytes_of;
-use mc_prims::Primitive;
+use mc_isa::Primitive;
+use model_device::bytes_of;
 use model_machine::Ins;
 
 /// At most 255 bytes.

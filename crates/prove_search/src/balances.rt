@@ -1,7 +1,7 @@
 // The lines of sums at an event.
 use crate::keys::{Break, Outcome, Rule};
-use mc_base::NoMemory;
-use prove_events::{Amount, Balance, Effect, On, Rules};
+use lab_app_rules::{Amount, Balance, Effect, On, Rules};
+use model_device::NoMemory;
 use prove_facts::{Form, Origin, Sums, form_of, push};
 use std::alloc::Global;
 

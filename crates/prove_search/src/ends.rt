@@ -2,7 +2,7 @@
 use crate::events::{amounts_after, session};
 use crate::keys::Outcome;
 use crate::subject::Subject;
-use mc_base::NoMemory;
+use model_device::NoMemory;
 use prove_events::{Class, abend_lines, answers};
 use prove_facts::{Values, push};
 use prove_keys::{Begun, MomentKey};

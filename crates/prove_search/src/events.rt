@@ -1,8 +1,9 @@
 // The allowances after events that are no turns.
 use crate::keys::{Break, Outcome, Rule};
 use crate::subject::Subject;
-use mc_base::NoMemory;
-use prove_events::{Event, Firing, fire, lines_of};
+use lab_app_rules::Event;
+use model_device::NoMemory;
+use prove_events::{Firing, fire, lines_of};
 use prove_facts::push;
 use std::alloc::Global;
 

@@ -2,8 +2,9 @@
 use crate::events::{amounts_after, session};
 use crate::keys::Outcome;
 use crate::subject::Subject;
-use mc_base::NoMemory;
-use prove_events::{Class, Event, lines_in};
+use lab_app_rules::Event;
+use model_device::NoMemory;
+use prove_events::{Class, lines_in};
 use prove_facts::{Facts, Sums, Values, push};
 use prove_keys::{Begun, DYNAMIC, Known, Last, MomentKey, PlaceKey, Registers};
 use std::alloc::Global;

@@ -5,7 +5,7 @@ use crate::places::place_outcomes;
 use crate::subject::Subject;
 use crate::successors::Successors;
 use crate::tables::{Found, MOST_KEYS, rounded};
-use mc_base::NoMemory;
+use model_device::NoMemory;
 use prove_facts::{Facts, push};
 use prove_keys::{Known, MomentKey, PackedKnown, PlaceKey, Tables};
 use std::alloc::Global;

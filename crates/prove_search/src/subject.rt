@@ -2,8 +2,9 @@
 ghost use Rattle.std.specs.Prelude.{◌≡◌, ◌≤◌, length, IfOk};
 ghost use Rattle.mc_isa.specs.model_device.specs.Limits.{most_code};
 
-use mc_base::NoMemory;
-use prove_events::{Class, Load, Rules, classes};
+use lab_app_rules::{Load, Rules};
+use model_device::NoMemory;
+use prove_events::{Class, classes};
 use prove_facts::{Block, push};
 use prove_outcomes::Sizes;
 use std::alloc::Global;

@@ -1,5 +1,5 @@
 // Which places follow which, as a search saw it.
-use mc_base::NoMemory;
+use model_device::NoMemory;
 use prove_facts::push;
 use std::alloc::Global;
 use std::collections::BTreeSet;

@@ -1,8 +1,8 @@
 // What a search found, and facts as they are kept between commands.
 use crate::keys::Break;
 use crate::successors::Successors;
-use mc_base::NoMemory;
-use prove_events::{Always, Rules};
+use lab_app_rules::{Always, Rules};
+use model_device::NoMemory;
 use prove_facts::{Fact, Facts, Values};
 use prove_keys::Tables;
 use std::alloc::Global;

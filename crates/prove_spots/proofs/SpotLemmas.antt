@@ -1,7 +1,7 @@
 -- What parts of an operation make of a spot, put together.
 use Rattle.std.specs.Prelude.{◌≡◌, ℕ, ◌+◌, Bool, true, List, ◌∷◌, ◌++◌, length, Result, Ok, Err, IfOk}
 use Rattle.std.proofs.Common.{ap, sym, ◌∙◌}
-use Rattle.mc_base.specs.model_device.specs.Bytes.{bytes2}
+use Rattle.model_device.specs.Bytes.{bytes2}
 use Rattle.prove_facts.specs.model_rules.specs.Keeping.{Amounts}
 use Rattle.prove_facts.specs.model_prove.specs.Sets.{Set}
 use Rattle.prove_facts.specs.model_prove.specs.Arrivals.{Setting, static_size}

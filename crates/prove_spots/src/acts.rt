@@ -9,7 +9,7 @@ ghost use Rattle.prove_scenes.specs.ShapeValues.{act_value};
 ghost use Rattle.prove_spots.specs.Grounds.{spot_of};
 
 use crate::spot::Spot;
-use mc_base::NoMemory;
+use model_device::NoMemory;
 use prove_facts::Values;
 use prove_scenes::Act;
 use std::alloc::Global;

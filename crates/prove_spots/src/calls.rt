@@ -4,7 +4,7 @@ ghost use Rattle.prove_facts.specs.model_prove.specs.Keys.{calls_before};
 ghost use Rattle.prove_keys.specs.Keys.{call_of, calls_of};
 ghost use Rattle.prove_spots.specs.Losses.{IsOrdered, is_lost};
 
-use mc_base::NoMemory;
+use model_device::NoMemory;
 use prove_facts::push;
 use prove_keys::{Call, touches};
 

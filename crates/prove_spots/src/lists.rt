@@ -5,7 +5,7 @@ ghost use Rattle.prove_facts.specs.model_prove.specs.Steps.{sets, any_bytes, cou
 ghost use Rattle.prove_facts.specs.Sets.{set_of};
 ghost use Rattle.prove_scenes.specs.ShapeValues.{act_value};
 
-use mc_base::NoMemory;
+use model_device::NoMemory;
 use prove_facts::{Facts, Values, prepend, push};
 use prove_scenes::Act;
 use std::alloc::Global;

@@ -1,6 +1,6 @@
 // What jumps, calls and returns make of a place.
 ghost use Rattle.std.specs.Prelude.{◌≡◌, ◌++◌, [], ◌∷◌, true, map, IfSome, IsNone, IfOk, OnOk};
-ghost use Rattle.mc_base.specs.model_device.specs.Bytes.{bytes2};
+ghost use Rattle.model_device.specs.Bytes.{bytes2};
 ghost use Rattle.prove_facts.specs.model_rules.specs.Keeping.{Amounts};
 ghost use Rattle.prove_facts.specs.model_prove.specs.Keys.{Start};
 ghost use Rattle.prove_facts.specs.model_prove.specs.Steps as steps;
@@ -10,7 +10,7 @@ ghost use Rattle.prove_spots.specs.Grounds.{spot_of, with_call, with_calls, with
 
 use crate::calls::{pop_call, push_call};
 use crate::spot::Spot;
-use mc_base::{NoMemory, bytes_of};
+use model_device::{NoMemory, bytes_of};
 use prove_facts::Values;
 use prove_keys::Call;
 

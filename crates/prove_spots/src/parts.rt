@@ -2,7 +2,7 @@
 ghost use Rattle.std.specs.Prelude.{◌≡◌, ◌++◌, true, IfOk, IfSome};
 ghost use Rattle.prove_facts.specs.model_prove.specs.Facts.{within};
 
-use mc_base::NoMemory;
+use model_device::NoMemory;
 use prove_facts::Facts;
 use std::alloc::Global;
 

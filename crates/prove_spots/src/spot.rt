@@ -10,7 +10,7 @@ ghost use Rattle.prove_keys.specs.Compares.{compare_of, said};
 ghost use Rattle.prove_keys.specs.Keys.{amounts_of, calls_of, place_of, start_of};
 ghost use Rattle.prove_spots.specs.Grounds.{Ground, HasRegisters, ground_of, spot_of, with_at, with_bytes, with_calls, with_compare, with_dt};
 
-use mc_base::NoMemory;
+use model_device::NoMemory;
 use prove_facts::{Facts, Values};
 use prove_keys::{Begun, Call, Last, LastSaid, PlaceKey, Registers};
 use std::alloc::Global;

@@ -10,7 +10,7 @@ ghost use Rattle.prove_spots.specs.Grounds.{spot_of, with_kept, with_bytes, with
 
 use crate::parts::with_part;
 use crate::spot::Spot;
-use mc_base::NoMemory;
+use model_device::NoMemory;
 use std::alloc::Global;
 
 impl Spot {

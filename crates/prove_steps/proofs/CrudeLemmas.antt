@@ -1,7 +1,7 @@
 -- Rows of too many combinations, by what of their shape matters.
 use Rattle.std.specs.Prelude.{◌≡◌, Bool, true, List, ◌++◌, Option}
 use Rattle.std.proofs.Common.{ap, sym, subst, ◌∙◌, refl}
-use Rattle.prove_facts.specs.law_rows.specs.Shapes.{Act, Stays, Answers, Jumps, Calls, Returns, Pushes, Replaces, Writes, Protects, Shape, shape}
+use Rattle.mc_isa.specs.model_machine.specs.Shapes.{Act, Stays, Answers, Jumps, Calls, Returns, Pushes, Replaces, Writes, Protects, Shape, shape}
 use Rattle.mc_isa.specs.model_machine.specs.declared.instruction.Ins.{Ins}
 use Rattle.mc_isa.specs.model_machine.specs.declared.machine.Abend.{Abend}
 use Rattle.mc_isa.specs.model_machine.specs.declared.machine.Abend.TheVariants.{A03, A06}

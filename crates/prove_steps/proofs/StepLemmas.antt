@@ -2,7 +2,7 @@
 use Rattle.std.specs.Prelude.{◌≡◌, ℕ, ◌+◌, ◌-◌, ◌<◌, ◌≤◌, true, false, List, [], ◌∷◌, ◌++◌, length, drop, get_or, flat_map, map, Option, Some, None, IfSome, Bool}
 use Rattle.std.proofs.Common.{ap, sym, subst, ◌∙◌, arith}
 use Rattle.std.proofs.lemmas.List.{append-nil, drop_more, drop_all}
-use Rattle.prove_facts.specs.law_rows.specs.Shapes.{Shape}
+use Rattle.mc_isa.specs.model_machine.specs.Shapes.{Shape}
 use Rattle.mc_isa.specs.model_machine.specs.declared.instruction.Ins.{Ins}
 use Rattle.mc_isa.specs.model_machine.specs.Primitives.{Around}
 use Rattle.prove_facts.specs.model_prove.specs.Arrivals.{Setting, Arrival}

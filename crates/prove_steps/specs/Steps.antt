@@ -1,7 +1,7 @@
 -- What is held against the tables, in parts.
 use Rattle.std.specs.Prelude.{◌≡◌, ℕ, ◌+◌, ◌*◌, ◌/◌, ◌%◌, suc, Bool, cond, ◌&&◌, nat_le, List, [], ◌∷◌, Option, Some}
 use Rattle.mc_isa.specs.model_machine.specs.declared.machine.Abend.{Abend}
-use Rattle.mc_base.specs.model_device.specs.Bytes.{zeros}
+use Rattle.model_device.specs.Bytes.{zeros}
 use Rattle.prove_facts.specs.model_prove.specs.Sets.{is_in}
 use Rattle.prove_facts.specs.model_prove.specs.Facts.{Facts, values_at}
 use Rattle.prove_facts.specs.model_prove.specs.Reach.{address_choice, greatest_value, takes_target}

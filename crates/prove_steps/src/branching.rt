@@ -13,7 +13,7 @@ use crate::choices::{Choice, Choices, choices_among, combined};
 use crate::crude::crude_holds;
 use crate::scenes::scene_with;
 use crate::stepping::{Fetched, choice_holds, scene_holds};
-use mc_base::{NoMemory, number_of};
+use model_device::{NoMemory, number_of};
 use prove_arrivals::Subject;
 use prove_facts::{Facts, Values};
 use prove_scenes::{Scene, deciders, inside, later_deciders, takes_target};

@@ -4,7 +4,7 @@ ghost use Rattle.prove_facts.specs.model_prove.specs.Splits.{before_choices, com
 ghost use Rattle.prove_facts.specs.Sets.{has_value, set_of};
 ghost use Rattle.prove_steps.specs.Choices.{choice_of, choices_of, headed_by, ChoicesAre};
 
-use mc_base::NoMemory;
+use model_device::NoMemory;
 use prove_facts::{Facts, Values, push};
 use std::alloc::Global;
 

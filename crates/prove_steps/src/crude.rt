@@ -1,7 +1,7 @@
 // Rows whose deciding bytes have too many combinations.
 ghost use Rattle.std.specs.Prelude.{◌≡◌, ℕ, Bool, true, List, None, IfOk};
 ghost use Rattle.mc_isa.specs.model_machine.specs.Code.{Shaped};
-ghost use Rattle.prove_facts.specs.law_rows.specs.Shapes.{shape};
+ghost use Rattle.mc_isa.specs.model_machine.specs.Shapes.{shape};
 ghost use Rattle.prove_steps.specs.Steps.{fails_when};
 ghost use Rattle.prove_facts.specs.model_prove.specs.Facts.{Facts};
 ghost use Rattle.prove_facts.specs.model_prove.specs.Steps as steps;
@@ -14,8 +14,8 @@ ghost use Rattle.prove_scenes.specs.ShapeValues.{act_value, shape_value};
 ghost use Rattle.prove_steps.specs.Steps.{AcceptsAll, after_fetch, before};
 
 use crate::stepping::Fetched;
-use mc_base::NoMemory;
 use mc_isa::model_machine::Abend;
+use model_device::NoMemory;
 use prove_arrivals::{Subject, coarse, fails};
 use prove_keys::Begun;
 use prove_scenes::{

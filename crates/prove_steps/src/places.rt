@@ -7,9 +7,9 @@ ghost use Rattle.prove_steps.specs.Steps.{AcceptsAll};
 
 use crate::branching::instruction_included;
 use crate::stepping::Fetched;
-use mc_base::NoMemory;
 use mc_isa::decode;
 use mc_isa::model_machine::{Abend, DecodeFault, Ins};
+use model_device::NoMemory;
 use prove_arrivals::{Subject, abended, fails};
 use prove_keys::Begun;
 use prove_spots::Spot;

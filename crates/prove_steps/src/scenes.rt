@@ -1,6 +1,6 @@
 // The scene after the fetch at a place, with a choice of the bytes that decide.
 ghost use Rattle.std.specs.Prelude.{◌≡◌, IfOk, IfSome};
-ghost use Rattle.mc_base.specs.model_device.specs.Card.{App};
+ghost use Rattle.model_device.specs.Card.{App};
 ghost use Rattle.prove_facts.specs.model_prove.specs.Keys.{Start};
 ghost use Rattle.prove_facts.specs.model_prove.specs.Splits.{with_values};
 ghost use Rattle.prove_facts.specs.model_rules.specs.Keeping.{Amounts};
@@ -10,7 +10,7 @@ ghost use Rattle.prove_scenes.specs.Scenes.{HasRegisters, IsSized};
 ghost use Rattle.prove_spots.specs.Grounds.{spot_of};
 ghost use Rattle.prove_steps.specs.Scenes.{scene_after};
 
-use mc_base::NoMemory;
+use model_device::NoMemory;
 use prove_keys::Call;
 use prove_scenes::{OpenCall, Registers, Scene, Sizes};
 use prove_spots::Spot;

@@ -1,7 +1,7 @@
 // An instruction in the scene of a place, for one choice of the bytes that decide it.
 ghost use Rattle.std.specs.Prelude.{◌≡◌, ℕ, Bool, true, false, List, [], ◌∷◌, ◌++◌, map, flat_map, None, Some, IfOk, OnOk, option_map};
-ghost use Rattle.prove_facts.specs.law_rows.specs.Shapes.{shape};
-ghost use Rattle.mc_prims.specs.Table as table;
+ghost use Rattle.mc_isa.specs.model_machine.specs.Shapes.{shape};
+ghost use Rattle.mc_isa.specs.Primitives as table;
 ghost use Rattle.mc_isa.specs.model_machine.specs.Code.{Shaped};
 ghost use Rattle.mc_isa.specs.model_machine.specs.Primitives as model;
 ghost use Rattle.prove_facts.specs.model_prove.specs.Keys.{Start};
@@ -16,9 +16,9 @@ ghost use Rattle.prove_spots.specs.Grounds.{spot_of};
 ghost use Rattle.prove_steps.specs.Steps.{AcceptsAll, IsSceneWith, after_fetch, before, by_choice, in_scene, named_value};
 
 use crate::scenes::scene_with;
-use mc_base::NoMemory;
+use mc_isa::Primitive;
 use mc_isa::model_machine::Ins;
-use mc_prims::Primitive;
+use model_device::NoMemory;
 use prove_arrivals::{Subject, fails, row};
 use prove_facts::push;
 use prove_keys::Begun;

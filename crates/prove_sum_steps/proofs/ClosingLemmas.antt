@@ -9,8 +9,8 @@ use Rattle.prove_facts.specs.model_prove.specs.Between.{Class, classes}
 use Rattle.prove_facts.specs.model_prove.specs.Keys.{Tables}
 use Rattle.prove_sums.specs.model_sums.specs.Closed.{all_pass, is_sum, places_closed, starts_closed, sums_closed}
 use Rattle.prove_sums.specs.model_sums.specs.Sums.{SumsTable}
-use Rattle.prove_events.specs.declared.rules.Rules.{Rules}
-use Rattle.prove_rules.specs.Sums.{AreSums}
+use Rattle.lab_app_rules.specs.declared.rules.Rules.{Rules}
+use Rattle.lab_app_rules.specs.Sums.{AreSums}
 use Rattle.prove_sum_steps.proofs.TotalLemmas.{lines_move}
 
 -- each line moves a sum that there is

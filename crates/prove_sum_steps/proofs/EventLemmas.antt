@@ -2,7 +2,7 @@
 use Rattle.std.specs.Prelude.{◌≡◌, ℕ, Bool, true, false, not, ◌||◌, List, [], ◌∷◌, length, bytes_eq, Option, Some, Result, Ok}
 use Rattle.std.proofs.Common.{ap, sym, subst, refl, ◌∙◌, arith}
 use Rattle.std.proofs.lemmas.Slice.Eq.{bytes_eq-Decides}
-use Rattle.model_text.specs.model_machine.specs.Primitives.{Then, Goes, Exits, Delegates}
+use Rattle.mc_isa.specs.model_machine.specs.Primitives.{Then, Goes, Exits, Delegates}
 use Rattle.prove_facts.specs.model_rules.specs.Keeping.{Amounts, Break, OnTurn, after_occasion}
 use Rattle.prove_facts.specs.model_rules.specs.Rules.{AppRules, OnLine, Total}
 use Rattle.prove_occasions.specs.Amounts.{AreAfter}

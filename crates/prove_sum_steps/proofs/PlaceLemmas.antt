@@ -1,7 +1,7 @@
 -- A place with what is known there, as the code has it and as the definition has it.
 use Rattle.std.proofs.Common.{◌≡◌, ℕ, Bool, true, List, Option, Some, sym, ap, subst, ◌∙◌}
 use Rattle.std.specs.Prelude.{Ok}
-use Rattle.model_text.specs.model_machine.specs.Code.{instruction_at}
+use Rattle.mc_isa.specs.model_machine.specs.Code.{instruction_at}
 use Rattle.prove_facts.specs.model_prove.specs.Arrivals.{Setting}
 use Rattle.prove_facts.specs.model_prove.specs.Steps.{Spot, place_arrivals}
 use Rattle.prove_sums.specs.model_sums.specs.Closed.{all_pass, arrival_closed, fetched_closed, place_closed}
@@ -14,7 +14,7 @@ use Rattle.prove_keys.specs.declared.tables.Tables.{Tables}
 use Rattle.prove_keys.specs.Keys.{place_of}
 use Rattle.prove_keys.specs.Known.{known_of}
 use Rattle.prove_keys.specs.Tables.{tables_of}
-use Rattle.prove_rules.specs.Sums.{AreSums}
+use Rattle.lab_app_rules.specs.Sums.{AreSums}
 use Rattle.prove_scenes.specs.declared.scene.Sizes.{Sizes}
 use Rattle.prove_spots.specs.Grounds.{Ground}
 use Rattle.prove_sums.specs.Values.{sums_value}

@@ -1,7 +1,7 @@
 -- What leads to a place of tables leads to one of their keys: what holds at each of these, holds wherever it leads.
 use Rattle.std.proofs.Common.{◌≡◌, ℕ, Bool, true, false, ◌&&◌, cond, List, [], ◌∷◌, map, Option, Some, refl, subst}
 use Rattle.std.proofs.lemmas.Bool.{and_parts, and_from}
-use Rattle.model_text.specs.model_machine.specs.Primitives.{Then}
+use Rattle.mc_isa.specs.model_machine.specs.Primitives.{Then}
 use Rattle.prove_facts.specs.model_prove.specs.Arrivals.{Setting, Arrival, AtPlace, AtMoment, Breaks, Lost}
 use Rattle.prove_facts.specs.model_prove.specs.Between.{Class, moment_arrivals}
 use Rattle.prove_facts.specs.model_prove.specs.Facts.{Facts}

@@ -1,8 +1,8 @@
 -- What a row leaves, by what comes next and by how the frame began.
 use Rattle.std.specs.Prelude.{◌≡◌, ℕ, Bool, true, List, [], ◌∷◌}
 use Rattle.std.proofs.Common.{sym, subst, refl}
-use Rattle.model_text.specs.model_machine.specs.Primitives.{Then, Goes, Exits, Delegates}
-use Rattle.prove_facts.specs.law_rows.specs.Shapes.{Shape}
+use Rattle.mc_isa.specs.model_machine.specs.Primitives.{Then, Goes, Exits, Delegates}
+use Rattle.mc_isa.specs.model_machine.specs.Shapes.{Shape}
 use Rattle.prove_facts.specs.model_prove.specs.Arrivals.{Setting, depths}
 use Rattle.prove_sums.specs.model_sums.specs.Sums.{Sums}
 use Rattle.prove_sums.specs.model_sums.specs.Closed.{Turn, after_event, all_pass, exit_settled, is_settled}

@@ -1,9 +1,9 @@
 -- What an instruction leaves in a scene.
 use Rattle.std.specs.Prelude.{◌≡◌, ℕ, List}
 use Rattle.std.proofs.Common.{sym, subst}
-use Rattle.prove_facts.specs.law_rows.specs.Shapes.{Shape}
-use Rattle.model_text.specs.model_machine.specs.declared.instruction.Ins.{Ins}
-use Rattle.model_text.specs.model_machine.specs.Frame.{Frame}
+use Rattle.mc_isa.specs.model_machine.specs.Shapes.{Shape}
+use Rattle.mc_isa.specs.model_machine.specs.declared.instruction.Ins.{Ins}
+use Rattle.mc_isa.specs.model_machine.specs.Frame.{Frame}
 use Rattle.prove_facts.specs.model_rules.specs.Rules.{Total}
 use Rattle.prove_facts.specs.model_prove.specs.Keys.{PlaceKey}
 use Rattle.prove_facts.specs.model_prove.specs.Reach.{Coarse}
@@ -11,8 +11,8 @@ use Rattle.prove_facts.specs.model_prove.specs.Steps.{coarse_for}
 use Rattle.prove_facts.specs.model_prove.specs.Work.{Work}
 use Rattle.prove_sums.specs.model_sums.specs.Sums.{Sums}
 use Rattle.prove_sums.specs.model_sums.specs.Moves.{moved, moved_coarsely}
-use Rattle.prove_events.specs.declared.rules.Balance.{Balance}
-use Rattle.prove_rules.specs.Sums.{AreTotals}
+use Rattle.lab_app_rules.specs.declared.rules.Balance.{Balance}
+use Rattle.lab_app_rules.specs.Sums.{AreTotals}
 use Rattle.prove_scenes.specs.Coarse.{coarse_outlined}
 use Rattle.prove_scenes.specs.Outlines.{outlined}
 use Rattle.prove_sums.specs.declared.values.Sums as code

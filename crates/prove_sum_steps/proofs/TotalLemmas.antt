@@ -4,18 +4,18 @@ use Rattle.std.specs.Prelude.{◌&&◌, ◌||◌, bytes_eq, nat_le, slice_get}
 use Rattle.std.proofs.lemmas.Bool.{and_from, eq-eqb}
 use Rattle.std.proofs.lemmas.Option.{same_Some}
 use Rattle.std.proofs.lemmas.Slice.Eq.{bytes_eq-Decides}
-use Rattle.model_text.specs.model_device.specs.Bytes.{num}
+use Rattle.model_device.specs.Bytes.{num}
 use Rattle.prove_facts.specs.model_rules.specs.Keeping.{Amounts, Sum, added_by, added_to, first_sums, is_total, taken_by, taken_from}
 use Rattle.prove_facts.specs.model_rules.specs.Rules.{SumLine, Total}
 use Rattle.prove_sums.specs.model_sums.specs.Closed.{all_pass, is_sum}
 use Rattle.lab_history.specs.Blocks as code
-use Rattle.prove_events.specs.declared.rules.Amount.{Amount}
-use Rattle.prove_events.specs.declared.rules.Balance.{Balance}
-use Rattle.prove_events.specs.declared.rules.Named.{Named}
-use Rattle.prove_events.specs.declared.rules.On.{On}
-use Rattle.prove_events.specs.declared.rules.SignedSum.{SignedSum}
-use Rattle.prove_events.specs.Rules.{AreDistinct, allowance_of, is_named, name_of}
-use Rattle.prove_rules.specs.Sums.{AreSumLines, AreTerms, AreTotals, FirstSumLine, IsTotal, move_of}
+use Rattle.lab_app_rules.specs.declared.rules.Amount.{Amount}
+use Rattle.lab_app_rules.specs.declared.rules.Balance.{Balance}
+use Rattle.lab_app_rules.specs.declared.rules.Named.{Named}
+use Rattle.lab_app_rules.specs.declared.rules.On.{On}
+use Rattle.lab_app_rules.specs.declared.rules.SignedSum.{SignedSum}
+use Rattle.lab_app_rules.specs.Rules.{AreDistinct, allowance_of, is_named, name_of}
+use Rattle.lab_app_rules.specs.Sums.{AreSumLines, AreTerms, AreTotals, FirstSumLine, IsTotal, move_of}
 
 -- ---- names
 

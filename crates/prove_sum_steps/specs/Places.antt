@@ -1,7 +1,7 @@
 -- What is checked of places and of beginnings of frames.
 use Rattle.std.specs.Prelude.{◌≡◌, ℕ, true, List, length, vec_len}
 use Rattle.std.specs.List.{AllByRecursion}
-use Rattle.model_text.specs.model_machine.specs.Primitives.{Then}
+use Rattle.mc_isa.specs.model_machine.specs.Primitives.{Then}
 use Rattle.prove_facts.specs.model_prove.specs.Arrivals.{Setting, AtPlace}
 use Rattle.prove_facts.specs.model_prove.specs.Keys as known
 use Rattle.prove_facts.specs.model_prove.specs.Steps.{Spot, place_arrivals}
@@ -16,7 +16,7 @@ use Rattle.prove_keys.specs.declared.tables.Tables.{Tables}
 use Rattle.prove_keys.specs.Keys.{place_of}
 use Rattle.prove_keys.specs.Known.{known_of}
 use Rattle.prove_keys.specs.Tables.{tables_of}
-use Rattle.prove_rules.specs.Sums.{AreSums}
+use Rattle.lab_app_rules.specs.Sums.{AreSums}
 use Rattle.prove_sum_steps.specs.declared.goals.Goal.{Goal}
 use Rattle.prove_sum_steps.specs.declared.places.Stand.{Stand}
 use Rattle.prove_sum_steps.specs.Tables.{IsGoal, goal_key, sums_in}

@@ -1,8 +1,8 @@
 -- What is checked of the instruction at a place, in parts.
 use Rattle.std.specs.Prelude.{◌≡◌, ℕ, Bool, true, ◌&&◌, List, []}
 use Rattle.std.specs.List.{AllByRecursion}
-use Rattle.model_text.specs.model_machine.specs.Primitives.{Then}
-use Rattle.prove_facts.specs.law_rows.specs.Shapes.{Shape}
+use Rattle.mc_isa.specs.model_machine.specs.Primitives.{Then}
+use Rattle.mc_isa.specs.model_machine.specs.Shapes.{Shape}
 use Rattle.prove_facts.specs.model_rules.specs.Keeping.{mode_of}
 use Rattle.prove_facts.specs.model_prove.specs.Arrivals.{Setting, Arrival, AtPlace}
 use Rattle.prove_facts.specs.model_prove.specs.Keys.{PlaceKey, Known}
@@ -16,7 +16,7 @@ use Rattle.prove_sums.specs.model_sums.specs.Moves.{after_next}
 use Rattle.prove_sums.specs.model_sums.specs.Closed as closed
 use Rattle.prove_sums.specs.model_sums.specs.Closed.{all_pass, arrival_closed, choices_closed, has_sums, is_settled, row_closed, turn_closed}
 use Rattle.prove_arrivals.specs.Subjects.{IsOver, spot_in}
-use Rattle.prove_rules.specs.Sums.{AreSums}
+use Rattle.lab_app_rules.specs.Sums.{AreSums}
 use Rattle.prove_scenes.specs.declared.shapes.Next.{Next}
 use Rattle.prove_scenes.specs.Outlines.{outlined_next}
 use Rattle.prove_scenes.specs.Scenes.{IsSized}

@@ -1,6 +1,6 @@
 // What an instruction leaves by all choices of the bytes that decide it.
 ghost use Rattle.std.specs.Prelude.{◌≡◌, ◌<◌, ◌≤◌, ◌-◌, true, [], ◌∷◌, ◌++◌, length, filter, IfOk, None};
-ghost use Rattle.model_text.specs.model_machine.specs.Code.{Shaped};
+ghost use Rattle.mc_isa.specs.model_machine.specs.Code.{Shaped};
 ghost use Rattle.prove_facts.specs.model_prove.specs.Reach.{address_choice, takes_target, target_choices};
 ghost use Rattle.prove_facts.specs.model_prove.specs.Sets.{numbers_from};
 ghost use Rattle.prove_facts.specs.model_prove.specs.Splits.{few_combinations};
@@ -11,7 +11,7 @@ ghost use Rattle.prove_sum_steps.specs.Walks.{IsSceneOf, IsSceneWith, Passes, in
 
 use crate::steps::{choice_holds, crude_holds, scene_holds};
 use crate::turns::Turn;
-use mc_base::NoMemory;
+use model_device::NoMemory;
 use prove_scenes::{Scene, deciders, inside, later_deciders, takes_target};
 use prove_steps::{
     Choice, Choices, both, choices_among, combined, greatest_target, may_lead, scene_with,

@@ -9,7 +9,7 @@ ghost use Rattle.prove_keys.specs.Tables.{AreDistinct, AreWhole, IsWholePlace};
 ghost use Rattle.prove_sum_steps.specs.Tables.{IsGoal, sums_in, sums_of};
 ghost use Rattle.prove_sums.specs.Values.{sums_value};
 
-use mc_base::NoMemory;
+use model_device::NoMemory;
 use prove_arrivals::Subject;
 use prove_facts::push;
 use prove_keys::{PlaceKey, Tables};

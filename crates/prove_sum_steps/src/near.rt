@@ -1,5 +1,5 @@
 // Tables with only some of the places, at which nothing is known: what leads to a place of them leads to one of these.
-use mc_base::NoMemory;
+use model_device::NoMemory;
 use prove_arrivals::Subject;
 use prove_facts::{Facts, push};
 use prove_keys::{Known, Last, MomentKey, PackedKnown, PlaceKey, Tables};

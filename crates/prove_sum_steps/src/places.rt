@@ -1,6 +1,6 @@
 // The places of the tables, each with what the table of sums has there.
 ghost use Rattle.std.specs.Prelude.{◌≡◌, ◌≤◌, ℕ, true, List, length, vec_len, IfOk, IfSome, Ok};
-ghost use Rattle.model_text.specs.model_machine.specs.Code.{Shaped, instruction_at};
+ghost use Rattle.mc_isa.specs.model_machine.specs.Code.{Shaped, instruction_at};
 ghost use Rattle.prove_facts.specs.model_prove.specs.Arrivals.{Setting};
 ghost use Rattle.prove_facts.specs.model_prove.specs.Steps.{place_arrivals};
 ghost use Rattle.prove_facts.specs.model_prove.specs.Tables.{includes_all};
@@ -15,12 +15,12 @@ use crate::branching::instruction_holds;
 use crate::goals::{Goal, goals_of, sums_at};
 use crate::near::set_places;
 use crate::turns::Turn;
-use mc_base::NoMemory;
+use lab_app_rules::Rules;
 use mc_isa::decode;
+use model_device::NoMemory;
 use model_text::model_machine::Ins;
 use prove_arrivals::Subject;
 use prove_closed::{place_closed, spot_at};
-use prove_events::Rules;
 use prove_keys::{PackedKnown, PlaceKey, Tables};
 use prove_sums::Sums;
 use std::alloc::Global;

@@ -1,6 +1,6 @@
 // What a row leaves, held against the table of sums at each place to which it may lead.
 ghost use Rattle.std.specs.Prelude.{◌≡◌, true, [], ◌∷◌, IfOk};
-ghost use Rattle.model_text.specs.model_machine.specs.Code.{Shaped};
+ghost use Rattle.mc_isa.specs.model_machine.specs.Code.{Shaped};
 ghost use Rattle.prove_facts.specs.model_prove.specs.Arrivals.{depths};
 ghost use Rattle.prove_facts.specs.model_prove.specs.Keys.{Known};
 ghost use Rattle.prove_sums.specs.model_sums.specs.Closed.{after_event, all_pass, arrival_closed, depth_closed, is_settled};
@@ -9,7 +9,7 @@ ghost use Rattle.prove_sum_steps.specs.Walks.{PassesAfter, PassesAt, PassesRow, 
 use crate::goals::Goal;
 use crate::settling::{depth_holds, exit_holds};
 use crate::turns::Turn;
-use mc_base::NoMemory;
+use model_device::NoMemory;
 use prove_keys::Begun;
 use prove_scenes::Next;
 use prove_sums::Sums;

@@ -1,7 +1,7 @@
 // What is known for sums after the event of an instruction, held against what the table has at the place after it.
 ghost use Rattle.std.specs.Prelude.{◌≡◌, ◌≤◌, ℕ, true, List, bytes_eq, IfOk, IfSome};
-ghost use Rattle.model_text.specs.model_machine.specs.Code.{Shaped};
-ghost use Rattle.model_text.specs.model_machine.specs.declared.instruction.Ins.{Ins};
+ghost use Rattle.mc_isa.specs.model_machine.specs.Code.{Shaped};
+ghost use Rattle.mc_isa.specs.model_machine.specs.declared.instruction.Ins.{Ins};
 ghost use Rattle.prove_facts.specs.model_prove.specs.Arrivals.{Setting};
 ghost use Rattle.prove_facts.specs.model_prove.specs.Splits.{Scene};
 ghost use Rattle.prove_facts.specs.model_rules.specs.Keeping.{OnTurn, after_occasion, line_of};
@@ -10,7 +10,7 @@ ghost use Rattle.prove_sums.specs.model_sums.specs.Closed.{has_sums};
 ghost use Rattle.prove_sums.specs.model_sums.specs.Moves.{after_next};
 ghost use Rattle.prove_sums.specs.model_sums.specs.Sums as sums;
 ghost use Rattle.prove_sums.specs.model_sums.specs.Sums.{SumsTable, sums_at};
-ghost use Rattle.model_text.specs.Listing.{text_of};
+ghost use Rattle.mc_isa.specs.model_text.specs.Listing.{text_of};
 ghost use Rattle.prove_keys.specs.Keys.{amounts_of};
 ghost use Rattle.prove_occasions.specs.Amounts.{AreAfter};
 ghost use Rattle.prove_occasions.specs.Turns.{line_of_turn};
@@ -19,8 +19,8 @@ ghost use Rattle.prove_sums.specs.Values.{SumsAre};
 
 use crate::goals::Goal;
 use crate::turns::Turn;
-use mc_base::NoMemory;
 use mc_isa::text_of;
+use model_device::NoMemory;
 use prove_events::TurnEvent;
 use prove_occasions::{after_turn, whole_line, without_mark};
 use prove_scenes::Next;

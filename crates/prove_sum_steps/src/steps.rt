@@ -1,7 +1,7 @@
 // An instruction in the scene of its place, for one choice of the bytes that decide it.
 ghost use Rattle.std.specs.Prelude.{◌≡◌, ℕ, true, List, map, IfOk};
-ghost use Rattle.prove_facts.specs.law_rows.specs.Shapes as shapes;
-ghost use Rattle.model_text.specs.model_machine.specs.Code.{Shaped};
+ghost use Rattle.mc_isa.specs.model_machine.specs.Shapes as shapes;
+ghost use Rattle.mc_isa.specs.model_machine.specs.Code.{Shaped};
 ghost use Rattle.prove_facts.specs.model_prove.specs.Reach as reach;
 ghost use Rattle.prove_facts.specs.model_prove.specs.Steps.{coarse_around, coarse_for};
 ghost use Rattle.prove_sums.specs.model_sums.specs.Closed.{all_pass, choice_closed, coarse_closed, row_closed, turn_closed};
@@ -15,7 +15,7 @@ ghost use Rattle.prove_sums.specs.Values.{IsBefore, sums_value};
 
 use crate::rows::row_holds;
 use crate::turns::Turn;
-use mc_base::NoMemory;
+use model_device::NoMemory;
 use prove_scenes::{Around, Coarse, Scene, Shape, coarse_of, coarse_shape, shape_of, work_of};
 use prove_steps::{arounds, crude_around, crude_for, scene_with};
 use prove_sums::{Before, coarse_outlines_move_alike, moved, moved_coarsely, outlines_move_alike};

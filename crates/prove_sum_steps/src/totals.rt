@@ -1,15 +1,15 @@
 // The totals of an application as it is created.
 ghost use Rattle.std.specs.Prelude.{◌≡◌, ◌+◌, ◌-◌, ◌++◌, ◌&&◌, ℕ, true, List, length, map, nat_le, IfOk};
-ghost use Rattle.model_text.specs.model_device.specs.Bytes.{zeros};
+ghost use Rattle.model_device.specs.Bytes.{zeros};
 ghost use Rattle.prove_facts.specs.model_rules.specs.Keeping.{are_totals, first_sums, is_total};
 ghost use Rattle.prove_facts.specs.model_rules.specs.Rules.{AppRules, Target, Total};
 ghost use Rattle.prove_sums.specs.model_sums.specs.Closed.{all_pass};
-ghost use Rattle.prove_events.specs.Rules.{AreDistinct, AreRules, allowance_of, is_named, name_of};
-ghost use Rattle.prove_rules.specs.Sums.{AreSums, AreTotals, IsTotal};
+ghost use Rattle.lab_app_rules.specs.Rules.{AreDistinct, AreRules, allowance_of, is_named, name_of};
+ghost use Rattle.lab_app_rules.specs.Sums.{AreSums, AreTotals, IsTotal};
 
+use lab_app_rules::{Balance, Load, Named, Rules};
 use lab_history::{first_block, is_block};
-use mc_base::NoMemory;
-use prove_events::{Balance, Load, Named, Rules};
+use model_device::NoMemory;
 use std::alloc::Global;
 
 // Whether a name is among some.

@@ -1,9 +1,9 @@
 // The instruction at a place of which a table of sums is checked.
 
 use crate::goals::Goal;
+use lab_app_rules::Rules;
 use model_text::model_machine::Ins;
 use prove_arrivals::Subject;
-use prove_events::Rules;
 use prove_keys::PlaceKey;
 use prove_spots::Spot;
 use prove_sums::Sums;

@@ -4,10 +4,10 @@ use Rattle.std.specs.Prelude.{◌&&◌, ◌||◌, ◌==◌}
 use Rattle.prove_facts.specs.model_rules.specs.Rules.{Total}
 use Rattle.prove_forms.specs.model_sums.specs.Forms as forms
 use Rattle.prove_forms.specs.model_sums.specs.Sums as sums
-use Rattle.prove_events.specs.declared.rules.Balance.{Balance}
+use Rattle.lab_app_rules.specs.declared.rules.Balance.{Balance}
 use Rattle.prove_forms.specs.declared.forms.Form.{Form}
 use Rattle.prove_forms.specs.Forms.{OptionalIs, OptionalsAre}
-use Rattle.prove_rules.specs.Sums.{AreTotals, IsTotal}
+use Rattle.lab_app_rules.specs.Sums.{AreTotals, IsTotal}
 use Rattle.prove_sums.specs.declared.values.More.{More}
 use Rattle.prove_sums.specs.Values.{MoreIs, MoresAre}
 use Rattle.prove_sums.proofs.MoreLemmas.{Mores, first_more, no_more}

@@ -2,18 +2,18 @@
 use Rattle.std.proofs.Common.{◌≡◌, ◌∙◌, ℕ, ◌+◌, ◌<◌, ◌≤◌, List, [], ◌∷◌, length, drop, get_or, Bool, true, false, cond, Option, Some, None, refl, sym, ap, subst}
 use Rattle.std.proofs.lemmas.List.{drop_more, drop_all}
 use Rattle.std.proofs.lemmas.Option.{same_Some}
-use Rattle.lab_match.specs.law_explore.specs.Matching.{fits}
+use Rattle.lab_app_rules.specs.model_events.specs.Matching.{fits}
 use Rattle.prove_facts.specs.model_rules.specs.Rules.{SumLine, Total}
 use Rattle.prove_forms.specs.model_sums.specs.Events.{form_of_amount, off_after_line, offs_after_event, offs_after_line}
 use Rattle.prove_forms.specs.model_sums.specs.Origins.{Origins}
-use Rattle.prove_events.specs.declared.rules.Amount.{Amount}
-use Rattle.prove_events.specs.declared.rules.On.{On}
-use Rattle.prove_events.specs.declared.rules.SignedSum.{SignedSum}
+use Rattle.lab_app_rules.specs.declared.rules.Amount.{Amount}
+use Rattle.lab_app_rules.specs.declared.rules.On.{On}
+use Rattle.lab_app_rules.specs.declared.rules.SignedSum.{SignedSum}
 use Rattle.prove_forms.specs.declared.forms.Form.{Form}
 use Rattle.prove_forms.specs.Forms.{OptionalIs, OptionalsAre}
 use Rattle.prove_occasions.proofs.AmountLemmas.{fits_plain}
-use Rattle.prove_rules.specs.Fields.{amount_value}
-use Rattle.prove_rules.specs.Sums.{AreSumLines, AreTerms, FirstSumLine, IsSumRule, move_of}
+use Rattle.lab_app_rules.specs.Sums.{amount_value}
+use Rattle.lab_app_rules.specs.Sums.{AreSumLines, AreTerms, FirstSumLine, IsSumRule, move_of}
 use Rattle.prove_sums.specs.Lines.{IsLineOf, IsTerm, off_by, offs_by}
 use Rattle.prove_sums.proofs.WalkLemmas.{Off, Offs}
 

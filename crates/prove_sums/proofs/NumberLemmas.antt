@@ -3,11 +3,11 @@ use Rattle.std.proofs.Common.{◌≡◌, ◌∙◌, ℕ, ◌+◌, ◌-◌, ◌*�
 use Rattle.std.specs.Prelude.{◌%◌, map}
 use Rattle.std.proofs.Math.Nat.{mod-add-mod, mod-eq_of_lt, mod-mod, pow-le-pow_right}
 use Rattle.std.proofs.lemmas.Nat.{mul-mod_first}
-use Rattle.mc_base.specs.model_device.specs.Bytes.{num, AreBytes}
+use Rattle.model_device.specs.Bytes.{num, AreBytes}
 use Rattle.prove_forms.specs.model_sums.specs.Forms as forms
 use Rattle.prove_forms.specs.declared.forms.Term.{Term}
 use Rattle.prove_forms.specs.Forms.{reduced_terms, term_value}
-use Rattle.mc_arith.proofs.BlockLemmas.{num_below}
+use Rattle.mc_arith.specs.law_rows.proofs.BlockLemmas.{num_below}
 use Rattle.prove_works.proofs.NumberLemmas.{number_next}
 
 -- the number of values of 16 bytes

@@ -1,7 +1,7 @@
 -- What is known for sums after a row, from what of its shape matters.
 use Rattle.std.proofs.Common.{◌≡◌, ℕ, suc, ◌-◌, List, [], ◌∷◌, length, None, refl, ap}
 use Rattle.std.proofs.lemmas.List.{length-replicate}
-use Rattle.prove_facts.specs.law_rows.specs.Shapes.{Act, Stays, Answers, Jumps, Calls, Returns, Pushes, Replaces, Writes, Protects, Shape}
+use Rattle.mc_arith.specs.model_machine.specs.Shapes.{Act, Stays, Answers, Jumps, Calls, Returns, Pushes, Replaces, Writes, Protects, Shape}
 use Rattle.prove_facts.specs.model_rules.specs.Rules.{Total}
 use Rattle.prove_facts.specs.model_prove.specs.Keys.{PlaceKey}
 use Rattle.prove_facts.specs.model_prove.specs.Reach.{Coarse}

@@ -10,10 +10,10 @@ use Rattle.prove_forms.specs.model_sums.specs.Forms as forms
 use Rattle.prove_forms.specs.model_sums.specs.Moves.{offs_not_reached}
 use Rattle.prove_forms.specs.model_sums.specs.Sums.{evens}
 use Rattle.prove_forms.specs.model_sums.specs.Writes.{is_block, is_total_block, off_after, offs_after}
-use Rattle.prove_events.specs.declared.rules.Balance.{Balance}
+use Rattle.lab_app_rules.specs.declared.rules.Balance.{Balance}
 use Rattle.prove_forms.specs.declared.forms.Form.{Form}
 use Rattle.prove_forms.specs.Forms.{OptionalIs, OptionalsAre}
-use Rattle.prove_rules.specs.Sums.{AreTotals, IsTotal}
+use Rattle.lab_app_rules.specs.Sums.{AreTotals, IsTotal}
 
 -- by how much a total is off, if that is known
 abbrev pub Off : Type 0

@@ -1,16 +1,16 @@
 -- What a line about a sum does to a total, by the numbers of sums that the code has.
 use Rattle.std.specs.Prelude.{◌≡◌, ℕ, Bool, not, cond, List, bytes_eq, slice_get, Option, Some, None}
-use Rattle.lab_match.specs.law_explore.specs.Matching.{fits}
+use Rattle.lab_app_rules.specs.model_events.specs.Matching.{fits}
 use Rattle.prove_facts.specs.model_prove.specs.Digits.{same}
 use Rattle.prove_facts.specs.model_rules.specs.Rules.{SumLine, Total}
 use Rattle.prove_forms.specs.model_sums.specs.Events.{form_of_amount, off_after_term, offs_after_line}
 use Rattle.prove_forms.specs.model_sums.specs.Forms as forms
 use Rattle.prove_forms.specs.model_sums.specs.Origins.{Origins}
-use Rattle.prove_events.specs.declared.rules.Amount.{Amount}
-use Rattle.prove_events.specs.declared.rules.On.{On}
-use Rattle.prove_events.specs.declared.rules.SignedSum.{SignedSum}
+use Rattle.lab_app_rules.specs.declared.rules.Amount.{Amount}
+use Rattle.lab_app_rules.specs.declared.rules.On.{On}
+use Rattle.lab_app_rules.specs.declared.rules.SignedSum.{SignedSum}
 use Rattle.prove_forms.specs.Forms.{OptionalIs}
-use Rattle.prove_rules.specs.Sums.{IsSumRule, move_of}
+use Rattle.lab_app_rules.specs.Sums.{IsSumRule, move_of}
 use Rattle.prove_sums.specs.declared.events.Move.{Move}
 
 -- a term of a total is this

@@ -2,7 +2,7 @@
 use Rattle.std.specs.Prelude.{◌≡◌, List}
 use Rattle.mc_arith.specs.model_machine.specs.declared.instruction.Ins.{Ins}
 use Rattle.mc_arith.specs.model_machine.specs.Frame.{Frame}
-use Rattle.prove_facts.specs.law_rows.specs.Shapes.{Shape}
+use Rattle.mc_arith.specs.model_machine.specs.Shapes.{Shape}
 use Rattle.prove_facts.specs.model_rules.specs.Rules.{Total}
 use Rattle.prove_facts.specs.model_prove.specs.Keys.{PlaceKey}
 use Rattle.prove_facts.specs.model_prove.specs.Reach.{Coarse}

@@ -1,6 +1,6 @@
 // What is known for sums after an act of a row.
 ghost use Rattle.std.specs.Prelude.{◌≡◌, ◌≤◌, ◌+◌, ℕ, List, [], None, length, vec_len, IfOk, IfSome};
-ghost use Rattle.prove_facts.specs.law_rows.specs.Shapes as shapes;
+ghost use Rattle.mc_arith.specs.model_machine.specs.Shapes as shapes;
 ghost use Rattle.prove_facts.specs.model_prove.specs.Keys.{PlaceKey};
 ghost use Rattle.prove_facts.specs.model_rules.specs.Rules.{Total};
 ghost use Rattle.prove_forms.specs.model_sums.specs.Moves as moves;
@@ -8,16 +8,16 @@ ghost use Rattle.prove_forms.specs.model_sums.specs.Origins as model;
 ghost use Rattle.prove_forms.specs.model_sums.specs.Sums as sums;
 ghost use Rattle.prove_forms.specs.model_sums.specs.Writes as writes;
 ghost use Rattle.prove_forms.specs.Origins.{origin_values, origins_value};
-ghost use Rattle.prove_rules.specs.Sums.{AreTotals};
+ghost use Rattle.lab_app_rules.specs.Sums.{AreTotals};
 ghost use Rattle.prove_scenes.specs.ShapeValues.{act_value};
 ghost use Rattle.prove_sums.specs.Values.{IsBefore, SumsAre};
 
 use crate::modes::is_commit;
 use crate::values::{Before, Sums};
 use crate::writes::unknowns;
+use lab_app_rules::Balance;
 use mc_arith::model_machine::Ins;
-use mc_base::NoMemory;
-use prove_events::Balance;
+use model_device::NoMemory;
 use prove_facts::push;
 use prove_forms::{Origin, Origins};
 use prove_scenes::{Act, Shape};

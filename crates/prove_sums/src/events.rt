@@ -4,21 +4,21 @@ ghost use Rattle.prove_facts.specs.model_rules.specs.Rules.{AppRules, SumLine, T
 ghost use Rattle.prove_forms.specs.model_sums.specs.Events as events;
 ghost use Rattle.prove_forms.specs.model_sums.specs.Forms as forms;
 ghost use Rattle.prove_forms.specs.model_sums.specs.Sums as sums;
-ghost use Rattle.prove_events.specs.declared.rules.Amount.TheVariants as amount;
-ghost use Rattle.prove_events.specs.Rules.{name_of};
+ghost use Rattle.lab_app_rules.specs.declared.rules.Amount.TheVariants as amount;
+ghost use Rattle.lab_app_rules.specs.Rules.{name_of};
 ghost use Rattle.prove_forms.specs.Forms.{OptionalIs, OptionalsAre};
 ghost use Rattle.prove_forms.specs.Origins.{origins_value};
-ghost use Rattle.prove_rules.specs.Fields.{amount_value};
-ghost use Rattle.prove_rules.specs.Sums.{AreSumLines, AreSums, AreTerms, AreTotals, IsTotal, move_of};
+ghost use Rattle.lab_app_rules.specs.Sums.{amount_value};
+ghost use Rattle.lab_app_rules.specs.Sums.{AreSumLines, AreSums, AreTerms, AreTotals, IsTotal, move_of};
 ghost use Rattle.prove_sums.specs.Lines.{IsLineOf, IsMove, IsTerm, off_by, offs_by};
 ghost use Rattle.prove_sums.specs.Values.{SumsAre};
 
 use crate::acts::origins_from;
 use crate::optional::{copied_if, negative_if, plus_if};
 use crate::values::{Sums, add_off, copied_mores, copied_offs, first_off};
+use lab_app_rules::{Amount, Balance, Effect, Named, On, Rules, SignedSum};
 use lab_match::fits;
-use mc_base::NoMemory;
-use prove_events::{Amount, Balance, Effect, Named, On, Rules, SignedSum};
+use model_device::NoMemory;
 use prove_forms::{Form, Origins, form_of};
 use prove_keys::{PUBLIC, PUBLIC_END};
 use std::alloc::Global;

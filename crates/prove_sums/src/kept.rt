@@ -5,7 +5,7 @@ ghost use Rattle.prove_sums.specs.Kept.{if_kept, is_kept};
 ghost use Rattle.prove_sums.specs.Values.{MoreIs, MoresAre, if_any};
 
 use crate::values::{More, add_any};
-use mc_base::NoMemory;
+use model_device::NoMemory;
 use prove_keys::PUBLIC;
 use prove_scenes::Scene;
 use prove_works::{Reach, some_reached};

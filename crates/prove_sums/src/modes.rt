@@ -4,7 +4,7 @@ ghost use Rattle.prove_facts.specs.model_rules.specs.Keeping as keeping;
 ghost use Rattle.prove_forms.specs.model_sums.specs.Events as events;
 
 use mc_arith::model_machine::Ins;
-use mc_prims::Primitive;
+use mc_isa::Primitive;
 
 // Whether a mode of protection keeps what waits.
 pub fn is_commit(mode: u8) -> bool

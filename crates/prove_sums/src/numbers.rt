@@ -1,6 +1,6 @@
 // Numbers in bytes.
 ghost use Rattle.std.specs.Prelude.{◌≡◌, ◌%◌, ◌^◌};
-ghost use Rattle.mc_base.specs.model_device.specs.Bytes.{num};
+ghost use Rattle.model_device.specs.Bytes.{num};
 ghost use Rattle.prove_forms.specs.model_sums.specs.Forms as forms;
 ghost use Rattle.prove_forms.specs.Forms.{FormIs};
 

@@ -4,7 +4,7 @@ ghost use Rattle.prove_forms.specs.model_sums.specs.Forms as forms;
 ghost use Rattle.prove_forms.specs.model_sums.specs.Writes as writes;
 ghost use Rattle.prove_forms.specs.Forms.{OptionalIs};
 
-use mc_base::NoMemory;
+use model_device::NoMemory;
 use prove_forms::Form;
 use std::alloc::Global;
 

@@ -5,14 +5,14 @@ ghost use Rattle.prove_forms.specs.model_sums.specs.Forms as forms;
 ghost use Rattle.prove_forms.specs.model_sums.specs.Sums as sums;
 ghost use Rattle.prove_forms.specs.model_sums.specs.Writes as writes;
 ghost use Rattle.prove_forms.specs.Forms.{OptionalIs};
-ghost use Rattle.prove_rules.specs.Sums.{AreTotals};
+ghost use Rattle.lab_app_rules.specs.Sums.{AreTotals};
 ghost use Rattle.prove_sums.specs.Values.{MoresAre, SumsAre};
 
 use crate::kept::{Kept, kept_mores};
 use crate::values::{More, Sums, copied_offs, evens};
 use crate::writes::is_block;
-use mc_base::NoMemory;
-use prove_events::Balance;
+use lab_app_rules::Balance;
+use model_device::NoMemory;
 use prove_facts::prepend;
 use prove_forms::Form;
 use std::alloc::Global;

@@ -4,12 +4,12 @@ ghost use Rattle.prove_facts.specs.model_rules.specs.Rules.{Total};
 ghost use Rattle.prove_forms.specs.model_sums.specs.Forms as forms;
 ghost use Rattle.prove_forms.specs.model_sums.specs.Sums as sums;
 ghost use Rattle.prove_forms.specs.Forms.{OptionalIs, OptionalsAre};
-ghost use Rattle.prove_rules.specs.Sums.{AreTotals};
+ghost use Rattle.lab_app_rules.specs.Sums.{AreTotals};
 ghost use Rattle.prove_sums.specs.Values.{MoreIs, MoresAre, SumsAre, if_any, sums_value};
 
 use crate::optional::copied_if;
-use mc_base::NoMemory;
-use prove_events::Balance;
+use lab_app_rules::Balance;
+use model_device::NoMemory;
 use prove_facts::push;
 use prove_forms::{Form, Origins};
 use std::alloc::Global;

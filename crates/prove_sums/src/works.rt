@@ -1,6 +1,6 @@
 // What is known for sums after bytes were copied, and after an operation.
 ghost use Rattle.std.specs.Prelude.{◌≡◌, ℕ, true, false, List, Option, None, IfOk, IfSome};
-ghost use Rattle.prove_facts.specs.law_rows.specs.Shapes as shapes;
+ghost use Rattle.mc_arith.specs.model_machine.specs.Shapes as shapes;
 ghost use Rattle.prove_facts.specs.model_prove.specs.Keys.{PlaceKey};
 ghost use Rattle.prove_facts.specs.model_rules.specs.Rules.{Total};
 ghost use Rattle.prove_forms.specs.model_sums.specs.Forms as forms;
@@ -11,7 +11,7 @@ ghost use Rattle.prove_forms.specs.model_sums.specs.Sums as sums;
 ghost use Rattle.prove_forms.specs.model_sums.specs.Writes as writes;
 ghost use Rattle.prove_forms.specs.Forms.{OptionalIs};
 ghost use Rattle.prove_forms.specs.Origins.{origins_value};
-ghost use Rattle.prove_rules.specs.Sums.{AreTotals};
+ghost use Rattle.lab_app_rules.specs.Sums.{AreTotals};
 ghost use Rattle.prove_scenes.specs.ShapeValues.{act_value, shape_value};
 ghost use Rattle.prove_scenes.specs.Works.{digitwise_value, operand_value, operation_value};
 ghost use Rattle.prove_sums.specs.Values.{IsBefore, SumsAre};
@@ -22,8 +22,8 @@ use crate::optional::negative_if;
 use crate::stack::{is_total_block, more_of};
 use crate::values::{Before, Sums};
 use crate::writes::unknowns;
-use mc_base::NoMemory;
-use prove_events::Balance;
+use lab_app_rules::Balance;
+use model_device::NoMemory;
 use prove_forms::{Form, Origins, form_of};
 use prove_scenes::{Act, Digitwise, Operand, Operation, Shape};
 use std::alloc::Global;

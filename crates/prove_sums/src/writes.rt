@@ -8,13 +8,13 @@ ghost use Rattle.prove_forms.specs.model_sums.specs.Sums as sums;
 ghost use Rattle.prove_forms.specs.model_sums.specs.Writes as writes;
 ghost use Rattle.prove_forms.specs.Forms.{OptionalIs, OptionalsAre};
 ghost use Rattle.prove_forms.specs.Origins.{origin_values};
-ghost use Rattle.prove_rules.specs.Sums.{AreTotals, IsTotal};
+ghost use Rattle.lab_app_rules.specs.Sums.{AreTotals, IsTotal};
 ghost use Rattle.prove_sums.specs.Values.{MoreIs, MoresAre, SumsAre, if_any};
 
 use crate::optional::{copied_if, negative_if, plus_if};
 use crate::values::{More, Sums, add_any, add_off, first_off};
-use mc_base::NoMemory;
-use prove_events::Balance;
+use lab_app_rules::Balance;
+use model_device::NoMemory;
 use prove_facts::push;
 use prove_forms::{Form, Origin};
 use std::alloc::Global;

@@ -1,15 +1,16 @@
 -- What a check of tables says, and what it means for the rules.
 use Rattle.std.proofs.Common.{◌≡◌, ◌∙◌, sym, subst, refl, arith}
 use Rattle.std.specs.Prelude.{Bool, true, false, List, [], ◌∷◌, length, vec_len, Result, Ok, Err, IfOk}
-use Rattle.mc_base.specs.declared.refusals.NoMemory.{NoMemory}
+use Rattle.model_device.specs.declared.memory.NoMemory.{NoMemory}
 use Rattle.law_sum_plays.specs.Laws.{ClosedSumsLaw}
 use Rattle.law_sum_plays.specs.model_prove.specs.Keys.{Tables}
-use Rattle.law_sum_plays.specs.model_prove.specs.Tables.{ClosedLaw, is_closed}
-use Rattle.law_sum_plays.specs.model_rules.specs.Law.{AreKept}
+use Rattle.law_sum_plays.specs.law_prove_closed.specs.ClosedLaw.{ClosedLaw}
+use Rattle.law_sum_plays.specs.model_prove.specs.Tables.{is_closed}
+use Rattle.law_sum_plays.specs.law_rules.specs.Law.{AreKept}
 use Rattle.law_sum_plays.specs.model_rules.specs.Rules.{AppRules, Target, Total}
-use Rattle.prove_events.specs.declared.rules.Rules.{Rules}
-use Rattle.prove_events.specs.Rules.{AreRules}
-use Rattle.prove_rules.specs.Sums.{AreSums}
+use Rattle.lab_app_rules.specs.declared.rules.Rules.{Rules}
+use Rattle.lab_app_rules.specs.Rules.{AreRules}
+use Rattle.lab_app_rules.specs.Sums.{AreSums}
 use Rattle.prove_tables.specs.declared.proving.Verdict.{Verdict}
 use Rattle.prove_tables.specs.Closed.{AreProved, HasSums, WithoutSums, WithSums}
 

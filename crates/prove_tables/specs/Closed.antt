@@ -8,8 +8,8 @@ use Rattle.law_sum_plays.specs.model_prove.specs.Tables.{is_closed}
 use Rattle.law_sum_plays.specs.model_sums.specs.Sums.{SumsTable}
 use Rattle.law_sum_plays.specs.model_sums.specs.Closed.{sums_closed}
 use Rattle.prove_closed.specs.Classes.{lists_of}
-use Rattle.prove_events.specs.Rules.{name_of}
-use Rattle.prove_events.specs.declared.rules.Rules.{Rules}
+use Rattle.lab_app_rules.specs.Rules.{name_of}
+use Rattle.lab_app_rules.specs.declared.rules.Rules.{Rules}
 use Rattle.prove_keys.specs.Tables.{tables_of}
 use Rattle.prove_keys.specs.declared.tables.Tables as found
 

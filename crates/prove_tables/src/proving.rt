@@ -1,19 +1,19 @@
 // The proof of an application's rules.
 ghost use Rattle.std.specs.Prelude.{◌≡◌, true, false, IfOk};
 ghost use Rattle.law_sum_plays.specs.Laws.{ClosedSumsLaw};
-ghost use Rattle.law_sum_plays.specs.model_prove.specs.Tables.{ClosedLaw};
-ghost use Rattle.law_sum_plays.specs.model_rules.specs.Law.{AreKept};
+ghost use Rattle.law_sum_plays.specs.law_prove_closed.specs.ClosedLaw.{ClosedLaw};
+ghost use Rattle.law_sum_plays.specs.law_rules.specs.Law.{AreKept};
 ghost use Rattle.law_sum_plays.specs.model_rules.specs.Rules.{AppRules, Target};
-ghost use Rattle.prove_events.specs.Rules.{AreRules};
-ghost use Rattle.prove_rules.specs.Sums.{AreSums};
+ghost use Rattle.lab_app_rules.specs.Rules.{AreRules};
+ghost use Rattle.lab_app_rules.specs.Sums.{AreSums};
 ghost use Rattle.prove_tables.specs.Closed.{AreProved};
 ghost use Rattle.prove_report.specs.Reports.{IsReport};
 
 use crate::closing::are_proved;
+use lab_app_rules::{Balance, Load, Rules};
 use law_sum_plays::closed_sums_keep_rules;
 use law_sum_plays::law_prove_closed::closed_tables_keep_rules;
-use mc_base::NoMemory;
-use prove_events::{Balance, Load, Rules};
+use model_device::NoMemory;
 use prove_facts::{Facts, Values, mask, push};
 use prove_keys::MomentKey;
 use prove_report::{add_verdict, break_ranges, text_of_tables};

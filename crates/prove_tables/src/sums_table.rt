@@ -1,5 +1,5 @@
 // What the search knows for sums at each place, in the form in which it is checked.
-use mc_base::NoMemory;
+use model_device::NoMemory;
 use prove_facts as searched;
 use prove_facts::push;
 use prove_forms::{Form, Listed, Origin, Origins, Term};

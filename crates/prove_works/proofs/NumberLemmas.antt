@@ -2,9 +2,9 @@
 use Rattle.std.proofs.Common.{◌≡◌, ◌∙◌, ℕ, ◌+◌, ◌-◌, ◌*◌, ◌^◌, ◌<◌, ◌≤◌, List, length, get_or, drop, refl, sym, ap, arith}
 use Rattle.std.proofs.Math.Nat.{pow-le-pow_right}
 use Rattle.std.proofs.lemmas.List.{drop_all}
-use Rattle.mc_base.specs.model_device.specs.Bytes.{num, AreBytes}
-use Rattle.mc_arith.proofs.BlockLemmas.{num_below, pow_positive}
-use Rattle.mc_arith.proofs.StepLemmas.{num_drop, pow_at}
+use Rattle.model_device.specs.Bytes.{num, AreBytes}
+use Rattle.mc_arith.specs.law_rows.proofs.BlockLemmas.{num_below, pow_positive}
+use Rattle.mc_arith.specs.law_rows.proofs.StepLemmas.{num_drop, pow_at}
 
 gathered : (n p b r t : ℕ) → n * (256 * p) + (b * p + r) ≡ t → (n * 256 + b) * p + r ≡ t
 gathered n p b r t h = grind (arith, h)

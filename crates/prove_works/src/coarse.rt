@@ -14,7 +14,7 @@ ghost use Rattle.prove_works.specs.Reaches.{reach_value};
 use crate::hits::{calls_hit, facts_not_reached, last_not_reached};
 use crate::reach::{Reach, reach_of, some_reached};
 use crate::rows::{add_flagged, one};
-use mc_base::NoMemory;
+use model_device::NoMemory;
 use prove_facts::{Facts, push};
 use prove_keys::Call;
 use prove_scenes::{Coarse, Scene};

@@ -10,7 +10,7 @@ ghost use Rattle.prove_scenes.specs.Scenes.{frame_to};
 ghost use Rattle.prove_works.specs.Reaches.{reach_value, without_reached, calls_from};
 
 use crate::reach::{Reach, is_reached, some_reached};
-use mc_base::NoMemory;
+use model_device::NoMemory;
 use prove_facts::{Facts, Values, push};
 use prove_keys::{Call, Last, LastSaid, Order};
 use prove_scenes::Scene;

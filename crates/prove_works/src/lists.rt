@@ -3,7 +3,7 @@ ghost use Rattle.std.specs.Prelude.{◌≡◌, ℕ, ◌<◌, false, cond, [], �
 ghost use Rattle.prove_facts.specs.model_prove.specs.Sets.{is_in};
 ghost use Rattle.prove_facts.specs.Sets.{set_of, has_value};
 
-use mc_base::NoMemory;
+use model_device::NoMemory;
 use prove_facts::{Values, push};
 use std::alloc::Global;
 

@@ -7,7 +7,7 @@ ghost use Rattle.prove_scenes.specs.Works.{digitwise_value, operand_value};
 ghost use Rattle.prove_works.specs.Narrowing.{left_if, sets_narrowed};
 ghost use Rattle.prove_works.specs.Searches.{sets_of};
 
-use mc_base::NoMemory;
+use model_device::NoMemory;
 use prove_facts::{Facts, Values};
 use prove_scenes::{Digitwise, Operand};
 

@@ -1,6 +1,6 @@
 // The numbers that lead to flags, when a constant is added or subtracted, or a number tested.
 ghost use Rattle.std.specs.Prelude.{◌≡◌, ℕ, ◌+◌, ◌-◌, ◌<◌, ◌≤◌, ◌==◌, Bool, true, false, cond, length, IfSome};
-ghost use Rattle.mc_base.specs.model_device.specs.Bytes.{num};
+ghost use Rattle.model_device.specs.Bytes.{num};
 ghost use Rattle.prove_facts.specs.model_prove.specs.Compares as compares;
 ghost use Rattle.prove_facts.specs.model_prove.specs.Steps as steps;
 ghost use Rattle.prove_keys.specs.Compares.{said};

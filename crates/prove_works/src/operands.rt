@@ -1,6 +1,6 @@
 // The second operand of an operation, and what the last compare has to do with it.
 ghost use Rattle.std.specs.Prelude.{◌≡◌, ◌||◌, not, Some, IfSome, IfOk};
-ghost use Rattle.mc_base.specs.model_device.specs.Bytes.{num};
+ghost use Rattle.model_device.specs.Bytes.{num};
 ghost use Rattle.prove_facts.specs.model_prove.specs.Compares as compares;
 ghost use Rattle.prove_facts.specs.model_prove.specs.Steps as steps;
 ghost use Rattle.prove_keys.specs.Compares.{said};
@@ -9,7 +9,7 @@ ghost use Rattle.prove_works.specs.Numbers.{flags_of};
 ghost use Rattle.prove_works.specs.Searches.{sets_of};
 
 use crate::numbers::{MOST, compare_left, is_ordered, span_of};
-use mc_base::NoMemory;
+use model_device::NoMemory;
 use prove_facts::{Facts, Values};
 use prove_keys::LastSaid;
 use prove_scenes::{Digitwise, Operand, Operation};

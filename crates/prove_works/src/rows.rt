@@ -13,7 +13,7 @@ ghost use Rattle.prove_works.specs.Numbers.{flags_of};
 
 use crate::searched::{lowered, searched};
 use crate::worked::works_to;
-use mc_base::NoMemory;
+use model_device::NoMemory;
 use prove_facts::{Values, push};
 use prove_scenes::{Shape, Work};
 use prove_spots::{

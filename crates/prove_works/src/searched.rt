@@ -10,7 +10,7 @@ ghost use Rattle.prove_works.specs.Searches.{sets_of};
 
 use crate::lists::list_of;
 use crate::searches::{each_index, some_pass};
-use mc_base::NoMemory;
+use model_device::NoMemory;
 use prove_facts::{Values, push};
 use prove_spots::{Spot, values_from};
 use std::alloc::Global;

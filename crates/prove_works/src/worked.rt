@@ -14,7 +14,7 @@ ghost use Rattle.prove_works.specs.Searches.{sets_of};
 
 use crate::narrowing::operands_narrowed;
 use crate::operands::{allows, last_after, operand_values};
-use mc_base::NoMemory;
+use model_device::NoMemory;
 use prove_digits::{Digit, Way, ways};
 use prove_facts::{Facts, Values, push};
 use prove_keys::LastSaid;

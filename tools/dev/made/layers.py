@@ -7,7 +7,8 @@ way down from it inside the group, and a line leads down to each crate of the gr
 group that one needs. Both leave out what is needed by way of another one anyway. A group that needs a crate of one further down in
 crates.txt has a dashed line to it. With --check nothing is written, and the script ends with 1 if the picture is not up to date, or if crates.txt
 lists a crate of definitions or laws that another listed crate has below it: it is cited through that one. An attribute of a tactic can cite
-listed crates alone, so what one names stays.
+listed crates alone, and so can code, so what they name stays. It ends with 1, too, if a crate of definitions lists a law or code, or a crate of
+laws lists code.
 
 It needs Python 3.9.
 """
@@ -65,10 +66,11 @@ def direct(needs):
     return {name: [it for it in needed if not any(it in under[other] for other in needed)] for name, needed in needs.items()}
 
 
-def named_by_attributes(crate):
-    """The crates whose definitions or lemmas an attribute of a tactic names in a crate."""
+def named_in_code(crate):
+    """The crates whose definitions or lemmas an attribute of a tactic names in a crate, and those whose types and functions it uses."""
     code = "\n".join(it.read_text(encoding="utf-8") for it in sorted((TOP / "crates" / crate / "src").rglob("*.rt")))
-    return {name for attribute in re.findall(r"#!?\[tactic\((.*)\)\]", code) for name in re.findall(r"(\w+)::(?:specs|proofs)::", attribute)}
+    cited = {name for attribute in re.findall(r"#!?\[tactic\((.*)\)\]", code) for name in re.findall(r"(\w+)::(?:specs|proofs)::", attribute)}
+    return cited | set(re.findall(r"^\s*(?:pub )?use (\w+)(?:::|;)", code, re.M))
 
 
 def superfluous(crates):
@@ -77,9 +79,20 @@ def superfluous(crates):
     least = direct(needs)
     for name, needed in needs.items():
         passed = [it for it in needed if it not in least[name] and it.startswith(("model_", "law_"))]
-        found = set(passed) - named_by_attributes(name) if passed else set()
+        found = set(passed) - named_in_code(name) if passed else set()
         if found:
             yield name, sorted(found)
+
+
+def upside_down(crates):
+    """What crates.txt lists and must not: of a crate of definitions a law or code, and of a crate of laws code."""
+    for members in crates.values():
+        for name, needed in members.items():
+            group = name.partition("_")[0]
+            allowed = {"model": ("model_",), "law": ("model_", "law_")}.get(group)
+            found = [it for it in needed if not it.startswith(allowed)] if allowed else []
+            if found:
+                yield name, found
 
 
 def levels(needs):
@@ -222,4 +235,7 @@ def main(given_words):
     listed = list(superfluous(groups())) if given.check else []
     for name, found in listed:
         print(f"crates.txt: {name} is to cite {', '.join(found)} through another crate of its line", file=sys.stderr)
-    return 1 if listed else 0
+    turned = list(upside_down(groups())) if given.check else []
+    for name, found in turned:
+        print(f"crates.txt: {name} must not list {', '.join(found)}: definitions list definitions, laws list definitions and laws", file=sys.stderr)
+    return 1 if listed or turned else 0

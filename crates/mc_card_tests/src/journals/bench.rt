@@ -4,9 +4,9 @@ ghost use Rattle.model_device.specs.Stopped.{IsAtomic};
 
 use crate::journals::rule::{Journal, ZERO, old_word, target, value, word_after};
 use arrayvec::ArrayVec;
-use mc_base::{Stop, Word};
 use mc_gate::{Recover, is_gate_open, is_within};
 use mc_nvm::Bench;
+use mc_words::{Stop, Word};
 
 /// The answer of a call of a journal.
 #[derive(Clone, Copy, Debug, PartialEq, Eq, Drop)]

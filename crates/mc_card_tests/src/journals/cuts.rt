@@ -1,7 +1,7 @@
 use crate::journals::bench::{Answer, prepare, recover, stop_at, word_of, write, wrong_place};
 use crate::journals::rule::{Journal, ZERO, device_write};
-use mc_base::{NoMemory, Stop, Word};
 use mc_nvm::{SimNvm, TapeNvm};
+use mc_words::{NoMemory, Stop, Word};
 use std::alloc::Global;
 use std::test::Fail;
 

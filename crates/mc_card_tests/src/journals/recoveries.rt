@@ -1,7 +1,7 @@
 use crate::journals::bench::{Answer, prepare, recover, stop_at, write, wrong_place};
 use crate::journals::rule::{Journal, ZERO, is_tried, recovery_write};
-use mc_base::{Stop, Word};
 use mc_nvm::SimNvm;
+use mc_words::{Stop, Word};
 use std::test::Fail;
 
 /// The answer of an atomic write that was stopped, those of its recovery that was stopped too and of the two

@@ -1,4 +1,4 @@
-use mc_base::Word;
+use mc_words::Word;
 
 pub const ZERO: Word = [0; 8];
 

@@ -1,7 +1,7 @@
 use crate::journals::bench::{Answer, prepare, recover, write, wrong_place};
 use crate::journals::rule::{Journal, ZERO, device_write, is_tried, recovery_write};
-use mc_base::{NoMemory, Stop};
 use mc_nvm::{Entry, TapeNvm};
+use mc_words::{NoMemory, Stop};
 use std::alloc::Global;
 use std::test::Fail;
 

@@ -5,9 +5,9 @@ ghost use Rattle.mc_bank.specs.Memory.{memory_state, memory_room};
 
 use mc_apdu::parse;
 use mc_bank::{Bank, MemBank, Part, Site, Sizes};
-use mc_base::{Aid, Steps};
 use mc_machine::{Outcome, run};
 use mc_segs::Session;
+use mc_words::{Aid, Steps};
 use std::alloc::Global;
 use std::sync::ledger::Ledger;
 

@@ -4,9 +4,9 @@ ghost use Rattle.std.specs.Prelude.{◌≡◌, ◌<◌};
 use crate::machines::card::{Fault, Unit, command, load, static_bytes};
 use mc_apdu::Reply;
 use mc_bank::MemBank;
-use mc_base::{Aid, Steps};
 use mc_machine::Outcome;
 use mc_segs::Abend;
+use mc_words::{Aid, Steps};
 use std::alloc::Global;
 use std::sync::ledger::{Blank, Ledger};
 

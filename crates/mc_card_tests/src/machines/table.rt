@@ -1,9 +1,9 @@
 // The worked rows of commands to single applications, and of chains of them.
 use crate::machines::card::Fault;
 use crate::machines::rows::{Answer, App, Row, lone, wrong_at};
-use mc_base::NoMemory;
 use mc_machine::Outcome;
 use mc_segs::Abend;
+use mc_words::NoMemory;
 use std::alloc::Global;
 use std::marker::Brand;
 use std::sync::ledger::Blank;

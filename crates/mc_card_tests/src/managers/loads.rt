@@ -5,8 +5,8 @@ ghost use Rattle.mc_manager.specs.ManagerState.{view_of, ManagerFits};
 use crate::managers::rig::{Want, comes_to};
 use arrayvec::ArrayVec;
 use mc_bank::Bank;
-use mc_base::Steps;
 use mc_manager::Manager;
+use mc_words::Steps;
 use std::sync::ledger::Ledger;
 
 const DONE: Want = Want::Status(0x9000);

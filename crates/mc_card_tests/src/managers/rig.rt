@@ -4,8 +4,8 @@ ghost use Rattle.mc_manager.specs.ManagerState.{view_of, ManagerFits};
 use hex::decode;
 use mc_apdu::{Reply, parse};
 use mc_bank::{Bank, Slot};
-use mc_base::{Aid, Steps};
 use mc_manager::{Manager, Routed};
+use mc_words::{Aid, Steps};
 use std::alloc::Global;
 use std::sync::ledger::Ledger;
 

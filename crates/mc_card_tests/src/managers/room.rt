@@ -2,11 +2,11 @@
 ghost use Rattle.std.specs.Prelude.{◌≡◌, ◌<◌};
 
 use crate::managers::rig::{Want, first_wrong};
-use mc_base::{NoMemory, Steps};
 use mc_blocks::format_words;
 use mc_manager::Manager;
 use mc_nvm::{Bench, Nvm, SimNvm};
 use mc_store::Store;
+use mc_words::{NoMemory, Steps};
 use std::alloc::Global;
 use std::marker::Brand;
 use std::sync::ledger::{Blank, Ledger};

@@ -1,10 +1,10 @@
 // Devices with words set by hand, and their power-ups.
 ghost use Rattle.std.specs.Prelude.{◌≡◌};
 
-use mc_base::{Stop, Word};
 use mc_blocks::{Cause, Unusable};
 use mc_nvm::Bench;
 use mc_store::{Store, Up};
+use mc_words::{Stop, Word};
 
 /// The result of a power-up: a card and the number of its writes, a stop, or no card.
 #[derive(Clone, Copy, Debug, PartialEq, Eq, Drop)]

@@ -3,7 +3,7 @@ ghost use Rattle.std.specs.Prelude.{◌≡◌, ◌≤◌, ◌<◌, false, true, 
 ghost use Rattle.mc_bank.specs.Bank.{FitsLimits, IsGoodSite};
 
 use mc_bank::{Bank, OpenRefusal, Part, Site, Sizes, Slot};
-use mc_base::{Aid, Steps, Stop, Word};
+use mc_words::{Aid, Steps, Stop, Word};
 use std::sync::ledger::Ledger;
 
 /// An application: its name, its code, the data that its static segment begins with, and the size of that segment. Its

@@ -4,9 +4,9 @@ ghost use Rattle.std.specs.Prelude.{◌≡◌, false, None, OnOk};
 use crate::stores::bench::{Power, power_of};
 use crate::stores::card::{Came, Unit, chained, commit, delete, first_wrong, load};
 use mc_bank::Bank;
-use mc_base::{NoMemory, Steps, Stop, Word};
 use mc_nvm::Bench;
 use mc_store::Store;
+use mc_words::{NoMemory, Steps, Stop, Word};
 use std::alloc::Global;
 use std::sync::ledger::Ledger;
 

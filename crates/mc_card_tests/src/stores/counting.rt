@@ -1,6 +1,6 @@
 // A device in memory that counts its reads.
-use mc_base::{Stop, Word};
 use mc_nvm::{Nvm, SimNvm};
+use mc_words::{Stop, Word};
 use std::cell::Cell;
 
 /// A device that counts its reads in a cell.

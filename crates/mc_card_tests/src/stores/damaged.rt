@@ -1,8 +1,8 @@
 // Words that are not a card, and words that are.
 use crate::stores::bench::{Power, format, power_up, set_number};
-use mc_base::NoMemory;
 use mc_blocks::Cause;
 use mc_nvm::{DEVICE_WORDS, SimNvm};
+use mc_words::NoMemory;
 use std::alloc::Global;
 use std::test::Fail;
 

@@ -1,7 +1,7 @@
 // The words of a device of 256 words, saved and restored, and the writes on a tape.
 use crate::stores::bench::set;
-use mc_base::Word;
 use mc_nvm::{Bench, Nvm, TapeNvm};
+use mc_words::Word;
 
 /// The words of a device of 256 words.
 pub type Image = [Word; 256];

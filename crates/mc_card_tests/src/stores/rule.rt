@@ -1,5 +1,5 @@
 // The rule of stops, written out by hand.
-use mc_base::Word;
+use mc_words::Word;
 
 pub const ZERO: Word = [0; 8];
 

@@ -1,10 +1,9 @@
 ghost use Rattle.std.specs.Prelude.{◌≡◌, ◌^◌, ◌<◌, length};
 
-use mc_base::{NoMemory, Steps};
+use mc_base::{MemSink, NoMemory, Steps};
 use mc_deck::read_deck;
 use mc_lab::{Mark, remarks, sweep};
 use mc_script::JobFault;
-use mc_streams::MemSink;
 use std::alloc::Global;
 use std::marker::Brand;
 use std::sync::ledger::{Blank, Ledger};

@@ -13,10 +13,10 @@ loop-i-init g c =
     let state = g.N.Nvm.state in
     let bench = g.N.Bench.bench in
     let first = start (state c.args.device).words in
-    let counting = counting_start state bench first c.args.deck.now c.new-player.result c.args.counter.now c.args.steps.now c.new-player.ensures.at in
+    let counting = counting_start state bench first c.args.deck.now c.new-player.result c.args.counter.now c.new-player.ensures.at in
     record {
       counting =
-          subst (λ d. Counting state bench first c.args.deck.now (record { device = state d; bench = bench d }) c.args.counter.now c.args.steps.now c.args.deck.now c.new-player.result c.args.counter.now c.args.steps.now) c.new-player.ensures.device counting;
+          subst (λ d. Counting state bench first c.args.deck.now (record { device = state d; bench = bench d }) c.args.counter.now c.args.deck.now c.new-player.result c.args.counter.now) c.new-player.ensures.device counting;
       keeps_device = subst (λ d. g.N.Nvm.same c.args.device d) (sym c.new-player.ensures.device) (g.met.N.Nvm.itself c.args.device);
     }
 
@@ -29,10 +29,10 @@ loop-i-preserved g c =
     let line = c.line-number.result in
     let first = start (state c.args.device).words in
     let here = next_line deck c.loop-i.i line.0 (line_of line.1) c.line-number.ensures.line in
-    let h = subst (λ (left : List (ℕ × DeckLine)). Counting state bench first deck a c.args.counter.now c.args.steps.now left c.loop-i.player c.loop-i.counter c.loop-i.steps) here c.loop-i.invariant.counting in
+    let h = subst (λ (left : List (ℕ × DeckLine)). Counting state bench first deck a c.args.counter.now left c.loop-i.player c.loop-i.counter) here c.loop-i.invariant.counting in
     record {
       counting =
-          counting_on state bench first deck a c.args.counter.now (drop (c.loop-i.i + 1) deck) line.0 (line_of line.1) c.loop-i.player c.line-answer.new.self c.loop-i.counter c.line-answer.new.runner c.line-answer.result c.args.steps.now c.loop-i.steps c.line-answer.new.steps h c.line-answer.ensures.done c.line-answer.ensures.steps;
+          counting_on state bench first deck a c.args.counter.now (drop (c.loop-i.i + 1) deck) line.0 (line_of line.1) c.loop-i.player c.line-answer.new.self c.loop-i.counter c.line-answer.new.runner c.line-answer.result h c.line-answer.ensures.done;
       keeps_device = g.met.N.Nvm.onward _ _ _ c.loop-i.invariant.keeps_device c.line-answer.ensures.keeps_device;
     }
 
@@ -45,10 +45,10 @@ returns-clause-counts g c =
     let first = start (state c.args.device).words in
     let all : length deck ≤ c.loop-i.i = search rules in
     let counts =
-    counting_end state bench first deck a c.args.counter.now c.loop-i.player c.loop-i.counter c.args.steps.now c.loop-i.steps
-    (subst (λ (left : List (ℕ × DeckLine)). Counting state bench first deck a c.args.counter.now c.args.steps.now left c.loop-i.player c.loop-i.counter c.loop-i.steps) (no_line deck c.loop-i.i all) c.loop-i.invariant.counting)
+    counting_end state bench first deck a c.args.counter.now c.loop-i.player c.loop-i.counter
+    (subst (λ (left : List (ℕ × DeckLine)). Counting state bench first deck a c.args.counter.now left c.loop-i.player c.loop-i.counter) (no_line deck c.loop-i.i all) c.loop-i.invariant.counting)
     in
-    subst (λ d. CountsPlay first deck a (record { device = state d; bench = bench d }) c.args.counter.now c.loop-i.counter c.args.steps.now c.loop-i.steps) (sym c.into_dev.ensures) counts
+    subst (λ d. CountsPlay first deck a (record { device = state d; bench = bench d }) c.args.counter.now c.loop-i.counter) (sym c.into_dev.ensures) counts
 
 pub line-answer-requires-clause-playing : goal.line-answer-requires-clause-playing
 line-answer-requires-clause-playing g c = (c.loop-i.invariant.counting.here, c.loop-i.invariant.counting.at)

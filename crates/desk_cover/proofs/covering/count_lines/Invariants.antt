@@ -8,6 +8,6 @@ use Rattle.desk_cover.proofs.covering.count_lines.Given as goal
 abbrev pub invariant-loop-i : goal.invariant-loop-i
 invariant-loop-i g l =
     record {
-      counting : Counting g.N.Nvm.state g.N.Bench.bench (start (g.N.Nvm.state l.fn.device).words) l.deck (record { device = g.N.Nvm.state l.fn.device; bench = g.N.Bench.bench l.fn.device }) l.fn.counter l.fn.steps (drop l.i l.deck) l.player l.counter l.steps;
+      counting : Counting g.N.Nvm.state g.N.Bench.bench (start (g.N.Nvm.state l.fn.device).words) l.deck (record { device = g.N.Nvm.state l.fn.device; bench = g.N.Bench.bench l.fn.device }) l.fn.counter (drop l.i l.deck) l.player l.counter;
       keeps_device : g.N.Nvm.same l.fn.device (device_of l.player);
     }

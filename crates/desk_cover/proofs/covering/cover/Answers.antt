@@ -18,7 +18,7 @@ returns-in-Ok-put_record-clause-covers g c =
     subst (λ (ls : List LineCount). Puts x (record_text name ls) (Ok tt) y) c.as_slice.ensures.value
     (subst (λ (r : Result (Unit {0}) WriteFault). Puts x (record_text name c.as_slice.result.now) r y) c.in-Ok-put_record.is c.put_record.ensures)
     in
-    covers_deck name c.args.sections.now c.args.deck.now a x (Ok tt) _ _ y y _ c.count_lines-dev.new.counter c.args.steps.now c.count_lines-dev.new.steps (c.in-Ok.ensures ∙ ap (new_lines 0) c.all.ensures) refl c.count_lines-dev.ensures.counts puts c.count_lines-dev.ensures.image c.count_lines-dev.ensures.lines (search rules) (search rules) refl refl
+    covers_deck name c.args.sections.now c.args.deck.now a x (Ok tt) _ _ y y _ c.count_lines-dev.new.counter (c.in-Ok.ensures ∙ ap (new_lines 0) c.all.ensures) refl c.count_lines-dev.ensures.counts puts c.count_lines-dev.ensures.image c.count_lines-dev.ensures.lines (search rules) (search rules) refl refl
 
 pub returns-clause-covers : goal.returns-clause-covers
 returns-clause-covers g c =
@@ -32,5 +32,5 @@ returns-clause-covers g c =
     (subst (λ (r : Result (Unit {0}) WriteFault). Puts x (record_text name c.as_slice.result.now) r y) c.in-Err.is c.put_record.ensures)
     in (
       e,
-      covers_deck name c.args.sections.now c.args.deck.now a x (Err e) _ _ y y _ c.count_lines-dev.new.counter c.args.steps.now c.count_lines-dev.new.steps (c.in-Ok.ensures ∙ ap (new_lines 0) c.all.ensures) refl c.count_lines-dev.ensures.counts puts c.count_lines-dev.ensures.image c.count_lines-dev.ensures.lines (search rules) (search rules) refl refl,
+      covers_deck name c.args.sections.now c.args.deck.now a x (Err e) _ _ y y _ c.count_lines-dev.new.counter (c.in-Ok.ensures ∙ ap (new_lines 0) c.all.ensures) refl c.count_lines-dev.ensures.counts puts c.count_lines-dev.ensures.image c.count_lines-dev.ensures.lines (search rules) (search rules) refl refl,
     )

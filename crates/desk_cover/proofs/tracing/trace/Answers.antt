@@ -16,5 +16,4 @@ returns g c =
     let plays = rw (c.new-tracer.ensures.sections, c.new-tracer.ensures.out) at from in
     record {
       plays = deck_of _ _ _ _ _ _ _ _ _ (play_deck _ _ _ _ _ _ _ _ _ _ _ _ plays e.image e.lines (search (rules, same, ended)) (search (rules, same, ended)) (search (rules, same, ended)) (search (rules, same, ended)) (search (rules, same, ended)));
-      steps = play_deck _ _ _ _ _ _ _ _ _ _ _ _ plays e.image e.lines (search (rules, same, ended)) (search (rules, same, ended)) (search (rules, same, ended)) (search (rules, same, ended)) (search (rules, same, ended));
     }

@@ -1,6 +1,6 @@
 use Rattle.std.proofs.Common.{◌≡◌, true, false, rules}
 use Rattle.mc_text.specs.model_text.specs.Text.{fields}
-use Rattle.mc_deck.specs.model_play.specs.DeckGrammar.{is_end}
+use Rattle.mc_text.specs.model_text.specs.Text.{is_end}
 use Rattle.desk_draft.proofs.DraftLemmas.{end_turned}
 use Rattle.desk_draft.proofs.WrittenLemmas.{end_keeps, line_keeps}
 use Rattle.desk_draft.proofs.draft.within.Goals as goal

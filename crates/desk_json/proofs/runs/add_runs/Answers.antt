@@ -2,7 +2,8 @@ use Rattle.std.proofs.Common.{◌≡◌, ◌<◌, ℕ, ◌+◌, ◌++◌, ◌==�
 use Rattle.std.specs.Prelude.{min}
 use Rattle.std.proofs.lemmas.List.{drop_more}
 use Rattle.std.proofs.Math.ListN.{drop_of_length-le}
-use Rattle.desk_json.specs.Json.{any_run, changes}
+use Rattle.desk_json.specs.Json.{any_run}
+use Rattle.law_steps.specs.Runs.{changes}
 use Rattle.desk_json.specs.Runs.{any_after, byte_text, rest_text}
 use Rattle.desk_json.specs.Sheets.{adds_as, adds_on}
 use Rattle.desk_json.proofs.RunLemmas.{next_any, next_one, next_one_any, next_two, no_old, no_old_any, whole_text}

@@ -1,6 +1,7 @@
 use Rattle.std.proofs.Common.{◌≡◌, ◌+◌, [], false, drop}
 use Rattle.desk_json.specs.declared.sheet.Sheet.{Sheet}
-use Rattle.desk_json.specs.Json.{any_run, changes}
+use Rattle.desk_json.specs.Json.{any_run}
+use Rattle.law_steps.specs.Runs.{changes}
 use Rattle.desk_json.specs.Runs.{rest_text}
 use Rattle.desk_json.specs.Sheets.{Adds}
 use Rattle.desk_json.proofs.runs.add_runs.Given as goal

@@ -1,6 +1,6 @@
 use Rattle.std.proofs.Common.{ℕ, ◌+◌, List, ◌≤◌, drop, length, sym, ap, subst, rules, ◌∙◌}
-use Rattle.law_steps.specs.model_play.specs.DeckGrammar.{DeckLine}
-use Rattle.law_steps.specs.model_play.specs.Play.{start}
+use Rattle.mc_deck.specs.model_play.specs.DeckGrammar.{DeckLine}
+use Rattle.mc_deck.specs.model_play.specs.Play.{start}
 use Rattle.mc_deck.specs.Lines.{line_of}
 use Rattle.mc_script.specs.Plays.{Bench}
 use Rattle.mc_script.proofs.DeckLemmas.{next_line, no_line}
@@ -14,10 +14,10 @@ loop-i-init g c =
     let state = g.N.Nvm.state in
     let bench = g.N.Bench.bench in
     let first = start (state c.args.device).words in
-    let recording = recording_start g.T.Sink state bench c.args.text.now first c.args.deck.now c.new-player.result c.args.recorder.now c.args.steps.now c.new-player.ensures.at in
+    let recording = recording_start g.T.Sink state bench c.args.text.now first c.args.deck.now c.new-player.result c.args.recorder.now c.new-player.ensures.at in
     record {
       recording =
-          subst (λ d. Recording g.T.Sink state bench c.args.text.now first c.args.deck.now (record { device = state d; bench = bench d }) c.args.recorder.now c.args.steps.now c.args.deck.now c.new-player.result c.args.recorder.now c.args.steps.now) c.new-player.ensures.device recording;
+          subst (λ d. Recording g.T.Sink state bench c.args.text.now first c.args.deck.now (record { device = state d; bench = bench d }) c.args.recorder.now c.args.deck.now c.new-player.result c.args.recorder.now) c.new-player.ensures.device recording;
       stands = c.new-statements.ensures.stands;
       text = c.new-statements.ensures.text;
       keeps_device = subst (λ d. g.N.Nvm.same c.args.device d) (sym c.new-player.ensures.device) (g.met.N.Nvm.itself c.args.device);
@@ -32,13 +32,13 @@ loop-i-preserved g c =
     let line = c.line-number.result in
     let first = start (state c.args.device).words in
     let here = next_line deck c.loop-i.i line.0 (line_of line.1) c.line-number.ensures.line in
-    let h = subst (λ (left : List (ℕ × DeckLine)). Recording g.T.Sink state bench c.args.text.now first deck a c.args.recorder.now c.args.steps.now left c.loop-i.player c.loop-i.recorder c.loop-i.steps) here c.loop-i.invariant.recording in
+    let h = subst (λ (left : List (ℕ × DeckLine)). Recording g.T.Sink state bench c.args.text.now first deck a c.args.recorder.now left c.loop-i.player c.loop-i.recorder) here c.loop-i.invariant.recording in
     let begun = c.begin_line.ensures in
     record {
       recording =
-          recording_on g.T.Sink state bench c.args.text.now first deck a c.args.recorder.now (drop (c.loop-i.i + 1) deck) line.0 (line_of line.1) c.loop-i.player c.line-answer.new.self c.loop-i.recorder c.begin_line.new.self c.line-answer.new.runner c.record_line.new.recorder c.line-answer.result c.statement-statement.result.now (c.record_line.ensures.puts).0 c.args.steps.now c.loop-i.steps c.line-answer.new.steps h
+          recording_on g.T.Sink state bench c.args.text.now first deck a c.args.recorder.now (drop (c.loop-i.i + 1) deck) line.0 (line_of line.1) c.loop-i.player c.line-answer.new.self c.loop-i.recorder c.begin_line.new.self c.line-answer.new.runner c.record_line.new.recorder c.line-answer.result c.statement-statement.result.now (c.record_line.ensures.puts).0 h
           (c.statement-statement.ensures.value ∙ ap (λ (t : List ℕ). statement_at line.0 t) c.loop-i.invariant.text)
-          begun.out begun.fault (record { sections = begun.sections; turns = begun.turns; first = begun.first; command = begun.command; opens = begun.opens; guards = begun.guards; writes = begun.writes }) c.line-answer.ensures.done c.line-answer.ensures.steps (c.record_line.ensures.puts).1 (c.record_line.ensures.puts).2 c.record_line.ensures.sections;
+          begun.out begun.fault (record { sections = begun.sections; turns = begun.turns; first = begun.first; command = begun.command; opens = begun.opens; guards = begun.guards; writes = begun.writes }) c.line-answer.ensures.done (c.record_line.ensures.puts).1 (c.record_line.ensures.puts).2 c.record_line.ensures.sections;
       stands = c.statement-statement.ensures.stands;
       text = c.statement-statement.ensures.text ∙ c.loop-i.invariant.text;
       keeps_device = g.met.N.Nvm.onward _ _ _ c.loop-i.invariant.keeps_device c.line-answer.ensures.keeps_device;
@@ -53,10 +53,10 @@ returns-clause-records g c =
     let first = start (state c.args.device).words in
     let all : length deck ≤ c.loop-i.i = search rules in
     let records =
-    recording_end g.T.Sink state bench c.args.text.now first deck a c.args.recorder.now c.loop-i.player c.loop-i.recorder c.args.steps.now c.loop-i.steps
-    (subst (λ (left : List (ℕ × DeckLine)). Recording g.T.Sink state bench c.args.text.now first deck a c.args.recorder.now c.args.steps.now left c.loop-i.player c.loop-i.recorder c.loop-i.steps) (no_line deck c.loop-i.i all) c.loop-i.invariant.recording)
+    recording_end g.T.Sink state bench c.args.text.now first deck a c.args.recorder.now c.loop-i.player c.loop-i.recorder
+    (subst (λ (left : List (ℕ × DeckLine)). Recording g.T.Sink state bench c.args.text.now first deck a c.args.recorder.now left c.loop-i.player c.loop-i.recorder) (no_line deck c.loop-i.i all) c.loop-i.invariant.recording)
     in
-    subst (λ d. RecordsPlay g.T.Sink c.args.text.now first deck a (record { device = state d; bench = bench d }) c.args.recorder.now c.loop-i.recorder c.args.steps.now c.loop-i.steps) (sym c.into_dev.ensures) records
+    subst (λ d. RecordsPlay g.T.Sink c.args.text.now first deck a (record { device = state d; bench = bench d }) c.args.recorder.now c.loop-i.recorder) (sym c.into_dev.ensures) records
 
 pub line-answer-requires-clause-playing : goal.line-answer-requires-clause-playing
 line-answer-requires-clause-playing g c = (c.loop-i.invariant.recording.here, c.loop-i.invariant.recording.at)

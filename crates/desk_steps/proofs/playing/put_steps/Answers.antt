@@ -14,5 +14,5 @@ returns g c =
     let r = c.play_lines-dev.new.recorder in
     let did = c.play_lines-dev.ensures in
     let same = did.records.adds.same in
-    steps_deck sink c.args.sections.now c.args.text.now c.args.deck.now a x c.written.result _ _ (sunk sink r.out.now) _ q r c.args.steps.now c.play_lines-dev.new.steps e.sections did.records e.fault (ap (λ o. sunk sink o) e.out) c.written.ensures refl did.image did.lines
+    steps_deck sink c.args.sections.now c.args.text.now c.args.deck.now a x c.written.result _ _ (sunk sink r.out.now) _ q r e.sections did.records e.fault (ap (λ o. sunk sink o) e.out) c.written.ensures refl did.image did.lines
     (search (rules, same)) (search (rules, same)) (search (rules, same)) (search (rules, same))

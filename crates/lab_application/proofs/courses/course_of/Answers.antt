@@ -9,11 +9,8 @@ course_in-requires g c =
     let q = c.requires in
     (names_in (q.0).rules, (q.2).state, kept_at q.0 c.args.search.now q.1 q.2 c.args.before c.in-Some.state.now q.3 c.in-Some.ensures.key)
 
-pub returns-clause-same : goal.returns-clause-same
-returns-clause-same g c = same_if_ok c.course_in.result c.args.search.now c.course_in.new.laboratory c.course_in.ensures.root c.course_in.ensures.budget c.course_in.ensures.counts
+pub returns : goal.returns
+returns g c = same_if_ok c.course_in.result c.args.search.now c.course_in.new.laboratory c.course_in.ensures.root c.course_in.ensures.budget c.course_in.ensures.counts
 
 pub unreachable-requires : goal.unreachable-requires
 unreachable-requires g c = let q = c.requires in held_at q.0 c.args.search.now q.1 q.2 c.args.before q.3 (sym c.in_default.ensures.key)
-
-pub returns-clause-steps : goal.returns-clause-steps
-returns-clause-steps g c = λ d ns n m h is. c.course_in.ensures.steps (names_in d.rules) n.state m (kept_at d c.args.search.now ns n c.args.before c.in-Some.state.now h c.in-Some.ensures.key) is

@@ -1,4 +1,4 @@
-use Rattle.std.proofs.Common.{◌≤◌, arith, refl, subst, Option}
+use Rattle.std.proofs.Common.{arith, refl, subst, Option}
 use Rattle.lab_search.specs.Rounds.{Depth}
 use Rattle.lab_application.specs.declared.attempts.Halt.{Halt}
 use Rattle.lab_application.specs.Finding.{ComesTo}
@@ -6,16 +6,11 @@ use Rattle.lab_application.specs.Shadows.{shadow}
 use Rattle.lab_application.proofs.SearchLemmas.{comes_none}
 use Rattle.lab_application.proofs.ShadowLemmas.{shadows_are}
 use Rattle.lab_application.proofs.DepthLemmas.{left_can, left_comes, left_end, left_fails, left_first, left_halts, left_last, left_next, left_stops}
-use Rattle.lab_application.proofs.StepLemmas.{steps_depth, steps_first, steps_last, steps_next, to_nodes}
 use Rattle.lab_application.proofs.exploring.search_on.Goals as goal
 
 pub loop-done-init : goal.loop-done-init
 loop-done-init g c =
-    record {
-      within = omega arith;
-      left = λ ls ms n limit h s. left_first c.args.subject.rules.now ls ms n limit c.args.depth c.args.search.now c.args.start _ s;
-      tried = λ ls ms n limit h s. steps_first ls ms n limit c.args.steps.now c.args.search.now c.args.start s;
-    }
+    record { within = omega arith; left = λ ls ms n limit h s. left_first c.args.subject.rules.now ls ms n limit c.args.depth c.args.search.now c.args.start _ s }
 
 pub try_states-requires : goal.try_states-requires
 try_states-requires g c =
@@ -25,31 +20,31 @@ try_states-requires g c =
     let at = c.len-to.ensures.len in
     left_can c.args.subject.rules.now q.0 q.1 q.2 q.3 c.args.depth c.loop-done.done c.loop-done.from c.len-to.result c.loop-done.search _ _ c.args.moves.now.rules k (shadows_are c.args.moves.now q.0 q.1 q.2 q.4) (omega (arith, within, at)) at
 
-pub returns-in_err-halt-clause-explored : goal.returns-in_err-halt-clause-explored
-returns-in_err-halt-clause-explored g c =
+pub returns-in_err-halt : goal.returns-in_err-halt
+returns-in_err-halt g c =
     λ ls ms n limit h s.
     left_stops c.args.subject.rules.now ls ms n limit c.args.depth c.loop-done.done c.loop-done.search _ _ c.from_residual.result c.loop-done-test.true (c.loop-done.invariant.left ls ms n limit h s) c.from_residual.ensures.0 c.from_residual.ensures.1
 
-pub returns-in-Some-clause-explored : goal.returns-in-Some-clause-explored
-returns-in-Some-clause-explored g c =
+pub returns-in-Some : goal.returns-in-Some
+returns-in-Some g c =
     λ ls ms n limit h s.
     let k = c.loop-done.invariant.left ls ms n limit h s in
     let within = c.loop-done.invariant.within in
     let at = c.len-to.ensures.len in
     let d : Depth = record { rules = shadow ms n; most = limit; from = 0 } in
-    let comes = left_comes c.args.subject.rules.now ls ms n limit c.args.depth c.loop-done.done c.loop-done.from c.len-to.result c.loop-done.search c.try_states.new.search _ _ c.args.moves.now.rules c.in_ok-halt.halt k (shadows_are c.args.moves.now ls ms n h) (omega (arith, within, at)) at c.in_ok-halt.ensures.comes in
+    let comes = left_comes c.args.subject.rules.now ls ms n limit c.args.depth c.loop-done.done c.loop-done.from c.len-to.result c.loop-done.search c.try_states.new.search _ _ c.args.moves.now.rules c.in_ok-halt.halt k (shadows_are c.args.moves.now ls ms n h) (omega (arith, within, at)) at c.in_ok-halt.ensures in
     let some = subst (λ (o : Option Halt). ComesTo d k.nodes o c.try_states.new.search) c.in-Some.is comes in
     left_halts c.args.subject.rules.now ls ms n limit c.args.depth c.loop-done.done c.loop-done.search c.try_states.new.search _ _ _ c.in-Some.halt c.report_halt.result c.loop-done-test.true k
     (c.report_halt.ensures (record { lines = ls; rules = shadow ms n }) d k.nodes h.rules.moves s.start refl some)
 
-pub returns-in_err-put_depth-clause-explored : goal.returns-in_err-put_depth-clause-explored
-returns-in_err-put_depth-clause-explored g c =
+pub returns-in_err-put_depth : goal.returns-in_err-put_depth
+returns-in_err-put_depth g c =
     λ ls ms n limit h s.
     left_fails c.args.subject.rules.now ls ms n limit c.args.depth c.loop-done.done c.saturating_sub-new.result c.loop-done.search c.try_states.new.search _ _ _ c.from_residual-in_err-put_depth.result c.loop-done-test.true (c.loop-done.invariant.left ls ms n limit h s)
     c.from_residual-in_err-put_depth.ensures.0 c.from_residual-in_err-put_depth.ensures.1 c.in_err-put_depth.ensures
 
-pub returns-then-new-eq0-clause-explored : goal.returns-then-new-eq0-clause-explored
-returns-then-new-eq0-clause-explored g c =
+pub returns-then-new-eq0 : goal.returns-then-new-eq0
+returns-then-new-eq0 g c =
     λ ls ms n limit h s.
     left_last c.args.subject.rules.now ls ms n limit c.args.depth c.loop-done.done c.saturating_sub-new.result c.loop-done.search c.try_states.new.search _ _ _ _ c.report_kept.result c.loop-done-test.true (c.loop-done.invariant.left ls ms n limit h s)
     c.if-new-eq0.true c.in_ok-put_depth.ensures c.report_kept.ensures.put c.report_kept.ensures.kept
@@ -62,65 +57,13 @@ loop-done-preserved g c =
       left = λ ls ms n limit h s.
           let k = c.loop-done.invariant.left ls ms n limit h s in
           let within = c.loop-done.invariant.within in
-          let comes = left_comes c.args.subject.rules.now ls ms n limit c.args.depth c.loop-done.done c.loop-done.from c.len-to.result c.loop-done.search c.try_states.new.search _ _ c.args.moves.now.rules c.in_ok-halt.halt k (shadows_are c.args.moves.now ls ms n h) (omega (arith, within, at)) at c.in_ok-halt.ensures.comes in
+          let comes = left_comes c.args.subject.rules.now ls ms n limit c.args.depth c.loop-done.done c.loop-done.from c.len-to.result c.loop-done.search c.try_states.new.search _ _ c.args.moves.now.rules c.in_ok-halt.halt k (shadows_are c.args.moves.now ls ms n h) (omega (arith, within, at)) at c.in_ok-halt.ensures in
           left_next c.args.subject.rules.now ls ms n limit c.args.depth c.loop-done.done c.saturating_sub-new.result c.loop-done.search c.try_states.new.search _ _ _ k
           (comes_none (record { rules = shadow ms n; most = limit; from = 0 }) k.nodes c.in_ok-halt.halt c.try_states.new.search c.in_default.is comes) c.in_ok-put_depth.ensures;
-      tried = λ ls ms n limit h s.
-          let k = c.loop-done.invariant.tried ls ms n limit h s in
-          let within = c.loop-done.invariant.within in
-          let shadows = shadows_are c.args.moves.now ls ms n h in
-          let to = to_nodes ls ms n limit c.loop-done.from _ c.loop-done.steps c.len-to.result c.loop-done.search k at in
-          let order : c.loop-done.from ≤ c.len-to.result = omega (arith, within, at) in
-          let d : Depth = record { rules = shadow ms n; most = limit; from = 0 } in
-          let more = comes_none d k.nodes c.in_ok-halt.halt c.try_states.new.search c.in_default.is (c.in_ok-halt.ensures.comes d k.nodes k.holds order to shadows) in
-          steps_next ls ms n limit c.loop-done.from c.len-to.result c.args.steps.now c.loop-done.steps c.try_states.new.steps c.loop-done.search c.try_states.new.search more.all k to more.grew more.holds (c.try_states.ensures.steps d k.nodes k.holds order to shadows);
     }
 
-pub returns-clause-explored : goal.returns-clause-explored
-returns-clause-explored g c =
+pub returns : goal.returns
+returns g c =
     λ ls ms n limit h s.
     left_end c.args.subject.rules.now ls ms n limit c.args.depth c.loop-done.done c.loop-done.search _ _ _ c.report_kept-2.result (c.loop-done.invariant.left ls ms n limit h s) (omega (arith, c.loop-done.auto.done-end, c.loop-done-test.false))
     c.report_kept-2.ensures.put c.report_kept-2.ensures.kept
-
-pub returns-in_err-halt-clause-steps : goal.returns-in_err-halt-clause-steps
-returns-in_err-halt-clause-steps g c =
-    λ ls ms n limit h s.
-    let k = c.loop-done.invariant.tried ls ms n limit h s in
-    let within = c.loop-done.invariant.within in
-    let at = c.len-to.ensures.len in
-    let to = to_nodes ls ms n limit c.loop-done.from _ c.loop-done.steps c.len-to.result c.loop-done.search k at in
-    let d : Depth = record { rules = shadow ms n; most = limit; from = 0 } in
-    steps_depth ls ms n limit c.loop-done.from c.args.steps.now c.loop-done.steps c.try_states.new.steps c.loop-done.search k (c.try_states.ensures.steps d k.nodes k.holds (omega (arith, within, at)) to (shadows_are c.args.moves.now ls ms n h))
-
-pub returns-in-Some-clause-steps : goal.returns-in-Some-clause-steps
-returns-in-Some-clause-steps g c =
-    λ ls ms n limit h s.
-    let k = c.loop-done.invariant.tried ls ms n limit h s in
-    let within = c.loop-done.invariant.within in
-    let at = c.len-to.ensures.len in
-    let to = to_nodes ls ms n limit c.loop-done.from _ c.loop-done.steps c.len-to.result c.loop-done.search k at in
-    let d : Depth = record { rules = shadow ms n; most = limit; from = 0 } in
-    steps_depth ls ms n limit c.loop-done.from c.args.steps.now c.loop-done.steps c.try_states.new.steps c.loop-done.search k (c.try_states.ensures.steps d k.nodes k.holds (omega (arith, within, at)) to (shadows_are c.args.moves.now ls ms n h))
-
-pub returns-in_err-put_depth-clause-steps : goal.returns-in_err-put_depth-clause-steps
-returns-in_err-put_depth-clause-steps g c =
-    λ ls ms n limit h s.
-    let k = c.loop-done.invariant.tried ls ms n limit h s in
-    let within = c.loop-done.invariant.within in
-    let at = c.len-to.ensures.len in
-    let to = to_nodes ls ms n limit c.loop-done.from _ c.loop-done.steps c.len-to.result c.loop-done.search k at in
-    let d : Depth = record { rules = shadow ms n; most = limit; from = 0 } in
-    steps_depth ls ms n limit c.loop-done.from c.args.steps.now c.loop-done.steps c.try_states.new.steps c.loop-done.search k (c.try_states.ensures.steps d k.nodes k.holds (omega (arith, within, at)) to (shadows_are c.args.moves.now ls ms n h))
-
-pub returns-then-new-eq0-clause-steps : goal.returns-then-new-eq0-clause-steps
-returns-then-new-eq0-clause-steps g c =
-    λ ls ms n limit h s.
-    let k = c.loop-done.invariant.tried ls ms n limit h s in
-    let within = c.loop-done.invariant.within in
-    let at = c.len-to.ensures.len in
-    let to = to_nodes ls ms n limit c.loop-done.from _ c.loop-done.steps c.len-to.result c.loop-done.search k at in
-    let d : Depth = record { rules = shadow ms n; most = limit; from = 0 } in
-    steps_depth ls ms n limit c.loop-done.from c.args.steps.now c.loop-done.steps c.try_states.new.steps c.loop-done.search k (c.try_states.ensures.steps d k.nodes k.holds (omega (arith, within, at)) to (shadows_are c.args.moves.now ls ms n h))
-
-pub returns-clause-steps : goal.returns-clause-steps
-returns-clause-steps g c = λ ls ms n limit h s. steps_last ls ms n limit c.loop-done.from c.args.steps.now c.loop-done.steps c.loop-done.search (c.loop-done.invariant.tried ls ms n limit h s)

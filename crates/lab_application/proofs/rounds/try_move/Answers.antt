@@ -1,13 +1,10 @@
-use Rattle.std.proofs.Common.{arith, ◌≡◌, ◌+◌, ◌≤◌, List, Some, ap, refl, slice_get, subst, sym, ◌∙◌}
+use Rattle.std.proofs.Common.{List, Some, ap, refl, slice_get, subst, sym, ◌∙◌}
 use Rattle.std.proofs.lemmas.Option.{slice_get-get_or}
 use Rattle.lab_rules.specs.declared.rules.Move.{Move}
 use Rattle.lab_rules.specs.declared.rules.OnRule.{OnRule}
-use Rattle.law_histories.specs.law_explore.specs.Rules as rule
-use Rattle.lab_search.specs.ExplorationSteps.{most_of_tries}
 use Rattle.lab_application.specs.Shadows.{SpendNothing}
-use Rattle.lab_application.proofs.SearchLemmas.{if_ok_then, more_none, same_holds}
-use Rattle.lab_application.proofs.ShadowLemmas.{candidate_at, listed_is}
-use Rattle.lab_application.proofs.StepLemmas.{recorded_alone, recorded_tried}
+use Rattle.lab_application.proofs.SearchLemmas.{if_ok_then, same_holds}
+use Rattle.lab_application.proofs.ShadowLemmas.{candidate_at}
 use Rattle.lab_application.proofs.rounds.try_move.Goals as goal
 
 pub course_of-requires : goal.course_of-requires
@@ -18,39 +15,16 @@ try_all-requires-clause-can g c =
     let q = c.requires in
     let here = ap (λ (ms : List Move). slice_get ms c.args.chosen) (sym c.as_slice-all.ensures.value) ∙ slice_get-get_or c.as_slice-all.result.now c.args.chosen c.index-all-chosen.result c.if-chosen-all.false ∙ ap Some (sym c.index-all-chosen.is) in
     let k = candidate_at (q.0).rules c.args.moves.now.rules _ c.index-all-chosen.result c.args.chosen q.4 here refl c.as_slice.ensures.value refl in
-    (q.0, q.1, q.2, k.move, record { at = record { holds = same_holds q.0 q.1 c.args.search.now c.course_of.new.search c.in_ok-course.ensures.same (q.3).holds; found = (q.3).found }; candidate = k.is; place = k.place })
+    (q.0, q.1, q.2, k.move, record { at = record { holds = same_holds q.0 q.1 c.args.search.now c.course_of.new.search c.in_ok-course.ensures (q.3).holds; found = (q.3).found }; candidate = k.is; place = k.place })
 
-pub returns-clause-comes : goal.returns-clause-comes
-returns-clause-comes g c =
+pub returns : goal.returns
+returns g c =
     if_ok_then c.try_all.result _ _
     (λ o f. λ d ns n h shadows.
     let here = ap (λ (ms : List Move). slice_get ms c.args.chosen) (sym c.as_slice-all.ensures.value) ∙ slice_get-get_or c.as_slice-all.result.now c.args.chosen c.index-all-chosen.result c.if-chosen-all.false ∙ ap Some (sym c.index-all-chosen.is) in
     let k = candidate_at d.rules c.args.moves.now.rules _ c.index-all-chosen.result c.args.chosen shadows here refl c.as_slice.ensures.value refl in
-    f d ns n k.move (record { at = record { holds = same_holds d ns c.args.search.now c.course_of.new.search c.in_ok-course.ensures.same h.holds; found = h.found }; candidate = k.is; place = k.place }))
-    c.try_all.ensures.comes
+    f d ns n k.move (record { at = record { holds = same_holds d ns c.args.search.now c.course_of.new.search c.in_ok-course.ensures h.holds; found = h.found }; candidate = k.is; place = k.place }))
+    c.try_all.ensures
 
 pub try_all-requires-clause-allows : goal.try_all-requires-clause-allows
 try_all-requires-clause-allows g c = subst (λ (os : List OnRule). SpendNothing os) (sym c.as_slice.ensures.value) c.requires.4.allows
-
-pub returns-in_err-course-clause-steps : goal.returns-in_err-course-clause-steps
-returns-in_err-course-clause-steps g c =
-    λ d ns n m h k place.
-    let here = ap (λ (ms : List Move). slice_get ms c.args.chosen) (sym c.as_slice-all.ensures.value) ∙ slice_get-get_or c.as_slice-all.result.now c.args.chosen c.index-all-chosen.result c.if-chosen-all.false ∙ ap Some (sym c.index-all-chosen.is) in
-    recorded_alone n.state m c.args.steps.now c.course_of.new.steps (c.course_of.ensures.steps d ns n m h (listed_is d c.args.moves.now.rules c.args.chosen c.index-all-chosen.result m k here place))
-
-pub returns-clause-steps : goal.returns-clause-steps
-returns-clause-steps g c =
-    λ d ns n m h k place.
-    let here = ap (λ (ms : List Move). slice_get ms c.args.chosen) (sym c.as_slice-all.ensures.value) ∙ slice_get-get_or c.as_slice-all.result.now c.args.chosen c.index-all-chosen.result c.if-chosen-all.false ∙ ap Some (sym c.index-all-chosen.is) in
-    let x = candidate_at d.rules c.args.moves.now.rules _ c.index-all-chosen.result c.args.chosen k here refl c.as_slice.ensures.value refl in
-    let same : x.move ≡ m = cc (sym x.place ∙ place) in
-    let tried = subst (λ (v : rule.Move). c.try_all.new.steps ≤ c.course_of.new.steps + most_of_tries n.state v) same
-    (c.try_all.ensures.steps d ns n x.move (record { at = record { holds = same_holds d ns c.args.search.now c.course_of.new.search c.in_ok-course.ensures.same h.holds; found = h.found }; candidate = x.is; place = x.place })) in
-    recorded_tried n.state m c.args.steps.now c.course_of.new.steps c.try_all.new.steps
-    (c.course_of.ensures.steps d ns n m h (listed_is d c.args.moves.now.rules c.args.chosen c.index-all-chosen.result m k here place)) tried
-
-pub returns-then-chosen-all-clause-steps : goal.returns-then-chosen-all-clause-steps
-returns-then-chosen-all-clause-steps g c = λ d ns n m h k place. omega arith
-
-pub returns-then-chosen-all-clause-comes : goal.returns-then-chosen-all-clause-comes
-returns-then-chosen-all-clause-comes g c = λ d ns n h k. more_none d ns c.args.search.now h.holds

@@ -1,16 +1,10 @@
-use Rattle.std.proofs.Common.{◌+◌, ◌≤◌, List, drop}
+use Rattle.std.proofs.Common.{List}
 use Rattle.law_histories.specs.law_explore.specs.Search.{Node}
 use Rattle.lab_search.specs.Rounds.{Depth, IsFrom}
-use Rattle.lab_application.specs.ApplicationSteps.{most_of_moves}
 use Rattle.lab_application.specs.Finding.{HoldsMore}
 use Rattle.lab_application.specs.Shadows.{AreShadows}
 use Rattle.lab_application.proofs.rounds.try_moves.Given as goal
 
--- the search goes on, and the steps of the later moves are within those of all moves
+-- the search goes on
 abbrev pub invariant-loop-chosen : goal.invariant-loop-chosen
-invariant-loop-chosen g l =
-    record {
-      goes : (d : Depth) (ns : List Node) (n : Node) → IsFrom d l.fn.search ns n l.before → AreShadows l.moves.rules d.rules → HoldsMore d ns l.search;
-      steps : (d : Depth) (ns : List Node) (n : Node) → IsFrom d l.fn.search ns n l.before → AreShadows l.moves.rules d.rules
-          → l.steps + most_of_moves (drop l.chosen d.rules.moves) n.state ≤ l.fn.steps + most_of_moves d.rules.moves n.state;
-    }
+invariant-loop-chosen g l = (d : Depth) (ns : List Node) (n : Node) → IsFrom d l.fn.search ns n l.before → AreShadows l.moves.rules d.rules → HoldsMore d ns l.search

@@ -1,6 +1,6 @@
 use Rattle.std.proofs.Common.{◌≡◌, ℕ, ◌+◌, ◌<◌, ◌≤◌, List, length, sym, subst, arith}
-use Rattle.mc_base.specs.model_device.specs.Device.{sized}
-use Rattle.mc_base.specs.model_device.specs.Card.{App}
+use Rattle.mc_words.specs.model_device.specs.Device.{sized}
+use Rattle.mc_words.specs.model_device.specs.Card.{App}
 use Rattle.lab_branch.proofs.Gathering.{Gathers, GathersNext, gathers_none, gathers_next, gathers_all}
 use Rattle.lab_branch.proofs.applications.read_applications.Goals as goal
 

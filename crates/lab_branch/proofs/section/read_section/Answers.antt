@@ -1,6 +1,6 @@
 use Rattle.std.proofs.Common.{◌≡◌, ℕ, List, ◌++◌, ◌∙◌, ◌-◌, ◌+◌, ap, take, min, arith}
-use Rattle.mc_base.specs.model_device.specs.Device.{sized}
-use Rattle.mc_base.specs.model_device.specs.Card.{word, section}
+use Rattle.mc_words.specs.model_device.specs.Device.{sized}
+use Rattle.mc_words.specs.model_device.specs.Card.{word, section}
 use Rattle.lab_branch.proofs.SectionSteps.{section_step}
 use Rattle.lab_branch.proofs.section.read_section.Goals as goal
 

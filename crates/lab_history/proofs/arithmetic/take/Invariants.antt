@@ -1,6 +1,6 @@
 -- the digits from i on have their difference with those of the number, up to a borrow, and those before i are unchanged
 use Rattle.std.proofs.Common.{◌≡◌, ◌+◌, ◌-◌, ◌*◌, ◌^◌, ◌<◌, ◌≤◌, ℕ, length, get_or, drop}
-use Rattle.mc_base.specs.model_device.specs.Bytes.{num}
+use Rattle.model_device.specs.Bytes.{num}
 use Rattle.lab_history.proofs.arithmetic.take.Given as goal
 
 abbrev pub invariant-loop-i : goal.invariant-loop-i

@@ -1,5 +1,5 @@
 use Rattle.std.proofs.Common.{◌+◌, ◌^◌, ◌∙◌, ap, arith, false, length}
-use Rattle.mc_base.specs.model_device.specs.Bytes.{num}
+use Rattle.model_device.specs.Bytes.{num}
 use Rattle.lab_history.proofs.BlockLemmas.{first_step}
 use Rattle.lab_history.proofs.blocks.add_sums.Goals as goal
 

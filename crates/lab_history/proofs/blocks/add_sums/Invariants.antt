@@ -1,6 +1,6 @@
 -- the terms so far have moved the block
 use Rattle.std.proofs.Common.{◌≡◌, ◌+◌, ◌%◌, ◌^◌, length, take}
-use Rattle.mc_base.specs.model_device.specs.Bytes.{num}
+use Rattle.model_device.specs.Bytes.{num}
 use Rattle.lab_history.specs.Blocks.{added_by, taken_by}
 use Rattle.lab_history.proofs.blocks.add_sums.Given as goal
 

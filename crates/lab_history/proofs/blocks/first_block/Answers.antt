@@ -1,6 +1,6 @@
 use Rattle.std.proofs.Common.{◌≡◌, ◌+◌, ◌%◌, ◌^◌, ℕ, List, length, subst}
-use Rattle.mc_base.specs.model_device.specs.Bytes.{num}
-use Rattle.prove_events.specs.declared.rules.SignedSum.{SignedSum}
+use Rattle.model_device.specs.Bytes.{num}
+use Rattle.lab_app_rules.specs.declared.rules.SignedSum.{SignedSum}
 use Rattle.lab_history.specs.Blocks.{added_by, taken_by}
 use Rattle.lab_history.proofs.BlockLemmas.{block_made}
 use Rattle.lab_history.proofs.blocks.first_block.Goals as goal

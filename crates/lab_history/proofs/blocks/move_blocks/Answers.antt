@@ -1,7 +1,7 @@
 use Rattle.std.proofs.Common.{rules, ◌≡◌, ◌+◌, ◌-◌, List, arith, drop, length, subst, take}
 use Rattle.std.specs.Prelude.{min}
-use Rattle.mc_base.specs.model_device.specs.Bytes.{num}
-use Rattle.prove_events.specs.declared.rules.SignedSum.{SignedSum}
+use Rattle.model_device.specs.Bytes.{num}
+use Rattle.lab_app_rules.specs.declared.rules.SignedSum.{SignedSum}
 use Rattle.lab_history.specs.Moves.{IsMoved}
 use Rattle.lab_history.proofs.BlockLemmas.{moved_all, moved_more, moved_within}
 use Rattle.lab_history.proofs.blocks.move_blocks.Goals as goal

@@ -1,6 +1,6 @@
 -- moved blocks of the lines that are left, after the blocks so far, are moved blocks of all
 use Rattle.std.proofs.Common.{List, ℕ, ◌≤◌, ◌++◌, drop, length, take}
-use Rattle.mc_base.specs.model_device.specs.Bytes.{num}
+use Rattle.model_device.specs.Bytes.{num}
 use Rattle.lab_history.specs.Moves.{AreMoved}
 use Rattle.lab_history.proofs.blocks.move_blocks.Given as goal
 

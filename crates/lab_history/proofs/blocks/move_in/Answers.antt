@@ -1,5 +1,5 @@
 use Rattle.std.proofs.Common.{◌+◌, ◌^◌, ap, arith, false, length}
-use Rattle.mc_base.specs.model_device.specs.Bytes.{num}
+use Rattle.model_device.specs.Bytes.{num}
 use Rattle.lab_history.proofs.BlockLemmas.{move_step, skip_step}
 use Rattle.lab_history.proofs.blocks.move_in.Goals as goal
 use Rattle.lab_history.proofs.blocks.move_in.Goals.{then-signed-sum, else-signed-sum}

@@ -1,6 +1,6 @@
 -- the terms so far have moved the block
 use Rattle.std.proofs.Common.{◌≡◌, ◌+◌, ◌*◌, ◌%◌, ◌^◌, length, take}
-use Rattle.mc_base.specs.model_device.specs.Bytes.{num}
+use Rattle.model_device.specs.Bytes.{num}
 use Rattle.lab_history.specs.Blocks.{count_of_added, count_of_taken}
 use Rattle.lab_history.proofs.blocks.move_in.Given as goal
 

@@ -1,6 +1,6 @@
 use Rattle.std.proofs.Common.{◌≡◌, ◌+◌, ◌-◌, ◌∙◌, ap, arith, length}
-use Rattle.mc_base.specs.model_device.specs.Image.{Two}
-use Rattle.mc_base.specs.model_device.specs.Stopped.{cost, stands}
+use Rattle.model_device.specs.Image.{Two}
+use Rattle.model_device.specs.Stopped.{cost, stands}
 use Rattle.lab_history.specs.Durable.{count_in, first_in}
 use Rattle.lab_history.proofs.GroupLemmas.{group_is}
 use Rattle.lab_history.proofs.durable.is_durable.Goals as goal

@@ -1,7 +1,7 @@
 use Rattle.std.proofs.Common.{◌≡◌, ◌+◌, ◌%◌, ◌^◌, ◌<◌, ◌≤◌, ◌++◌, ◌∙◌, List, ap, arith, get_or, length, subst}
-use Rattle.mc_base.specs.model_device.specs.Bytes.{num}
-use Rattle.prove_events.specs.declared.rules.Balance.{Balance}
-use Rattle.prove_events.specs.declared.rules.Named.{Named}
+use Rattle.model_device.specs.Bytes.{num}
+use Rattle.lab_app_rules.specs.declared.rules.Balance.{Balance}
+use Rattle.lab_app_rules.specs.declared.rules.Named.{Named}
 use Rattle.lab_history.specs.Blocks.{added_by, taken_by}
 use Rattle.lab_history.proofs.BlockLemmas.{first_all, first_more}
 use Rattle.lab_history.proofs.standing.first_blocks.Goals as goal

@@ -1,5 +1,5 @@
 use Rattle.std.proofs.Common.{◌≡◌, ◌≤◌, length}
-use Rattle.law_explore.specs.Matching.{plain}
+use Rattle.model_events.specs.Matching.{plain}
 use Rattle.lab_match.proofs.matching.first_of.Given as goal
 
 -- the rest has the same characters

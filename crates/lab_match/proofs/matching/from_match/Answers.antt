@@ -1,5 +1,5 @@
 use Rattle.std.proofs.Common.{[]}
-use Rattle.law_explore.specs.Matching.{plain}
+use Rattle.model_events.specs.Matching.{plain}
 use Rattle.lab_match.proofs.MatchingLemmas.{match_ended, match_of_sign}
 use Rattle.lab_match.proofs.matching.from_match.Goals as goal
 

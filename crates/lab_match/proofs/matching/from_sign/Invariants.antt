@@ -1,5 +1,5 @@
 use Rattle.std.proofs.Common.{◌≡◌, ◌≤◌, ◌∷◌, ℕ, List, length}
-use Rattle.law_explore.specs.Matching.{matches, plain, some_rest}
+use Rattle.model_events.specs.Matching.{matches, plain, some_rest}
 use Rattle.lab_match.proofs.matching.from_sign.Given as goal
 
 -- a pattern that begins with the sign matches a rest of what is left if it matches one of the text

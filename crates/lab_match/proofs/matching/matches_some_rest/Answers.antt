@@ -1,5 +1,5 @@
 use Rattle.std.proofs.Common.{sym, ◌∙◌}
-use Rattle.law_explore.specs.Matching.{matches, plain}
+use Rattle.model_events.specs.Matching.{matches, plain}
 use Rattle.lab_match.proofs.MatchingLemmas.{some_rest_first}
 use Rattle.lab_match.proofs.matching.matches_some_rest.Goals as goal
 

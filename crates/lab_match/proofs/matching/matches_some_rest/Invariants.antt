@@ -1,5 +1,5 @@
 use Rattle.std.proofs.Common.{◌≡◌, ◌+◌, length}
-use Rattle.law_explore.specs.Matching.{matches, plain, some_rest}
+use Rattle.model_events.specs.Matching.{matches, plain, some_rest}
 use Rattle.lab_match.proofs.matching.matches_some_rest.Given as goal
 
 -- a match is found in the rest if it is found in the whole

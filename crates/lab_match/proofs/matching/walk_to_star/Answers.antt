@@ -1,5 +1,5 @@
 use Rattle.std.proofs.Common.{arith}
-use Rattle.law_explore.specs.Matching.{plain}
+use Rattle.model_events.specs.Matching.{plain}
 use Rattle.lab_match.proofs.MatchingLemmas.{walked_star, walked_short, walked_apart, walked_step, walked_end}
 use Rattle.lab_match.proofs.matching.walk_to_star.Goals as goal
 

@@ -3,8 +3,8 @@ use Rattle.std.proofs.Common.{ap, sym, ◌∙◌}
 use Rattle.mc_deck.specs.Lines.{line_of}
 use Rattle.mc_deck.specs.declared.line.Line.{Line}
 use Rattle.lab_record.specs.declared.past.ArmedStop.{ArmedStop}
-use Rattle.lab_record.specs.RecordSteps.{armed_by, armed_in}
-use Rattle.lab_record.proofs.StepLemmas.{armed_first, armed_next, armed_other}
+use Rattle.lab_record.specs.Steady.{armed_by, armed_in}
+use Rattle.lab_record.proofs.SteadyLemmas.{armed_first, armed_next, armed_other}
 use Rattle.lab_record.proofs.past.armed_for.Goals.{in-Cut, in-Fail, in_default}
 use Rattle.lab_record.proofs.past.armed_for.Goals as goal
 

@@ -1,5 +1,5 @@
 use Rattle.std.specs.Prelude.{◌≡◌, option_map, take, None}
-use Rattle.lab_record.specs.RecordSteps.{armed_in}
+use Rattle.lab_record.specs.Steady.{armed_in}
 use Rattle.lab_record.proofs.past.armed_for.Given as goal
 
 -- the stop that the lines so far armed last

@@ -1,14 +1,4 @@
-use Rattle.std.specs.Prelude.{◌+◌, take}
-use Rattle.std.proofs.Common.{sym, subst}
-use Rattle.mc_base.specs.model_device.specs.Device.{blank_words, device_words}
-use Rattle.lab_match.specs.model_play.specs.Play.{start}
-use Rattle.mc_nvm.specs.Sim.{sim_bench, sim_state}
-use Rattle.lab_record.specs.RecordSteps.{IsSteadyAt}
-use Rattle.lab_record.proofs.StepLemmas.{new_steady}
 use Rattle.lab_record.proofs.past.chronicle.Goals as goal
 
 pub chronicle_on-requires : goal.chronicle_on-requires
 chronicle_on-requires g c = (_, c.new-player.ensures.at)
-
-pub returns : goal.returns
-returns g c = record { steps = c.chronicle_on.ensures.steps (new_steady c.in_ok-new.field-0 c.new-player.result c.in_ok-new.ensures c.new-player.ensures.at c.new-player.ensures.device) }

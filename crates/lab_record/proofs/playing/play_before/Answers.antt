@@ -1,9 +1,9 @@
-use Rattle.std.specs.Prelude.{◌≡◌, ◌+◌, ◌≤◌, ℕ, take}
-use Rattle.std.proofs.Common.{arith, sym, subst}
-use Rattle.lab_match.specs.model_play.specs.Play.{State}
+use Rattle.std.specs.Prelude.{take}
+use Rattle.std.proofs.Common.{sym, subst}
+use Rattle.law_promise.specs.model_play.specs.Play.{State}
 use Rattle.mc_deck.specs.Lines.{line_of}
-use Rattle.lab_record.specs.RecordSteps.{most_of_lines, state_after, IsSteadyAt}
-use Rattle.lab_record.proofs.StepLemmas.{after_first, after_next, most_first, most_next}
+use Rattle.lab_record.specs.Steady.{state_after, IsSteadyAt}
+use Rattle.lab_record.proofs.SteadyLemmas.{after_first, after_next}
 use Rattle.lab_record.proofs.playing.play_before.Goals as goal
 
 pub loop-j-init : goal.loop-j-init
@@ -11,7 +11,6 @@ loop-j-init g c =
     record {
       playing = c.requires;
       at = λ s at. subst (λ (t : State). IsSteadyAt g.N.Nvm.state g.N.Bench.bench c.args.player.now t) (sym (after_first s c.args.deck.now)) at;
-      steps = λ s at. let none = most_first s c.args.deck.now in omega (arith, none);
     }
 
 pub loop-j-preserved : goal.loop-j-preserved
@@ -23,9 +22,4 @@ loop-j-preserved g c =
     record {
       playing = l.ensures.playing;
       at = λ s at. subst (λ (t : State). IsSteadyAt g.N.Nvm.state g.N.Bench.bench l.new.player t) (sym (after_next s ls c.loop-j.j (line.0, line_of line.1) c.line.ensures.line)) (l.ensures.at (state_after s (take c.loop-j.j ls)) line.0 (i.at s at));
-      steps = λ s at.
-          let before = i.steps s at in
-          let here = l.ensures.steps (state_after s (take c.loop-j.j ls)) (i.at s at).at in
-          let all = most_next s ls c.loop-j.j (line.0, line_of line.1) c.line.ensures.line in
-          omega (arith, before, here, all);
     }

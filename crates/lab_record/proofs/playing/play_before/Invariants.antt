@@ -1,7 +1,7 @@
-use Rattle.std.specs.Prelude.{◌+◌, ◌≤◌, take}
-use Rattle.lab_match.specs.model_play.specs.Play.{State}
+use Rattle.std.specs.Prelude.{take}
+use Rattle.law_promise.specs.model_play.specs.Play.{State}
 use Rattle.mc_script.specs.Players.{IsPlaying}
-use Rattle.lab_record.specs.RecordSteps.{most_of_lines, state_after, IsSteadyAt}
+use Rattle.lab_record.specs.Steady.{state_after, IsSteadyAt}
 use Rattle.lab_record.proofs.playing.play_before.Given as goal
 
 -- the lines up to here were played
@@ -10,5 +10,4 @@ invariant-loop-j g l =
     record {
       playing : IsPlaying g.N.Nvm.state g.N.Bench.bench l.player;
       at : (s : State) → IsSteadyAt g.N.Nvm.state g.N.Bench.bench l.fn.player s → IsSteadyAt g.N.Nvm.state g.N.Bench.bench l.player (state_after s (take l.j l.deck));
-      steps : (s : State) → IsSteadyAt g.N.Nvm.state g.N.Bench.bench l.fn.player s → l.steps ≤ l.fn.steps + most_of_lines s (take l.j l.deck);
     }

@@ -1,6 +1,6 @@
 use Rattle.mc_deck.specs.Lines.{line_of}
 use Rattle.lab_record.proofs.PlayingLemmas.{line_playing}
-use Rattle.lab_record.proofs.StepLemmas.{line_most, line_steady}
+use Rattle.lab_record.proofs.SteadyLemmas.{line_steady}
 use Rattle.lab_record.proofs.playing.play_line.Goals as goal
 
 pub returns-clause-playing : goal.returns-clause-playing
@@ -9,7 +9,3 @@ returns-clause-playing g c =
 
 pub returns-clause-at : goal.returns-clause-at
 returns-clause-at g c = line_steady g.N.Nvm.state g.N.Bench.bench _ c.args.player.now c.line-answer.new.self (line_of c.args.line.now) _ _ c.line-answer.result c.line-answer.ensures.done
-
-pub returns-clause-steps : goal.returns-clause-steps
-returns-clause-steps g c =
-    line_most g.N.Nvm.state g.N.Bench.bench c.args.player.now (line_of c.args.line.now) c.line-answer.result c.args.steps.now c.line-answer.new.steps c.line-answer.ensures.steps

@@ -1,8 +1,8 @@
-use Rattle.std.proofs.Common.{ap, arith, rules, ◌∙◌}
+use Rattle.std.proofs.Common.{ap, rules, ◌∙◌}
 use Rattle.mc_deck.specs.Lines.{line_of}
 use Rattle.lab_record.proofs.PlayingLemmas.{line_playing}
 use Rattle.lab_record.proofs.RecordingLemmas.{played_line, recorded_line, some_by}
-use Rattle.lab_record.proofs.StepLemmas.{line_most, line_steady}
+use Rattle.lab_record.proofs.SteadyLemmas.{line_steady}
 use Rattle.lab_record.proofs.recording.play_recorded.Goals as goal
 
 pub course_of-requires : goal.course_of-requires
@@ -38,18 +38,3 @@ returns-clause-recorded g c =
       line_steady g.N.Nvm.state g.N.Bench.bench _ c.args.player.now c.line-answer.new.self (line_of c.args.line.now) _ _ c.line-answer.result c.line-answer.ensures.done s n at,
       recorded_line g.N.Nvm.state g.N.Bench.bench c.args.subject.rules.now c.args.subject.aid.now c.args.player.now s (n, line_of c.args.line.now) _ h.0 at h.2 h.3,
     )
-
-pub returns-then-recorder-clause-steps : goal.returns-then-recorder-clause-steps
-returns-then-recorder-clause-steps g c =
-    line_most g.N.Nvm.state g.N.Bench.bench c.args.player.now (line_of c.args.line.now) c.line-answer.result c.args.steps.now c.line-answer.new.steps c.line-answer.ensures.steps
-
-pub returns-in_err-course-clause-steps : goal.returns-in_err-course-clause-steps
-returns-in_err-course-clause-steps g c =
-    line_most g.N.Nvm.state g.N.Bench.bench c.args.player.now (line_of c.args.line.now) c.line-answer.result c.args.steps.now c.line-answer.new.steps c.line-answer.ensures.steps
-
-pub returns-clause-steps : goal.returns-clause-steps
-returns-clause-steps g c =
-    line_most g.N.Nvm.state g.N.Bench.bench c.args.player.now (line_of c.args.line.now) c.line-answer.result c.args.steps.now c.line-answer.new.steps c.line-answer.ensures.steps
-
-pub returns-in_err-was_selected-clause-steps : goal.returns-in_err-was_selected-clause-steps
-returns-in_err-was_selected-clause-steps g c = λ s at. omega arith

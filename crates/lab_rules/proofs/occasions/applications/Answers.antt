@@ -1,5 +1,5 @@
 use Rattle.std.proofs.Common.{List, ◌∙◌, ap, map}
-use Rattle.lab_match.specs.law_explore.specs.Matching.{plain}
+use Rattle.law_explore.specs.model_events.specs.Matching.{plain}
 use Rattle.lab_rules.specs.declared.rules.Move.{Move}
 use Rattle.lab_rules.specs.declared.rules.OnRule.{OnRule}
 use Rattle.lab_rules.specs.Occasions.{row_of}

@@ -1,5 +1,5 @@
 use Rattle.mc_text.specs.model_text.specs.Text.{fields}
-use Rattle.lab_match.specs.law_explore.specs.Rules.{occasion_words}
+use Rattle.law_explore.specs.Rules.{occasion_words}
 use Rattle.lab_rules.proofs.PartLemmas.{parts_step}
 use Rattle.lab_rules.proofs.parts.occasion_parts.Goals as goal
 

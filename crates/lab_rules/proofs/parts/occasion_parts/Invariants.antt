@@ -1,6 +1,6 @@
 use Rattle.std.proofs.Common.{length}
 use Rattle.mc_text.specs.model_text.specs.Text.{fields}
-use Rattle.lab_match.specs.law_explore.specs.Rules.{occasion_words}
+use Rattle.law_explore.specs.Rules.{occasion_words}
 use Rattle.lab_rules.proofs.PartLemmas.{PartsLeft}
 use Rattle.lab_rules.proofs.parts.occasion_parts.Given as goal
 

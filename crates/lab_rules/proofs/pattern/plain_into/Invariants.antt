@@ -1,5 +1,5 @@
 use Rattle.std.proofs.Common.{◌≡◌, ◌++◌, ◌+◌, ◌≤◌, drop, length}
-use Rattle.lab_match.specs.law_explore.specs.Matching.{plain}
+use Rattle.law_explore.specs.model_events.specs.Matching.{plain}
 use Rattle.lab_rules.proofs.pattern.plain_into.Given as goal
 
 -- the text so far and what is left of it make the whole

@@ -2,8 +2,8 @@ use Rattle.std.proofs.Common.{ℕ, List, ap, sym, subst}
 use Rattle.std.specs.Prelude.{IfErr, OnOk}
 use Rattle.std.proofs.lemmas.Result.{on_ok_weaker, IfErr-weaker}
 use Rattle.mc_text.specs.model_text.specs.Text.{fields, trim}
-use Rattle.lab_match.specs.law_explore.specs.Rules as model
-use Rattle.lab_match.specs.law_explore.specs.Rules.{with_rule, MoveWord, RuleWord}
+use Rattle.law_explore.specs.Rules as model
+use Rattle.law_explore.specs.Rules.{with_rule, MoveWord, RuleWord}
 use Rattle.mc_deck.specs.Refused.{Faulty}
 use Rattle.lab_rules.specs.Meanings.{kind_value, AreRules, AreRulesRead}
 use Rattle.lab_match.proofs.FieldLemmas.{fields_trimmed}

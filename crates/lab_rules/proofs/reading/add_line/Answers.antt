@@ -1,8 +1,8 @@
 use Rattle.std.proofs.Common.{◌≡◌, arith, true, subst, sym}
 use Rattle.std.proofs.lemmas.Result.{on_ok_weaker, IfErr-weaker}
 use Rattle.mc_text.specs.model_text.specs.Text.{fields}
-use Rattle.lab_match.specs.law_explore.specs.Rules as model
-use Rattle.lab_match.specs.law_explore.specs.Rules.{is_marked}
+use Rattle.law_explore.specs.Rules as model
+use Rattle.law_explore.specs.model_play.specs.RuleLines.{is_marked}
 use Rattle.mc_deck.specs.Refused.{Faulty}
 use Rattle.lab_rules.specs.Meanings.{rule_of, rules_with, AreRules, AreRulesRead}
 use Rattle.lab_rules.proofs.ReadLemmas.{longer_fault, outside_rule, rule_line}

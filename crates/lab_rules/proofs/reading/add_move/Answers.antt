@@ -1,6 +1,6 @@
 use Rattle.std.proofs.Common.{arith}
 use Rattle.mc_text.specs.model_text.specs.Text.{fields}
-use Rattle.lab_match.specs.model_play.specs.declared.deck.DeckCause.TheVariants.{BadLine}
+use Rattle.law_explore.specs.model_play.specs.declared.deck.DeckCause.TheVariants.{BadLine}
 use Rattle.mc_deck.specs.declared.refusal.Fault.TheVariants as fault
 use Rattle.lab_rules.proofs.MoveLemmas.{not_move}
 use Rattle.lab_rules.proofs.OnLemmas.{move_faulty, move_added}

@@ -1,8 +1,8 @@
 use Rattle.std.proofs.Common.{subst}
 use Rattle.std.proofs.lemmas.Result.{on_ok_weaker, IfErr-weaker}
 use Rattle.mc_text.specs.model_text.specs.Text.{fields, trim}
-use Rattle.lab_match.specs.law_explore.specs.Rules as model
-use Rattle.lab_match.specs.law_explore.specs.Rules.{with_rule}
+use Rattle.law_explore.specs.Rules as model
+use Rattle.law_explore.specs.Rules.{with_rule}
 use Rattle.mc_deck.specs.Refused.{Faulty}
 use Rattle.lab_rules.specs.Meanings.{kind_value, rule_of, AreRules, AreRulesRead}
 use Rattle.lab_rules.proofs.FieldLemmas.{one_line_rest}

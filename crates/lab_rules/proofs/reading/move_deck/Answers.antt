@@ -1,5 +1,5 @@
 use Rattle.std.proofs.Common.{◌++◌, List, ℕ, ap, subst, ◌∙◌}
-use Rattle.lab_match.specs.model_play.specs.DeckGrammar.{deck_read}
+use Rattle.law_explore.specs.model_play.specs.DeckGrammar.{deck_read}
 use Rattle.mc_deck.specs.Refused.{DeckRefuses}
 use Rattle.lab_rules.proofs.MoveLemmas.{is_read, is_refused}
 use Rattle.lab_rules.proofs.reading.move_deck.Goals as goal

@@ -1,6 +1,7 @@
 use Rattle.std.proofs.Common.{refl, sym}
 use Rattle.mc_text.specs.model_text.specs.Text.{fields}
-use Rattle.lab_match.specs.law_explore.specs.Rules.{full_parts, occasion_words, parts_of}
+use Rattle.law_explore.specs.model_play.specs.RuleLines.{full_parts, parts_of}
+use Rattle.law_explore.specs.Rules.{occasion_words}
 use Rattle.lab_rules.specs.Meanings.{allowance_values, effect_value, occasion_value, on_of}
 use Rattle.lab_rules.proofs.OnLemmas.{all_parts, name_unknown, on_is_read}
 use Rattle.lab_rules.proofs.reading.on_rule.Goals as goal

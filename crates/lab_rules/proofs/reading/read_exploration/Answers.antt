@@ -1,6 +1,6 @@
 use Rattle.std.proofs.Common.{◌≡◌, length, true, false, arith, refl, subst, sym}
 use Rattle.std.specs.Prelude.{◌==◌}
-use Rattle.lab_match.specs.law_explore.specs.Rules.{exploration_read}
+use Rattle.law_explore.specs.Rules.{exploration_read}
 use Rattle.lab_rules.specs.Meanings.{RefusesExploration}
 use Rattle.lab_rules.proofs.ReadLemmas.{deck_refused, few_lines, is_explored, no_move, no_rule, rules_are_refused}
 use Rattle.lab_rules.proofs.reading.read_exploration.Goals as goal

@@ -1,6 +1,6 @@
 use Rattle.std.proofs.Common.{◌+◌, ℕ, List, Bor, Bool, arith, ap, sym, subst, ◌∙◌}
 use Rattle.std.specs.Prelude.{option_map}
-use Rattle.lab_match.specs.law_explore.specs.Rules.{rules_read}
+use Rattle.law_explore.specs.Rules.{rules_read}
 use Rattle.mc_deck.specs.Refused.{DeckRefuses}
 use Rattle.lab_rules.proofs.FieldLemmas.{first_line}
 use Rattle.lab_rules.proofs.ReadLemmas.{few_step, rules_done, rules_refuse, rules_start, rules_step, RulesLeft}

@@ -1,6 +1,6 @@
 use Rattle.std.proofs.Common.{◌+◌, ◌≤◌, length}
 use Rattle.mc_text.specs.model_text.specs.Text.{lines}
-use Rattle.lab_match.specs.law_explore.specs.Rules.{rules_read}
+use Rattle.law_explore.specs.Rules.{rules_read}
 use Rattle.lab_rules.proofs.ReadLemmas.{RulesLeft}
 use Rattle.lab_rules.proofs.reading.read_rules.Given as goal
 

@@ -14,8 +14,8 @@ use Rattle.lab_search.proofs.beginning.begin.Goals as goal
 pub keep-requires : goal.keep-requires
 keep-requires g c = (_, _, c.in_ok-budget.ensures.first.shows)
 
-pub returns-clause-begins : goal.returns-clause-begins
-returns-clause-begins g c =
+pub returns : goal.returns
+returns g c =
     λ x h.
     let f = c.in_ok-budget.ensures.first in
     let device = c.play_deck.new.device in

@@ -2,7 +2,6 @@ use Rattle.std.proofs.Common.{[], ◌∷◌}
 use Rattle.law_explore_text.specs.model_play.specs.DeckGrammar as line
 use Rattle.lab_search.proofs.PlayerLemmas.{line_playing}
 use Rattle.lab_search.proofs.BeginLemmas.{idled}
-use Rattle.lab_search.proofs.StepCountLemmas.{idle_steps}
 use Rattle.lab_search.proofs.beginning.play_idle.Goals as goal
 
 pub returns-clause-playing : goal.returns-clause-playing
@@ -18,6 +17,3 @@ returns-clause-steady g c =
     λ steady.
     let q = c.requires in
     (idled g.N.Nvm.state g.N.Bench.bench _ c.args.player.now c.line-dropped.new.self _ _ c.line-dropped.result q.0 c.line-dropped.ensures.done q.1 steady).steady
-
-pub returns-clause-steps : goal.returns-clause-steps
-returns-clause-steps g c = idle_steps g.N.Nvm.state g.N.Bench.bench c.args.player.now c.line-dropped.result c.args.steps.now c.line-dropped.new.steps c.line-dropped.ensures.steps c.requires

@@ -1,6 +1,5 @@
 use Rattle.std.proofs.Common.{sym, ◌∙◌}
 use Rattle.lab_search.proofs.BeginLemmas.{fails_not, powered_fault, powered_ready, powered_running}
-use Rattle.lab_search.proofs.StepCountLemmas.{power_steps}
 use Rattle.lab_search.proofs.beginning.power_up.Goals as goal
 
 pub returns-then-runs-clause-powered : goal.returns-then-runs-clause-powered
@@ -19,12 +18,3 @@ returns-clause-powered g c =
     λ s at steady u settled.
     powered_ready g.N.Nvm.state g.N.Bench.bench c.args.player.now c.play-answer.new.player c.in_ok-before.before c.in_ok-live.field-0 s c.play-answer.result (c.in_ok-before.ensures.shows s at) (sym c.runs.ensures ∙ c.if-runs.false) u
     (c.play-answer.ensures.plays s 0 at steady (fails_not s u)) (sym c.is_ready.ensures ∙ c.if-not-is_ready.false) c.in_ok-live.ensures.shows
-
-pub returns-then-not-is_ready-clause-steps : goal.returns-then-not-is_ready-clause-steps
-returns-then-not-is_ready-clause-steps g c = power_steps g.N.Nvm.state g.N.Bench.bench c.args.player.now c.play-answer.result c.args.steps.now c.play-answer.new.steps c.play-answer.ensures.steps c.requires
-
-pub returns-in_err-live-clause-steps : goal.returns-in_err-live-clause-steps
-returns-in_err-live-clause-steps g c = power_steps g.N.Nvm.state g.N.Bench.bench c.args.player.now c.play-answer.result c.args.steps.now c.play-answer.new.steps c.play-answer.ensures.steps c.requires
-
-pub returns-clause-steps : goal.returns-clause-steps
-returns-clause-steps g c = power_steps g.N.Nvm.state g.N.Bench.bench c.args.player.now c.play-answer.result c.args.steps.now c.play-answer.new.steps c.play-answer.ensures.steps c.requires

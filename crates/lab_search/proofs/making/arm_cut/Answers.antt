@@ -2,7 +2,6 @@ use Rattle.std.proofs.Common.{ℕ, List, None, subst}
 use Rattle.law_explore_text.specs.model_play.specs.DeckGrammar as line
 use Rattle.lab_search.specs.Playing.{PlaysAs}
 use Rattle.lab_search.proofs.TryLemmas.{cut_silent}
-use Rattle.lab_search.proofs.StepCountLemmas.{cut_steps}
 use Rattle.lab_search.proofs.making.arm_cut.Goals as goal
 
 pub returns-clause-plays : goal.returns-clause-plays
@@ -11,7 +10,3 @@ returns-clause-plays g c =
     let bench = g.N.Bench.bench in
     subst (λ (x : List ℕ). PlaysAs state bench c.args.player.now (line.Cut c.args.k x) None c.play-armed.new.player) c.word.ensures
     (cut_silent state bench c.args.player.now c.play-armed.new.player c.args.k c.word.result c.play-armed.result c.play-armed.ensures.plays)
-
-pub returns-clause-steps : goal.returns-clause-steps
-returns-clause-steps g c =
-    cut_steps g.N.Nvm.state g.N.Bench.bench c.args.player.now c.args.k c.word.result c.play-armed.result c.args.steps.now c.play-armed.new.steps c.play-armed.ensures.steps c.requires.playing

@@ -1,10 +1,9 @@
-use Rattle.std.proofs.Common.{◌≡◌, arith, sym, subst}
+use Rattle.std.proofs.Common.{◌≡◌, sym, subst}
 use Rattle.std.specs.Prelude.{true}
 use Rattle.law_explore_text.specs.model_play.specs.DeckGrammar.{DeckLine}
 use Rattle.mc_script.specs.Players.{device_of}
 use Rattle.lab_search.specs.Playing.{PlaysAs}
 use Rattle.lab_search.proofs.RestoringLemmas.{powered, powered_fits, put_back}
-use Rattle.lab_search.proofs.StepCountLemmas.{budget_steps, power_steps}
 use Rattle.lab_search.proofs.making.restore.Goals as goal
 
 pub put_live-requires-clause-fits : goal.put_live-requires-clause-fits
@@ -44,11 +43,3 @@ returns-clause-steady g c =
     let some = c.requires.shown in
     let h = powered state bench p q r m c.args.budget.now c.play-set.result c.play-powered.result some.0 some.1 c.args.saved.now c.requires.start c.requires.steady first c.play-powered.ensures.plays some.2 in
     subst (λ d. (bench d).steady ≡ true) (sym c.put_live.ensures.device) h.steady
-
-pub returns-clause-steps : goal.returns-clause-steps
-returns-clause-steps g c =
-    let state = g.N.Nvm.state in
-    let bench = g.N.Bench.bench in
-    let set = budget_steps state bench c.args.player.now _ c.args.budget.now c.play-set.result c.args.steps.now c.play-set.new.steps c.line.ensures.line c.play-set.ensures.steps (_, c.requires.start) in
-    let powered = power_steps state bench c.play-set.new.player c.play-powered.result c.play-set.new.steps c.play-powered.new.steps c.play-powered.ensures.steps c.play-set.ensures.playing in
-    omega (arith, set, powered)

@@ -1,4 +1,4 @@
-use Rattle.std.proofs.Common.{ℕ, arith, refl, sym, subst}
+use Rattle.std.proofs.Common.{ℕ, refl, sym, subst}
 use Rattle.law_explore_text.specs.model_play.specs.Play.{AfterPower}
 use Rattle.mc_script.specs.Players.{device_of, IsPlayerAt}
 use Rattle.lab_search.specs.Shown.{settled_play}
@@ -14,12 +14,3 @@ returns-clause-tried g c k m shown budget is card can =
     let at = subst (λ (n : ℕ). IsPlayerAt state bench q (AfterPower (settled_play k.base k.live n))) (sym budget) (c.restore.ensures.at k.base k.live shown) in
     tried_as state bench k m c.args.manner r (device_of r) c.args.candidate.now.ons.now c.args.candidate.now.applies.now c.args.counts.now c.make-made.new.counts c.make-made.new.text.items
     c.make-made.result c.live_after.result refl card shown.base can (c.make-made.ensures.made k m at c.restore.ensures.steady shown.base is card can) c.live_after.ensures.shows
-
-pub returns-clause-steps : goal.returns-clause-steps
-returns-clause-steps g c k m shown budget is can =
-    let state = g.N.Nvm.state in
-    let bench = g.N.Bench.bench in
-    let at = subst (λ (n : ℕ). IsPlayerAt state bench c.restore.new.player (AfterPower (settled_play k.base k.live n))) (sym budget) (c.restore.ensures.at k.base k.live shown) in
-    let restored = c.restore.ensures.steps in
-    let made = c.make-made.ensures.steps k m at c.restore.ensures.steady is can in
-    omega (arith, restored, made)

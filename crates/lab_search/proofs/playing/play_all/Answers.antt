@@ -1,6 +1,5 @@
 use Rattle.lab_search.proofs.PlayerLemmas.{deck_playing}
 use Rattle.lab_search.proofs.BeginLemmas.{deck_done}
-use Rattle.lab_search.proofs.StepCountLemmas.{deck_steps}
 use Rattle.lab_search.proofs.playing.play_all.Goals as goal
 
 pub returns-clause-playing : goal.returns-clause-playing
@@ -14,7 +13,3 @@ returns-clause-at g c =
 pub returns-clause-steady : goal.returns-clause-steady
 returns-clause-steady g c =
     λ s at steady. (deck_done g.N.Nvm.state g.N.Bench.bench c.args.player.now c.deck.new.self s c.args.deck.now at steady (c.deck.ensures.done s at)).steady
-
-pub returns-clause-steps : goal.returns-clause-steps
-returns-clause-steps g c =
-    λ s at steady. deck_steps g.N.Nvm.state g.N.Bench.bench c.args.player.now c.deck.new.self s c.args.deck.now c.args.steps.now c.deck.new.steps steady (c.deck.ensures.steps s at)

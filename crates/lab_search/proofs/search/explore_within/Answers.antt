@@ -1,40 +1,39 @@
 use Rattle.std.proofs.Common.{◌≡◌, ◌-◌, arith, length}
-use Rattle.lab_search.proofs.DepthLemmas.{candidates_of, depth_comes, depth_end, depth_fails, depth_first, depth_halts, depth_last, depth_next, depth_steps, depth_stops, depth_tries, states_can}
-use Rattle.lab_search.proofs.StepCountLemmas.{explores_none}
+use Rattle.lab_search.proofs.DepthLemmas.{candidates_of, depth_comes, depth_end, depth_fails, depth_first, depth_halts, depth_last, depth_next, depth_stops, states_can}
 use Rattle.lab_search.proofs.search.explore_within.Goals as goal
 
 pub loop-done-init : goal.loop-done-init
-loop-done-init g c = λ x h. let s = c.in_ok-search.ensures.starts x h in depth_first x c.args.limit c.args.depth c.in_ok-search.search _ c.args.exploration.now.deck c.args.steps.now c.start.new.steps s.holds s.tally h.deck c.start.ensures.steps
+loop-done-init g c = λ x h. let s = c.in_ok-search.ensures x h in depth_first x c.args.limit c.args.depth c.in_ok-search.search _ s.holds s.tally
 
-pub returns-in_err-halt-clause-explored : goal.returns-in_err-halt-clause-explored
-returns-in_err-halt-clause-explored g c =
-    λ x h. depth_stops x c.args.limit c.args.depth c.loop-done.done c.loop-done.from c.loop-done.search _ _ c.from_residual-in_err-halt.result (c.loop-done.invariant x h).ahead c.from_residual-in_err-halt.ensures.0 c.from_residual-in_err-halt.ensures.1
+pub returns-in_err-halt : goal.returns-in_err-halt
+returns-in_err-halt g c =
+    λ x h. depth_stops x c.args.limit c.args.depth c.loop-done.done c.loop-done.from c.loop-done.search _ _ c.from_residual-in_err-halt.result (c.loop-done.invariant x h) c.from_residual-in_err-halt.ensures.0 c.from_residual-in_err-halt.ensures.1
 
-pub returns-in-Some-clause-explored : goal.returns-in-Some-clause-explored
-returns-in-Some-clause-explored g c =
+pub returns-in-Some : goal.returns-in-Some
+returns-in-Some g c =
     λ x h.
-    let k = (c.loop-done.invariant x h).ahead in
+    let k = c.loop-done.invariant x h in
     let can = candidates_of x c.args.exploration.now c.in_ok-rows.rows.items c.as_slice.result.now h c.as_slice.ensures.value c.in_ok-rows.ensures in
-    let comes = depth_comes x c.args.limit c.args.depth c.loop-done.done c.loop-done.from c.len-to.result c.loop-done.search c.try_states.new.self _ _ c.in_ok-halt.halt c.args.exploration.now.rules c.as_slice.result.now k c.len-to.ensures.len can c.in_ok-halt.ensures.comes in
+    let comes = depth_comes x c.args.limit c.args.depth c.loop-done.done c.loop-done.from c.len-to.result c.loop-done.search c.try_states.new.self _ _ c.in_ok-halt.halt c.args.exploration.now.rules c.as_slice.result.now k c.len-to.ensures.len can c.in_ok-halt.ensures in
     depth_halts x c.args.limit c.args.depth c.loop-done.done c.loop-done.from c.loop-done.search c.try_states.new.self _ _ k c.loop-done-test.true c.in_ok-halt.halt c.in-Some.halt c.report_halt.result _ c.in-Some.is comes
-    (λ e ends. c.report_halt.ensures x c.args.limit (length k.nodes) k.nodes e h (c.in_ok-search.ensures.starts x h).start ends)
+    (λ e ends. c.report_halt.ensures x c.args.limit (length k.nodes) k.nodes e h (c.in_ok-search.ensures x h).start ends)
 
-pub returns-in_err-put_depth-clause-explored : goal.returns-in_err-put_depth-clause-explored
-returns-in_err-put_depth-clause-explored g c =
+pub returns-in_err-put_depth : goal.returns-in_err-put_depth
+returns-in_err-put_depth g c =
     λ x h.
-    let k = (c.loop-done.invariant x h).ahead in
+    let k = c.loop-done.invariant x h in
     let can = candidates_of x c.args.exploration.now c.in_ok-rows.rows.items c.as_slice.result.now h c.as_slice.ensures.value c.in_ok-rows.ensures in
-    let comes = depth_comes x c.args.limit c.args.depth c.loop-done.done c.loop-done.from c.len-to.result c.loop-done.search c.try_states.new.self _ _ c.in_ok-halt.halt c.args.exploration.now.rules c.as_slice.result.now k c.len-to.ensures.len can c.in_ok-halt.ensures.comes in
+    let comes = depth_comes x c.args.limit c.args.depth c.loop-done.done c.loop-done.from c.len-to.result c.loop-done.search c.try_states.new.self _ _ c.in_ok-halt.halt c.args.exploration.now.rules c.as_slice.result.now k c.len-to.ensures.len can c.in_ok-halt.ensures in
     let count : c.saturating_sub-new.result ≡ length c.try_states.new.self.states.keys - length c.loop-done.search.states.keys = omega (arith, c.saturating_sub-new.ensures, c.len.ensures.len, c.len-to.ensures.len) in
     depth_fails x c.args.limit c.args.depth c.loop-done.done c.loop-done.from c.loop-done.search c.try_states.new.self _ _ k c.loop-done-test.true c.in_ok-halt.halt c.saturating_sub-new.result c.from_residual-in_err-put_depth.result _ c.in_default.is comes count
     c.from_residual-in_err-put_depth.ensures.0 c.from_residual-in_err-put_depth.ensures.1 c.in_err-put_depth.ensures
 
-pub returns-then-new-eq0-clause-explored : goal.returns-then-new-eq0-clause-explored
-returns-then-new-eq0-clause-explored g c =
+pub returns-then-new-eq0 : goal.returns-then-new-eq0
+returns-then-new-eq0 g c =
     λ x h.
-    let k = (c.loop-done.invariant x h).ahead in
+    let k = c.loop-done.invariant x h in
     let can = candidates_of x c.args.exploration.now c.in_ok-rows.rows.items c.as_slice.result.now h c.as_slice.ensures.value c.in_ok-rows.ensures in
-    let comes = depth_comes x c.args.limit c.args.depth c.loop-done.done c.loop-done.from c.len-to.result c.loop-done.search c.try_states.new.self _ _ c.in_ok-halt.halt c.args.exploration.now.rules c.as_slice.result.now k c.len-to.ensures.len can c.in_ok-halt.ensures.comes in
+    let comes = depth_comes x c.args.limit c.args.depth c.loop-done.done c.loop-done.from c.len-to.result c.loop-done.search c.try_states.new.self _ _ c.in_ok-halt.halt c.args.exploration.now.rules c.as_slice.result.now k c.len-to.ensures.len can c.in_ok-halt.ensures in
     let count : c.saturating_sub-new.result ≡ length c.try_states.new.self.states.keys - length c.loop-done.search.states.keys = omega (arith, c.saturating_sub-new.ensures, c.len.ensures.len, c.len-to.ensures.len) in
     depth_last x c.args.limit c.args.depth c.loop-done.done c.loop-done.from c.loop-done.search c.try_states.new.self _ _ k c.loop-done-test.true c.in_ok-halt.halt c.saturating_sub-new.result _ _ c.report_kept.result c.in_default.is comes count
     c.if-new-eq0.true c.in_ok-put_depth.ensures (c.report_kept.ensures x h)
@@ -42,64 +41,21 @@ returns-then-new-eq0-clause-explored g c =
 pub loop-done-preserved : goal.loop-done-preserved
 loop-done-preserved g c =
     λ x h.
-    let l = c.loop-done.invariant x h in
-    let k = l.ahead in
+    let k = c.loop-done.invariant x h in
     let can = candidates_of x c.args.exploration.now c.in_ok-rows.rows.items c.as_slice.result.now h c.as_slice.ensures.value c.in_ok-rows.ensures in
-    let comes = depth_comes x c.args.limit c.args.depth c.loop-done.done c.loop-done.from c.len-to.result c.loop-done.search c.try_states.new.self _ _ c.in_ok-halt.halt c.args.exploration.now.rules c.as_slice.result.now k c.len-to.ensures.len can c.in_ok-halt.ensures.comes in
-    let tries = depth_tries x c.args.limit c.args.depth c.loop-done.done c.loop-done.from c.len-to.result c.loop-done.search _ _ c.loop-done.steps c.try_states.new.steps c.args.exploration.now.rules c.as_slice.result.now k c.len-to.ensures.len can c.try_states.ensures.steps in
+    let comes = depth_comes x c.args.limit c.args.depth c.loop-done.done c.loop-done.from c.len-to.result c.loop-done.search c.try_states.new.self _ _ c.in_ok-halt.halt c.args.exploration.now.rules c.as_slice.result.now k c.len-to.ensures.len can c.in_ok-halt.ensures in
     let count : c.saturating_sub-new.result ≡ length c.try_states.new.self.states.keys - length c.loop-done.search.states.keys = omega (arith, c.saturating_sub-new.ensures, c.len.ensures.len, c.len-to.ensures.len) in
-    depth_next x c.args.limit c.args.depth c.loop-done.done c.loop-done.from c.loop-done.search c.try_states.new.self _ _ k c.loop-done-test.true c.in_ok-halt.halt c.saturating_sub-new.result _ c.args.steps.now c.loop-done.steps c.try_states.new.steps c.in_default.is comes
-    count c.if-new-eq0.false c.in_ok-put_depth.ensures c.len-to.result c.len-to.ensures.len l.steps tries
+    depth_next x c.args.limit c.args.depth c.loop-done.done c.loop-done.from c.loop-done.search c.try_states.new.self _ _ k c.loop-done-test.true c.in_ok-halt.halt c.saturating_sub-new.result _ c.in_default.is comes count
+    c.if-new-eq0.false c.in_ok-put_depth.ensures c.len-to.result c.len-to.ensures.len
 
-pub returns-clause-explored : goal.returns-clause-explored
-returns-clause-explored g c =
-    λ x h. depth_end x c.args.limit c.args.depth c.loop-done.done c.loop-done.from c.loop-done.search _ _ _ c.report_kept-2.result (c.loop-done.invariant x h).ahead (omega (arith, c.loop-done.auto.done-end, c.loop-done-test.false)) (c.report_kept-2.ensures x h)
+pub returns : goal.returns
+returns g c =
+    λ x h. depth_end x c.args.limit c.args.depth c.loop-done.done c.loop-done.from c.loop-done.search _ _ _ c.report_kept-2.result (c.loop-done.invariant x h) (omega (arith, c.loop-done.auto.done-end, c.loop-done-test.false)) (c.report_kept-2.ensures x h)
 
 pub try_states-requires : goal.try_states-requires
 try_states-requires g c =
     let q = c.requires.read in
     let x = q.0 in
-    let k = (c.loop-done.invariant x q.1).ahead in
+    let k = c.loop-done.invariant x q.1 in
     let can = candidates_of x c.args.exploration.now c.in_ok-rows.rows.items c.as_slice.result.now q.1 c.as_slice.ensures.value c.in_ok-rows.ensures in
     states_can x c.args.limit c.args.depth c.loop-done.done c.loop-done.from c.len-to.result c.loop-done.search _ _ c.args.exploration.now.rules c.as_slice.result.now k c.len-to.ensures.len can
-
-pub returns-in_err-halt-clause-steps : goal.returns-in_err-halt-clause-steps
-returns-in_err-halt-clause-steps g c =
-    λ x h.
-    let l = c.loop-done.invariant x h in
-    let can = candidates_of x c.args.exploration.now c.in_ok-rows.rows.items c.as_slice.result.now h c.as_slice.ensures.value c.in_ok-rows.ensures in
-    depth_steps x c.args.limit c.args.depth c.loop-done.done c.loop-done.from c.len-to.result c.loop-done.search _ _ c.args.steps.now c.loop-done.steps c.try_states.new.steps c.args.exploration.now.rules c.as_slice.result.now l c.loop-done-test.true c.len-to.ensures.len can
-    c.try_states.ensures.steps
-
-pub returns-in-Some-clause-steps : goal.returns-in-Some-clause-steps
-returns-in-Some-clause-steps g c =
-    λ x h.
-    let l = c.loop-done.invariant x h in
-    let can = candidates_of x c.args.exploration.now c.in_ok-rows.rows.items c.as_slice.result.now h c.as_slice.ensures.value c.in_ok-rows.ensures in
-    depth_steps x c.args.limit c.args.depth c.loop-done.done c.loop-done.from c.len-to.result c.loop-done.search _ _ c.args.steps.now c.loop-done.steps c.try_states.new.steps c.args.exploration.now.rules c.as_slice.result.now l c.loop-done-test.true c.len-to.ensures.len can
-    c.try_states.ensures.steps
-
-pub returns-in_err-put_depth-clause-steps : goal.returns-in_err-put_depth-clause-steps
-returns-in_err-put_depth-clause-steps g c =
-    λ x h.
-    let l = c.loop-done.invariant x h in
-    let can = candidates_of x c.args.exploration.now c.in_ok-rows.rows.items c.as_slice.result.now h c.as_slice.ensures.value c.in_ok-rows.ensures in
-    depth_steps x c.args.limit c.args.depth c.loop-done.done c.loop-done.from c.len-to.result c.loop-done.search _ _ c.args.steps.now c.loop-done.steps c.try_states.new.steps c.args.exploration.now.rules c.as_slice.result.now l c.loop-done-test.true c.len-to.ensures.len can
-    c.try_states.ensures.steps
-
-pub returns-then-new-eq0-clause-steps : goal.returns-then-new-eq0-clause-steps
-returns-then-new-eq0-clause-steps g c =
-    λ x h.
-    let l = c.loop-done.invariant x h in
-    let can = candidates_of x c.args.exploration.now c.in_ok-rows.rows.items c.as_slice.result.now h c.as_slice.ensures.value c.in_ok-rows.ensures in
-    depth_steps x c.args.limit c.args.depth c.loop-done.done c.loop-done.from c.len-to.result c.loop-done.search _ _ c.args.steps.now c.loop-done.steps c.try_states.new.steps c.args.exploration.now.rules c.as_slice.result.now l c.loop-done-test.true c.len-to.ensures.len can
-    c.try_states.ensures.steps
-
-pub returns-in_err-rows-clause-steps : goal.returns-in_err-rows-clause-steps
-returns-in_err-rows-clause-steps g c = λ x h. omega arith
-
-pub returns-in_err-search-clause-steps : goal.returns-in_err-search-clause-steps
-returns-in_err-search-clause-steps g c = λ x h. explores_none c.args.limit c.args.depth x c.args.exploration.now.deck c.args.steps.now c.start.new.steps h.deck c.start.ensures.steps
-
-pub returns-clause-steps : goal.returns-clause-steps
-returns-clause-steps g c = λ x h. let steps = (c.loop-done.invariant x h).steps in omega (arith, steps)

@@ -5,10 +5,10 @@ use Rattle.lab_search.proofs.StartLemmas.{ran_start}
 use Rattle.lab_search.proofs.TallyLemmas.{start_tally}
 use Rattle.lab_search.proofs.search.start.Goals as goal
 
-pub returns-clause-starts : goal.returns-clause-starts
-returns-clause-starts g c =
+pub returns : goal.returns
+returns g c =
     λ x h.
-    let b = c.in_ok-laboratory.ensures.begins x h in
+    let b = c.in_ok-laboratory.ensures x h in
     let many : c.len-ons.result ≡ length c.args.exploration.now.rules.ons.items = search rules in
     let holds = c.in_ok-search.ensures.holds x.rules (first_state x) b.kept b.counts in
     let runs = c.runs.ensures (record { rules = x.rules; most = c.args.limit; from = 0 }) (record { state = first_state x; path = [] } ∷ []) (record { state = first_state x; path = [] }) (record { holds = holds; found = refl }) in

@@ -1,6 +1,6 @@
 use Rattle.std.proofs.Common.{arith, rules}
-use Rattle.mc_arith.proofs.ResultLemmas.{inc_is}
-use Rattle.model_machine.specs.model_device.proofs.ListLemmas.{all_bytes}
+use Rattle.law_rows.proofs.ResultLemmas.{inc_is}
+use Rattle.law_rows.specs.model_device.proofs.ListLemmas.{all_bytes}
 use Rattle.mc_arith.proofs.addition.inc.Goals as goal
 
 pub returns : goal.returns

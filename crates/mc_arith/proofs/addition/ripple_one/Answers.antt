@@ -1,6 +1,6 @@
 use Rattle.std.proofs.Common.{◌+◌, ◌-◌, arith, get_or, refl}
 use Rattle.std.proofs.lemmas.Grind.{common_steps}
-use Rattle.mc_arith.proofs.StepLemmas.{one_step}
+use Rattle.law_rows.proofs.StepLemmas.{one_step}
 use Rattle.mc_arith.proofs.addition.ripple_one.Goals as goal
 
 pub loop-i-preserved : goal.loop-i-preserved

@@ -1,6 +1,6 @@
 -- the bytes from i on are increased by 1 up to a carry, and the bytes before i are unchanged
 use Rattle.std.proofs.Common.{◌≡◌, ◌+◌, ◌-◌, ◌*◌, ◌^◌, ◌<◌, ◌≤◌, ℕ, length, get_or, drop}
-use Rattle.model_machine.specs.model_device.specs.Bytes.{num}
+use Rattle.law_rows.specs.model_device.specs.Bytes.{num}
 use Rattle.mc_arith.proofs.addition.ripple_one.Given as goal
 
 abbrev pub invariant-loop-i : goal.invariant-loop-i

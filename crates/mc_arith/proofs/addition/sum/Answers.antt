@@ -1,5 +1,5 @@
 use Rattle.std.proofs.Common.{arith}
-use Rattle.mc_arith.specs.Carry.{carry_of}
+use Rattle.law_rows.specs.Carry.{carry_of}
 use Rattle.mc_arith.proofs.QuadLemmas.{sum_set}
 use Rattle.mc_arith.proofs.addition.sum.Goals as goal
 

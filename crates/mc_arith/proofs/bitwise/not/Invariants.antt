@@ -1,6 +1,6 @@
 -- the bytes done so far, followed by the result on the others, are the result on the whole
 use Rattle.std.proofs.Common.{◌≡◌, ◌++◌, take, drop}
-use Rattle.model_machine.specs.Blocks.{not_block}
+use Rattle.law_rows.specs.model_machine.specs.Blocks.{not_block}
 use Rattle.mc_arith.proofs.bitwise.not.Given as goal
 
 abbrev pub invariant-loop-b : goal.invariant-loop-b

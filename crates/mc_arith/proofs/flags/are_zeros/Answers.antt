@@ -1,5 +1,5 @@
 use Rattle.std.proofs.Common.{arith, sym, ◌∙◌}
-use Rattle.mc_arith.proofs.ResultLemmas.{not_zero}
+use Rattle.law_rows.proofs.ResultLemmas.{not_zero}
 use Rattle.mc_arith.proofs.flags.are_zeros.Goals as goal
 
 pub returns-then-b-ne0 : goal.returns-then-b-ne0

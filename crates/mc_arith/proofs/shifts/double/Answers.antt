@@ -1,6 +1,6 @@
 use Rattle.std.proofs.Common.{◌+◌, ◌-◌, ◌*◌, arith, get_or}
 use Rattle.std.proofs.lemmas.Grind.{common_steps}
-use Rattle.mc_arith.proofs.StepLemmas.{sum_step}
+use Rattle.law_rows.proofs.StepLemmas.{sum_step}
 use Rattle.mc_arith.proofs.shifts.double.Goals as goal
 
 pub loop-i-preserved : goal.loop-i-preserved

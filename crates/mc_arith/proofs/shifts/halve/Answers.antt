@@ -1,5 +1,5 @@
 use Rattle.std.proofs.Common.{◌+◌, ◌*◌, arith, get_or, refl}
-use Rattle.mc_arith.proofs.StepLemmas.{half_step}
+use Rattle.law_rows.proofs.StepLemmas.{half_step}
 use Rattle.mc_arith.proofs.shifts.halve.Goals as goal
 
 pub loop-i-preserved : goal.loop-i-preserved

@@ -1,6 +1,6 @@
 -- the bytes before i are halved up to the bit that is carried, and the bytes from i on are unchanged
 use Rattle.std.proofs.Common.{◌≡◌, ◌+◌, ◌-◌, ◌*◌, ◌^◌, ◌≤◌, length, drop}
-use Rattle.model_machine.specs.model_device.specs.Bytes.{num}
+use Rattle.law_rows.specs.model_device.specs.Bytes.{num}
 use Rattle.mc_arith.proofs.shifts.halve.Given as goal
 
 abbrev pub invariant-loop-i : goal.invariant-loop-i

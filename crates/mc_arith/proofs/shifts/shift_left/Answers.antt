@@ -1,8 +1,8 @@
 use Rattle.std.proofs.Common.{◌≡◌, ◌^◌, ◌<◌, arith, length, rules}
-use Rattle.model_machine.specs.model_device.specs.Bytes.{num}
-use Rattle.mc_arith.proofs.BlockLemmas.{num_below}
+use Rattle.law_rows.specs.model_device.specs.Bytes.{num}
+use Rattle.law_rows.proofs.BlockLemmas.{num_below}
 use Rattle.mc_arith.proofs.ShiftLemmas.{doubled, left_is, unshifted}
-use Rattle.model_machine.specs.model_device.proofs.ListLemmas.{all_bytes}
+use Rattle.law_rows.specs.model_device.proofs.ListLemmas.{all_bytes}
 use Rattle.mc_arith.proofs.shifts.shift_left.Goals as goal
 
 pub loop-step-init : goal.loop-step-init

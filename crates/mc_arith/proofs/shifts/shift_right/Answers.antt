@@ -1,7 +1,7 @@
 use Rattle.std.proofs.Common.{◌≡◌, ◌+◌, ◌-◌, arith, rules}
-use Rattle.model_machine.specs.model_device.specs.Bytes.{num}
+use Rattle.law_rows.specs.model_device.specs.Bytes.{num}
 use Rattle.mc_arith.proofs.ShiftLemmas.{halved, right_is}
-use Rattle.model_machine.specs.model_device.proofs.ListLemmas.{all_bytes}
+use Rattle.law_rows.specs.model_device.proofs.ListLemmas.{all_bytes}
 use Rattle.mc_arith.proofs.shifts.shift_right.Goals as goal
 
 pub loop-step-init : goal.loop-step-init

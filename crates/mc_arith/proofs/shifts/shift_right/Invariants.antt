@@ -1,7 +1,7 @@
 -- the block is shifted by the bits so far, and `left` is the bit shifted out last
 use Rattle.std.proofs.Common.{◌≡◌, ◌-◌, ◌/◌, ◌^◌, ◌<◌}
-use Rattle.model_machine.specs.model_device.specs.Bytes.{num, AreBytes}
-use Rattle.model_machine.specs.Blocks.{bit}
+use Rattle.law_rows.specs.model_device.specs.Bytes.{num, AreBytes}
+use Rattle.law_rows.specs.model_machine.specs.Blocks.{bit}
 use Rattle.mc_arith.proofs.shifts.shift_right.Given as goal
 
 abbrev pub invariant-loop-step : goal.invariant-loop-step

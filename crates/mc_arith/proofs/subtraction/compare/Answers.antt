@@ -1,7 +1,7 @@
 use Rattle.std.proofs.Common.{arith, sym}
 use Rattle.std.proofs.lemmas.Grind.{common_steps}
-use Rattle.mc_arith.proofs.ResultLemmas.{compare_at, different, equal}
-use Rattle.model_machine.specs.model_device.proofs.ListLemmas.{all_bytes}
+use Rattle.law_rows.proofs.ResultLemmas.{compare_at, different, equal}
+use Rattle.law_rows.specs.model_device.proofs.ListLemmas.{all_bytes}
 use Rattle.mc_arith.proofs.subtraction.compare.Goals as goal
 
 pub returns-then-a-i-clause-borrow : goal.returns-then-a-i-clause-borrow

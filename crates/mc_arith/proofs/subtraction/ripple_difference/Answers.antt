@@ -1,6 +1,6 @@
 use Rattle.std.proofs.Common.{◌+◌, ◌-◌, arith, get_or}
 use Rattle.std.proofs.lemmas.Grind.{common_steps}
-use Rattle.mc_arith.proofs.StepLemmas.{difference_step}
+use Rattle.law_rows.proofs.StepLemmas.{difference_step}
 use Rattle.mc_arith.proofs.subtraction.ripple_difference.Goals as goal
 
 pub loop-i-preserved : goal.loop-i-preserved

@@ -1,6 +1,6 @@
 -- the bytes from i on have their difference up to a borrow, and the bytes before i are unchanged
 use Rattle.std.proofs.Common.{◌≡◌, ◌+◌, ◌-◌, ◌*◌, ◌^◌, ◌<◌, ◌≤◌, ℕ, length, get_or, drop}
-use Rattle.model_machine.specs.model_device.specs.Bytes.{num}
+use Rattle.law_rows.specs.model_device.specs.Bytes.{num}
 use Rattle.mc_arith.proofs.subtraction.ripple_difference.Given as goal
 
 abbrev pub invariant-loop-i : goal.invariant-loop-i

@@ -1,6 +1,6 @@
 use Rattle.std.proofs.Common.{◌+◌, ◌-◌, arith, get_or}
 use Rattle.std.proofs.lemmas.Grind.{common_steps}
-use Rattle.mc_arith.proofs.StepLemmas.{one_less_step}
+use Rattle.law_rows.proofs.StepLemmas.{one_less_step}
 use Rattle.mc_arith.proofs.subtraction.ripple_one_less.Goals as goal
 
 pub loop-i-preserved : goal.loop-i-preserved

@@ -1,6 +1,6 @@
 use Rattle.std.proofs.Common.{arith, rules}
-use Rattle.mc_arith.proofs.ResultLemmas.{difference_is}
-use Rattle.model_machine.specs.model_device.proofs.ListLemmas.{all_bytes}
+use Rattle.law_rows.proofs.ResultLemmas.{difference_is}
+use Rattle.law_rows.specs.model_device.proofs.ListLemmas.{all_bytes}
 use Rattle.mc_arith.proofs.subtraction.sub.Goals as goal
 
 pub returns : goal.returns

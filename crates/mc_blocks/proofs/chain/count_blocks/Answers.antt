@@ -1,5 +1,5 @@
 use Rattle.std.proofs.Common.{◌≡◌, ◌+◌, ◌≤◌, ◌<◌, ℕ, length, sym, ap, arith}
-use Rattle.mc_base.specs.model_device.specs.Card.{word}
+use Rattle.mc_words.specs.model_device.specs.Card.{word}
 use Rattle.mc_blocks.specs.Blocks.{block_of, blocks_at, used_spans, hole_spans}
 use Rattle.mc_blocks.proofs.Steps.{block_ends}
 use Rattle.mc_blocks.proofs.Chains.{used_more, hole_more}

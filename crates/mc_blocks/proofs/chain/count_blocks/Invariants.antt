@@ -1,5 +1,5 @@
 use Rattle.std.proofs.Common.{◌≡◌, ◌+◌, ◌≤◌, ◌-◌, length}
-use Rattle.mc_base.specs.model_device.specs.Card.{blocks}
+use Rattle.mc_words.specs.model_device.specs.Card.{blocks}
 use Rattle.mc_blocks.specs.Blocks.{blocks_at, used_spans, hole_spans}
 use Rattle.mc_blocks.proofs.chain.count_blocks.Given as goal
 

@@ -1,5 +1,5 @@
 use Rattle.std.proofs.Common.{ℕ, ap, sym, ◌∙◌}
-use Rattle.mc_base.specs.model_device.specs.Layout.{bad_link}
+use Rattle.mc_words.specs.model_device.specs.Layout.{bad_link}
 use Rattle.mc_blocks.specs.Blocks.{block_of, blocks_at}
 use Rattle.mc_blocks.proofs.Chains.{link_wrong, link_right}
 use Rattle.mc_blocks.proofs.chain.first_bad_link.Goals as goal

@@ -1,6 +1,6 @@
 use Rattle.std.proofs.Common.{◌≡◌, ◌-◌, length}
-use Rattle.mc_base.specs.model_device.specs.Card.{blocks}
-use Rattle.mc_base.specs.model_device.specs.Layout.{bad_link}
+use Rattle.mc_words.specs.model_device.specs.Card.{blocks}
+use Rattle.mc_words.specs.model_device.specs.Layout.{bad_link}
 use Rattle.mc_blocks.specs.Blocks.{blocks_at}
 use Rattle.mc_blocks.proofs.chain.first_bad_link.Given as goal
 

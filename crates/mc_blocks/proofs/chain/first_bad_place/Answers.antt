@@ -1,5 +1,5 @@
 use Rattle.std.proofs.Common.{◌∙◌, ap, sym}
-use Rattle.mc_base.specs.model_device.specs.Bytes.{be2}
+use Rattle.mc_words.specs.model_device.specs.Bytes.{be2}
 use Rattle.mc_blocks.proofs.Chains.{root_wrong, root_right}
 use Rattle.mc_blocks.proofs.chain.first_bad_place.Goals as goal
 

@@ -1,5 +1,5 @@
 use Rattle.std.proofs.Common.{ℕ, ap, sym, ◌∙◌}
-use Rattle.mc_base.specs.model_device.specs.Layout.{first_hole}
+use Rattle.mc_words.specs.model_device.specs.Layout.{first_hole}
 use Rattle.mc_blocks.specs.Blocks.{block_of, blocks_at}
 use Rattle.mc_blocks.proofs.Chains.{hole_here, hole_behind}
 use Rattle.mc_blocks.proofs.chain.next_hole.Goals as goal

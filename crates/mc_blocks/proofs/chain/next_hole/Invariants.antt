@@ -1,5 +1,5 @@
 use Rattle.std.proofs.Common.{◌≡◌, ◌-◌, length}
-use Rattle.mc_base.specs.model_device.specs.Layout.{first_hole}
+use Rattle.mc_words.specs.model_device.specs.Layout.{first_hole}
 use Rattle.mc_blocks.specs.Blocks.{blocks_at}
 use Rattle.mc_blocks.proofs.chain.next_hole.Given as goal
 

@@ -1,6 +1,6 @@
 use Rattle.std.proofs.Common.{◌≡◌, ◌-◌, ◌≤◌, false, length}
-use Rattle.mc_base.specs.model_device.specs.Card.{heap_start}
-use Rattle.mc_base.specs.model_device.specs.Layout.{bad_block}
+use Rattle.mc_words.specs.model_device.specs.Card.{heap_start}
+use Rattle.mc_words.specs.model_device.specs.Layout.{bad_block}
 use Rattle.mc_blocks.specs.Blocks.{bad_from}
 use Rattle.mc_blocks.proofs.checks.first_bad_header.Given as goal
 

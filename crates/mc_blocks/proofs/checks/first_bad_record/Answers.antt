@@ -1,6 +1,6 @@
 use Rattle.std.proofs.Common.{ℕ, [], sym, subst}
-use Rattle.mc_base.specs.model_device.specs.Card.{blocks}
-use Rattle.mc_base.specs.model_device.specs.Layout.{bad_record}
+use Rattle.mc_words.specs.model_device.specs.Card.{blocks}
+use Rattle.mc_words.specs.model_device.specs.Layout.{bad_record}
 use Rattle.mc_blocks.specs.Blocks.{block_of}
 use Rattle.mc_blocks.proofs.Entries.{RecordsEntered, ended, refused, admits}
 use Rattle.mc_blocks.proofs.checks.first_bad_record.Goals as goal

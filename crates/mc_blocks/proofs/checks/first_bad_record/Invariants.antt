@@ -1,6 +1,6 @@
 use Rattle.std.proofs.Common.{◌-◌, [], length}
-use Rattle.mc_base.specs.model_device.specs.Card.{blocks}
-use Rattle.mc_base.specs.model_device.specs.Layout.{bad_record}
+use Rattle.mc_words.specs.model_device.specs.Card.{blocks}
+use Rattle.mc_words.specs.model_device.specs.Layout.{bad_record}
 use Rattle.mc_blocks.proofs.Entries.{RecordsEntered}
 use Rattle.mc_blocks.proofs.checks.first_bad_record.Given as goal
 

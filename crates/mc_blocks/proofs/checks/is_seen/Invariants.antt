@@ -1,6 +1,6 @@
 use Rattle.std.proofs.Common.{◌≡◌, drop, map}
-use Rattle.mc_base.specs.model_device.specs.Bytes.{has_name}
-use Rattle.mc_base.specs.model_device.specs.Card.{name_in}
+use Rattle.mc_words.specs.model_device.specs.Bytes.{has_name}
+use Rattle.mc_words.specs.model_device.specs.Card.{name_in}
 use Rattle.mc_blocks.proofs.checks.is_seen.Given as goal
 
 -- the name is among all records exactly if it is among those that are left

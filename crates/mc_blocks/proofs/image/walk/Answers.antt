@@ -1,9 +1,9 @@
 use Rattle.std.proofs.Common.{length, ap, sym, ◌∙◌}
-use Rattle.mc_base.specs.model_device.specs.Card.{Card}
-use Rattle.mc_base.specs.model_device.specs.Layout.{gaps}
+use Rattle.mc_words.specs.model_device.specs.Card.{Card}
+use Rattle.mc_words.specs.model_device.specs.Layout.{gaps}
 use Rattle.mc_blocks.proofs.Bridge.{WellLaid, laid}
-use Rattle.mc_base.specs.model_device.specs.Device.{sized}
-use Rattle.mc_base.specs.model_device.proofs.LayoutLemmas.{closed_means}
+use Rattle.mc_words.specs.model_device.specs.Device.{sized}
+use Rattle.mc_words.specs.model_device.proofs.LayoutLemmas.{closed_means}
 use Rattle.mc_blocks.proofs.image.walk.Goals as goal
 
 pub returns-in-None-clause-used : goal.returns-in-None-clause-used

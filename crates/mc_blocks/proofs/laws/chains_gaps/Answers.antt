@@ -1,5 +1,5 @@
 use Rattle.std.proofs.Common.{sym, ap, ◌∙◌}
-use Rattle.mc_base.specs.model_device.specs.Layout.{first_place}
+use Rattle.mc_words.specs.model_device.specs.Layout.{first_place}
 use Rattle.mc_blocks.proofs.Search.{chain_of}
 use Rattle.mc_blocks.proofs.Links.{gaps_chain}
 use Rattle.mc_blocks.proofs.laws.chains_gaps.Goals as goal

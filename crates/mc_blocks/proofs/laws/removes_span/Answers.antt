@@ -1,4 +1,4 @@
-use Rattle.mc_base.specs.model_device.specs.Card.{means}
+use Rattle.mc_words.specs.model_device.specs.Card.{means}
 use Rattle.mc_blocks.proofs.Maps.{spans_remove}
 use Rattle.mc_blocks.proofs.Applications.{found_application}
 use Rattle.mc_blocks.proofs.laws.removes_span.Goals as goal

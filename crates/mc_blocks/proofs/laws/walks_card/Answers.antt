@@ -1,8 +1,8 @@
 use Rattle.std.proofs.Common.{length, ap, ◌∙◌}
-use Rattle.mc_base.specs.model_device.specs.Card.{Card}
-use Rattle.mc_base.specs.model_device.specs.Layout.{spans, gaps}
+use Rattle.mc_words.specs.model_device.specs.Card.{Card}
+use Rattle.mc_words.specs.model_device.specs.Layout.{spans, gaps}
 use Rattle.mc_blocks.proofs.Bridge.{well_laid}
-use Rattle.mc_base.specs.model_device.proofs.LayoutLemmas.{closed_means}
+use Rattle.mc_words.specs.model_device.proofs.LayoutLemmas.{closed_means}
 use Rattle.mc_blocks.proofs.laws.walks_card.Goals as goal
 
 pub returns-clause-gaps : goal.returns-clause-gaps

@@ -1,9 +1,9 @@
 use Rattle.std.proofs.Common.{◌≤◌, ℕ, ◌+◌, length, ◌∙◌, ap, arith}
-use Rattle.mc_base.specs.model_device.specs.Card.{means}
-use Rattle.mc_base.specs.model_device.specs.Layout.{gaps}
+use Rattle.mc_words.specs.model_device.specs.Card.{means}
+use Rattle.mc_words.specs.model_device.specs.Layout.{gaps}
 use Rattle.mc_blocks.specs.Plans.{gaps_behind}
 use Rattle.mc_blocks.proofs.Links.{Meets, gap_meets}
-use Rattle.mc_base.specs.model_device.specs.Device.{sized}
+use Rattle.mc_words.specs.model_device.specs.Device.{sized}
 use Rattle.mc_blocks.proofs.link.joined.Goals as goal
 
 pub link_at-behind-requires : goal.link_at-behind-requires

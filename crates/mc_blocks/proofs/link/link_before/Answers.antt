@@ -1,8 +1,8 @@
 use Rattle.std.proofs.Common.{sym, ◌∙◌}
-use Rattle.mc_base.specs.model_device.specs.Card.{means}
-use Rattle.mc_base.specs.model_device.specs.Layout.{gaps}
+use Rattle.mc_words.specs.model_device.specs.Card.{means}
+use Rattle.mc_words.specs.model_device.specs.Layout.{gaps}
 use Rattle.mc_blocks.proofs.Links.{trail_begins, trail_on}
-use Rattle.mc_base.specs.model_device.specs.Device.{sized}
+use Rattle.mc_words.specs.model_device.specs.Device.{sized}
 use Rattle.mc_blocks.proofs.link.link_before.Goals as goal
 
 pub loop-link-init : goal.loop-link-init

@@ -1,9 +1,9 @@
 use Rattle.std.proofs.Common.{◌≤◌, ℕ, length, ◌∙◌, ap, arith}
-use Rattle.mc_base.specs.model_device.specs.Card.{means}
-use Rattle.mc_base.specs.model_device.specs.Layout.{gaps}
+use Rattle.mc_words.specs.model_device.specs.Card.{means}
+use Rattle.mc_words.specs.model_device.specs.Layout.{gaps}
 use Rattle.mc_blocks.specs.Plans.{gaps_behind, joined_words}
 use Rattle.mc_blocks.proofs.Plans.{FreeIs, free_is, free_listed, before_ends}
-use Rattle.mc_base.specs.model_device.specs.Device.{sized}
+use Rattle.mc_words.specs.model_device.specs.Device.{sized}
 use Rattle.mc_blocks.proofs.plan.free_plan.Goals as goal
 
 pub link_at-block-requires : goal.link_at-block-requires

@@ -1,6 +1,6 @@
 use Rattle.std.proofs.Common.{◌≤◌, length, arith}
 use Rattle.mc_blocks.proofs.Plans.{TakeIs, take_is, take_listed}
-use Rattle.mc_base.specs.model_device.specs.Device.{sized}
+use Rattle.mc_words.specs.model_device.specs.Device.{sized}
 use Rattle.mc_blocks.proofs.plan.take_plan.Goals as goal
 
 pub link_at-hole-requires : goal.link_at-hole-requires

@@ -1,6 +1,6 @@
 use Rattle.std.proofs.Common.{◌≡◌, drop, length, ◌-◌}
 use Rattle.std.specs.Prelude.{bytes_eq}
-use Rattle.mc_base.specs.model_device.specs.Bytes.{zeros}
+use Rattle.mc_words.specs.model_device.specs.Bytes.{zeros}
 use Rattle.mc_blocks.proofs.record.are_zero.Given as goal
 
 -- all bytes are zero exactly if those that are left are

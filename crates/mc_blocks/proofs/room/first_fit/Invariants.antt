@@ -1,6 +1,6 @@
 use Rattle.std.proofs.Common.{length}
-use Rattle.mc_base.specs.model_device.specs.Card.{means}
-use Rattle.mc_base.specs.model_device.specs.Layout.{gaps}
+use Rattle.mc_words.specs.model_device.specs.Card.{means}
+use Rattle.mc_words.specs.model_device.specs.Layout.{gaps}
 use Rattle.mc_nvm.specs.Probe.{device_of_probe}
 use Rattle.mc_blocks.proofs.Search.{Search, left_of}
 use Rattle.mc_blocks.proofs.room.first_fit.Given as goal

@@ -1,5 +1,5 @@
 use Rattle.std.proofs.Common.{arith}
-use Rattle.mc_base.specs.model_device.specs.Image.{pairs}
+use Rattle.mc_words.specs.model_device.specs.Image.{pairs}
 use Rattle.mc_gate.specs.Layouts.{journal_of}
 use Rattle.mc_gate.proofs.LookLemmas.{read_value, pairs_on, pairs_end}
 use Rattle.mc_gate.proofs.look.read_pairs.Goals as goal

@@ -1,7 +1,7 @@
 use Rattle.std.proofs.Common.{[], ◌∷◌, ℕ, List, Ok, subst}
-use Rattle.mc_base.specs.model_device.specs.Image.{opening, gate}
-use Rattle.mc_base.specs.model_device.specs.Stopped.{word_of_number}
-use Rattle.mc_base.specs.model_device.proofs.LoopLemmas.{then, one, one_done}
+use Rattle.mc_words.specs.model_device.specs.Image.{opening, gate}
+use Rattle.mc_words.specs.model_device.specs.Stopped.{word_of_number}
+use Rattle.mc_words.specs.model_device.proofs.LoopLemmas.{then, one, one_done}
 use Rattle.mc_gate.specs.Layouts.{journal_of}
 use Rattle.mc_gate.proofs.put.open_gate.Goals as goal
 

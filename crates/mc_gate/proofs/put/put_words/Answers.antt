@@ -1,7 +1,7 @@
 use Rattle.std.proofs.Common.{◌+◌, drop}
 use Rattle.std.proofs.lemmas.Result.{err_from_is_err_and}
-use Rattle.mc_base.specs.model_device.proofs.LoopLemmas.{leads_stop}
-use Rattle.mc_base.specs.model_device.proofs.JournalLemmas.{pair_step}
+use Rattle.mc_words.specs.model_device.proofs.LoopLemmas.{leads_stop}
+use Rattle.mc_words.specs.model_device.proofs.JournalLemmas.{pair_step}
 use Rattle.mc_gate.proofs.put.put_words.Goals as goal
 
 pub returns-in_err-write-clause-makes : goal.returns-in_err-write-clause-makes

@@ -1,7 +1,7 @@
 use Rattle.std.proofs.Common.{◌≡◌, true, length, drop}
 use Rattle.std.specs.List.{AllByRecursion}
-use Rattle.mc_base.specs.model_device.specs.Image.{within}
-use Rattle.mc_base.specs.model_device.proofs.LoopLemmas.{Leads}
+use Rattle.mc_words.specs.model_device.specs.Image.{within}
+use Rattle.mc_words.specs.model_device.proofs.LoopLemmas.{Leads}
 use Rattle.mc_gate.proofs.put.put_words.Given as goal
 
 -- the words that are left lead where all of them lead

@@ -1,7 +1,7 @@
 use Rattle.std.proofs.Common.{[], ◌∷◌, ℕ, subst}
 use Rattle.std.proofs.lemmas.Result.{err_from_is_err_and}
-use Rattle.mc_base.specs.model_device.specs.Image.{gate, shut_word}
-use Rattle.mc_base.specs.model_device.proofs.LoopLemmas.{then, stopped, one}
+use Rattle.mc_words.specs.model_device.specs.Image.{gate, shut_word}
+use Rattle.mc_words.specs.model_device.proofs.LoopLemmas.{then, stopped, one}
 use Rattle.mc_gate.specs.Layouts.{journal_of}
 use Rattle.mc_gate.proofs.put.replay_all.Goals as goal
 

@@ -1,7 +1,7 @@
 use Rattle.std.proofs.Common.{◌≡◌, ℕ, List, true, length, subst, sym, ◌∙◌, ap}
 use Rattle.std.specs.List.{AllByRecursion}
-use Rattle.mc_base.specs.model_device.specs.Image.{within}
-use Rattle.mc_base.specs.model_device.proofs.LookLemmas.{GoodPending, good_pending}
+use Rattle.mc_words.specs.model_device.specs.Image.{within}
+use Rattle.mc_words.specs.model_device.proofs.LookLemmas.{GoodPending, good_pending}
 use Rattle.mc_gate.specs.Layouts.{journal_of}
 use Rattle.mc_gate.specs.Look.{look_of}
 use Rattle.mc_gate.specs.declared.look.Found.{Found}

@@ -1,8 +1,8 @@
 use Rattle.std.proofs.Common.{refl, sym}
-use Rattle.mc_base.specs.model_device.specs.Image.{look_j}
-use Rattle.mc_base.specs.model_device.specs.Stopped.{owed_writes, outcome_answer}
-use Rattle.mc_base.specs.model_device.proofs.CallLemmas.{recover_ends}
-use Rattle.mc_base.specs.model_device.proofs.LoopLemmas.{makes_same}
+use Rattle.mc_words.specs.model_device.specs.Image.{look_j}
+use Rattle.mc_words.specs.model_device.specs.Stopped.{owed_writes, outcome_answer}
+use Rattle.mc_words.specs.model_device.proofs.CallLemmas.{recover_ends}
+use Rattle.mc_words.specs.model_device.proofs.LoopLemmas.{makes_same}
 use Rattle.mc_gate.specs.Layouts.{journal_of}
 use Rattle.mc_gate.specs.Recovery.{outcome_of}
 use Rattle.mc_gate.proofs.recovery.recover.Goals as goal

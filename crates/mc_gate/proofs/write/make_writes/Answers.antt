@@ -1,10 +1,10 @@
 use Rattle.std.proofs.Common.{◌≡◌, ℕ, List, true, length, Ok, Err, subst, sym, ◌∙◌}
 use Rattle.std.specs.List.{AllByRecursion}
 use Rattle.std.proofs.lemmas.Result.{err_from_is_err_and}
-use Rattle.mc_base.specs.model_device.specs.Device.{Makes}
-use Rattle.mc_base.specs.model_device.specs.Image.{within}
-use Rattle.mc_base.specs.model_device.specs.Stopped.{replay}
-use Rattle.mc_base.specs.model_device.proofs.GeometryLemmas.{targets_within}
+use Rattle.mc_words.specs.model_device.specs.Device.{Makes}
+use Rattle.mc_words.specs.model_device.specs.Image.{within}
+use Rattle.mc_words.specs.model_device.specs.Stopped.{replay}
+use Rattle.mc_words.specs.model_device.proofs.GeometryLemmas.{targets_within}
 use Rattle.mc_gate.specs.Layouts.{journal_of}
 use Rattle.mc_gate.specs.declared.layouts.Layout.{Layout}
 use Rattle.mc_gate.proofs.WriteLemmas.{opening_writes, stops_in_entries, stops_at_gate, replays}

@@ -1,6 +1,6 @@
-use Rattle.mc_base.specs.model_device.specs.Stopped.{writes}
-use Rattle.mc_base.specs.model_device.proofs.CallLemmas.{write_ends}
-use Rattle.mc_base.specs.model_device.proofs.LoopLemmas.{makes_same}
+use Rattle.mc_words.specs.model_device.specs.Stopped.{writes}
+use Rattle.mc_words.specs.model_device.proofs.CallLemmas.{write_ends}
+use Rattle.mc_words.specs.model_device.proofs.LoopLemmas.{makes_same}
 use Rattle.mc_gate.specs.Layouts.{journal_of}
 use Rattle.mc_gate.proofs.write.write_words.Goals as goal
 

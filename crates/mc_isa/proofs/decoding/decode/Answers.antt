@@ -4,8 +4,8 @@ use Rattle.std.proofs.lemmas.Grind.{common_steps}
 use Rattle.model_text.specs.model_machine.specs.Code.{instruction_at, form, DecodesTo}
 use Rattle.model_text.specs.model_machine.specs.declared.instruction.DecodeFault.{DecodeFault}
 use Rattle.model_text.specs.model_machine.specs.declared.instruction.Ins.{Ins}
-use Rattle.mc_isa.proofs.PlaceLemmas.{decoded_stands}
-use Rattle.mc_isa.proofs.ReadingLemmas.{made_of_inside}
+use Rattle.law_rows.proofs.PlaceLemmas.{decoded_stands}
+use Rattle.law_rows.proofs.ReadingLemmas.{made_of_inside}
 use Rattle.model_text.specs.model_device.proofs.ListLemmas.{all_bytes}
 use Rattle.mc_isa.proofs.decoding.decode.Goals as goal
 

@@ -1,4 +1,4 @@
-use Rattle.mc_isa.proofs.SpellingLemmas.{spelling_decoded}
+use Rattle.law_rows.proofs.SpellingLemmas.{spelling_decoded}
 use Rattle.mc_isa.proofs.laws.a_spelling_is_decoded.Goals as goal
 
 pub returns : goal.returns

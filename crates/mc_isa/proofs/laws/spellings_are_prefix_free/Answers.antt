@@ -1,4 +1,4 @@
-use Rattle.mc_isa.proofs.SpellingLemmas.{prefix_free}
+use Rattle.law_rows.proofs.SpellingLemmas.{prefix_free}
 use Rattle.mc_isa.proofs.laws.spellings_are_prefix_free.Goals as goal
 
 pub returns : goal.returns

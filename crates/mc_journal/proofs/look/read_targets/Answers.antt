@@ -1,5 +1,5 @@
 use Rattle.std.proofs.Common.{◌+◌, ◌-◌, ◌*◌, ℕ, List, ap, sym, ◌∙◌, arith}
-use Rattle.mc_base.specs.model_device.specs.Image.{One, targets, number, within, word_at}
+use Rattle.mc_words.specs.model_device.specs.Image.{One, targets, number, within, word_at}
 use Rattle.mc_journal.proofs.LookLemmas.{targets_on, targets_bad, targets_end}
 use Rattle.mc_journal.proofs.look.read_targets.Goals as goal
 

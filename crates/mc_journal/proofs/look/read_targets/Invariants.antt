@@ -1,5 +1,5 @@
 use Rattle.std.proofs.Common.{◌≡◌, ◌-◌, length}
-use Rattle.mc_base.specs.model_device.specs.Image.{One, targets, targets_1, before}
+use Rattle.mc_words.specs.model_device.specs.Image.{One, targets, targets_1, before}
 use Rattle.mc_journal.proofs.look.read_targets.Given as goal
 
 -- the targets so far, and those of the pairs that are left

@@ -1,8 +1,8 @@
 use Rattle.std.proofs.Common.{◌+◌, ◌*◌, ◌∷◌, [], ℕ, List, Err, drop, get_or, subst, sym}
 use Rattle.std.proofs.lemmas.Result.{err_from_is_err_and}
-use Rattle.mc_base.specs.model_device.specs.Device.{Makes}
-use Rattle.mc_base.specs.model_device.specs.Stopped.{entries_1, word_of_number}
-use Rattle.mc_base.specs.model_device.proofs.LoopLemmas.{stopped}
+use Rattle.mc_words.specs.model_device.specs.Device.{Makes}
+use Rattle.mc_words.specs.model_device.specs.Stopped.{entries_1, word_of_number}
+use Rattle.mc_words.specs.model_device.proofs.LoopLemmas.{stopped}
 use Rattle.mc_journal.proofs.PutLemmas.{entry_step}
 use Rattle.mc_journal.proofs.put.put_entries.Goals as goal
 

@@ -1,7 +1,7 @@
 use Rattle.std.proofs.Common.{◌≡◌, true, length, drop}
-use Rattle.mc_base.specs.model_device.specs.Image.{One}
-use Rattle.mc_base.specs.model_device.specs.Stopped.{entries, entries_1}
-use Rattle.mc_base.specs.model_device.proofs.LoopLemmas.{Leads}
+use Rattle.mc_words.specs.model_device.specs.Image.{One}
+use Rattle.mc_words.specs.model_device.specs.Stopped.{entries, entries_1}
+use Rattle.mc_words.specs.model_device.proofs.LoopLemmas.{Leads}
 use Rattle.mc_journal.proofs.put.put_entries.Given as goal
 
 -- the entries that are left lead where all of them lead

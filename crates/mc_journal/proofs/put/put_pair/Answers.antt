@@ -1,7 +1,7 @@
 use Rattle.std.proofs.Common.{[], ◌∷◌, ◌+◌, ◌*◌, ℕ, List, Ok, Err, subst}
 use Rattle.std.proofs.lemmas.Result.{err_from_is_err_and}
-use Rattle.mc_base.specs.model_device.specs.Stopped.{word_of_number}
-use Rattle.mc_base.specs.model_device.proofs.LoopLemmas.{then, one, one_done, one_stopped}
+use Rattle.mc_words.specs.model_device.specs.Stopped.{word_of_number}
+use Rattle.mc_words.specs.model_device.proofs.LoopLemmas.{then, one, one_done, one_stopped}
 use Rattle.mc_journal.proofs.put.put_pair.Goals as goal
 
 pub returns-in_err-write-clause-makes : goal.returns-in_err-write-clause-makes

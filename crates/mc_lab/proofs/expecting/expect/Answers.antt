@@ -2,14 +2,13 @@ use Rattle.std.proofs.Common.{◌≡◌, ◌+◌, ◌≤◌, ◌∷◌, [], ◌�
 use Rattle.law_explore.specs.model_play.specs.Play.{start}
 use Rattle.mc_text.specs.Texts.{sunk_in}
 use Rattle.mc_text.proofs.TextLemmas.{puts_as}
-use Rattle.law_explore.specs.Matching.{fits}
+use Rattle.law_explore.specs.model_events.specs.Matching.{fits}
 use Rattle.mc_lab.specs.declared.remark.Remark.{Remark as Found}
 use Rattle.mc_lab.specs.Remarked.{remark_value, remark_values}
 use Rattle.mc_lab.specs.Rising.{last_of}
 use Rattle.mc_lab.specs.Expectations.{is_met, result_above, steady_steps, step_text}
 use Rattle.mc_lab.specs.Judged.{done_of}
 use Rattle.mc_lab.proofs.ExpectedDeckLemmas.{above_start, above_from, above_on}
-use Rattle.mc_script.proofs.StepPlayLemmas.{steps_none}
 use Rattle.mc_lab.proofs.StageLemmas.{above_is, staged_start}
 use Rattle.mc_lab.proofs.ExpectLemmas.{count_left, expectation_at, expectation_none, fails_done, no_remark, numbered_length, one_more, text_done, reported_fails, reported_on, reported_start}
 use Rattle.mc_lab.proofs.expecting.expect.Goals as goal
@@ -28,7 +27,6 @@ loop-expectation-init g c =
     record {
       above = above_start expected_deck.deck es c.requires.rising.expected;
       staged = staged_start g.N.Nvm.state g.N.Bench.bench expected_deck.deck c.args.device c.new-player.result c.new-text.result.items c.new-player.ensures.at c.new-player.ensures.device c.requires.steady c.new-text.ensures;
-      counted = steps_none c.args.steps.now;
       left = zero-add _;
       few = omega arith;
       reported = λ r b h. puts_as _ _ r (reported_start whole es) h;
@@ -92,7 +90,6 @@ loop-expectation-preserved g c =
     record {
       above = above_on expected_deck.deck c.loop-expectation.count c.count_above-above.result (drop i es) e (drop (i + 1) es) next c.count_above-above.ensures.count inv.above;
       staged = staged;
-      counted = c.play_lines.ensures.counted whole c.args.steps.now inv.staged inv.counted;
       left = omega (arith, count, c.counted-failed.ensures, inv.left);
       few = omega (arith, c.counted-failed.ensures, one_more held c.loop-expectation.failed i inv.few);
       reported = λ r b rest. inv.reported r b (reported_on whole (drop i es) e (drop (i + 1) es) es c.play_lines.new.text.items x y r b next is c.in_ok-held.ensures.reported rest);
@@ -113,15 +110,3 @@ returns-clause-reported g c =
     let x = sunk_in g.T.Sink.taken g.T.Sink.faults c.loop-expectation.out in
     let y = sunk_in g.T.Sink.taken g.T.Sink.faults c.put_counts.new.out in
     inv.reported (Ok tt) y (puts_as x y (Ok tt) (text_done whole (drop i es) es (length given) c.loop-expectation.failed none len inv.left) c.in_ok-put_counts.ensures)
-
-pub returns-in_err-held-clause-steps : goal.returns-in_err-held-clause-steps
-returns-in_err-held-clause-steps g c =
-    let whole = steady_steps (g.N.Nvm.state c.args.device).words c.args.expected_deck.now.deck in
-    let inv = c.loop-expectation.invariant in
-    record { count = c.count_above-above.result; steps = c.play_lines.ensures.counted whole c.args.steps.now inv.staged inv.counted }
-
-pub returns-in_err-put_counts-clause-steps : goal.returns-in_err-put_counts-clause-steps
-returns-in_err-put_counts-clause-steps g c = record { count = c.loop-expectation.count; steps = c.loop-expectation.invariant.counted }
-
-pub returns-clause-steps : goal.returns-clause-steps
-returns-clause-steps g c = record { count = c.loop-expectation.count; steps = c.loop-expectation.invariant.counted }

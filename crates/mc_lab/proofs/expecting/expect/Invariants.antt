@@ -1,10 +1,9 @@
-use Rattle.std.proofs.Common.{◌≡◌, ◌+◌, ◌≤◌, Result, drop, take}
+use Rattle.std.proofs.Common.{◌≡◌, ◌+◌, ◌≤◌, Result, drop}
 use Rattle.mc_lab.specs.Remarked.{remark_values}
 use Rattle.mc_streams.specs.declared.refusals.WriteFault.{WriteFault}
 use Rattle.mc_text.specs.Texts.{Sunk, Puts, sunk_in}
 use Rattle.mc_lab.specs.Expectations.{count_failed, expect_text, steady_steps}
 use Rattle.mc_lab.specs.Judged.{text_left}
-use Rattle.mc_script.specs.StepCounts.{PlaySteps}
 use Rattle.mc_lab.specs.Stages.{Staged}
 use Rattle.mc_lab.proofs.ExpectedDeckLemmas.{LinesAbove}
 use Rattle.mc_lab.proofs.expecting.expect.Given as goal
@@ -21,7 +20,6 @@ invariant-loop-expectation g l =
     record {
       above : LinesAbove l.expected_deck.deck l.count (drop l.expectation-index es);
       staged : Staged state bench whole l.expected_deck.deck l.player l.count l.text.items;
-      counted : PlaySteps (take l.count whole) l.fn.steps l.steps;
       left : l.failed + count_failed whole (drop l.expectation-index es) ≡ count_failed whole es;
       few : l.failed ≤ l.expectation-index;
       reported : (r : Result (Unit {0}) WriteFault) (b : Sunk) → Puts (sunk_in taken faults l.out) (text_left whole (drop l.expectation-index es) es) r b → Puts (sunk_in taken faults l.fn.out) (expect_text whole es) r b;

@@ -1,6 +1,6 @@
 use Rattle.std.proofs.Common.{◌≡◌, ◌≤◌, ◌++◌, drop}
 use Rattle.arrayvec.specs.ArrayVec.{array_vec_len}
-use Rattle.law_explore.specs.model_play.specs.Patterns.{without_blanks}
+use Rattle.law_explore.specs.model_events.specs.Patterns.{without_blanks}
 use Rattle.mc_lab.proofs.laying.without_blanks.Given as goal
 
 -- the characters that were kept, and those of the rest

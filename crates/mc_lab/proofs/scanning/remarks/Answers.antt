@@ -6,7 +6,7 @@ use Rattle.law_explore.specs.model_play.specs.DeckGrammar.{deck_read}
 use Rattle.mc_lab.specs.declared.remark.Remark.{Remark as Found}
 use Rattle.mc_lab.specs.Remarks.{Remark, just}
 use Rattle.mc_lab.specs.Remarked.{line_value, remark_values}
-use Rattle.law_explore.specs.Rules.{stays_inside}
+use Rattle.model_events.specs.model_text.specs.Text.{stays_inside}
 use Rattle.mc_lab.specs.Scanning.{scanned}
 use Rattle.mc_lab.proofs.SectionLemmas.{scanned_is}
 use Rattle.mc_lab.proofs.RemarkLemmas.{with_left, line_read, lines_done, scanned_are}

@@ -1,7 +1,5 @@
-use Rattle.std.proofs.Common.{◌≡◌, ◌≤◌, ℕ, arith, rules, subst, take}
 use Rattle.mc_deck.specs.Lines.{line_of}
-use Rattle.mc_script.specs.StepCounts.{PlaySteps}
-use Rattle.mc_lab.proofs.StageLemmas.{counted_on, staged_on, playing_on}
+use Rattle.mc_lab.proofs.StageLemmas.{staged_on, playing_on}
 use Rattle.mc_lab.proofs.stage.play_lines.Goals as goal
 
 pub loop-at-preserved : goal.loop-at-preserved
@@ -13,9 +11,6 @@ loop-at-preserved g c =
       staged = λ whole h.
           staged_on state bench _ whole c.args.deck.now c.loop-at.player c.line-answer.new.self c.loop-at.at line.0 (line_of line.1) c.loop-at.text.items c.gather.new.text.items _ _ c.line-answer.result
           c.line-number.ensures.line c.line-answer.ensures.done c.gather.ensures (c.loop-at.invariant.staged whole h);
-      counted = λ whole old h k.
-          counted_on state bench _ whole c.args.deck.now c.loop-at.player c.line-answer.new.self c.loop-at.at line.0 (line_of line.1) c.loop-at.text.items _ _ c.line-answer.result old c.loop-at.steps c.line-answer.new.steps
-          c.line-number.ensures.line c.line-answer.ensures.done c.line-answer.ensures.steps (c.loop-at.invariant.staged whole h) (c.loop-at.invariant.counted whole old h k);
       playing = playing_on state bench _ c.loop-at.player c.line-answer.new.self line.0 (line_of line.1) _ _ c.line-answer.result c.line-answer.ensures.done c.loop-at.invariant.playing;
     }
 
@@ -23,9 +18,3 @@ pub gather-requires : goal.gather-requires
 gather-requires g c =
     let line = c.line-number.result in
     playing_on g.N.Nvm.state g.N.Bench.bench _ c.loop-at.player c.line-answer.new.self line.0 (line_of line.1) _ _ c.line-answer.result c.line-answer.ensures.done c.loop-at.invariant.playing
-
-pub returns-clause-counted : goal.returns-clause-counted
-returns-clause-counted g c =
-    let all : c.args.to ≤ c.loop-at.at = search rules in
-    let end : c.loop-at.at ≡ c.args.to = omega (arith, all, c.loop-at.auto.at-end) in
-    λ whole old h k. subst (λ (n : ℕ). PlaySteps (take n whole) old c.loop-at.steps) end (c.loop-at.invariant.counted whole old h k)

@@ -1,7 +1,6 @@
-use Rattle.std.proofs.Common.{ℕ, List, take}
+use Rattle.std.proofs.Common.{List}
 use Rattle.law_explore.specs.model_play.specs.Play.{Step}
 use Rattle.mc_script.specs.Players.{IsPlaying}
-use Rattle.mc_script.specs.StepCounts.{PlaySteps}
 use Rattle.mc_lab.specs.Stages.{Staged}
 use Rattle.mc_lab.proofs.stage.play_lines.Given as goal
 
@@ -12,6 +11,5 @@ invariant-loop-at g l =
     let bench = g.N.Bench.bench in
     record {
       staged : (whole : List Step) → Staged state bench whole l.deck l.fn.player l.from l.fn.text.items → Staged state bench whole l.deck l.player l.at l.text.items;
-      counted : (whole : List Step) (old : ℕ) → Staged state bench whole l.deck l.fn.player l.from l.fn.text.items → PlaySteps (take l.from whole) old l.fn.steps → PlaySteps (take l.at whole) old l.steps;
       playing : IsPlaying state bench l.player;
     }

@@ -1,7 +1,6 @@
 use Rattle.law_explore.specs.model_play.specs.DeckGrammar as line
 use Rattle.mc_lab.proofs.SweepPlayers.{line_playing}
 use Rattle.mc_lab.proofs.SweepFrontLemmas.{powered_up}
-use Rattle.mc_lab.proofs.SweepStepLemmas.{power_most}
 use Rattle.mc_lab.proofs.sweep_front.power_up.Goals as goal
 
 pub returns-clause-playing : goal.returns-clause-playing
@@ -10,7 +9,3 @@ returns-clause-playing g c = line_playing g.N.Nvm.state g.N.Bench.bench _ c.args
 pub returns-clause-up : goal.returns-clause-up
 returns-clause-up g c m b k at holds layout =
     powered_up g.N.Nvm.state g.N.Bench.bench _ c.args.player.now c.line-powered.new.self _ _ c.line-powered.result c.line-powered.ensures.done m b k at holds layout
-
-pub returns-clause-steps : goal.returns-clause-steps
-returns-clause-steps g c =
-    power_most g.N.Nvm.state g.N.Bench.bench c.args.player.now c.line-powered.result c.args.steps.now c.line-powered.new.steps c.line-powered.ensures.steps c.requires

@@ -1,8 +1,7 @@
-use Rattle.std.proofs.Common.{sym, subst, arith}
+use Rattle.std.proofs.Common.{sym, subst}
 use Rattle.law_explore.specs.model_play.specs.Play.{start}
 use Rattle.mc_script.specs.Players.{device_of}
 use Rattle.mc_lab.proofs.SweepFrontLemmas.{budget_set, fits_kept, put_back_at}
-use Rattle.mc_lab.proofs.SweepStepLemmas.{budget_most}
 use Rattle.mc_lab.proofs.sweep_front.put_back.Goals as goal
 
 pub play_line-set-requires-clause-playing : goal.play_line-set-requires-clause-playing
@@ -34,10 +33,3 @@ returns-clause-at g c m w at shows =
 pub returns-clause-keeps_device : goal.returns-clause-keeps_device
 returns-clause-keeps_device g c =
     subst (λ (d : _). g.N.Nvm.same (device_of c.args.player.now) d) (sym c.put_live.ensures.device) (g.met.N.Nvm.onward _ _ _ c.play_line-set.ensures.keeps_device c.power_up.ensures.keeps_device)
-
-pub returns-clause-steps : goal.returns-clause-steps
-returns-clause-steps g c =
-    let set = c.play_line-set in
-    let one = budget_most g.N.Nvm.state g.N.Bench.bench c.args.player.now c.args.kept.now.budget set.result c.args.steps.now set.new.steps set.ensures.steps (_, c.requires.start.2.at) in
-    let two = c.power_up.ensures.steps in
-    omega (arith, one, two)

@@ -3,12 +3,10 @@ use Rattle.mc_lab.specs.Sweeps.{is_same}
 use Rattle.mc_lab.specs.SweepBodies.{account_value}
 use Rattle.mc_lab.specs.declared.sweep_account.Account.{Account}
 use Rattle.mc_lab.proofs.SweepLoops.{hit_again, Recovering, recovering_none, recovering_more, recovered_missed, recovered_last}
-use Rattle.mc_lab.specs.SweepSteps.{most_through}
-use Rattle.mc_lab.proofs.SweepStepLemmas.{fewer_plays, next_play, no_play}
 use Rattle.mc_lab.proofs.sweep_line.recoveries.Goals as goal
 
 pub loop-made-init : goal.loop-made-init
-loop-made-init g c = record { recovering = recovering_none c.args.place.now c.args.k c.args.fill (account_value c.args.pair.now.first); first = refl; room = c.requires.room; steps = no_play (most_through c.args.place.now) c.args.steps.now; played = c.requires.played }
+loop-made-init g c = record { recovering = recovering_none c.args.place.now c.args.k c.args.fill (account_value c.args.pair.now.first); first = refl; room = c.requires.room; played = c.requires.played }
 
 pub returns-then-not-played-clause-same : goal.returns-then-not-played-clause-same
 returns-then-not-played-clause-same g c =
@@ -40,7 +38,6 @@ loop-made-preserved g c =
           (recovering_more c.args.place.now c.args.k c.args.fill first (account_value c.report-played.new.into) made c.loop-made.same c.is_same.result c.report-played.result.hit c.loop-made.invariant.recovering test hit c.report-played.ensures.reported same);
       first = c.loop-made.invariant.first;
       room = c.report-played.ensures.room;
-      steps = next_play made (most_through c.args.place.now) c.args.steps.now c.loop-made.steps c.report-played.new.steps c.loop-made.invariant.steps c.report-played.ensures.steps;
       played = c.report-played.ensures.played;
     }
 
@@ -53,12 +50,3 @@ pub returns-clause-count : goal.returns-clause-count
 returns-clause-count g c =
     let last : c.loop-made.made ≡ c.args.most = omega arith in
     sym last ∙ (recovered_last c.args.place.now c.args.k c.args.fill (account_value c.args.pair.now.first) c.loop-made.made c.args.most c.loop-made.same c.loop-made.invariant.recovering last c.requires.few).count
-
-pub returns-then-not-played-clause-steps : goal.returns-then-not-played-clause-steps
-returns-then-not-played-clause-steps g c =
-    next_play c.loop-made.made (most_through c.args.place.now) c.args.steps.now c.loop-made.steps c.report-played.new.steps c.loop-made.invariant.steps c.report-played.ensures.steps
-
-pub returns-clause-steps : goal.returns-clause-steps
-returns-clause-steps g c =
-    let last : c.loop-made.made ≡ c.args.most = omega arith in
-    fewer_plays c.loop-made.made (c.args.most + 1) (most_through c.args.place.now) c.args.steps.now c.loop-made.steps (omega (arith, last)) c.loop-made.invariant.steps

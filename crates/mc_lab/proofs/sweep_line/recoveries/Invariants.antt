@@ -1,6 +1,5 @@
-use Rattle.std.proofs.Common.{◌≡◌, ◌+◌, ◌*◌, ◌≤◌}
+use Rattle.std.proofs.Common.{◌≡◌}
 use Rattle.mc_lab.specs.SweepBodies.{account_value, front_of, AccountFits}
-use Rattle.mc_lab.specs.SweepSteps.{most_through}
 use Rattle.mc_lab.proofs.SweepLoops.{Recovering}
 use Rattle.mc_lab.proofs.sweep_line.recoveries.Given as goal
 
@@ -11,6 +10,5 @@ invariant-loop-made g l =
       recovering : Recovering l.place l.k l.fill (account_value l.fn.pair.first) l.made l.same;
       first : l.pair.first ≡ l.fn.pair.first;
       room : AccountFits l.pair.now l.place;
-      steps : l.steps ≤ l.fn.steps + l.made * most_through l.place;
       played : g.D.Trials.has_played l.trials (front_of l.place);
     }

@@ -1,10 +1,8 @@
-use Rattle.std.proofs.Common.{◌≡◌, ◌+◌, ◌&&◌, arith, Bool, true, false, replicate, rules, ap, ◌∙◌}
+use Rattle.std.proofs.Common.{◌≡◌, ◌&&◌, Bool, true, false, replicate, rules, ap, ◌∙◌}
 use Rattle.mc_lab.specs.Sweeps.{all_same, is_same, ones}
 use Rattle.mc_lab.specs.SweepBodies.{account_value, recovery_states_at, word_with}
 use Rattle.mc_lab.specs.declared.sweep_account.Account.{Account}
 use Rattle.mc_lab.proofs.SweepLoops.{hit_within, missed_past, tried_as}
-use Rattle.mc_lab.specs.SweepSteps.{most_through}
-use Rattle.mc_lab.proofs.SweepStepLemmas.{fewer_plays, more_plays, next_play, one_play}
 use Rattle.mc_lab.proofs.sweep_line.try_write.Goals as goal
 
 pub returns-then-not-first-clause-tried : goal.returns-then-not-first-clause-tried
@@ -45,18 +43,3 @@ returns-clause-tried g c =
     ∙ ap (λ (b : Bool). word_with (zs.result.0 && (c.is_same-ones_first.result && os.result.0)) (is_same first before) b) (c.is_same-2.ensures ∙ ap (λ (a : Account). is_same (account_value a) after) kept)
     ∙ tried.word in
     (hit_within p k c.report-first.result.hit c.requires.open c.requires.low (replicate 8 0) c.report-first.ensures.hit hit, word, tried.plays)
-
-pub returns-then-not-first-clause-steps : goal.returns-then-not-first-clause-steps
-returns-then-not-first-clause-steps g c = one_play (most_through c.args.place.now) c.args.steps.now c.report-first.new.steps c.report-first.ensures.steps
-
-pub returns-clause-steps : goal.returns-clause-steps
-returns-clause-steps g c =
-    let s = most_through c.args.place.now in
-    let old = c.args.steps.now in
-    let zs = c.recoveries-zeros_same in
-    let os = c.recoveries-ones_same in
-    let a = one_play s old c.report-first.new.steps c.report-first.ensures.steps in
-    let b = more_plays 1 (zs.result.1 + 1) s old c.report-first.new.steps zs.new.steps a zs.ensures.steps in
-    let d = next_play (1 + (zs.result.1 + 1)) s old zs.new.steps c.report-second.new.steps b c.report-second.ensures.steps in
-    let e = more_plays (1 + (zs.result.1 + 1) + 1) (os.result.1 + 1) s old c.report-second.new.steps os.new.steps d os.ensures.steps in
-    fewer_plays (1 + (zs.result.1 + 1) + 1 + (os.result.1 + 1)) (2 + zs.result.1 + os.result.1 + 2) s old os.new.steps (omega arith) e

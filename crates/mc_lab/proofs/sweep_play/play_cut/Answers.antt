@@ -1,7 +1,6 @@
 use Rattle.std.proofs.Common.{◌∙◌}
 use Rattle.mc_deck.specs.Lines.{line_of}
 use Rattle.mc_lab.proofs.SweepPlayers.{cut_on}
-use Rattle.mc_lab.proofs.SweepStepLemmas.{cut_most}
 use Rattle.mc_lab.proofs.sweep_play.play_cut.Goals as goal
 
 pub returns-clause-on : goal.returns-clause-on
@@ -15,9 +14,3 @@ returns-clause-size g c = c.play_line-answer.ensures.size ∙ c.play_line-armed.
 
 pub returns-clause-keeps_device : goal.returns-clause-keeps_device
 returns-clause-keeps_device g c = g.met.N.Nvm.onward _ _ _ c.play_line-armed.ensures.keeps_device c.play_line-answer.ensures.keeps_device
-
-pub returns-clause-steps : goal.returns-clause-steps
-returns-clause-steps g c =
-    let a = c.play_line-armed in
-    let b = c.play_line-answer in
-    cut_most g.N.Nvm.state g.N.Bench.bench c.args.player.now a.new.player (line_of c.args.line.now) c.args.k c.args.fill a.result b.result c.args.steps.now a.new.steps b.new.steps a.ensures.on a.ensures.steps b.ensures.steps

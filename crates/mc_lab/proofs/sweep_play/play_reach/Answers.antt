@@ -1,4 +1,4 @@
-use Rattle.std.proofs.Common.{ℕ, ap, sym, ◌∙◌, arith}
+use Rattle.std.proofs.Common.{ℕ, ap, sym, ◌∙◌}
 use Rattle.law_explore.specs.model_device.specs.Bytes.{zeros}
 use Rattle.law_explore.specs.model_play.specs.DeckGrammar.{DeckLine}
 use Rattle.law_explore.specs.model_play.specs.DeckGrammar as line
@@ -7,7 +7,6 @@ use Rattle.mc_lab.specs.Sweeps.{state_on_blank}
 use Rattle.mc_lab.specs.SweepBodies.{front_of, hits}
 use Rattle.mc_lab.specs.declared.sweep_trial.TrialLines.TheVariants as trial
 use Rattle.mc_lab.proofs.SweepPlayers.{got_or}
-use Rattle.mc_lab.proofs.SweepStepLemmas.{front_next}
 use Rattle.mc_lab.proofs.sweep_play.play_reach.Goals as goal
 
 pub play_cut-hit-requires-clause-playing : goal.play_cut-hit-requires-clause-playing
@@ -19,13 +18,3 @@ returns-clause-hit g c =
     let l = c.line-number.result in
     let on = c.play_cut-hit.ensures.on (state_on_blank (front_of p)) l.0 l.0 c.play_front-player.ensures.at in
     on.says ∙ ap (λ (x : ℕ × DeckLine). hits (front_of p) x (trial.Cut c.args.k (zeros 8))) (sym (got_or p.deck.now p.at (0, line.Named) (l.0, line_of l.1) c.line-number.ensures.line))
-
-pub returns-clause-steps : goal.returns-clause-steps
-returns-clause-steps g c =
-    let p = c.args.place.now in
-    let line = c.line-number.result in
-    let f = c.play_front-player in
-    let front = f.ensures.steps in
-    let cut = c.play_cut-hit.ensures.steps (state_on_blank (front_of p)) f.ensures.at in
-    let all = front_next p.deck.now p.at (line.0, line_of line.1) c.line-number.ensures.line in
-    omega (arith, front, cut, all)

@@ -1,9 +1,7 @@
-use Rattle.std.proofs.Common.{ℕ, sym, subst, arith}
+use Rattle.std.proofs.Common.{ℕ, sym, subst}
 use Rattle.mc_deck.specs.Lines.{line_of}
 use Rattle.mc_lab.specs.SweepBodies.{front_of, IsRecoveryBound}
 use Rattle.mc_lab.proofs.SweepPlayers.{trial_reported, trial_hit, trial_few}
-use Rattle.mc_lab.proofs.SweepStepLemmas.{front_next, power_most}
-use Rattle.mc_lab.specs.Sweeps.{state_on_blank}
 use Rattle.mc_lab.proofs.sweep_play.play_trial.Goals as goal
 
 pub play_trial_lines-hit-requires-clause-playing : goal.play_trial_lines-hit-requires-clause-playing
@@ -36,16 +34,3 @@ returns-clause-few g c =
     trial_few g.N.Nvm.state g.N.Bench.bench c.args.place.now c.args.trial (line.0, line_of line.1) c.line-number.ensures.line b.result b.new.player a.new.player a.result a.ensures.on
     (b.ensures.on (front_of c.args.place.now) line.0 c.play_front-player.ensures.at) in
     subst (λ (n : ℕ). IsRecoveryBound c.args.place.now c.args.trial n) (sym c.most_of-most.ensures) few
-
-pub returns-clause-steps : goal.returns-clause-steps
-returns-clause-steps g c =
-    let p = c.args.place.now in
-    let line = c.line-number.result in
-    let f = c.play_front-player in
-    let b = c.play_trial_lines-hit in
-    let a = c.play_line-answer in
-    let front = f.ensures.steps in
-    let trial = b.ensures.steps (state_on_blank (front_of p)) f.ensures.at in
-    let power = power_most g.N.Nvm.state g.N.Bench.bench b.new.player a.result b.new.steps a.new.steps a.ensures.steps (_, (b.ensures.on (front_of p) line.0 f.ensures.at).at.at) in
-    let all = front_next p.deck.now p.at (line.0, line_of line.1) c.line-number.ensures.line in
-    omega (arith, front, trial, power, all)

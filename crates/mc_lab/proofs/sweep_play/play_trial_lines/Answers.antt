@@ -3,7 +3,6 @@ use Rattle.mc_deck.specs.Lines.{line_of}
 use Rattle.mc_lab.specs.SweepPlayers.{TrialOn}
 use Rattle.mc_lab.specs.declared.sweep_trial.TrialLines.{TrialLines}
 use Rattle.mc_lab.proofs.SweepPlayers.{whole_on, cut_behind}
-use Rattle.mc_lab.proofs.SweepStepLemmas.{whole_most}
 use Rattle.mc_lab.proofs.sweep_play.play_trial_lines.Goals as goal
 
 pub returns-in-Whole-clause-on : goal.returns-in-Whole-clause-on
@@ -29,8 +28,3 @@ returns-in-Twice-clause-on g c front n h =
     let l = line_of c.args.line.now in
     let p = c.play_twice in
     subst (λ (b : TrialLines). TrialOn state bench front (n, l) b p.result p.new.player) (sym c.in-Twice.is) (p.ensures.on front n h)
-
-pub returns-in-Whole-clause-steps : goal.returns-in-Whole-clause-steps
-returns-in-Whole-clause-steps g c s h =
-    let p = c.play_line-answer in
-    whole_most g.N.Nvm.state g.N.Bench.bench c.args.player.now (line_of c.args.line.now) p.result c.args.steps.now p.new.steps p.ensures.steps s h

@@ -1,9 +1,6 @@
-use Rattle.std.proofs.Common.{◌∙◌, arith}
+use Rattle.std.proofs.Common.{◌∙◌}
 use Rattle.mc_deck.specs.Lines.{line_of}
 use Rattle.mc_lab.proofs.SweepPlayers.{twice_behind}
-use Rattle.mc_lab.proofs.SweepStepLemmas.{power_free}
-use Rattle.mc_lab.specs.SweepBodies.{next}
-use Rattle.mc_lab.specs.Sweeps.{cut_statement}
 use Rattle.mc_lab.proofs.sweep_play.play_twice.Goals as goal
 
 pub returns-clause-on : goal.returns-clause-on
@@ -17,12 +14,3 @@ returns-clause-size g c = c.play_cut.ensures.size ∙ c.play_cut-hit.ensures.siz
 
 pub returns-clause-keeps_device : goal.returns-clause-keeps_device
 returns-clause-keeps_device g c = g.met.N.Nvm.onward _ _ _ c.play_cut-hit.ensures.keeps_device c.play_cut.ensures.keeps_device
-
-pub returns-clause-steps : goal.returns-clause-steps
-returns-clause-steps g c s h =
-    let a = c.play_cut-hit in
-    let t = next (next s (cut_statement 0 c.args.k c.args.fill)) (0, line_of c.args.line.now) in
-    let one = a.ensures.steps s h in
-    let two = c.play_cut.ensures.steps t (a.ensures.on s 0 0 h).at in
-    let none = power_free t in
-    omega (arith, one, two, none)

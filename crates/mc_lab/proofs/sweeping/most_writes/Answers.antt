@@ -1,11 +1,10 @@
-use Rattle.std.proofs.Common.{arith, rules, ◌<◌, ◌≤◌, length}
+use Rattle.std.proofs.Common.{arith, rules, ◌<◌, length}
 use Rattle.mc_lab.proofs.SweepDecks.{most_more}
 use Rattle.mc_lab.proofs.SweepLoops.{if_none}
-use Rattle.mc_lab.proofs.SweepStepLemmas.{measured_all, measured_out, measuring_more, measuring_none}
 use Rattle.mc_lab.proofs.sweeping.most_writes.Goals as goal
 
 pub loop-at-init : goal.loop-at-init
-loop-at-init g c = record { most = λ i lt is_open. absurd (omega (arith, lt)); small = omega arith; room = c.requires.room; measuring = measuring_none c.args.deck.now c.args.steps.now; played = c.requires.played }
+loop-at-init g c = record { most = λ i lt is_open. absurd (omega (arith, lt)); small = omega arith; room = c.requires.room; played = c.requires.played }
 
 pub loop-at-preserved : goal.loop-at-preserved
 loop-at-preserved g c =
@@ -13,7 +12,6 @@ loop-at-preserved g c =
       most = most_more c.args.deck.now c.loop-at.at c.loop-at.most c.in_ok-bound.bound c.in_ok-bound.bound c.loop-at.invariant.most c.in_ok-bound.ensures.writes c.in_ok-bound.ensures.grows (search rules);
       small = c.in_ok-bound.ensures.small;
       room = c.advance.ensures.room;
-      measuring = measuring_more c.args.deck.now c.loop-at.at c.loop-at.most c.in_ok-bound.bound c.args.steps.now c.loop-at.steps c.bound_at.new.steps c.advance.new.steps (search rules) c.loop-at.invariant.measuring c.in_ok-bound.ensures.steps c.advance.ensures.steps;
       played = c.advance.ensures.played;
     }
 
@@ -21,13 +19,3 @@ pub returns-in_err-bound-clause-many : goal.returns-in_err-bound-clause-many
 returns-in_err-bound-clause-many g c =
     let below : c.loop-at.at < length c.args.deck.now = search rules in
     if_none c.from_residual.result (c.loop-at.at, below, c.in_err-bound.ensures.many)
-
-pub returns-in_err-bound-clause-steps : goal.returns-in_err-bound-clause-steps
-returns-in_err-bound-clause-steps g c =
-    let below : c.loop-at.at < length c.args.deck.now = search rules in
-    measured_out c.args.deck.now c.loop-at.at c.loop-at.most _ c.args.steps.now c.loop-at.steps c.bound_at.new.steps below c.loop-at.invariant.measuring c.in_err-bound.ensures.steps
-
-pub returns-clause-steps : goal.returns-clause-steps
-returns-clause-steps g c =
-    let within : c.loop-at.at ≤ length c.args.deck.now = search rules in
-    measured_all c.args.deck.now c.loop-at.at c.loop-at.most c.args.steps.now c.loop-at.steps within c.loop-at.invariant.measuring

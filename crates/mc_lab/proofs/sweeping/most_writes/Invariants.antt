@@ -1,7 +1,6 @@
 use Rattle.std.proofs.Common.{length, take, ◌<◌}
 use Rattle.mc_lab.specs.SweepBodies.{AccountsHaveRoom}
 use Rattle.mc_lab.specs.SweepEnds.{AtMost}
-use Rattle.mc_lab.proofs.SweepStepLemmas.{Measuring}
 use Rattle.mc_lab.proofs.sweeping.most_writes.Given as goal
 
 -- a bound of the writes of the lines up to here
@@ -11,6 +10,5 @@ invariant-loop-at g l =
       most : AtMost l.deck l.at l.most;
       small : l.most < 4294967295;
       room : AccountsHaveRoom l.sweeper.ends l.sweeper.pair (length l.names);
-      measuring : Measuring l.deck l.at l.most l.fn.steps l.steps;
       played : g.D.Trials.has_played l.sweeper.trials (take l.at l.deck);
     }

@@ -7,7 +7,6 @@ use Rattle.mc_lab.specs.SweepEnds.{pending_value, sweeps_from, AddsFine}
 use Rattle.mc_lab.proofs.ExpectLemmas.{fails_done}
 use Rattle.mc_lab.proofs.SweepDecks.{text_is, text_whole, whole_is}
 use Rattle.mc_lab.proofs.SweepRows.{fails_first, fails_rest, whole_fine, whole_rows}
-use Rattle.mc_lab.proofs.SweepStepLemmas.{named_steps}
 use Rattle.mc_lab.proofs.sweeping.sweep_in.Goals as goal
 
 pub returns-in_err-sweep_lines-clause-reported : goal.returns-in_err-sweep_lines-clause-reported
@@ -78,19 +77,3 @@ returns-clause-whole g c =
     let first = subst (λ (b : Bool). AddsFine marks b (rows_to (all_marks marks) ss) c.sweep_lines.new.sums.whole) c.no_sums-sums.ensures.whole c.in_ok-sweep_lines.ensures.fine in
     whole_is marks ls names (c.as_slice.ensures.value ∙ c.requires.room.names_are) c.both.result
     (c.both.ensures ∙ whole_fine marks ss q c.sweep_lines.new.sums.whole c.in_ok-rest.rest.whole c.in_ok-sweep_lines.ensures.left first c.in_ok-rest.ensures.whole)
-
-pub returns-in_err-sweep_lines-clause-steps : goal.returns-in_err-sweep_lines-clause-steps
-returns-in_err-sweep_lines-clause-steps g c =
-    named_steps c.as_slice.result.now c.args.deck.now c.args.steps.now c.sweep_lines.new.steps (c.as_slice.ensures.value ∙ c.requires.room.names_are) c.sweep_lines.ensures.steps
-
-pub returns-in_err-rest-clause-steps : goal.returns-in_err-rest-clause-steps
-returns-in_err-rest-clause-steps g c =
-    named_steps c.as_slice.result.now c.args.deck.now c.args.steps.now c.sweep_lines.new.steps (c.as_slice.ensures.value ∙ c.requires.room.names_are) c.sweep_lines.ensures.steps
-
-pub returns-in_err-put_sums-clause-steps : goal.returns-in_err-put_sums-clause-steps
-returns-in_err-put_sums-clause-steps g c =
-    named_steps c.as_slice.result.now c.args.deck.now c.args.steps.now c.sweep_lines.new.steps (c.as_slice.ensures.value ∙ c.requires.room.names_are) c.sweep_lines.ensures.steps
-
-pub returns-clause-steps : goal.returns-clause-steps
-returns-clause-steps g c =
-    named_steps c.as_slice.result.now c.args.deck.now c.args.steps.now c.sweep_lines.new.steps (c.as_slice.ensures.value ∙ c.requires.room.names_are) c.sweep_lines.ensures.steps

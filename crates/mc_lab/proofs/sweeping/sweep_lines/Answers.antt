@@ -1,4 +1,4 @@
-use Rattle.std.proofs.Common.{◌≤◌, ◌<◌, ◌+◌, ◌∙◌, List, ap, sym, subst, refl, rules, length, Ok, arith}
+use Rattle.std.proofs.Common.{◌≤◌, ◌<◌, ◌+◌, ◌∙◌, List, ap, sym, subst, refl, rules, length, Ok}
 use Rattle.mc_text.specs.Texts.{Sunk, sunk_in}
 use Rattle.mc_text.proofs.TextLemmas.{puts_as, puts_failed, writes_none}
 use Rattle.mc_lab.specs.Remarked.{remark_values}
@@ -6,11 +6,10 @@ use Rattle.mc_lab.specs.Sweeps.{marks_after, rows_text, rows_to, Swept}
 use Rattle.mc_lab.specs.SweepEnds.{pending_value, sweeps_from, AddsSums}
 use Rattle.mc_lab.proofs.SweepRows.{fine_none, rows_fail, rows_fine, rows_left, rows_on}
 use Rattle.mc_lab.proofs.SweepDecks.{adds_none, adds_on, left_none, left_step, swept_at}
-use Rattle.mc_lab.proofs.SweepStepLemmas.{swept_all, swept_on, swept_out}
 use Rattle.mc_lab.proofs.sweeping.sweep_lines.Goals as goal
 
 pub loop-at-init : goal.loop-at-init
-loop-at-init g c = record { reported = λ r b p. p; adds = λ b p. p; fine = λ b p. p; left = λ q p. p; small = c.requires.sums; size = refl; room = c.requires.room; steps = omega arith; played = c.requires.played }
+loop-at-init g c = record { reported = λ r b p. p; adds = λ b p. p; fine = λ b p. p; left = λ q p. p; small = c.requires.sums; size = refl; room = c.requires.room; played = c.requires.played }
 
 pub returns-in_err-sweep_at-clause-reported : goal.returns-in_err-sweep_at-clause-reported
 returns-in_err-sweep_at-clause-reported g c =
@@ -48,7 +47,6 @@ loop-at-preserved g c =
       small = one.small;
       size = c.sweep_at.ensures.size ∙ c.loop-at.invariant.size;
       room = c.advance.ensures.room;
-      steps = swept_on names ls at _ c.args.steps.now c.loop-at.steps c.sweep_at.new.steps c.advance.new.steps refl c.loop-at.invariant.steps c.sweep_at.ensures.steps c.advance.ensures.steps;
       played = c.advance.ensures.played;
     }
 
@@ -84,13 +82,3 @@ returns-clause-left g c =
     let at = c.loop-at.at in
     let all : length ls ≤ at = search rules in
     c.loop-at.invariant.left (pending_value (remark_values c.args.marks.now) c.loop-at.pending) (ap (marks_after (pending_value (remark_values c.args.marks.now) c.loop-at.pending)) (left_none names ls at all))
-
-pub returns-in_err-sweep_at-clause-steps : goal.returns-in_err-sweep_at-clause-steps
-returns-in_err-sweep_at-clause-steps g c =
-    let below : c.loop-at.at < length c.args.deck.now = search rules in
-    swept_out c.args.names.now c.args.deck.now c.loop-at.at _ c.args.steps.now c.loop-at.steps c.sweep_at.new.steps below refl c.loop-at.invariant.steps c.sweep_at.ensures.steps
-
-pub returns-clause-steps : goal.returns-clause-steps
-returns-clause-steps g c =
-    let within : c.loop-at.at ≤ length c.args.deck.now = search rules in
-    swept_all c.args.names.now c.args.deck.now c.loop-at.at c.args.steps.now c.loop-at.steps within c.loop-at.invariant.steps

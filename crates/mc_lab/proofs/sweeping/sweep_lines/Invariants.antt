@@ -1,4 +1,4 @@
-use Rattle.std.proofs.Common.{◌≡◌, ◌+◌, ◌≤◌, length, take, Bool, Result}
+use Rattle.std.proofs.Common.{◌≡◌, length, take, Bool, Result}
 use Rattle.mc_streams.specs.declared.refusals.WriteFault.{WriteFault}
 use Rattle.mc_text.specs.Texts.{Sunk, Puts, sunk_in}
 use Rattle.mc_lab.specs.declared.sweep_text.Sums.{Sums}
@@ -6,7 +6,6 @@ use Rattle.mc_lab.specs.Remarked.{remark_values}
 use Rattle.mc_lab.specs.Sweeps.{marks_after, rows_text, rows_to, MarksLeft}
 use Rattle.mc_lab.specs.SweepBodies.{AccountsHaveRoom}
 use Rattle.mc_lab.specs.SweepEnds.{pending_value, sweeps_from, AddsFine, AddsSums, IsSmall}
-use Rattle.mc_lab.specs.SweepSteps.{sum_below, swept_steps_at}
 use Rattle.mc_lab.proofs.sweeping.sweep_lines.Given as goal
 
 -- a writer of the text of the rest of the lines writes all from the start
@@ -23,6 +22,5 @@ invariant-loop-at g l =
       small : IsSmall l.sums l.at;
       size : length l.words ≡ length l.fn.words;
       room : AccountsHaveRoom l.sweeper.ends l.sweeper.pair (length l.names);
-      steps : l.steps ≤ l.fn.steps + sum_below (swept_steps_at l.names l.deck) l.at;
       played : g.D.Trials.has_played l.sweeper.trials (take l.at l.deck);
     }

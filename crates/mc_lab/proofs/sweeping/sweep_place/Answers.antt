@@ -7,7 +7,6 @@ use Rattle.mc_lab.specs.SweepEnds.{pending_value, sweeps_at, AddsFine}
 use Rattle.mc_lab.proofs.SweepLoops.{SweptAs}
 use Rattle.mc_lab.proofs.SweepRows.{fine_none}
 use Rattle.mc_lab.proofs.SweepDecks.{adds_none, line_of_place, none_swept, place_adds, place_line}
-use Rattle.mc_lab.proofs.SweepStepLemmas.{place_steps}
 use Rattle.mc_lab.proofs.sweeping.sweep_place.Goals as goal
 
 pub returns-then-swept-eq0-clause-reported : goal.returns-then-swept-eq0-clause-reported
@@ -91,18 +90,3 @@ returns-clause-left g c =
     let is : SweptAs p s.result.writes s.new.words s.result.plays = record { writes = s.ensures.writes; words_are = s.ensures.words; plays_are = s.ensures.plays } in
     let l = place_line p c.args.number s.result.writes s.new.words s.result.plays c.requires.number is c.requires.open some in
     c.in_ok-fine.ensures.left l.0 l.2 ∙ ap (marks_after (pending_value (remark_values c.args.marks.now) c.args.pending.now)) (sym l.1)
-
-pub returns-then-swept-eq0-clause-steps : goal.returns-then-swept-eq0-clause-steps
-returns-then-swept-eq0-clause-steps g c =
-    let s = c.sweep_line-swept in
-    place_steps c.args.place.now s.result.writes s.result.plays c.args.steps.now s.new.steps s.ensures.writes s.ensures.plays s.ensures.steps
-
-pub returns-in_err-fine-clause-steps : goal.returns-in_err-fine-clause-steps
-returns-in_err-fine-clause-steps g c =
-    let s = c.sweep_line-swept in
-    place_steps c.args.place.now s.result.writes s.result.plays c.args.steps.now s.new.steps s.ensures.writes s.ensures.plays s.ensures.steps
-
-pub returns-clause-steps : goal.returns-clause-steps
-returns-clause-steps g c =
-    let s = c.sweep_line-swept in
-    place_steps c.args.place.now s.result.writes s.result.plays c.args.steps.now s.new.steps s.ensures.writes s.ensures.plays s.ensures.steps

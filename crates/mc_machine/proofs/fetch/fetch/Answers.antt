@@ -6,7 +6,7 @@ use Rattle.std.proofs.lemmas.Result.{err_from_is_err_and}
 use Rattle.law_machine.specs.model_machine.specs.declared.instruction.DecodeFault.TheVariants.{Past}
 use Rattle.law_machine.specs.model_machine.specs.Code.{DecodesTo}
 use Rattle.mc_segs.specs.HeldFrames.{app_under}
-use Rattle.mc_isa.proofs.PlaceLemmas.{decoded_only}
+use Rattle.law_machine.specs.law_rows.proofs.PlaceLemmas.{decoded_only}
 use Rattle.mc_machine.proofs.FetchLemmas.{IsWindow, fault_there, past_there, stands_there}
 use Rattle.mc_machine.proofs.fetch.fetch.Goals as goal
 

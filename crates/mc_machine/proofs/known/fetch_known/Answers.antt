@@ -2,7 +2,7 @@
 use Rattle.std.proofs.Common.{ℕ, ◌<◌, ◌%◌, length, slice_index_or, Ok, arith, sym, subst, ◌∙◌}
 use Rattle.law_machine.specs.model_machine.specs.declared.instruction.Ins.TheVariants.{Nop}
 use Rattle.law_machine.specs.model_machine.specs.Code.{DecodesTo}
-use Rattle.mc_isa.proofs.PlaceLemmas.{decoded_only}
+use Rattle.law_machine.specs.law_rows.proofs.PlaceLemmas.{decoded_only}
 use Rattle.mc_segs.specs.HeldFrames.{app_under}
 use Rattle.mc_machine.specs.declared.known.Known.{Known}
 use Rattle.mc_machine.proofs.known.fetch_known.Goals as goal

@@ -1,6 +1,6 @@
 use Rattle.std.proofs.Common.{ℕ, zero, suc, List, [], ◌∷◌, ◌++◌, slice_index_or, subst}
 use Rattle.std.specs.List.{flat_map}
-use Rattle.mc_base.specs.model_device.specs.Bytes.{AreBytes}
+use Rattle.mc_words.specs.model_device.specs.Bytes.{AreBytes}
 use Rattle.mc_nvm.proofs.sim.bytes_by_eight.Goals as goal
 
 front : (a b : List ℕ) → AreBytes (a ++ b) → AreBytes a

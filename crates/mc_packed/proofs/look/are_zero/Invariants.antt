@@ -1,5 +1,5 @@
 use Rattle.std.proofs.Common.{◌≡◌, drop}
-use Rattle.mc_base.specs.model_device.specs.Image.{all_zero}
+use Rattle.mc_words.specs.model_device.specs.Image.{all_zero}
 use Rattle.mc_packed.proofs.look.are_zero.Given as goal
 
 -- the numbers that are left decide

@@ -1,5 +1,5 @@
 use Rattle.std.proofs.Common.{◌≡◌, drop}
-use Rattle.mc_base.specs.model_device.specs.Image.{ascend, after_all}
+use Rattle.mc_words.specs.model_device.specs.Image.{ascend, after_all}
 use Rattle.mc_packed.proofs.look.ascending.Given as goal
 
 -- the targets that are left decide

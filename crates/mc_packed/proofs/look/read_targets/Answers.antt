@@ -1,6 +1,6 @@
 use Rattle.std.proofs.Common.{◌-◌, ◌*◌, ℕ, take, drop, length, ap, sym, ◌∙◌, arith, length-append}
-use Rattle.mc_base.specs.model_device.specs.Bytes.{up}
-use Rattle.mc_base.specs.model_device.specs.Image.{Two, targets, four, ascend, all_zero}
+use Rattle.mc_words.specs.model_device.specs.Bytes.{up}
+use Rattle.mc_words.specs.model_device.specs.Image.{Two, targets, four, ascend, all_zero}
 use Rattle.mc_packed.proofs.LookLemmas.{targets_on, targets_bad, targets_end, bad_first, bad_second}
 use Rattle.mc_packed.proofs.look.read_targets.Goals as goal
 

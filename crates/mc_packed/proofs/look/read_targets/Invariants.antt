@@ -1,6 +1,6 @@
 use Rattle.std.proofs.Common.{◌≡◌, ◌≤◌, ◌-◌, ◌*◌, length}
-use Rattle.mc_base.specs.model_device.specs.Bytes.{up}
-use Rattle.mc_base.specs.model_device.specs.Image.{Two, targets, targets_2, before}
+use Rattle.mc_words.specs.model_device.specs.Bytes.{up}
+use Rattle.mc_words.specs.model_device.specs.Image.{Two, targets, targets_2, before}
 use Rattle.mc_packed.proofs.look.read_targets.Given as goal
 
 -- the targets so far, and those of the target words that are left

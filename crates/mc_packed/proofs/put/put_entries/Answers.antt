@@ -1,8 +1,8 @@
 use Rattle.std.proofs.Common.{ℕ, List, length, map}
 use Rattle.std.proofs.lemmas.Result.{err_from_is_err_and}
-use Rattle.mc_base.specs.model_device.specs.Bytes.{up}
-use Rattle.mc_base.specs.model_device.specs.Stopped.{target_words, values_2}
-use Rattle.mc_base.specs.model_device.proofs.LoopLemmas.{then, stopped}
+use Rattle.mc_words.specs.model_device.specs.Bytes.{up}
+use Rattle.mc_words.specs.model_device.specs.Stopped.{target_words, values_2}
+use Rattle.mc_words.specs.model_device.proofs.LoopLemmas.{then, stopped}
 use Rattle.mc_packed.proofs.put.put_entries.Goals as goal
 
 abbrev words_of : List (ℕ × List ℕ) → List (ℕ × List ℕ)

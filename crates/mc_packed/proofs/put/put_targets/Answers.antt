@@ -1,8 +1,8 @@
 use Rattle.std.proofs.Common.{◌+◌, ◌-◌, ◌*◌, ℕ, List, length, drop, map, ap, ◌∙◌, length-set}
 use Rattle.std.proofs.lemmas.Result.{err_from_is_err_and}
-use Rattle.mc_base.specs.model_device.specs.Bytes.{up}
-use Rattle.mc_base.specs.model_device.specs.Stopped.{target_words}
-use Rattle.mc_base.specs.model_device.proofs.LoopLemmas.{leads_on, leads_stop}
+use Rattle.mc_words.specs.model_device.specs.Bytes.{up}
+use Rattle.mc_words.specs.model_device.specs.Stopped.{target_words}
+use Rattle.mc_words.specs.model_device.proofs.LoopLemmas.{leads_on, leads_stop}
 use Rattle.mc_packed.proofs.PutLemmas.{target_step_at}
 use Rattle.mc_packed.proofs.put.put_targets.Goals as goal
 

@@ -1,7 +1,7 @@
 use Rattle.std.proofs.Common.{◌≡◌, ◌-◌, ◌*◌, true, length, drop, map}
-use Rattle.mc_base.specs.model_device.specs.Bytes.{up}
-use Rattle.mc_base.specs.model_device.specs.Stopped.{target_words}
-use Rattle.mc_base.specs.model_device.proofs.LoopLemmas.{Leads}
+use Rattle.mc_words.specs.model_device.specs.Bytes.{up}
+use Rattle.mc_words.specs.model_device.specs.Stopped.{target_words}
+use Rattle.mc_words.specs.model_device.proofs.LoopLemmas.{Leads}
 use Rattle.mc_packed.proofs.put.put_targets.Given as goal
 
 -- the target words that are left lead where all of them lead

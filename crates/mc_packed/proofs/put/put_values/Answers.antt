@@ -1,7 +1,7 @@
 use Rattle.std.proofs.Common.{◌+◌, ℕ, [], Err, drop, get_or, subst}
 use Rattle.std.proofs.lemmas.Result.{err_from_is_err_and}
-use Rattle.mc_base.specs.model_device.specs.Stopped.{values_2}
-use Rattle.mc_base.specs.model_device.proofs.LoopLemmas.{leads_stop}
+use Rattle.mc_words.specs.model_device.specs.Stopped.{values_2}
+use Rattle.mc_words.specs.model_device.proofs.LoopLemmas.{leads_stop}
 use Rattle.mc_packed.proofs.PutLemmas.{value_step}
 use Rattle.mc_packed.proofs.put.put_values.Goals as goal
 

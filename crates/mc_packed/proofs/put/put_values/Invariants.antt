@@ -1,6 +1,6 @@
 use Rattle.std.proofs.Common.{◌≡◌, true, length, drop}
-use Rattle.mc_base.specs.model_device.specs.Stopped.{values_2}
-use Rattle.mc_base.specs.model_device.proofs.LoopLemmas.{Leads}
+use Rattle.mc_words.specs.model_device.specs.Stopped.{values_2}
+use Rattle.mc_words.specs.model_device.proofs.LoopLemmas.{Leads}
 use Rattle.mc_packed.proofs.put.put_values.Given as goal
 
 -- the values that are left lead where all of them lead

@@ -16,5 +16,5 @@ returns-clause-serves g c =
     let q = c.play_request-answer.new.player in
     let puts = subst (λ (o : Outcome). Puts (out c.args.out.now) (answer_frame (reply_to_frame (meaning_of c.of-request.result) o c.play_request-answer.result)) c.put_answer.result (out c.put_answer.new.out)) c.outcome.ensures c.put_answer.ensures in
     λ s n at.
-    subst (λ (m : Meaning). ServesFrame state bench c.args.player.now s n m (out c.args.out.now) c.put_answer.result q (out c.put_answer.new.out) c.args.steps.now c.play_request-answer.new.steps) c.of-request.ensures.meaning
-    (frame_served state bench c.args.player.now q s n (meaning_of c.of-request.result) c.play_request-answer.result (out c.args.out.now) (out c.put_answer.new.out) c.put_answer.result c.args.steps.now c.play_request-answer.new.steps at c.play_request-answer.ensures.plays puts)
+    subst (λ (m : Meaning). ServesFrame state bench c.args.player.now s n m (out c.args.out.now) c.put_answer.result q (out c.put_answer.new.out)) c.of-request.ensures.meaning
+    (frame_served state bench c.args.player.now q s n (meaning_of c.of-request.result) c.play_request-answer.result (out c.args.out.now) (out c.put_answer.new.out) c.put_answer.result at c.play_request-answer.ensures.plays puts)

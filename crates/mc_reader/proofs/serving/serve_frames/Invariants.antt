@@ -16,7 +16,7 @@ invariant-loop-before g l =
     record {
       reached :
           (s : State) (n : ℕ) → IsPlayerAt state bench l.fn.player s
-          → SessionReached state bench s n (record { left = host.left l.fn.input; reads = host.faults l.fn.input; out = out l.fn.out; dev = bench_of state bench l.fn.player; asked = host.moments l.fn.input; steps = l.fn.steps }) l.before l.player l.powered (record { left = host.left l.input; reads = host.faults l.input; asked = host.moments l.input; steps = l.steps }) (out l.out);
+          → SessionReached state bench s n (record { left = host.left l.fn.input; reads = host.faults l.fn.input; out = out l.fn.out; dev = bench_of state bench l.fn.player; asked = host.moments l.fn.input }) l.before l.player l.powered (record { left = host.left l.input; reads = host.faults l.input; asked = host.moments l.input }) (out l.out);
       room : length l.room ≡ 65535;
       keeps_device : g.N.Nvm.same (device_of l.fn.player) (device_of l.player);
     }

@@ -1,5 +1,5 @@
 use Rattle.std.proofs.Common.{arith, sym, ◌∙◌}
-use Rattle.mc_arith.proofs.ResultLemmas.{not_zero}
+use Rattle.mc_arith.specs.law_rows.proofs.ResultLemmas.{not_zero}
 use Rattle.mc_rows.proofs.bytes.is_zero.Goals as goal
 
 pub returns-then-byte-ne0 : goal.returns-then-byte-ne0

@@ -2,7 +2,7 @@ use Rattle.std.proofs.Common.{List, ℕ, length, take, drop, Some, sym, ap, ◌�
 use Rattle.mc_apdu.specs.model_machine.specs.Frame as model
 use Rattle.mc_segs.specs.HeldFrames.{Held, frame_on_bank}
 use Rattle.mc_segs.proofs.AccessLemmas.{bytes_read, no_bytes}
-use Rattle.mc_base.specs.model_device.proofs.ListLemmas.{some_bytes}
+use Rattle.mc_words.specs.model_device.proofs.ListLemmas.{some_bytes}
 use Rattle.mc_segs.proofs.access.load.Goals as goal
 
 pub returns-then-is_empty-clause-bytes : goal.returns-then-is_empty-clause-bytes

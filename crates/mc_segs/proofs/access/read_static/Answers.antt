@@ -1,7 +1,7 @@
 use Rattle.std.proofs.Common.{List, ℕ, length, get_or, ◌+◌, sym, ap, ◌∙◌, arith}
 use Rattle.std.specs.Prelude.{unwrap_or}
 use Rattle.std.proofs.lemmas.List.{drop_all}
-use Rattle.mc_base.specs.model_device.specs.Pieces.{covering_byte, word_pieces}
+use Rattle.mc_words.specs.model_device.specs.Pieces.{covering_byte, word_pieces}
 use Rattle.mc_segs.specs.HeldFrames.{app_under}
 use Rattle.mc_segs.proofs.AccessLemmas.{has_words, static_read}
 use Rattle.mc_segs.proofs.access.read_static.Goals as goal

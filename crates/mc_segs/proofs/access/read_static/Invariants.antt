@@ -1,6 +1,6 @@
 use Rattle.std.proofs.Common.{◌≡◌, ℕ, ◌+◌, ◌<◌, length, drop, get_or}
 use Rattle.std.specs.Prelude.{unwrap_or}
-use Rattle.mc_base.specs.model_device.specs.Pieces.{covering_byte, word_pieces}
+use Rattle.mc_words.specs.model_device.specs.Pieces.{covering_byte, word_pieces}
 use Rattle.mc_bank.specs.Bank.{app_of}
 use Rattle.mc_segs.proofs.access.read_static.Given as goal
 

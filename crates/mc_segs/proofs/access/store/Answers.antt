@@ -1,6 +1,6 @@
 use Rattle.std.proofs.Common.{ℕ, List, sym, ap, ◌∙◌}
 use Rattle.std.proofs.lemmas.Result.{err_from_is_err_and}
-use Rattle.mc_base.specs.model_device.specs.Bytes.{splice}
+use Rattle.mc_words.specs.model_device.specs.Bytes.{splice}
 use Rattle.mc_segs.specs.HeldFrames.{Held}
 use Rattle.mc_segs.proofs.StoredLemmas.{kept_stored, refused, committed_stored, stopped_stored, dynamic_stored, public_stored}
 use Rattle.mc_segs.proofs.access.store.Goals as goal

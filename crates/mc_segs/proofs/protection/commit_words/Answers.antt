@@ -1,5 +1,5 @@
 use Rattle.std.proofs.Common.{ℕ, ◌+◌, ◌/◌, ◌≤◌, List, length, sym, ap, subst}
-use Rattle.mc_base.specs.model_device.specs.Pieces.{not_pending}
+use Rattle.mc_words.specs.model_device.specs.Pieces.{not_pending}
 use Rattle.mc_segs.specs.HeldFrames.{Held}
 use Rattle.mc_segs.specs.Puts.{words_under}
 use Rattle.mc_segs.proofs.StoreLemmas.{few_words, done_at_once, items_at_once}

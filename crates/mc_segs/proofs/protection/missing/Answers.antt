@@ -1,6 +1,6 @@
 use Rattle.std.proofs.Common.{ℕ, ◌+◌, sym, ap, ◌∙◌, true, false, Option, List, arith}
 use Rattle.std.specs.Prelude.{is_some}
-use Rattle.mc_base.specs.model_device.specs.Pieces.{pending_at}
+use Rattle.mc_words.specs.model_device.specs.Pieces.{pending_at}
 use Rattle.mc_segs.proofs.PutLemmas.{missing_next, none_from}
 use Rattle.mc_segs.proofs.protection.missing.Goals as goal
 use Rattle.mc_segs.proofs.protection.missing.Goals.{then-is_none, else-is_none}

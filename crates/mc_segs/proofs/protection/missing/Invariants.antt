@@ -1,5 +1,5 @@
 use Rattle.std.proofs.Common.{◌≡◌, ◌+◌, ◌-◌, ◌≤◌}
-use Rattle.mc_base.specs.model_device.specs.Pieces.{not_pending}
+use Rattle.mc_words.specs.model_device.specs.Pieces.{not_pending}
 use Rattle.mc_segs.proofs.protection.missing.Given as goal
 
 abbrev pub invariant-loop-number : goal.invariant-loop-number

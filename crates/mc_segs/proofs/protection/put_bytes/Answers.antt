@@ -1,7 +1,7 @@
 use Rattle.std.proofs.Common.{◌≡◌, ◌+◌, ◌-◌, ◌*◌, ◌/◌, length, take, drop, inl, inr, arith}
 use Rattle.std.proofs.lemmas.Bool.{cases_lt}
 use Rattle.std.proofs.lemmas.List.{length-take, length-drop}
-use Rattle.mc_base.specs.model_device.specs.Pieces.{not_pending}
+use Rattle.mc_words.specs.model_device.specs.Pieces.{not_pending}
 use Rattle.mc_bank.specs.Bank.{app_of}
 use Rattle.mc_segs.specs.Puts.{words_under}
 use Rattle.mc_segs.proofs.PutLemmas.{puts_next, next_bytes, count_next}

@@ -1,5 +1,5 @@
 use Rattle.std.proofs.Common.{◌≡◌, ◌+◌, ◌-◌, ◌*◌, ◌/◌, length, take}
-use Rattle.mc_base.specs.model_device.specs.Pieces.{not_pending}
+use Rattle.mc_words.specs.model_device.specs.Pieces.{not_pending}
 use Rattle.mc_bank.specs.Bank.{app_of}
 use Rattle.mc_segs.specs.Puts.{words_under}
 use Rattle.mc_segs.proofs.PutLemmas.{PutsSome}

@@ -1,11 +1,11 @@
 use Rattle.std.proofs.Common.{◌≡◌, ℕ, ◌+◌, ◌<◌, ◌≤◌, Bool, List, length, Some, cond, sym, ◌∙◌, ap, subst, arith}
-use Rattle.mc_base.specs.model_device.specs.Card.{Block}
+use Rattle.mc_words.specs.model_device.specs.Card.{Block}
 use Rattle.mc_blocks.specs.Blocks.{blocks_at}
 use Rattle.mc_blocks.proofs.Steps.{blocks_all}
 use Rattle.mc_store.specs.Slots.{first_named}
 use Rattle.mc_store.proofs.RecordLemmas.{block_fits}
 use Rattle.mc_store.proofs.WalkLemmas.{BlockStands, walk_begins, header_stands, walk_ends}
-use Rattle.mc_base.specs.model_device.specs.Device.{sized}
+use Rattle.mc_words.specs.model_device.specs.Device.{sized}
 use Rattle.mc_store.proofs.block.find_block.Goals as goal
 
 pub loop-place-init : goal.loop-place-init

@@ -1,5 +1,5 @@
 use Rattle.std.proofs.Common.{◌-◌, ◌≡◌, ◌≤◌, length}
-use Rattle.mc_base.specs.model_device.specs.Card.{blocks}
+use Rattle.mc_words.specs.model_device.specs.Card.{blocks}
 use Rattle.mc_blocks.specs.Blocks.{blocks_at}
 use Rattle.mc_store.specs.Slots.{first_named}
 use Rattle.mc_store.proofs.WalkLemmas.{Walk}

@@ -1,6 +1,6 @@
 use Rattle.std.proofs.Common.{◌≡◌, ◌+◌, ◌≤◌, length, take, ap, ◌∙◌, sym, arith}
 use Rattle.std.specs.Prelude.{bytes_eq}
-use Rattle.mc_base.specs.model_device.specs.Card.{name_at}
+use Rattle.mc_words.specs.model_device.specs.Card.{name_at}
 use Rattle.mc_store.proofs.RecordLemmas.{other_name, neither}
 use Rattle.mc_store.proofs.block.sizes_of_name.Goals as goal
 

@@ -5,7 +5,7 @@ use Rattle.mc_store.specs.CommitLaws.{placed_words}
 use Rattle.mc_bank.specs.Slots.{slot_sizes}
 use Rattle.mc_store.specs.Store.{part_from}
 use Rattle.mc_store.proofs.ChangeLemmas.{commit_at, commit_done}
-use Rattle.mc_base.specs.model_device.specs.Device.{sized}
+use Rattle.mc_words.specs.model_device.specs.Device.{sized}
 use Rattle.mc_store.proofs.changes.commit.Goals as goal
 
 pub overflow_cast-first : goal.overflow_cast-first

@@ -1,7 +1,7 @@
 use Rattle.std.proofs.Common.{Ok, ◌∙◌}
 use Rattle.std.proofs.lemmas.Result.{err_from_is_err_and}
 use Rattle.mc_store.proofs.ChangeLemmas.{delete_at, delete_done}
-use Rattle.mc_base.specs.model_device.specs.Device.{sized}
+use Rattle.mc_words.specs.model_device.specs.Device.{sized}
 use Rattle.mc_store.proofs.changes.delete.Goals as goal
 
 pub free_plan-plan-requires-clause-closed : goal.free_plan-plan-requires-clause-closed

@@ -1,7 +1,7 @@
 use Rattle.std.proofs.Common.{ℕ, List, subst}
-use Rattle.mc_base.specs.model_device.specs.Device.{Makes}
-use Rattle.mc_base.specs.model_device.specs.Image.{Two}
-use Rattle.mc_base.specs.model_device.specs.Stopped.{writes}
+use Rattle.mc_words.specs.model_device.specs.Device.{Makes}
+use Rattle.mc_words.specs.model_device.specs.Image.{Two}
+use Rattle.mc_words.specs.model_device.specs.Stopped.{writes}
 use Rattle.mc_store.proofs.ChangeLemmas.{one_placed}
 use Rattle.mc_store.proofs.changes.write_shifted.Goals as goal
 

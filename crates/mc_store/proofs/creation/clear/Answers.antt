@@ -1,8 +1,8 @@
 use Rattle.std.proofs.Common.{◌-◌, Err, subst, arith}
 use Rattle.std.proofs.lemmas.Result.{err_from_is_err_and}
 use Rattle.mc_bank.specs.model_card.specs.declared.card.Sizes.{Sizes}
-use Rattle.mc_base.specs.model_device.specs.Orders.{InOrder}
-use Rattle.mc_base.specs.model_device.specs.Bytes.{zeros}
+use Rattle.mc_words.specs.model_device.specs.Orders.{InOrder}
+use Rattle.mc_words.specs.model_device.specs.Bytes.{zeros}
 use Rattle.mc_store.specs.StoreItems.{store_did, blank_items}
 use Rattle.mc_store.proofs.FillLemmas.{leads_on, leads_stop}
 use Rattle.mc_store.proofs.CreateLemmas.{blank_next}

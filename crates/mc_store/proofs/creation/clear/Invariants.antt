@@ -1,5 +1,5 @@
 use Rattle.std.proofs.Common.{◌≡◌, ◌-◌, ◌≤◌, true}
-use Rattle.mc_base.specs.model_device.specs.Bytes.{zeros}
+use Rattle.mc_words.specs.model_device.specs.Bytes.{zeros}
 use Rattle.mc_store.specs.Store.{is_going, IsGoodIn}
 use Rattle.mc_store.specs.StoreItems.{store_did, blank_items}
 use Rattle.mc_store.proofs.FillLemmas.{ItemsLead}

@@ -1,11 +1,11 @@
 use Rattle.std.proofs.Common.{◌-◌, [], ◌∷◌}
 use Rattle.std.proofs.lemmas.Result.{err_from_is_err_and}
-use Rattle.mc_base.specs.model_device.specs.Bytes.{zeros}
-use Rattle.mc_base.specs.model_device.proofs.OrdersLemmas.{in_order_append, in_order_stopped}
+use Rattle.mc_words.specs.model_device.specs.Bytes.{zeros}
+use Rattle.mc_words.specs.model_device.proofs.OrdersLemmas.{in_order_append, in_order_stopped}
 use Rattle.mc_bank.specs.model_card.specs.Items.{Note, Enter}
 use Rattle.mc_store.specs.StoreItems.{store_did, one_item, blank_items}
 use Rattle.mc_store.proofs.EnterLemmas.{create_ready, name_of}
-use Rattle.mc_base.specs.model_device.specs.Device.{sized}
+use Rattle.mc_words.specs.model_device.specs.Device.{sized}
 use Rattle.mc_store.proofs.creation.create.Goals as goal
 
 pub returns-in_err-clear : goal.returns-in_err-clear

@@ -1,12 +1,12 @@
 use Rattle.std.proofs.Common.{◌≡◌, true, ℕ, Ok, ap, sym, subst, ◌∙◌, arith}
 use Rattle.std.proofs.lemmas.Result.{err_from_is_err_and}
 use Rattle.mc_bank.specs.model_card.specs.declared.card.Sizes.{Sizes}
-use Rattle.mc_base.specs.model_device.specs.Card.{means}
-use Rattle.mc_base.specs.model_device.specs.Layout.{gaps}
+use Rattle.mc_words.specs.model_device.specs.Card.{means}
+use Rattle.mc_words.specs.model_device.specs.Layout.{gaps}
 use Rattle.mc_blocks.specs.Plans.{has_room}
 use Rattle.mc_store.specs.Store.{words_of_sizes}
 use Rattle.mc_store.proofs.CreateLemmas.{enter_is, enter_did}
-use Rattle.mc_base.specs.model_device.specs.Device.{sized}
+use Rattle.mc_words.specs.model_device.specs.Device.{sized}
 use Rattle.mc_store.proofs.creation.enter.Goals as goal
 
 pub take_plan-plan-requires-clause-closed : goal.take_plan-plan-requires-clause-closed

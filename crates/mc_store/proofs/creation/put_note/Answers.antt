@@ -3,7 +3,7 @@ use Rattle.mc_bank.specs.model_card.specs.declared.card.Sizes.{Sizes}
 use Rattle.mc_store.specs.Store.{record_word}
 use Rattle.mc_store.proofs.FillLemmas.{power_on}
 use Rattle.mc_store.proofs.CreateLemmas.{note_word, note_did, note_going, note_good}
-use Rattle.mc_base.specs.model_device.specs.Device.{sized}
+use Rattle.mc_words.specs.model_device.specs.Device.{sized}
 use Rattle.mc_store.proofs.creation.put_note.Goals as goal
 
 pub write-requires-clause-place : goal.write-requires-clause-place

@@ -1,7 +1,7 @@
 use Rattle.std.proofs.Common.{◌+◌, ◌/◌, ◌<◌, ℕ, length, sym, subst, arith}
 use Rattle.mc_store.proofs.FillLemmas.{power_on}
 use Rattle.mc_store.proofs.CreateLemmas.{blank_word, blank_did, blank_going, blank_good, zeros_front}
-use Rattle.mc_base.specs.model_device.specs.Device.{sized}
+use Rattle.mc_words.specs.model_device.specs.Device.{sized}
 use Rattle.mc_store.proofs.creation.put_zeros.Goals as goal
 
 pub write_part-requires-clause-power : goal.write_part-requires-clause-power

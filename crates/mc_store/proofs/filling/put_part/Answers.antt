@@ -1,6 +1,6 @@
 use Rattle.std.proofs.Common.{◌+◌, ◌/◌, ◌<◌, ℕ, length, sym, subst}
 use Rattle.mc_store.proofs.FillLemmas.{site_word, power_on, piece_did, piece_going, piece_good}
-use Rattle.mc_base.specs.model_device.specs.Device.{sized}
+use Rattle.mc_words.specs.model_device.specs.Device.{sized}
 use Rattle.mc_store.proofs.filling.put_part.Goals as goal
 
 pub write_part-requires-clause-power : goal.write_part-requires-clause-power

@@ -1,4 +1,4 @@
-use Rattle.mc_base.specs.model_device.specs.Image.{image_with}
+use Rattle.mc_words.specs.model_device.specs.Image.{image_with}
 use Rattle.mc_store.specs.Power.{power_writes}
 use Rattle.mc_store.proofs.PowerLemmas.{power_done, done_base, fault_writes, fault_base}
 use Rattle.mc_store.proofs.laws.power_ends.Goals as goal

@@ -1,5 +1,5 @@
 use Rattle.std.proofs.Common.{◌≡◌}
-use Rattle.mc_base.specs.model_device.specs.Orders.{answer_of}
+use Rattle.mc_words.specs.model_device.specs.Orders.{answer_of}
 use Rattle.mc_store.proofs.RecoverLemmas.{version_makes}
 use Rattle.mc_store.proofs.power.migrate.Goals as goal
 

@@ -1,6 +1,6 @@
 use Rattle.mc_store.specs.Power.{preparation_end}
 use Rattle.mc_store.proofs.PowerLemmas.{power_ends}
-use Rattle.mc_base.specs.model_device.specs.Device.{sized}
+use Rattle.mc_words.specs.model_device.specs.Device.{sized}
 use Rattle.mc_store.proofs.power.prepare.Goals as goal
 
 pub returns-clause-ends : goal.returns-clause-ends

@@ -1,5 +1,5 @@
 use Rattle.std.proofs.Common.{ℕ, List, Ok, Err, subst}
-use Rattle.mc_base.specs.model_device.specs.Device.{Makes}
+use Rattle.mc_words.specs.model_device.specs.Device.{Makes}
 use Rattle.mc_store.proofs.RecoverLemmas.{upgrade_writes}
 use Rattle.mc_store.proofs.power.upgrade.Goals as goal
 

@@ -3,7 +3,7 @@ use Rattle.mc_bank.specs.model_card.specs.declared.card.Sizes.{Sizes}
 use Rattle.mc_bank.specs.Slots.{slot_place, slot_sizes}
 use Rattle.mc_store.specs.Store.{part_from}
 use Rattle.mc_bank.specs.model_card.specs.declared.card.Part.TheVariants.{Code}
-use Rattle.mc_base.specs.model_device.specs.Device.{sized}
+use Rattle.mc_words.specs.model_device.specs.Device.{sized}
 use Rattle.mc_store.proofs.ReadLemmas.{reads}
 use Rattle.mc_store.proofs.reads.read_code.Goals as goal
 

@@ -1,6 +1,6 @@
 use Rattle.std.proofs.Common.{ℕ, List, take, drop, ap, ◌-◌, ◌*◌, ◌+◌, ◌∙◌, arith}
 use Rattle.mc_store.proofs.FlatLemmas.{word_step}
-use Rattle.mc_base.specs.model_device.specs.Device.{sized}
+use Rattle.mc_words.specs.model_device.specs.Device.{sized}
 use Rattle.mc_store.proofs.section.read_bytes.Goals as goal
 
 pub loop-done-preserved : goal.loop-done-preserved

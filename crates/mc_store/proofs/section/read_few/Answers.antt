@@ -1,8 +1,8 @@
 use Rattle.std.proofs.Common.{◌≡◌, ◌+◌, ◌<◌, ◌-◌, ℕ, List, [], ◌++◌, length, take, drop, ap, sym, ◌∙◌, arith}
 use Rattle.mc_store.proofs.FlatLemmas.{in_pair}
-use Rattle.mc_base.specs.model_device.specs.Card.{word}
-use Rattle.mc_base.specs.model_device.specs.Device.{sized}
-use Rattle.mc_base.specs.model_device.proofs.ListLemmas.{some_bytes}
+use Rattle.mc_words.specs.model_device.specs.Card.{word}
+use Rattle.mc_words.specs.model_device.specs.Device.{sized}
+use Rattle.mc_words.specs.model_device.proofs.ListLemmas.{some_bytes}
 use Rattle.mc_store.proofs.section.read_few.Goals as goal
 
 pub returns : goal.returns

@@ -1,7 +1,7 @@
 use Rattle.std.proofs.Common.{◌<◌, ◌≤◌, arith, length, Some, None}
 use Rattle.std.proofs.lemmas.Result.{err_from_is_err_and}
 use Rattle.melcard.proofs.CodeLemmas.{digits_refused, code_odd, code_large, code_fits, bytes_found}
-use Rattle.mc_base.specs.model_device.specs.Limits.{most_code}
+use Rattle.mc_base.specs.mc_words.specs.model_device.specs.Limits.{most_code}
 use Rattle.melcard.proofs.code.read_code.Goals as goal
 
 pub returns-in_err-digits-clause-refused : goal.returns-in_err-digits-clause-refused

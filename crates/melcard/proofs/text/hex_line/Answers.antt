@@ -1,6 +1,6 @@
 use Rattle.std.proofs.Common.{◌∙◌, ℕ, List, [], ◌∷◌, ◌++◌, ap}
 use Rattle.melcard.proofs.TextLemmas.{hex_same}
-use Rattle.mc_base.specs.model_device.proofs.ListLemmas.{all_bytes}
+use Rattle.mc_base.specs.mc_words.specs.model_device.proofs.ListLemmas.{all_bytes}
 use Rattle.melcard.proofs.text.hex_line.Goals as goal
 
 pub returns : goal.returns

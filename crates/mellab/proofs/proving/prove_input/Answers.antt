@@ -4,10 +4,10 @@ use Rattle.mc_filter.proofs.Statuses.{puts_by}
 use Rattle.mc_filter.specs.Outside.{outside, Outside}
 use Rattle.mc_filter.specs.Statuses.{status_after_writing}
 use Rattle.mc_filter.specs.declared.status.Status.{Status}
-use Rattle.prove_events.specs.model_rules.specs.Reading.{app_rules_read}
-use Rattle.prove_events.specs.model_rules.specs.Rules.{AppRules, Target}
-use Rattle.prove_events.specs.Rules.{AreRules}
-use Rattle.prove_rules.specs.Sums.{AreSums}
+use Rattle.prove_tables.specs.law_prove_closed.specs.model_rule_text.specs.Reading.{app_rules_read}
+use Rattle.lab_app_rules.specs.model_rules.specs.Rules.{AppRules, Target}
+use Rattle.lab_app_rules.specs.Rules.{AreRules}
+use Rattle.lab_app_rules.specs.Sums.{AreSums}
 use Rattle.mellab.proofs.RuleLemmas.{kept_as_read, says_proved}
 use Rattle.mellab.proofs.proving.prove_input.Goals as goal
 

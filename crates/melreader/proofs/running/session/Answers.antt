@@ -13,7 +13,7 @@ returns-in-Err g c = λ a b has.
     let input = c.args.input.now in
     let out = c.args.out.now in
     let dev = c.args.dev.now in
-    let o : ReaderOutside = outside g.S.Source g.T.Sink g.E.Sink members a b input input out out c.args.err.now c.reject.new.out dev dev c.args.steps.now c.args.steps.now in
+    let o : ReaderOutside = outside g.S.Source g.T.Sink g.E.Sink members a b input input out out c.args.err.now c.reject.new.out dev dev in
     let kept : AreKept input input out out dev dev = (refl, refl, refl) in
     says_rejected (AreKept input input out out dev dev) o c.in-Err.rejection c.reject.result kept
     (subst (λ (r : Result (List (ℕ × DeckLine)) Rejection). HasDeck a b r) c.in-Err.is has) c.reject.ensures
@@ -24,6 +24,6 @@ returns-in-Ok g c = λ a b has.
     let input = c.args.input.now in
     let out = c.args.out.now in
     let dev = c.args.dev.now in
-    let o : ReaderOutside = outside g.S.Source g.T.Sink g.E.Sink members a b input c.serve.new.input out c.serve.new.out c.args.err.now c.end.new.err dev c.serve.new.dev c.args.steps.now c.serve.new.steps in
+    let o : ReaderOutside = outside g.S.Source g.T.Sink g.E.Sink members a b input c.serve.new.input out c.serve.new.out c.args.err.now c.end.new.err dev c.serve.new.dev in
     says_served (AreKept input c.serve.new.input out c.serve.new.out dev c.serve.new.dev) o c.in-Ok.deck c.serve.result c.end.result
     (subst (λ (r : Result (List (ℕ × DeckLine)) Rejection). HasDeck a b r) c.in-Ok.is has) c.serve.ensures.memory c.serve.ensures.session c.end.ensures

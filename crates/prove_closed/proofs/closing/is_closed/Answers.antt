@@ -1,5 +1,5 @@
 use Rattle.prove_facts.specs.model_rules.specs.Rules.{AppRules, Target}
-use Rattle.prove_events.specs.Rules.{AreRules}
+use Rattle.lab_app_rules.specs.Rules.{AreRules}
 use Rattle.prove_patterns.specs.Replies.{IsPrepared}
 use Rattle.prove_closed.proofs.LoopLemmas.{if_ok}
 use Rattle.prove_closed.proofs.ClosingLemmas.{some_there}

@@ -2,7 +2,7 @@ use Rattle.std.proofs.Common.{◌≡◌, ℕ, true, List, length, drop, map}
 use Rattle.std.specs.List.{AllByRecursion}
 use Rattle.prove_facts.specs.model_prove.specs.Arrivals.{Setting}
 use Rattle.prove_facts.specs.model_prove.specs.Tables.{moments_closed}
-use Rattle.prove_events.specs.Rules.{range_of}
+use Rattle.lab_app_rules.specs.Rules.{range_of}
 use Rattle.prove_keys.specs.Tables.{moments_of, IsWholeMoment}
 use Rattle.prove_patterns.specs.Classes.{class_values}
 use Rattle.prove_arrivals.specs.Subjects.{IsSubject, tables_in}

@@ -1,7 +1,7 @@
 use Rattle.std.proofs.Common.{◌≡◌, List, ap, ◌∙◌}
 use Rattle.prove_facts.specs.model_rules.specs.Rules.{AppRules, Target}
 use Rattle.prove_facts.specs.model_prove.specs.Between.{classes}
-use Rattle.prove_events.specs.Rules.{AreRules}
+use Rattle.lab_app_rules.specs.Rules.{AreRules}
 use Rattle.prove_patterns.specs.declared.command_classes.Class.{Class}
 use Rattle.prove_patterns.specs.Classes.{class_values}
 use Rattle.prove_closed.proofs.LoopLemmas.{if_ok}

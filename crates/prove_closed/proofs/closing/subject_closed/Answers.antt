@@ -2,7 +2,7 @@ use Rattle.std.proofs.Common.{◌≡◌, true, List, map, subst}
 use Rattle.prove_facts.specs.model_prove.specs.Arrivals.{Setting}
 use Rattle.prove_facts.specs.model_prove.specs.Between as between
 use Rattle.prove_facts.specs.model_prove.specs.Tables.{moments_closed}
-use Rattle.prove_events.specs.Rules.{name_of}
+use Rattle.lab_app_rules.specs.Rules.{name_of}
 use Rattle.prove_arrivals.specs.Subjects.{tables_in}
 use Rattle.prove_closed.proofs.LoopLemmas.{if_ok}
 use Rattle.prove_closed.proofs.ClosingLemmas.{closed_from}

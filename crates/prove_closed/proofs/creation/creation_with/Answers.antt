@@ -1,5 +1,5 @@
 use Rattle.std.proofs.Common.{◌≡◌, List, map, ap, ◌∙◌}
-use Rattle.prove_events.specs.declared.rules.Named.{Named}
+use Rattle.lab_app_rules.specs.declared.rules.Named.{Named}
 use Rattle.prove_closed.proofs.ClosingLemmas.{amount_of, creation_there}
 use Rattle.prove_closed.proofs.creation.creation_with.Goals as goal
 

@@ -1,6 +1,6 @@
 use Rattle.std.proofs.Common.{◌≡◌, true, drop, map}
 use Rattle.prove_facts.specs.model_prove.specs.Tables.{keeps_ranges}
-use Rattle.prove_events.specs.Rules.{range_of}
+use Rattle.lab_app_rules.specs.Rules.{range_of}
 use Rattle.prove_closed.proofs.ranges.keeps_ranges.Given as goal
 
 -- if the ranges that are left are kept, all are

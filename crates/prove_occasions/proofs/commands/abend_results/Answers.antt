@@ -2,9 +2,9 @@ use Rattle.std.proofs.Common.{◌≡◌, ℕ, List, Bool, map, ap, ◌∙◌}
 use Rattle.std.proofs.lemmas.Result.{IfOk-weaker}
 use Rattle.std.specs.declared.alloc.Global.{Global}
 use Rattle.std.specs.declared.vec.Vec.{Vec}
-use Rattle.lab_match.specs.law_explore.specs.Matching.{fits}
+use Rattle.lab_app_rules.specs.model_events.specs.Matching.{fits}
 use Rattle.model_text.specs.model_machine.specs.Chain.{Abended}
-use Rattle.lab_match.specs.model_play.specs.Transcript.{outcome_text}
+use Rattle.model_text.specs.TurnText.{outcome_text}
 use Rattle.prove_facts.specs.model_prove.specs.Arrivals.{result_patterns}
 use Rattle.prove_occasions.specs.Picks.{result_marks}
 use Rattle.prove_occasions.proofs.MarkLemmas.{result_lines}

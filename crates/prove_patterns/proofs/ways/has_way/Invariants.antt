@@ -1,5 +1,5 @@
 use Rattle.std.proofs.Common.{◌≡◌, drop}
-use Rattle.mc_base.specs.model_device.specs.Bytes.{has_name}
+use Rattle.model_device.specs.Bytes.{has_name}
 use Rattle.prove_patterns.specs.Ways.{texts}
 use Rattle.prove_patterns.proofs.ways.has_way.Given as goal
 

@@ -2,8 +2,8 @@ use Rattle.std.proofs.Common.{List, ℕ, ◌∷◌, ap, subst, sym, ◌∙◌}
 use Rattle.std.specs.Prelude.{codes}
 use Rattle.std.proofs.lemmas.Result.{on_ok_weaker, IfErr-weaker}
 use Rattle.mc_text.specs.model_text.specs.Text.{fields}
-use Rattle.lab_match.specs.model_play.specs.declared.deck.DeckCause.TheVariants.{BadLine}
-use Rattle.prove_facts.specs.model_rules.specs.Reading.{always_line}
+use Rattle.model_rule_text.specs.model_play.specs.declared.deck.DeckCause.TheVariants.{BadLine}
+use Rattle.model_rule_text.specs.Reading.{always_line}
 use Rattle.prove_rules.specs.Partials.{ArePartRead}
 use Rattle.prove_rules.specs.Refused.{Faulty}
 use Rattle.prove_rules.proofs.AlwaysLemmas.{no_block, other_block, BlockFault, LineFault}

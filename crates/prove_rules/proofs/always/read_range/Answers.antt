@@ -2,8 +2,8 @@ use Rattle.std.proofs.Common.{◌≡◌, ◌∷◌, ◌≤◌, arith, false}
 use Rattle.std.specs.Prelude.{◌&&◌, nat_le}
 use Rattle.std.proofs.lemmas.Result.{err_from_is_err_and}
 use Rattle.mc_text.specs.model_text.specs.Text.{fields}
-use Rattle.lab_match.specs.model_play.specs.declared.deck.DeckCause.TheVariants.{OutOfRange}
-use Rattle.prove_facts.specs.model_rules.specs.Reading.{always_line}
+use Rattle.model_rule_text.specs.model_play.specs.declared.deck.DeckCause.TheVariants.{OutOfRange}
+use Rattle.model_rule_text.specs.Reading.{always_line}
 use Rattle.prove_rules.proofs.AlwaysLemmas.{no_high, no_low, no_place, no_two, place_outside, range_unnamed, values_outside, AreRangeNumbers}
 use Rattle.prove_rules.proofs.RefusalLemmas.{deck_faulty}
 use Rattle.prove_rules.proofs.always.read_range.Goals as goal

@@ -1,7 +1,7 @@
 use Rattle.std.proofs.Common.{◌≡◌, List, map, Ok, Err, subst, sym}
-use Rattle.prove_facts.specs.model_rules.specs.Reading.{are_names, are_sums, Deck}
-use Rattle.prove_events.specs.declared.rules.Named.{Named}
-use Rattle.prove_events.specs.Rules.{allowance_of}
+use Rattle.model_rule_text.specs.Reading.{are_names, are_sums, Deck}
+use Rattle.lab_app_rules.specs.declared.rules.Named.{Named}
+use Rattle.lab_app_rules.specs.Rules.{allowance_of}
 use Rattle.prove_rules.specs.Always.{term_of, AreNoSums}
 use Rattle.prove_rules.specs.declared.always.SignedName.{SignedName}
 use Rattle.std.proofs.lemmas.Result.{err_from_is_err_and}

@@ -1,7 +1,7 @@
 use Rattle.std.proofs.Common.{refl}
 use Rattle.mc_text.specs.model_text.specs.Text.{fields}
-use Rattle.lab_match.specs.model_play.specs.declared.deck.DeckCause.TheVariants.{BadLine}
-use Rattle.prove_facts.specs.model_rules.specs.Reading.{terms_of}
+use Rattle.model_rule_text.specs.model_play.specs.declared.deck.DeckCause.TheVariants.{BadLine}
+use Rattle.model_rule_text.specs.Reading.{terms_of}
 use Rattle.prove_rules.proofs.AlwaysLemmas.{name_missing, sign_refused, terms_done, terms_step}
 use Rattle.prove_rules.proofs.RefusalLemmas.{deck_faulty}
 use Rattle.prove_rules.proofs.always.signed_names.Goals as goal

@@ -1,7 +1,7 @@
 use Rattle.std.proofs.Common.{drop, map, refl}
 use Rattle.std.proofs.lemmas.List.{drop_all}
-use Rattle.prove_facts.specs.model_rules.specs.Reading.{are_sums}
-use Rattle.prove_events.specs.Rules.{allowance_of, name_of}
+use Rattle.model_rule_text.specs.Reading.{are_sums}
+use Rattle.lab_app_rules.specs.Rules.{allowance_of, name_of}
 use Rattle.prove_rules.specs.Always.{term_of}
 use Rattle.prove_rules.proofs.AlwaysLemmas.{are_no_sums, sums_refused, sums_step}
 use Rattle.prove_rules.proofs.SumLemmas.{terms_end, terms_next}

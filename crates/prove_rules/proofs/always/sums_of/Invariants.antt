@@ -1,6 +1,6 @@
 use Rattle.std.proofs.Common.{◌≡◌, drop, map}
-use Rattle.prove_facts.specs.model_rules.specs.Reading.{are_sums}
-use Rattle.prove_events.specs.Rules.{allowance_of, name_of}
+use Rattle.model_rule_text.specs.Reading.{are_sums}
+use Rattle.lab_app_rules.specs.Rules.{allowance_of, name_of}
 use Rattle.prove_rules.specs.Always.{term_of}
 use Rattle.prove_rules.proofs.SumLemmas.{SumsLeft}
 use Rattle.prove_rules.proofs.always.sums_of.Given as goal

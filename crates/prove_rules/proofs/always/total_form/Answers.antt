@@ -2,8 +2,8 @@ use Rattle.std.proofs.Common.{◌∷◌}
 use Rattle.std.specs.Prelude.{codes}
 use Rattle.std.proofs.lemmas.Result.{err_from_is_err_and}
 use Rattle.mc_text.specs.model_text.specs.Text.{fields}
-use Rattle.lab_match.specs.model_play.specs.declared.deck.DeckCause.TheVariants.{BadLine}
-use Rattle.prove_facts.specs.model_rules.specs.Reading.{always_line}
+use Rattle.model_rule_text.specs.model_play.specs.declared.deck.DeckCause.TheVariants.{BadLine}
+use Rattle.model_rule_text.specs.Reading.{always_line}
 use Rattle.prove_rules.proofs.AlwaysLemmas.{no_constant, no_terms, no_total_ends}
 use Rattle.prove_rules.proofs.RefusalLemmas.{deck_faulty}
 use Rattle.prove_rules.proofs.always.total_form.Goals as goal

@@ -2,7 +2,7 @@ use Rattle.std.proofs.lemmas.Result.{on_ok_weaker, IfErr-weaker}
 use Rattle.mc_text.specs.model_text.specs.Text.{fields}
 use Rattle.prove_rules.specs.Partials.{HasFault}
 use Rattle.prove_rules.proofs.AppLemmas.{allowance_added, allowance_refused, NamedFault}
-use Rattle.prove_facts.specs.model_rules.specs.Reading.{AllowLine}
+use Rattle.model_rule_text.specs.Reading.{AllowLine}
 use Rattle.prove_rules.proofs.app.add_allowance.Goals as goal
 
 pub returns-clause-added : goal.returns-clause-added

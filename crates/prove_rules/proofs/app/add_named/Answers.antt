@@ -1,6 +1,6 @@
 use Rattle.std.proofs.Common.{List, map, arith, ap, ◌∙◌}
-use Rattle.prove_events.specs.declared.rules.Named.{Named}
-use Rattle.prove_events.specs.Rules.{allowance_of}
+use Rattle.lab_app_rules.specs.declared.rules.Named.{Named}
+use Rattle.lab_app_rules.specs.Rules.{allowance_of}
 use Rattle.prove_rules.specs.Partials.{place_of}
 use Rattle.std.proofs.lemmas.Result.{err_from_is_err_and}
 use Rattle.mc_text.specs.model_text.specs.Text.{fields}

@@ -2,8 +2,8 @@ use Rattle.std.proofs.Common.{◌≡◌, arith, false, true, Some}
 use Rattle.std.specs.Prelude.{bytes_eq, codes, is_none}
 use Rattle.std.proofs.lemmas.Result.{err_from_is_err_and}
 use Rattle.mc_text.specs.model_text.specs.Text.{fields}
-use Rattle.lab_match.specs.model_play.specs.declared.deck.DeckCause.TheVariants.{BadLine}
-use Rattle.prove_facts.specs.model_rules.specs.Reading.{app_rule, NeverLine}
+use Rattle.model_rule_text.specs.model_play.specs.declared.deck.DeckCause.TheVariants.{BadLine}
+use Rattle.model_rule_text.specs.Reading.{app_rule, NeverLine}
 use Rattle.prove_rules.proofs.AppLemmas.{never_added, never_new, never_there, never_unnamed, no_abend, other_never}
 use Rattle.prove_rules.proofs.RefusalLemmas.{deck_faulty}
 use Rattle.prove_rules.proofs.app.add_never.Goals as goal

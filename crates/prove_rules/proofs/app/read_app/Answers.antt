@@ -1,9 +1,9 @@
 use Rattle.std.proofs.Common.{◌≡◌, ℕ, List, None, Ok, arith, ap, subst, ◌∙◌}
-use Rattle.mc_base.specs.model_device.specs.Bytes.{lookup}
+use Rattle.mc_words.specs.model_device.specs.Bytes.{lookup}
 use Rattle.std.proofs.lemmas.Result.{err_from_is_err_and}
 use Rattle.mc_text.specs.model_text.specs.Text.{fields}
-use Rattle.lab_match.specs.model_play.specs.declared.deck.DeckCause.TheVariants.{BadLine, NameTwice, OutOfRange, UnknownName}
-use Rattle.prove_facts.specs.model_rules.specs.Reading.{app_rule, AppLine}
+use Rattle.model_rule_text.specs.model_play.specs.declared.deck.DeckCause.TheVariants.{BadLine, NameTwice, OutOfRange, UnknownName}
+use Rattle.model_rule_text.specs.Reading.{app_rule, AppLine}
 use Rattle.prove_rules.specs.Loads.{loads_in, IsLoadOf}
 use Rattle.prove_rules.proofs.AppLemmas.{app_large, app_name_refused, app_twice, app_unknown, no_name, none_yet}
 use Rattle.prove_rules.proofs.RefusalLemmas.{deck_faulty}

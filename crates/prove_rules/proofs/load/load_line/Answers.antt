@@ -1,7 +1,7 @@
 use Rattle.std.proofs.Common.{◌+◌, ℕ, List, Bor, ap, sym, ◌∙◌}
 use Rattle.std.specs.Prelude.{false, option_map}
 use Rattle.mc_text.specs.model_text.specs.Text.{lines, with_numbers}
-use Rattle.prove_facts.specs.model_rules.specs.Reading.{load_names}
+use Rattle.model_rule_text.specs.Reading.{load_names}
 use Rattle.prove_rules.specs.Loads.{first_named}
 use Rattle.prove_rules.proofs.CountLemmas.{few_step}
 use Rattle.prove_rules.proofs.LoadLemmas.{first_here, first_next, first_none}

@@ -1,6 +1,6 @@
 use Rattle.std.proofs.Common.{◌≡◌, ◌+◌, ◌≤◌, false, length}
 use Rattle.mc_text.specs.model_text.specs.Text.{lines, with_numbers}
-use Rattle.prove_facts.specs.model_rules.specs.Reading.{load_names}
+use Rattle.model_rule_text.specs.Reading.{load_names}
 use Rattle.prove_rules.specs.Loads.{first_named}
 use Rattle.prove_rules.proofs.load.load_line.Given as goal
 

@@ -1,6 +1,6 @@
 use Rattle.std.proofs.lemmas.Result.{err_from_is_err_and}
 use Rattle.mc_text.specs.model_text.specs.Text.{fields}
-use Rattle.prove_facts.specs.model_rules.specs.Reading.{on_line}
+use Rattle.model_rule_text.specs.Reading.{on_line}
 use Rattle.prove_rules.proofs.OnLemmas.{on_added}
 use Rattle.prove_rules.proofs.on.add_on.Goals as goal
 

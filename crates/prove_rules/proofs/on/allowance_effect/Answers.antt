@@ -1,11 +1,11 @@
 use Rattle.std.proofs.Common.{List, map, ap, ◌∙◌}
-use Rattle.prove_events.specs.declared.rules.Named.{Named}
-use Rattle.prove_events.specs.Rules.{allowance_of}
+use Rattle.lab_app_rules.specs.declared.rules.Named.{Named}
+use Rattle.lab_app_rules.specs.Rules.{allowance_of}
 use Rattle.prove_rules.specs.Partials.{place_of}
 use Rattle.std.proofs.lemmas.Result.{err_from_is_err_and}
 use Rattle.mc_text.specs.model_text.specs.Text.{fields}
-use Rattle.lab_match.specs.model_play.specs.declared.deck.DeckCause.TheVariants.{UnknownName}
-use Rattle.prove_facts.specs.model_rules.specs.Reading.{with_deed, OnAllowance}
+use Rattle.model_rule_text.specs.model_play.specs.declared.deck.DeckCause.TheVariants.{UnknownName}
+use Rattle.model_rule_text.specs.Reading.{with_deed, OnAllowance}
 use Rattle.prove_rules.specs.Parts.{action_value}
 use Rattle.prove_rules.proofs.OnLemmas.{no_allowance, no_application, pair_refused}
 use Rattle.prove_rules.proofs.RefusalLemmas.{deck_faulty}

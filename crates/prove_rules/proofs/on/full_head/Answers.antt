@@ -1,7 +1,7 @@
 use Rattle.std.proofs.Common.{arith}
 use Rattle.std.proofs.lemmas.Result.{err_from_is_err_and}
 use Rattle.mc_text.specs.model_text.specs.Text.{fields}
-use Rattle.lab_match.specs.law_explore.specs.Rules.{parts_of}
+use Rattle.model_rule_text.specs.model_play.specs.RuleLines.{parts_of}
 use Rattle.prove_rules.specs.Parts.{deeds_value, effect_words}
 use Rattle.prove_rules.proofs.OnLemmas.{full_bad, full_none, no_items}
 use Rattle.prove_rules.proofs.on.full_head.Goals as goal

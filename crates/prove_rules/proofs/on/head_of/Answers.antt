@@ -2,9 +2,9 @@ use Rattle.std.proofs.Common.{sym, ap, subst}
 use Rattle.std.specs.Prelude.{IfErr}
 use Rattle.std.proofs.lemmas.Result.{IfErr-weaker}
 use Rattle.mc_text.specs.model_text.specs.Text.{fields}
-use Rattle.lab_match.specs.law_explore.specs.Rules.{full_parts, parts_of}
-use Rattle.prove_facts.specs.model_rules.specs.Reading as reading
-use Rattle.prove_facts.specs.model_rules.specs.Reading.{action_words, bare_parts, of_deck, turn_words, with_event_line, EventWord}
+use Rattle.model_rule_text.specs.model_play.specs.RuleLines.{full_parts, parts_of}
+use Rattle.model_rule_text.specs.Reading as reading
+use Rattle.model_rule_text.specs.Reading.{action_words, bare_parts, of_deck, turn_words, with_event_line, EventWord}
 use Rattle.prove_rules.specs.Ons.{result_parts}
 use Rattle.prove_rules.specs.Parts.{event_value}
 use Rattle.prove_rules.specs.Refused.{Faulty}

@@ -1,8 +1,8 @@
 use Rattle.std.proofs.Common.{refl}
 use Rattle.std.proofs.lemmas.Result.{err_from_is_err_and}
 use Rattle.mc_text.specs.model_text.specs.Text.{fields}
-use Rattle.lab_match.specs.model_play.specs.declared.deck.DeckCause.TheVariants.{BadLine}
-use Rattle.prove_facts.specs.model_rules.specs.Reading.{on_line}
+use Rattle.model_rule_text.specs.model_play.specs.declared.deck.DeckCause.TheVariants.{BadLine}
+use Rattle.model_rule_text.specs.Reading.{on_line}
 use Rattle.prove_rules.specs.Parts.{event_value}
 use Rattle.prove_rules.proofs.OnLemmas.{effect_refused, head_refused, no_event, on_read, other_event}
 use Rattle.prove_rules.proofs.RefusalLemmas.{deck_faulty}

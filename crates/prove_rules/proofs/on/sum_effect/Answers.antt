@@ -1,12 +1,12 @@
 use Rattle.std.proofs.Common.{List, Bool, Some, map, ap, refl, sym, ◌∙◌}
-use Rattle.prove_events.specs.declared.rules.Named.{Named}
-use Rattle.prove_events.specs.Rules.{allowance_of}
+use Rattle.lab_app_rules.specs.declared.rules.Named.{Named}
+use Rattle.lab_app_rules.specs.Rules.{allowance_of}
 use Rattle.prove_rules.specs.Partials.{place_of}
 use Rattle.std.proofs.lemmas.Result.{err_from_is_err_and}
 use Rattle.mc_text.specs.model_text.specs.Text.{fields}
-use Rattle.lab_match.specs.model_play.specs.declared.deck.DeckCause.TheVariants.{UnknownName}
+use Rattle.model_rule_text.specs.model_play.specs.declared.deck.DeckCause.TheVariants.{UnknownName}
 use Rattle.prove_facts.specs.model_rules.specs.Rules.{AtTurn}
-use Rattle.prove_facts.specs.model_rules.specs.Reading.{with_deed, OnSum}
+use Rattle.model_rule_text.specs.Reading.{with_deed, OnSum}
 use Rattle.prove_rules.specs.Fields.{form_value}
 use Rattle.prove_rules.proofs.OnLemmas.{amount_refused, form_refused, name_refused, no_sum, no_two_fields, read_refused, sum_line_of, sum_unnamed, sum_value}
 use Rattle.prove_rules.proofs.RefusalLemmas.{deck_faulty}

@@ -1,6 +1,6 @@
 use Rattle.std.proofs.Common.{◌≡◌, ◌+◌, drop, map}
 use Rattle.std.specs.Prelude.{option_map}
-use Rattle.prove_events.specs.Rules.{allowance_of}
+use Rattle.lab_app_rules.specs.Rules.{allowance_of}
 use Rattle.prove_rules.specs.Partials.{place_of}
 use Rattle.prove_rules.proofs.partial.place_of.Given as goal
 

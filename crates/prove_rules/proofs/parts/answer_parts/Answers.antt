@@ -1,8 +1,8 @@
 use Rattle.std.proofs.Common.{◌≡◌, Some, None, cond, true, ap, sym, ◌∙◌}
-use Rattle.mc_base.specs.model_device.specs.Bytes.{lookup}
+use Rattle.mc_words.specs.model_device.specs.Bytes.{lookup}
 use Rattle.mc_text.specs.model_text.specs.Text.{fields}
-use Rattle.lab_match.specs.law_explore.specs.Rules.{parts_of}
-use Rattle.prove_facts.specs.model_rules.specs.Reading.{gives_words}
+use Rattle.model_rule_text.specs.model_play.specs.RuleLines.{parts_of}
+use Rattle.model_rule_text.specs.Reading.{gives_words}
 use Rattle.prove_rules.proofs.PartLemmas.{none_by, parts_found, parts_none, parts_step}
 use Rattle.prove_rules.proofs.parts.answer_parts.Goals as goal
 

@@ -1,6 +1,6 @@
 use Rattle.std.proofs.Common.{length}
 use Rattle.mc_text.specs.model_text.specs.Text.{fields}
-use Rattle.prove_facts.specs.model_rules.specs.Reading.{gives_words}
+use Rattle.model_rule_text.specs.Reading.{gives_words}
 use Rattle.prove_rules.proofs.PartLemmas.{PartsLeft}
 use Rattle.prove_rules.proofs.parts.answer_parts.Given as goal
 

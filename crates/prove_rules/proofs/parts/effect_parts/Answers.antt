@@ -1,6 +1,6 @@
 use Rattle.prove_rules.specs.Parts.{deeds_value, effect_words}
 use Rattle.mc_text.specs.model_text.specs.Text.{fields}
-use Rattle.lab_match.specs.law_explore.specs.Rules.{parts_of}
+use Rattle.model_rule_text.specs.model_play.specs.RuleLines.{parts_of}
 use Rattle.prove_rules.proofs.PartLemmas.{none_by, parts_found, parts_none, parts_step}
 use Rattle.prove_rules.proofs.parts.effect_parts.Goals as goal
 

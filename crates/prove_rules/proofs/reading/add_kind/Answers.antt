@@ -3,8 +3,8 @@ use Rattle.std.specs.Prelude.{IfErr, OnOk}
 use Rattle.std.proofs.lemmas.Result.{on_ok_weaker, IfErr-weaker}
 use Rattle.mc_text.specs.model_text.specs.Text.{fields}
 use Rattle.prove_facts.specs.model_rules.specs.Rules.{AppRules}
-use Rattle.prove_facts.specs.model_rules.specs.Reading as reading
-use Rattle.prove_facts.specs.model_rules.specs.Reading.{AppWord, RuleCause}
+use Rattle.model_rule_text.specs.Reading as reading
+use Rattle.model_rule_text.specs.Reading.{AppWord, RuleCause}
 use Rattle.prove_rules.specs.Lines.{kind_value}
 use Rattle.prove_rules.specs.Loads.{loads_in}
 use Rattle.prove_rules.specs.Partials.{ArePartRead}

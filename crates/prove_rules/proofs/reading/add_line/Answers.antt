@@ -1,10 +1,10 @@
 use Rattle.std.proofs.Common.{◌≡◌, Result, arith, subst, true}
 use Rattle.std.proofs.lemmas.Result.{on_ok_weaker, IfErr-weaker}
 use Rattle.mc_text.specs.model_text.specs.Text.{fields}
-use Rattle.lab_match.specs.model_play.specs.declared.deck.DeckCause.TheVariants.{BadLine}
-use Rattle.lab_match.specs.law_explore.specs.Rules.{is_marked}
+use Rattle.model_rule_text.specs.model_play.specs.declared.deck.DeckCause.TheVariants.{BadLine}
+use Rattle.model_rule_text.specs.model_play.specs.RuleLines.{is_marked}
 use Rattle.prove_facts.specs.model_rules.specs.Rules.{AppRules}
-use Rattle.prove_facts.specs.model_rules.specs.Reading.{RuleCause}
+use Rattle.model_rule_text.specs.Reading.{RuleCause}
 use Rattle.prove_rules.specs.Lines.{rules_with}
 use Rattle.prove_rules.specs.Loads.{loads_in}
 use Rattle.prove_rules.specs.Partials.{ArePartRead}

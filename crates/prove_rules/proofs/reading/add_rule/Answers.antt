@@ -1,9 +1,9 @@
 use Rattle.std.proofs.Common.{Result, subst}
 use Rattle.std.proofs.lemmas.Result.{on_ok_weaker, IfErr-weaker}
 use Rattle.mc_text.specs.model_text.specs.Text.{fields}
-use Rattle.lab_match.specs.model_play.specs.declared.deck.DeckCause.TheVariants.{BadLine}
+use Rattle.model_rule_text.specs.model_play.specs.declared.deck.DeckCause.TheVariants.{BadLine}
 use Rattle.prove_facts.specs.model_rules.specs.Rules.{AppRules}
-use Rattle.prove_facts.specs.model_rules.specs.Reading.{RuleCause}
+use Rattle.model_rule_text.specs.Reading.{RuleCause}
 use Rattle.prove_rules.specs.Lines.{kind_value, rule_of}
 use Rattle.prove_rules.specs.Loads.{loads_in}
 use Rattle.prove_rules.specs.Partials.{ArePartRead}

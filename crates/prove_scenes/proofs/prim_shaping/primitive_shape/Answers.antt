@@ -1,4 +1,4 @@
-use Rattle.law_rows.specs.Shapes.{prim_shape}
+use Rattle.model_machine.specs.Shapes.{prim_shape}
 use Rattle.prove_scenes.specs.Heads.{around_value}
 use Rattle.prove_scenes.proofs.prim_shaping.primitive_shape.Goals as goal
 

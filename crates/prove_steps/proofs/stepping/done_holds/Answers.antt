@@ -1,5 +1,5 @@
 use Rattle.std.proofs.Common.{◌∙◌, ap, map, sym}
-use Rattle.prove_facts.specs.law_rows.specs.Shapes.{shape}
+use Rattle.mc_isa.specs.model_machine.specs.Shapes.{shape}
 use Rattle.prove_facts.specs.model_prove.specs.Work.{work}
 use Rattle.prove_arrivals.specs.Subjects.{spot_in, start_in, tables_in}
 use Rattle.prove_keys.specs.Keys.{amounts_of}

@@ -1,7 +1,7 @@
 use Rattle.std.proofs.Common.{◌∙◌, map, sym}
 use Rattle.std.proofs.lemmas.List.{length-map}
 use Rattle.prove_facts.specs.model_prove.specs.Arrivals.{Setting}
-use Rattle.prove_events.specs.Rules.{name_of}
+use Rattle.lab_app_rules.specs.Rules.{name_of}
 use Rattle.prove_arrivals.specs.Subjects.{tables_in}
 use Rattle.prove_patterns.specs.Classes.{class_values}
 use Rattle.prove_sum_steps.specs.Places.{IsStand, table_in}

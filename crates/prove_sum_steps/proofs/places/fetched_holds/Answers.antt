@@ -1,6 +1,6 @@
 use Rattle.std.proofs.Common.{◌≡◌, ◌∙◌, ℕ, Result, true, subst, sym}
-use Rattle.model_text.specs.model_machine.specs.declared.instruction.DecodeFault.{DecodeFault}
-use Rattle.model_text.specs.model_machine.specs.declared.instruction.Ins.{Ins}
+use Rattle.mc_isa.specs.model_machine.specs.declared.instruction.DecodeFault.{DecodeFault}
+use Rattle.mc_isa.specs.model_machine.specs.declared.instruction.Ins.{Ins}
 use Rattle.prove_sums.specs.model_sums.specs.Closed.{fetched_closed}
 use Rattle.prove_sums.specs.Values.{sums_value}
 use Rattle.prove_sum_steps.specs.Places.{spot_with}

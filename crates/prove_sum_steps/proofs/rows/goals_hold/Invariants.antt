@@ -1,5 +1,5 @@
 use Rattle.std.proofs.Common.{◌≡◌, ℕ, List, drop, true}
-use Rattle.model_text.specs.model_machine.specs.Primitives.{Then}
+use Rattle.mc_isa.specs.model_machine.specs.Primitives.{Then}
 use Rattle.prove_facts.specs.model_prove.specs.Arrivals.{Setting}
 use Rattle.prove_facts.specs.model_prove.specs.Keys.{Known}
 use Rattle.prove_facts.specs.model_prove.specs.Splits.{Scene}

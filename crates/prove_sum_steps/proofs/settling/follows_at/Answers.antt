@@ -1,7 +1,7 @@
 use Rattle.std.proofs.Common.{map}
 use Rattle.prove_sums.specs.model_sums.specs.Sums.{sums_at}
 use Rattle.prove_sums.specs.model_sums.specs.Writes.{delegated}
-use Rattle.prove_events.specs.Rules.{name_of}
+use Rattle.lab_app_rules.specs.Rules.{name_of}
 use Rattle.prove_sums.specs.Values.{sums_value}
 use Rattle.prove_sum_steps.specs.Tables.{goal_key}
 use Rattle.prove_sum_steps.proofs.EventLemmas.{there_delegated, there_ending, there_going}

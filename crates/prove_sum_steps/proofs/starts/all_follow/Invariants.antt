@@ -4,7 +4,7 @@ use Rattle.prove_facts.specs.model_rules.specs.Rules.{Total}
 use Rattle.prove_sums.specs.model_sums.specs.Closed.{all_pass, has_sums}
 use Rattle.prove_sums.specs.model_sums.specs.Sums.{SumsTable, first_known, sums_at}
 use Rattle.prove_arrivals.specs.declared.subject.Subject.{Subject}
-use Rattle.prove_rules.specs.Sums.{AreTotals}
+use Rattle.lab_app_rules.specs.Sums.{AreTotals}
 use Rattle.prove_sums.specs.Values.{SumsAre}
 use Rattle.prove_sum_steps.specs.Tables.{IsGoal, goal_key}
 use Rattle.prove_sum_steps.proofs.starts.all_follow.Given as goal

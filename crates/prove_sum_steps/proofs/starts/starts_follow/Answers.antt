@@ -2,7 +2,7 @@ use Rattle.std.proofs.Common.{◌≡◌, ◌∙◌, List, map, true, subst, sym}
 use Rattle.std.specs.List.{AllByRecursion}
 use Rattle.prove_sums.specs.model_sums.specs.Closed.{all_pass, has_sums}
 use Rattle.prove_sums.specs.model_sums.specs.Sums.{first_known, sums_at}
-use Rattle.prove_events.specs.Rules.{name_of}
+use Rattle.lab_app_rules.specs.Rules.{name_of}
 use Rattle.prove_keys.specs.Tables.{moments_of}
 use Rattle.prove_arrivals.specs.Subjects.{tables_in}
 use Rattle.prove_patterns.specs.Classes.{class_values}

@@ -1,8 +1,8 @@
 use Rattle.std.proofs.Common.{ap, map, sym}
-use Rattle.prove_facts.specs.law_rows.specs.Shapes.{Shape, shape}
+use Rattle.mc_isa.specs.model_machine.specs.Shapes.{Shape, shape}
 use Rattle.prove_facts.specs.model_prove.specs.Work.{work}
 use Rattle.prove_sums.specs.model_sums.specs.Moves.{moved}
-use Rattle.prove_events.specs.Rules.{name_of}
+use Rattle.lab_app_rules.specs.Rules.{name_of}
 use Rattle.prove_scenes.specs.Heads.{around_value}
 use Rattle.prove_scenes.specs.ShapeValues.{shape_value}
 use Rattle.prove_scenes.specs.Works.{work_value}

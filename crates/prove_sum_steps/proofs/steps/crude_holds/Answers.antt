@@ -1,6 +1,6 @@
 use Rattle.std.proofs.Common.{◌≡◌, ◌∙◌, true, ap, subst}
-use Rattle.prove_facts.specs.law_rows.specs.Shapes.{shape}
-use Rattle.model_text.specs.model_machine.specs.Primitives.{Around}
+use Rattle.mc_isa.specs.model_machine.specs.Shapes.{shape}
+use Rattle.mc_isa.specs.model_machine.specs.Primitives.{Around}
 use Rattle.prove_facts.specs.model_prove.specs.Reach.{coarse}
 use Rattle.prove_facts.specs.model_prove.specs.Steps.{coarse_for}
 use Rattle.prove_sums.specs.model_sums.specs.Closed.{coarse_closed}

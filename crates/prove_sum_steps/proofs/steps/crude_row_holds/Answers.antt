@@ -1,9 +1,9 @@
 use Rattle.std.proofs.Common.{◌∙◌, ap, map, sym}
-use Rattle.prove_facts.specs.law_rows.specs.Shapes.{Shape}
+use Rattle.mc_isa.specs.model_machine.specs.Shapes.{Shape}
 use Rattle.prove_facts.specs.model_prove.specs.Facts.{Facts}
 use Rattle.prove_facts.specs.model_prove.specs.Steps.{coarse_for}
 use Rattle.prove_sums.specs.model_sums.specs.Moves.{moved_coarsely}
-use Rattle.prove_events.specs.Rules.{name_of}
+use Rattle.lab_app_rules.specs.Rules.{name_of}
 use Rattle.prove_scenes.specs.Coarse.{coarse_value}
 use Rattle.prove_scenes.specs.Scenes.{frame_to}
 use Rattle.prove_scenes.specs.ShapeValues.{shape_value}

@@ -1,5 +1,5 @@
 use Rattle.std.proofs.Common.{◌≡◌, ◌∙◌, List, true, ap, map, subst}
-use Rattle.model_text.specs.model_machine.specs.Primitives.{Around}
+use Rattle.mc_isa.specs.model_machine.specs.Primitives.{Around}
 use Rattle.prove_sums.specs.model_sums.specs.Closed.{all_pass, turn_closed}
 use Rattle.prove_arrivals.specs.Subjects.{classes_in}
 use Rattle.prove_scenes.specs.Heads.{around_value}

@@ -1,6 +1,6 @@
 use Rattle.std.proofs.Common.{map, refl, arith}
 use Rattle.prove_facts.specs.model_rules.specs.Keeping.{are_totals, first_sums, is_total}
-use Rattle.prove_events.specs.Rules.{allowance_of, name_of}
+use Rattle.lab_app_rules.specs.Rules.{allowance_of, name_of}
 use Rattle.prove_sum_steps.proofs.TotalLemmas.{totals_end, totals_next}
 use Rattle.prove_sum_steps.proofs.totals.are_totals.Goals as goal
 

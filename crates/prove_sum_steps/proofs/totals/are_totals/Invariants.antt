@@ -1,8 +1,8 @@
 use Rattle.std.proofs.Common.{◌≡◌, List, drop, map, true}
 use Rattle.prove_facts.specs.model_rules.specs.Keeping.{are_totals, first_sums}
 use Rattle.prove_facts.specs.model_rules.specs.Rules.{Total}
-use Rattle.prove_events.specs.Rules.{AreDistinct, allowance_of, name_of}
-use Rattle.prove_rules.specs.Sums.{AreTotals}
+use Rattle.lab_app_rules.specs.Rules.{AreDistinct, allowance_of, name_of}
+use Rattle.lab_app_rules.specs.Sums.{AreTotals}
 use Rattle.prove_sum_steps.proofs.totals.are_totals.Given as goal
 
 -- if the totals that are left hold, all do

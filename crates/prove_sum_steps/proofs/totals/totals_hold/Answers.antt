@@ -3,9 +3,9 @@ use Rattle.std.specs.Prelude.{nat_le}
 use Rattle.std.proofs.lemmas.Bool.{and_from}
 use Rattle.prove_facts.specs.model_rules.specs.Keeping.{Amounts, are_totals, first_sums}
 use Rattle.prove_sums.specs.model_sums.specs.Closed.{all_pass}
-use Rattle.prove_events.specs.declared.rules.Named.{Named}
-use Rattle.prove_events.specs.Rules.{allowance_of, name_of}
-use Rattle.prove_rules.specs.Sums.{AreTotals}
+use Rattle.lab_app_rules.specs.declared.rules.Named.{Named}
+use Rattle.lab_app_rules.specs.Rules.{allowance_of, name_of}
+use Rattle.lab_app_rules.specs.Sums.{AreTotals}
 use Rattle.prove_sum_steps.proofs.totals.totals_hold.Goals as goal
 
 pub returns : goal.returns

@@ -8,7 +8,7 @@ use Rattle.prove_forms.specs.model_sums.specs.Origins as model
 use Rattle.prove_forms.specs.model_sums.specs.Sums as sums
 use Rattle.prove_forms.specs.model_sums.specs.Writes as writes
 use Rattle.prove_forms.specs.Origins.{origin_value, origin_values}
-use Rattle.prove_rules.specs.Sums.{AreTotals}
+use Rattle.lab_app_rules.specs.Sums.{AreTotals}
 use Rattle.prove_scenes.specs.declared.shapes.Act.{Act}
 use Rattle.prove_scenes.specs.ShapeValues.{act_value}
 use Rattle.prove_sums.specs.declared.values.Sums.{Sums}

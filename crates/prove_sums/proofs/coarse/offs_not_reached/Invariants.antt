@@ -2,7 +2,7 @@ use Rattle.std.proofs.Common.{ℕ, List, drop, cond, None}
 use Rattle.prove_facts.specs.model_rules.specs.Rules.{Total}
 use Rattle.prove_facts.specs.model_prove.specs.Reach.{some_reached}
 use Rattle.prove_forms.specs.Forms.{OptionalsAre}
-use Rattle.prove_rules.specs.Sums.{AreTotals}
+use Rattle.lab_app_rules.specs.Sums.{AreTotals}
 use Rattle.prove_scenes.specs.Scenes.{frame_to}
 use Rattle.prove_works.specs.Reaches.{reach_value}
 use Rattle.prove_sums.proofs.WalkLemmas.{Offs, Walk}

@@ -1,10 +1,10 @@
 use Rattle.std.proofs.Common.{List, ℕ, subst, sym}
 use Rattle.std.specs.Prelude.{map}
 use Rattle.prove_forms.specs.model_sums.specs.Events as events
-use Rattle.prove_events.specs.declared.rules.SignedSum.{SignedSum}
-use Rattle.prove_events.specs.Rules.{name_of}
+use Rattle.lab_app_rules.specs.declared.rules.SignedSum.{SignedSum}
+use Rattle.lab_app_rules.specs.Rules.{name_of}
 use Rattle.prove_forms.specs.Forms.{OptionalIs}
-use Rattle.prove_rules.specs.Sums.{AreTerms}
+use Rattle.lab_app_rules.specs.Sums.{AreTerms}
 use Rattle.prove_sums.proofs.events.off_after_line.Goals as goal
 
 pub returns : goal.returns

@@ -1,6 +1,6 @@
 use Rattle.std.proofs.Common.{arith, rules}
 use Rattle.std.specs.Prelude.{map}
-use Rattle.prove_events.specs.Rules.{name_of}
+use Rattle.lab_app_rules.specs.Rules.{name_of}
 use Rattle.prove_sums.proofs.LineLemmas.{fold_end, fold_next}
 use Rattle.prove_sums.proofs.events.off_after_terms.Goals as goal
 

@@ -1,9 +1,9 @@
 use Rattle.std.proofs.Common.{drop, Bool, List, ℕ}
 use Rattle.std.specs.Prelude.{map}
 use Rattle.prove_facts.specs.model_rules.specs.Rules.{SumLine}
-use Rattle.prove_events.specs.Rules.{name_of}
+use Rattle.lab_app_rules.specs.Rules.{name_of}
 use Rattle.prove_forms.specs.Forms.{OptionalIs}
-use Rattle.prove_rules.specs.Sums.{AreTerms}
+use Rattle.lab_app_rules.specs.Sums.{AreTerms}
 use Rattle.prove_sums.specs.Lines.{IsMove}
 use Rattle.prove_sums.proofs.LineLemmas.{Fold}
 use Rattle.prove_sums.proofs.WalkLemmas.{Off}

@@ -1,8 +1,8 @@
 use Rattle.std.proofs.Common.{List, subst, sym}
 use Rattle.std.specs.Prelude.{map}
-use Rattle.prove_events.specs.declared.rules.On.{On}
-use Rattle.prove_events.specs.Rules.{name_of}
-use Rattle.prove_rules.specs.Sums.{AreSumLines}
+use Rattle.lab_app_rules.specs.declared.rules.On.{On}
+use Rattle.lab_app_rules.specs.Rules.{name_of}
+use Rattle.lab_app_rules.specs.Sums.{AreSumLines}
 use Rattle.prove_sums.proofs.events.offs_after_event.Goals as goal
 
 pub returns : goal.returns

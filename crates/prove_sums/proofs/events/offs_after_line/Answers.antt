@@ -1,7 +1,7 @@
 use Rattle.std.proofs.Common.{sym, subst, arith}
 use Rattle.std.specs.Prelude.{map}
 use Rattle.prove_forms.specs.model_sums.specs.Events.{off_after_line}
-use Rattle.prove_events.specs.Rules.{name_of}
+use Rattle.lab_app_rules.specs.Rules.{name_of}
 use Rattle.prove_forms.specs.Forms.{OptionalsAre}
 use Rattle.prove_sums.proofs.WalkLemmas.{Offs, line_each, walk_end, walk_next, walk_stop}
 use Rattle.prove_sums.proofs.events.offs_after_line.Goals as goal

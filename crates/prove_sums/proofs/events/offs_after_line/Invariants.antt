@@ -2,9 +2,9 @@ use Rattle.std.proofs.Common.{List, drop}
 use Rattle.std.specs.Prelude.{map}
 use Rattle.prove_facts.specs.model_rules.specs.Rules.{SumLine, Total}
 use Rattle.prove_forms.specs.model_sums.specs.Events.{off_after_line}
-use Rattle.prove_events.specs.Rules.{name_of}
+use Rattle.lab_app_rules.specs.Rules.{name_of}
 use Rattle.prove_forms.specs.Forms.{OptionalsAre}
-use Rattle.prove_rules.specs.Sums.{AreTotals}
+use Rattle.lab_app_rules.specs.Sums.{AreTotals}
 use Rattle.prove_sums.specs.Lines.{IsMove}
 use Rattle.prove_sums.proofs.WalkLemmas.{Off, Offs, Walk}
 use Rattle.prove_sums.proofs.events.offs_after_line.Given as goal

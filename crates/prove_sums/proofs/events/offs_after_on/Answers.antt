@@ -1,13 +1,13 @@
 use Rattle.std.proofs.Common.{◌≡◌, ◌∙◌, ℕ, List, Option, Some, ap, sym, subst}
 use Rattle.std.specs.Prelude.{map, slice_get}
-use Rattle.lab_match.specs.law_explore.specs.Matching.{fits}
-use Rattle.prove_events.specs.declared.rules.Balance.{Balance}
-use Rattle.prove_events.specs.declared.rules.Named.{Named}
-use Rattle.prove_events.specs.Rules.{name_of}
+use Rattle.lab_app_rules.specs.model_events.specs.Matching.{fits}
+use Rattle.lab_app_rules.specs.declared.rules.Balance.{Balance}
+use Rattle.lab_app_rules.specs.declared.rules.Named.{Named}
+use Rattle.lab_app_rules.specs.Rules.{name_of}
 use Rattle.prove_forms.specs.declared.forms.Form.{Form}
 use Rattle.prove_forms.specs.Forms.{OptionalsAre}
 use Rattle.prove_forms.specs.Origins.{origins_value}
-use Rattle.prove_rules.specs.Sums.{AreTotals}
+use Rattle.lab_app_rules.specs.Sums.{AreTotals}
 use Rattle.prove_sums.proofs.LineLemmas.{fit_by, unfit_by}
 use Rattle.prove_sums.proofs.events.offs_after_on.Goals as goal
 

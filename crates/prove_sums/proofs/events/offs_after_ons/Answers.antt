@@ -1,6 +1,6 @@
 use Rattle.std.proofs.Common.{arith}
 use Rattle.std.specs.Prelude.{map}
-use Rattle.prove_events.specs.Rules.{name_of}
+use Rattle.lab_app_rules.specs.Rules.{name_of}
 use Rattle.prove_forms.specs.Origins.{origins_value}
 use Rattle.prove_sums.proofs.LineLemmas.{lines_end, lines_next}
 use Rattle.prove_sums.proofs.events.offs_after_ons.Goals as goal

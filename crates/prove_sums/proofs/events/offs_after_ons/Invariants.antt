@@ -1,10 +1,10 @@
 use Rattle.std.proofs.Common.{List, drop}
 use Rattle.std.specs.Prelude.{map}
 use Rattle.prove_facts.specs.model_rules.specs.Rules.{SumLine, Total}
-use Rattle.prove_events.specs.Rules.{name_of}
+use Rattle.lab_app_rules.specs.Rules.{name_of}
 use Rattle.prove_forms.specs.Forms.{OptionalsAre}
 use Rattle.prove_forms.specs.Origins.{origins_value}
-use Rattle.prove_rules.specs.Sums.{AreSumLines, AreTotals}
+use Rattle.lab_app_rules.specs.Sums.{AreSumLines, AreTotals}
 use Rattle.prove_sums.proofs.LineLemmas.{Lines}
 use Rattle.prove_sums.proofs.WalkLemmas.{Offs}
 use Rattle.prove_sums.proofs.events.offs_after_ons.Given as goal

@@ -1,7 +1,7 @@
 use Rattle.std.proofs.Common.{ℕ, List, drop}
 use Rattle.prove_facts.specs.model_rules.specs.Rules.{Total}
 use Rattle.prove_forms.specs.Forms.{OptionalsAre}
-use Rattle.prove_rules.specs.Sums.{AreTotals}
+use Rattle.lab_app_rules.specs.Sums.{AreTotals}
 use Rattle.prove_sums.proofs.FollowLemmas.{Even}
 use Rattle.prove_sums.proofs.WalkLemmas.{Offs}
 use Rattle.prove_sums.proofs.follows.offs_even.Given as goal

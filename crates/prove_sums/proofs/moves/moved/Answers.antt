@@ -5,7 +5,7 @@ use Rattle.prove_forms.specs.model_sums.specs.Moves as moves
 use Rattle.prove_forms.specs.model_sums.specs.Origins as model
 use Rattle.prove_forms.specs.model_sums.specs.Sums as sums
 use Rattle.prove_forms.specs.model_sums.specs.Writes as writes
-use Rattle.prove_rules.specs.Sums.{AreTotals}
+use Rattle.lab_app_rules.specs.Sums.{AreTotals}
 use Rattle.prove_scenes.specs.declared.working.Work.{Work}
 use Rattle.prove_scenes.specs.ShapeValues.{act_value, shape_value}
 use Rattle.prove_scenes.specs.Works.{work_value}

@@ -1,6 +1,6 @@
 use Rattle.std.proofs.Common.{◌≡◌, ◌+◌, ◌-◌, ◌*◌, ◌^◌, length, drop}
 use Rattle.std.specs.Prelude.{◌%◌}
-use Rattle.mc_base.specs.model_device.specs.Bytes.{num}
+use Rattle.model_device.specs.Bytes.{num}
 use Rattle.prove_sums.proofs.numbers.low_number.Given as goal
 
 -- the number so far, before the bytes that are left, is all

@@ -1,7 +1,7 @@
 use Rattle.std.proofs.lemmas.Bool.{leb-true}
 use Rattle.std.proofs.Common.{length}
-use Rattle.mc_base.specs.model_device.proofs.ListLemmas.{all_bytes}
-use Rattle.mc_base.specs.model_device.specs.Bytes.{num}
+use Rattle.model_device.proofs.ListLemmas.{all_bytes}
+use Rattle.model_device.specs.Bytes.{num}
 use Rattle.prove_sums.proofs.NumberLemmas.{low_whole, number_exact, number_written}
 use Rattle.prove_sums.proofs.numbers.number_form.Goals as goal
 

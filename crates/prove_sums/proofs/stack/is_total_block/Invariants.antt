@@ -1,6 +1,6 @@
 use Rattle.std.proofs.Common.{ℕ, List, drop}
 use Rattle.prove_facts.specs.model_rules.specs.Rules.{Total}
-use Rattle.prove_rules.specs.Sums.{AreTotals}
+use Rattle.lab_app_rules.specs.Sums.{AreTotals}
 use Rattle.prove_sums.proofs.WalkLemmas.{Blocks}
 use Rattle.prove_sums.proofs.stack.is_total_block.Given as goal
 

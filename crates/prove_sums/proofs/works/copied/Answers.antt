@@ -6,7 +6,7 @@ use Rattle.prove_forms.specs.model_sums.specs.Origins as model
 use Rattle.prove_forms.specs.model_sums.specs.Sums as sums
 use Rattle.prove_forms.specs.model_sums.specs.Writes as writes
 use Rattle.std.specs.Prelude.{None}
-use Rattle.prove_rules.specs.Sums.{AreTotals}
+use Rattle.lab_app_rules.specs.Sums.{AreTotals}
 use Rattle.prove_scenes.specs.declared.shapes.Act.{Act}
 use Rattle.prove_scenes.specs.ShapeValues.{act_value, shape_value}
 use Rattle.prove_sums.specs.declared.values.Sums.{Sums}

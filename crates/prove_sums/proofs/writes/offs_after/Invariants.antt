@@ -2,7 +2,7 @@ use Rattle.std.proofs.Common.{ℕ, List, drop}
 use Rattle.prove_facts.specs.model_rules.specs.Rules.{Total}
 use Rattle.prove_forms.specs.model_sums.specs.Writes.{off_after}
 use Rattle.prove_forms.specs.Forms.{OptionalIs, OptionalsAre}
-use Rattle.prove_rules.specs.Sums.{AreTotals}
+use Rattle.lab_app_rules.specs.Sums.{AreTotals}
 use Rattle.prove_sums.proofs.WalkLemmas.{Off, Offs, Walk}
 use Rattle.prove_sums.proofs.writes.offs_after.Given as goal
 

@@ -1,5 +1,5 @@
 use Rattle.std.proofs.Common.{arith}
-use Rattle.mc_base.specs.model_device.proofs.ListLemmas.{all_bytes}
+use Rattle.model_device.proofs.ListLemmas.{all_bytes}
 use Rattle.prove_works.proofs.NumberLemmas.{number_next, number_fits, number_all, below_greatest}
 use Rattle.prove_works.proofs.numbers.number_of.Goals as goal
 

@@ -1,6 +1,6 @@
 use Rattle.std.proofs.Common.{ℕ, ◌≤◌, Option, length, ap, sym, subst, ◌∙◌}
 use Rattle.std.specs.Prelude.{option_map, IfSome}
-use Rattle.mc_base.specs.model_device.specs.Limits.{most_code}
+use Rattle.mc_words.specs.model_device.specs.Limits.{most_code}
 use Rattle.mc_arith.specs.model_machine.specs.Chain.{turn_of}
 use Rattle.desk_draft.specs.FullTurns.{running_code}
 use Rattle.mc_machine.specs.Turns.{full_turn}

@@ -1,5 +1,5 @@
 use Rattle.std.proofs.Common.{rules, sym}
-use Rattle.law_steps.specs.model_machine.specs.Chain.{turn_of}
+use Rattle.mc_text.specs.model_machine.specs.Chain.{turn_of}
 use Rattle.desk_steps.proofs.ShotLemmas.{abend_called, copied, after_abend, after_exited, after_going, exit_called, going_called}
 use Rattle.desk_steps.proofs.memory.Memory.look_after.Goals as goal
 

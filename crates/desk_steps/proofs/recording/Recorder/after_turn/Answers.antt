@@ -1,5 +1,5 @@
 use Rattle.std.proofs.Common.{refl, arith, ap, subst, sym, ◌∙◌, ℕ}
-use Rattle.law_steps.specs.model_machine.specs.Chain.{turn_of}
+use Rattle.mc_text.specs.model_machine.specs.Chain.{turn_of}
 use Rattle.desk_steps.specs.Moments.{moment}
 use Rattle.desk_steps.specs.Turning.{is_deeper, IsOneDeeper}
 use Rattle.desk_steps.proofs.CallLemmas.{code_depth, records_moment}

@@ -1,7 +1,7 @@
 use Rattle.std.proofs.Common.{refl, sym}
 use Rattle.lab_search.specs.Kept.{names_in}
 use Rattle.lab_search.proofs.RoundLemmas.{held_at, kept_at}
-use Rattle.lab_application.proofs.SearchLemmas.{all_reached, if_ok_then, on_ok_then, reached_then, same_then, tried_missed, tried_reached}
+use Rattle.lab_application.proofs.SearchLemmas.{all_reached, on_ok_then, same_then, tried_missed, tried_reached}
 use Rattle.lab_application.proofs.ShadowLemmas.{never_broken}
 use Rattle.lab_application.proofs.attempts.Attempt.make.Goals as goal
 
@@ -29,7 +29,7 @@ look-requires g c =
     let h = q.4 in
     let kept = kept_at d c.args.search.now q.1 n c.args.self.now.before c.in-Some.state.now h.at c.in-Some.ensures.key in
     let t = tried_reached c.attempt.new.self c.attempt.new.rosters (names_in d.rules) d.rules.ons n.state m c.args.manner c.in_ok-tried.tried c.in-Reached.state c.in-Reached.is (c.in_ok-tried.ensures.tried d.rules.allowances d.rules.ons n.state m kept h.candidate q.5) in
-    (names_in d.rules, t.1.0, t.1.2)
+    (names_in d.rules, t.1.0, t.1.1)
 
 pub returns-in-Reached-clause-same : goal.returns-in-Reached-clause-same
 returns-in-Reached-clause-same g c =
@@ -41,7 +41,7 @@ returns-in-Reached-clause-made g c =
     (λ d ns n m h k.
     let kept = kept_at d c.args.search.now ns n c.args.self.now.before c.in-Some.state.now h.at c.in-Some.ensures.key in
     let t = tried_reached c.attempt.new.self c.attempt.new.rosters (names_in d.rules) d.rules.ons n.state m c.args.manner c.in_ok-tried.tried c.in-Reached.state c.in-Reached.is (c.in_ok-tried.ensures.tried d.rules.allowances d.rules.ons n.state m kept h.candidate k) in
-    (t.0, if_ok_then c.look.result _ _ (λ o f. reached_then _ _ (λ x held. (t.1.0, t.1.1, held)) o f) (c.look.ensures.reached (names_in d.rules) t.1.0 t.1.2)))
+    (t.0, c.look.ensures.reached (names_in d.rules) t.1))
 
 pub unreachable-requires : goal.unreachable-requires
 unreachable-requires g c =
@@ -55,18 +55,3 @@ unreachable-requires-in-Broken g c =
     let kept = kept_at d c.args.search.now q.1 q.2 c.args.self.now.before c.in-Some.state.now (q.4).at c.in-Some.ensures.key in
     never_broken c.attempt.new.self c.attempt.new.rosters (names_in d.rules) d.rules.allowances c.args.self.now.candidate.now.ons.now d.rules.ons (q.2).state q.3 c.args.manner c.in_ok-tried.tried _ (q.4).candidate.ons c.requires.allows
     (c.in_ok-tried.ensures.tried d.rules.allowances d.rules.ons (q.2).state q.3 kept (q.4).candidate q.5) c.in-Broken.is
-
-pub returns-in_err-tried-clause-steps : goal.returns-in_err-tried-clause-steps
-returns-in_err-tried-clause-steps g c =
-    λ d ns n m h k.
-    c.attempt.ensures.steps d.rules.allowances d.rules.ons n.state m (kept_at d c.args.search.now ns n c.args.self.now.before c.in-Some.state.now h.at c.in-Some.ensures.key) h.candidate k
-
-pub returns-in-NotHit-clause-steps : goal.returns-in-NotHit-clause-steps
-returns-in-NotHit-clause-steps g c =
-    λ d ns n m h k.
-    c.attempt.ensures.steps d.rules.allowances d.rules.ons n.state m (kept_at d c.args.search.now ns n c.args.self.now.before c.in-Some.state.now h.at c.in-Some.ensures.key) h.candidate k
-
-pub returns-in-Reached-clause-steps : goal.returns-in-Reached-clause-steps
-returns-in-Reached-clause-steps g c =
-    λ d ns n m h k.
-    c.attempt.ensures.steps d.rules.allowances d.rules.ons n.state m (kept_at d c.args.search.now ns n c.args.self.now.before c.in-Some.state.now h.at c.in-Some.ensures.key) h.candidate k

@@ -1,14 +1,12 @@
 use Rattle.std.proofs.Common.{[], ◌∷◌, ◌+◌, ◌≤◌, ◌∙◌, ℕ, List, ap, arith, length, length-append, rules, subst, sym}
 use Rattle.law_histories.specs.law_explore.specs.States.{play_of}
 use Rattle.law_histories.specs.law_explore.specs.Tries.{writes_of}
-use Rattle.lab_search.specs.ExplorationSteps.{most_of_move}
 use Rattle.lab_search.specs.Kept.{names_in}
 use Rattle.lab_search.specs.declared.journey.Fill.TheVariants as fill
 use Rattle.lab_search.specs.declared.journey.Manner.TheVariants as manner
 use Rattle.lab_application.specs.declared.attempts.Reached.{Reached}
-use Rattle.lab_application.specs.Finding.{AreKeptFrom}
-use Rattle.lab_application.proofs.StepLemmas.{no_play, play_next, plays_within}
-use Rattle.lab_application.proofs.SearchLemmas.{are_kept_from, kept_more, reached_kept, reached_made, same_self, same_then, same_tries}
+use Rattle.lab_application.specs.Finding.{AreKeptWith}
+use Rattle.lab_application.proofs.SearchLemmas.{are_kept_with, kept_more, reached_kept, reached_made, same_self, same_then, same_tries}
 use Rattle.lab_application.proofs.attempts.Attempt.make_all.Goals as goal
 
 pub writes-init : goal.writes-init
@@ -17,7 +15,7 @@ writes-init g c =
       counted = omega arith;
       same = same_self c.args.search.now;
       count = search rules;
-      kept = λ d ns n m h k. (subst (λ (rs : List Reached). AreKeptFrom c.args.search.now (names_in d.rules) n.state m rs) (sym c.new-all.ensures.items) tt, omega arith, no_play (most_of_move n.state m) c.args.steps.now);
+      kept = λ d ns n m h k. (subst (λ (rs : List Reached). AreKeptWith c.args.search.now (names_in d.rules) rs) (sym c.new-all.ensures.items) tt, omega arith);
     }
 
 pub make-requires-clause-can : goal.make-requires-clause-can
@@ -34,7 +32,7 @@ pub returns-in-None-clause-made : goal.returns-in-None-clause-made
 returns-in-None-clause-made g c =
     λ d ns n m h k.
     let kept = c.writes.invariant.kept d ns n m h k in
-    (are_kept_from c.writes.search c.make.new.search (names_in d.rules) n.state m c.writes.all.items c.in_ok-reached.ensures.same.keeps kept.0, subst (λ (i : ℕ). i ≤ writes_of (play_of n.state) m) (sym c.writes.invariant.count) kept.1)
+    (are_kept_with c.writes.search c.make.new.search (names_in d.rules) c.writes.all.items c.in_ok-reached.ensures.same.keeps kept.0, subst (λ (i : ℕ). i ≤ writes_of (play_of n.state) m) (sym c.writes.invariant.count) kept.1)
 
 pub writes-preserved : goal.writes-preserved
 writes-preserved g c =
@@ -50,42 +48,9 @@ writes-preserved g c =
           let kept = c.writes.invariant.kept d ns n m h k in
           let made = reached_made d c.make.new.search n m (manner.Cut c.writes.made fill.Zeros) c.in_ok-reached.field-0 c.in-Some.reached c.in-Some.is reached in
           let next = c.in_ok-made.ensures.next in (
-            kept_more c.make.new.search (names_in d.rules) n.state m c.writes.all.items _ c.in-Some.reached c.in_ok-push-in-Some.ensures.items
-                (are_kept_from c.writes.search c.make.new.search (names_in d.rules) n.state m c.writes.all.items c.in_ok-reached.ensures.same.keeps kept.0)
+            kept_more c.make.new.search (names_in d.rules) c.writes.all.items _ c.in-Some.reached c.in_ok-push-in-Some.ensures.items
+                (are_kept_with c.writes.search c.make.new.search (names_in d.rules) c.writes.all.items c.in_ok-reached.ensures.same.keeps kept.0)
                 (reached_kept d c.make.new.search n m (manner.Cut c.writes.made fill.Zeros) c.in_ok-reached.field-0 c.in-Some.reached c.in-Some.is reached),
             omega (arith, made, next),
-            play_next c.writes.made c.in_ok-made.made (most_of_move n.state m) c.args.steps.now c.writes.steps c.make.new.steps next kept.2 (c.make.ensures.steps d ns n m there (k, omega (arith, counted))),
           );
     }
-
-pub returns-in_err-reached-clause-steps : goal.returns-in_err-reached-clause-steps
-returns-in_err-reached-clause-steps g c =
-    λ d ns n m h k.
-    let kept = c.writes.invariant.kept d ns n m h k in
-    let counted = c.writes.invariant.counted in
-    let there = same_tries d ns n m c.args.self.now.candidate.now c.args.self.now.before c.args.self.now.chosen c.args.search.now c.writes.search c.writes.invariant.same h in
-    plays_within c.writes.made (writes_of (play_of n.state) m) (most_of_move n.state m) c.args.steps.now c.writes.steps c.make.new.steps kept.1 kept.2 (c.make.ensures.steps d ns n m there (k, omega (arith, counted)))
-
-pub returns-in-None-clause-steps : goal.returns-in-None-clause-steps
-returns-in-None-clause-steps g c =
-    λ d ns n m h k.
-    let kept = c.writes.invariant.kept d ns n m h k in
-    let counted = c.writes.invariant.counted in
-    let there = same_tries d ns n m c.args.self.now.candidate.now c.args.self.now.before c.args.self.now.chosen c.args.search.now c.writes.search c.writes.invariant.same h in
-    plays_within c.writes.made (writes_of (play_of n.state) m) (most_of_move n.state m) c.args.steps.now c.writes.steps c.make.new.steps kept.1 kept.2 (c.make.ensures.steps d ns n m there (k, omega (arith, counted)))
-
-pub returns-in_err-push-in-Some-clause-steps : goal.returns-in_err-push-in-Some-clause-steps
-returns-in_err-push-in-Some-clause-steps g c =
-    λ d ns n m h k.
-    let kept = c.writes.invariant.kept d ns n m h k in
-    let counted = c.writes.invariant.counted in
-    let there = same_tries d ns n m c.args.self.now.candidate.now c.args.self.now.before c.args.self.now.chosen c.args.search.now c.writes.search c.writes.invariant.same h in
-    plays_within c.writes.made (writes_of (play_of n.state) m) (most_of_move n.state m) c.args.steps.now c.writes.steps c.make.new.steps kept.1 kept.2 (c.make.ensures.steps d ns n m there (k, omega (arith, counted)))
-
-pub returns-in_err-made-clause-steps : goal.returns-in_err-made-clause-steps
-returns-in_err-made-clause-steps g c =
-    λ d ns n m h k.
-    let kept = c.writes.invariant.kept d ns n m h k in
-    let counted = c.writes.invariant.counted in
-    let there = same_tries d ns n m c.args.self.now.candidate.now c.args.self.now.before c.args.self.now.chosen c.args.search.now c.writes.search c.writes.invariant.same h in
-    plays_within c.writes.made (writes_of (play_of n.state) m) (most_of_move n.state m) c.args.steps.now c.writes.steps c.make.new.steps kept.1 kept.2 (c.make.ensures.steps d ns n m there (k, omega (arith, counted)))

@@ -1,7 +1,5 @@
 use Rattle.std.proofs.Common.{sym, ◌∙◌}
 use Rattle.lab_search.proofs.AttemptLemmas.{keeps_then}
-use Rattle.lab_search.specs.ExplorationSteps.{most_of_move}
-use Rattle.lab_application.proofs.StepLemmas.{fills_none, fills_one, fills_two}
 use Rattle.lab_application.proofs.SearchLemmas.{comes_goes, comes_then, if_ok_then, on_ok_then, then_tries}
 use Rattle.lab_application.proofs.attempts.Attempt.try_cut.Goals as goal
 
@@ -52,32 +50,3 @@ returns-clause-comes g c =
 
 pub take-requires : goal.take-requires
 take-requires g c = let q = c.requires.can in (q.0, q.1, q.2, q.3, q.4)
-
-pub returns-in_err-halt-clause-steps : goal.returns-in_err-halt-clause-steps
-returns-in_err-halt-clause-steps g c = λ d ns n m h run kept. fills_none (most_of_move n.state m) c.args.steps.now
-
-pub returns-then-is_some-clause-steps : goal.returns-then-is_some-clause-steps
-returns-then-is_some-clause-steps g c = λ d ns n m h run kept. fills_none (most_of_move n.state m) c.args.steps.now
-
-pub returns-in_err-halt-2-clause-steps : goal.returns-in_err-halt-2-clause-steps
-returns-in_err-halt-2-clause-steps g c =
-    λ d ns n m h run kept.
-    let a = comes_goes d ns c.in_ok-halt.halt c.take.new.search (sym c.is_some.ensures ∙ c.if-is_some.false) (c.in_ok-halt.ensures.comes d ns n m h kept) in
-    let there = then_tries d ns n m c.args.self.now.candidate.now c.args.self.now.before c.args.self.now.chosen c.args.search.now c.take.new.search a h in
-    fills_one (most_of_move n.state m) c.args.steps.now c.try_fill.new.steps (c.try_fill.ensures.steps d a.all n m there run)
-
-pub returns-then-is_some-2-clause-steps : goal.returns-then-is_some-2-clause-steps
-returns-then-is_some-2-clause-steps g c =
-    λ d ns n m h run kept.
-    let a = comes_goes d ns c.in_ok-halt.halt c.take.new.search (sym c.is_some.ensures ∙ c.if-is_some.false) (c.in_ok-halt.ensures.comes d ns n m h kept) in
-    let there = then_tries d ns n m c.args.self.now.candidate.now c.args.self.now.before c.args.self.now.chosen c.args.search.now c.take.new.search a h in
-    fills_one (most_of_move n.state m) c.args.steps.now c.try_fill.new.steps (c.try_fill.ensures.steps d a.all n m there run)
-
-pub returns-clause-steps : goal.returns-clause-steps
-returns-clause-steps g c =
-    λ d ns n m h run kept.
-    let a = comes_goes d ns c.in_ok-halt.halt c.take.new.search (sym c.is_some.ensures ∙ c.if-is_some.false) (c.in_ok-halt.ensures.comes d ns n m h kept) in
-    let there = then_tries d ns n m c.args.self.now.candidate.now c.args.self.now.before c.args.self.now.chosen c.args.search.now c.take.new.search a h in
-    let b = comes_goes d a.all c.in_ok-halt-2.halt c.try_fill.new.search (sym c.is_some-2.ensures ∙ c.if-is_some-2.false) (c.in_ok-halt-2.ensures.comes d a.all n m there run) in
-    let last = then_tries d a.all n m c.args.self.now.candidate.now c.args.self.now.before c.args.self.now.chosen c.take.new.search c.try_fill.new.search b there in
-    fills_two (most_of_move n.state m) c.args.steps.now c.try_fill.new.steps c.try_fill-2.new.steps (c.try_fill.ensures.steps d a.all n m there run) (c.try_fill-2.ensures.steps d b.all n m last run)

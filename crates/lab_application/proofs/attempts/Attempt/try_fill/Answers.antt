@@ -33,15 +33,3 @@ unreachable-requires g c =
     let counted = c.requires.counted in
     let missed = missed_here q.0 c.make.new.search q.2 q.3 (manner.Cut c.args.made c.args.fill) c.in_ok-reached.field-0 c.in-None.is (c.in_ok-reached.ensures.made q.0 q.1 q.2 q.3 q.4 (q.5, omega (arith, counted))) in
     omega (arith, missed, q.6)
-
-pub returns-in_err-reached-clause-steps : goal.returns-in_err-reached-clause-steps
-returns-in_err-reached-clause-steps g c =
-    λ d ns n m h k.
-    let counted = c.requires.counted in
-    c.make.ensures.steps d ns n m h (k, omega (arith, counted))
-
-pub returns-clause-steps : goal.returns-clause-steps
-returns-clause-steps g c =
-    λ d ns n m h k.
-    let counted = c.requires.counted in
-    c.make.ensures.steps d ns n m h (k, omega (arith, counted))

@@ -1,5 +1,5 @@
 use Rattle.std.proofs.Common.{◌≡◌}
-use Rattle.mc_base.specs.model_device.specs.Device.{blank_words}
+use Rattle.mc_words.specs.model_device.specs.Device.{blank_words}
 use Rattle.lab_branch.proofs.BranchLemmas.{blank_not}
 use Rattle.lab_branch.proofs.branch.BranchNvm.new.Goals as goal
 

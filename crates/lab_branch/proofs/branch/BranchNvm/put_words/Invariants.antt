@@ -1,5 +1,5 @@
 use Rattle.std.proofs.Common.{◌≡◌, drop}
-use Rattle.mc_base.specs.model_device.specs.Image.{image_with}
+use Rattle.mc_words.specs.model_device.specs.Image.{image_with}
 use Rattle.lab_branch.proofs.branch.BranchNvm.put_words.Given as goal
 
 -- the words that are left lead where all of them do

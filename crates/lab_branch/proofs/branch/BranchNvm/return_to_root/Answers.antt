@@ -1,5 +1,5 @@
 use Rattle.std.proofs.Common.{ap, ◌∙◌}
-use Rattle.mc_base.specs.model_device.specs.Device.{DeviceState}
+use Rattle.mc_words.specs.model_device.specs.Device.{DeviceState}
 use Rattle.lab_branch.specs.Branches.{BranchState}
 use Rattle.lab_branch.proofs.BranchLemmas.{returned_by}
 use Rattle.lab_branch.proofs.branch.BranchNvm.return_to_root.Goals as goal

@@ -1,5 +1,5 @@
 use Rattle.std.proofs.Common.{ap}
-use Rattle.mc_base.specs.model_device.specs.Device.{DeviceState}
+use Rattle.mc_words.specs.model_device.specs.Device.{DeviceState}
 use Rattle.lab_branch.proofs.BranchLemmas.{differs_now}
 use Rattle.lab_branch.proofs.branch.BranchNvm.set.Goals as goal
 

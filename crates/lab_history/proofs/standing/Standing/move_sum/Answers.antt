@@ -1,6 +1,6 @@
 use Rattle.std.proofs.Common.{◌∙◌, List, ℕ, drop, length, subst, sym}
 use Rattle.std.proofs.lemmas.List.{take_at}
-use Rattle.mc_base.specs.model_device.specs.Bytes.{num}
+use Rattle.model_device.specs.Bytes.{num}
 use Rattle.lab_history.specs.Moves.{AreMoved}
 use Rattle.lab_history.proofs.standing.Standing.move_sum.Goals as goal
 

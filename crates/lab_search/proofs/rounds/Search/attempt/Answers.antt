@@ -4,15 +4,15 @@ use Rattle.lab_search.proofs.RoundLemmas.{broken, held_at, kept_at, missed, reac
 use Rattle.lab_search.proofs.TallyLemmas.{broken_counts, reached_counts, tally_more}
 use Rattle.lab_search.proofs.rounds.Search.attempt.Goals as goal
 
-pub returns-in-NotHit-clause-comes : goal.returns-in-NotHit-clause-comes
-returns-in-NotHit-clause-comes g c =
+pub returns-in-NotHit : goal.returns-in-NotHit
+returns-in-NotHit g c =
     λ d ns n m h k.
     let kept = kept_at d c.args.self.now ns n c.args.step.before c.in-Some.state.now h.at c.in-Some.ensures.key in
     missed d c.args.self.now _ ns n m c.args.candidate.now c.args.step c.in_ok-tried.tried c.in_ok-tried.ensures.keeps refl refl refl refl h
     (c.in_ok-tried.ensures.tried d.rules.allowances d.rules.ons n.state m kept h.candidate k) c.in-NotHit.is
 
-pub returns-in_ok-count-in-Broken-clause-comes : goal.returns-in_ok-count-in-Broken-clause-comes
-returns-in_ok-count-in-Broken-clause-comes g c =
+pub returns-in_ok-count-in-Broken : goal.returns-in_ok-count-in-Broken
+returns-in_ok-count-in-Broken g c =
     λ d ns n m h k.
     let kept = kept_at d c.args.self.now ns n c.args.step.before c.in-Some.state.now h.at c.in-Some.ensures.key in
     let counts = broken_counts c.attempt.new.self d.rules.ons n.state m c.args.step.manner c.in_ok-tried.tried c.in-Broken.allowance c.in-Broken.is (c.in_ok-tried.ensures.counted d.rules.allowances d.rules.ons n.state m kept h.candidate k) in
@@ -20,8 +20,8 @@ returns-in_ok-count-in-Broken-clause-comes g c =
     broken d c.args.self.now _ ns n m c.args.candidate.now c.args.step c.in-Broken.allowance c.in_ok-tried.tried c.in_ok-tried.ensures.keeps refl refl refl more h
     (c.in_ok-tried.ensures.tried d.rules.allowances d.rules.ons n.state m kept h.candidate k) c.in-Broken.is
 
-pub returns-in-None-clause-comes : goal.returns-in-None-clause-comes
-returns-in-None-clause-comes g c =
+pub returns-in-None : goal.returns-in-None
+returns-in-None g c =
     λ d ns n m h k.
     let kept = kept_at d c.args.self.now ns n c.args.step.before c.in-Some.state.now h.at c.in-Some.ensures.key in
     let counts = reached_counts c.attempt.new.self d.rules.ons n.state m c.args.step.manner c.in_ok-tried.tried c.in-Reached.state c.in-Reached.is (c.in_ok-tried.ensures.counted d.rules.allowances d.rules.ons n.state m kept h.candidate k) in
@@ -30,8 +30,8 @@ returns-in-None-clause-comes g c =
     c.in_ok-tried.ensures.keeps refl refl refl more h (c.in_ok-tried.ensures.tried d.rules.allowances d.rules.ons n.state m kept h.candidate k)
     c.in-Reached.is (λ t e. c.in_ok-keep-in-Reached.ensures.comes d ns n t e) None c.in-None.is
 
-pub returns-in-Some-2-clause-comes : goal.returns-in-Some-2-clause-comes
-returns-in-Some-2-clause-comes g c =
+pub returns-in-Some-2 : goal.returns-in-Some-2
+returns-in-Some-2 g c =
     λ d ns n m h k.
     let kept = kept_at d c.args.self.now ns n c.args.step.before c.in-Some.state.now h.at c.in-Some.ensures.key in
     let counts = reached_counts c.attempt.new.self d.rules.ons n.state m c.args.step.manner c.in_ok-tried.tried c.in-Reached.state c.in-Reached.is (c.in_ok-tried.ensures.counted d.rules.allowances d.rules.ons n.state m kept h.candidate k) in
@@ -45,46 +45,6 @@ attempt-requires g c =
     let q = c.requires in
     let d = q.0 in
     (d.rules.allowances, d.rules.ons, (q.2).state, q.3, kept_at d c.args.self.now q.1 q.2 c.args.step.before c.in-Some.state.now (q.4).at c.in-Some.ensures.key, (q.4).candidate, q.5, (q.4).at.holds.counts)
-
-pub returns-in_err-tried-clause-steps : goal.returns-in_err-tried-clause-steps
-returns-in_err-tried-clause-steps g c =
-    λ d ns n m h k.
-    c.attempt.ensures.steps d.rules.allowances d.rules.ons n.state m (kept_at d c.args.self.now ns n c.args.step.before c.in-Some.state.now h.at c.in-Some.ensures.key) h.candidate k
-
-pub returns-in-NotHit-clause-steps : goal.returns-in-NotHit-clause-steps
-returns-in-NotHit-clause-steps g c =
-    λ d ns n m h k.
-    c.attempt.ensures.steps d.rules.allowances d.rules.ons n.state m (kept_at d c.args.self.now ns n c.args.step.before c.in-Some.state.now h.at c.in-Some.ensures.key) h.candidate k
-
-pub returns-in_err-count-in-Broken-clause-steps : goal.returns-in_err-count-in-Broken-clause-steps
-returns-in_err-count-in-Broken-clause-steps g c =
-    λ d ns n m h k.
-    c.attempt.ensures.steps d.rules.allowances d.rules.ons n.state m (kept_at d c.args.self.now ns n c.args.step.before c.in-Some.state.now h.at c.in-Some.ensures.key) h.candidate k
-
-pub returns-in_ok-count-in-Broken-clause-steps : goal.returns-in_ok-count-in-Broken-clause-steps
-returns-in_ok-count-in-Broken-clause-steps g c =
-    λ d ns n m h k.
-    c.attempt.ensures.steps d.rules.allowances d.rules.ons n.state m (kept_at d c.args.self.now ns n c.args.step.before c.in-Some.state.now h.at c.in-Some.ensures.key) h.candidate k
-
-pub returns-in_err-count-in-Reached-clause-steps : goal.returns-in_err-count-in-Reached-clause-steps
-returns-in_err-count-in-Reached-clause-steps g c =
-    λ d ns n m h k.
-    c.attempt.ensures.steps d.rules.allowances d.rules.ons n.state m (kept_at d c.args.self.now ns n c.args.step.before c.in-Some.state.now h.at c.in-Some.ensures.key) h.candidate k
-
-pub returns-in_err-keep-in-Reached-clause-steps : goal.returns-in_err-keep-in-Reached-clause-steps
-returns-in_err-keep-in-Reached-clause-steps g c =
-    λ d ns n m h k.
-    c.attempt.ensures.steps d.rules.allowances d.rules.ons n.state m (kept_at d c.args.self.now ns n c.args.step.before c.in-Some.state.now h.at c.in-Some.ensures.key) h.candidate k
-
-pub returns-in-None-clause-steps : goal.returns-in-None-clause-steps
-returns-in-None-clause-steps g c =
-    λ d ns n m h k.
-    c.attempt.ensures.steps d.rules.allowances d.rules.ons n.state m (kept_at d c.args.self.now ns n c.args.step.before c.in-Some.state.now h.at c.in-Some.ensures.key) h.candidate k
-
-pub returns-in-Some-2-clause-steps : goal.returns-in-Some-2-clause-steps
-returns-in-Some-2-clause-steps g c =
-    λ d ns n m h k.
-    c.attempt.ensures.steps d.rules.allowances d.rules.ons n.state m (kept_at d c.args.self.now ns n c.args.step.before c.in-Some.state.now h.at c.in-Some.ensures.key) h.candidate k
 
 pub unreachable-requires : goal.unreachable-requires
 unreachable-requires g c =

@@ -5,29 +5,28 @@ use Rattle.std.proofs.Common.{[], ◌∷◌}
 use Rattle.lab_search.specs.declared.journey.Manner.TheVariants as manner
 use Rattle.lab_search.specs.Rounds.{tries_from, try_value}
 use Rattle.lab_search.proofs.CourseLemmas.{going}
-use Rattle.lab_search.proofs.StepCountLemmas.{tries_steps, whole_steps}
 use Rattle.lab_search.proofs.rounds.Search.try_move.Goals as goal
 
-pub returns-in-Halts-clause-comes : goal.returns-in-Halts-clause-comes
-returns-in-Halts-clause-comes g c =
-    λ d ns n m h. whole_halts d ns n m (round_in d (tally_of c.args.self.now) ns) c.in_ok-halt.field-0 c.in-Halts.halt c.attempt.new.self c.in-Halts.is (c.in_ok-halt.ensures.comes d ns n m h tt)
+pub returns-in-Halts : goal.returns-in-Halts
+returns-in-Halts g c =
+    λ d ns n m h. whole_halts d ns n m (round_in d (tally_of c.args.self.now) ns) c.in_ok-halt.field-0 c.in-Halts.halt c.attempt.new.self c.in-Halts.is (c.in_ok-halt.ensures d ns n m h tt)
 
-pub returns-then-not-runs-clause-comes : goal.returns-then-not-runs-clause-comes
-returns-then-not-runs-clause-comes g c =
+pub returns-then-not-runs : goal.returns-then-not-runs
+returns-then-not-runs g c =
     λ d ns n m h.
-    let first = whole_goes d ns (round_in d (tally_of c.args.self.now) ns) _ c.in_ok-halt.field-0 c.attempt.new.self c.in_default.not-Halts (c.in_ok-halt.ensures.comes d ns n m h tt) in
+    let first = whole_goes d ns (round_in d (tally_of c.args.self.now) ns) _ c.in_ok-halt.field-0 c.attempt.new.self c.in_default.not-Halts (c.in_ok-halt.ensures d ns n m h tt) in
     let runs = runs_in d ns n c.args.before _ c.attempt.new.self c.runs.result false h.at.found (λ all e. c.runs.ensures d all n e) c.if-not-runs.true first in
     whole_only d ns n m (round_in d (tally_of c.args.self.now) ns) c.attempt.new.self runs first
 
-pub returns-clause-comes : goal.returns-clause-comes
-returns-clause-comes g c =
+pub returns : goal.returns
+returns g c =
     if_ok _ _ c.cut_all.result
     (λ o rest d ns n m h.
-    let first = whole_goes d ns (round_in d (tally_of c.args.self.now) ns) _ c.in_ok-halt.field-0 c.attempt.new.self c.in_default.not-Halts (c.in_ok-halt.ensures.comes d ns n m h tt) in
+    let first = whole_goes d ns (round_in d (tally_of c.args.self.now) ns) _ c.in_ok-halt.field-0 c.attempt.new.self c.in_default.not-Halts (c.in_ok-halt.ensures d ns n m h tt) in
     let runs = runs_in d ns n c.args.before _ c.attempt.new.self c.runs.result true h.at.found (λ all e. c.runs.ensures d all n e) c.if-not-runs.false first in
     whole_then d ns n m (round_in d (tally_of c.args.self.now) ns) o c.attempt.new.self c.cut_all.new.self runs first
     (λ all e u. rest d all n m (tries_later d c.args.self.now c.attempt.new.self ns all n m c.args.candidate.now c.args.before c.args.chosen e u h) runs))
-    c.cut_all.ensures.comes
+    c.cut_all.ensures
 
 pub attempt-requires : goal.attempt-requires
 attempt-requires g c = let q = c.requires in (q.0, q.1, q.2, q.3, q.4, tt)
@@ -38,27 +37,7 @@ cut_all-requires g c =
     let d = q.0 in
     let r = round_in d (tally_of c.args.self.now) q.1 in
     let x = tries_from d q.2 (try_value q.3 manner.Whole ∷ []) r in
-    let first = whole_goes d q.1 r x c.in_ok-halt.field-0 c.attempt.new.self c.in_default.not-Halts (c.in_ok-halt.ensures.comes d q.1 q.2 q.3 q.4 tt) in
+    let first = whole_goes d q.1 r x c.in_ok-halt.field-0 c.attempt.new.self c.in_default.not-Halts (c.in_ok-halt.ensures d q.1 q.2 q.3 q.4 tt) in
     let runs = runs_in d q.1 q.2 c.args.before x c.attempt.new.self c.runs.result true (q.4).at.found (λ all e. c.runs.ensures d all q.2 e) c.if-not-runs.false first in
     let w = going d q.1 x c.attempt.new.self first in
     (d, w.all, q.2, q.3, tries_later d c.args.self.now c.attempt.new.self q.1 w.all q.2 q.3 c.args.candidate.now c.args.before c.args.chosen w.grew w.holds q.4, runs)
-
-pub returns-in_err-halt-clause-steps : goal.returns-in_err-halt-clause-steps
-returns-in_err-halt-clause-steps g c = λ d ns n m h. whole_steps n.state m c.args.steps.now c.attempt.new.steps (c.attempt.ensures.steps d ns n m h tt)
-
-pub returns-in-Halts-clause-steps : goal.returns-in-Halts-clause-steps
-returns-in-Halts-clause-steps g c = λ d ns n m h. whole_steps n.state m c.args.steps.now c.attempt.new.steps (c.attempt.ensures.steps d ns n m h tt)
-
-pub returns-then-not-runs-clause-steps : goal.returns-then-not-runs-clause-steps
-returns-then-not-runs-clause-steps g c = λ d ns n m h. whole_steps n.state m c.args.steps.now c.attempt.new.steps (c.attempt.ensures.steps d ns n m h tt)
-
-pub returns-clause-steps : goal.returns-clause-steps
-returns-clause-steps g c =
-    λ d ns n m h.
-    let r = round_in d (tally_of c.args.self.now) ns in
-    let x = tries_from d n (try_value m manner.Whole ∷ []) r in
-    let first = whole_goes d ns r x c.in_ok-halt.field-0 c.attempt.new.self c.in_default.not-Halts (c.in_ok-halt.ensures.comes d ns n m h tt) in
-    let runs = runs_in d ns n c.args.before x c.attempt.new.self c.runs.result true h.at.found (λ all e. c.runs.ensures d all n e) c.if-not-runs.false first in
-    let w = going d ns x c.attempt.new.self first in
-    let t = tries_later d c.args.self.now c.attempt.new.self ns w.all n m c.args.candidate.now c.args.before c.args.chosen w.grew w.holds h in
-    tries_steps n.state m c.args.steps.now c.attempt.new.steps c.cut_all.new.steps runs (c.attempt.ensures.steps d ns n m h tt) (c.cut_all.ensures.steps d w.all n m t runs)

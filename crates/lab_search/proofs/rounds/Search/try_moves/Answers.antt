@@ -1,52 +1,37 @@
-use Rattle.std.proofs.Common.{◌+◌, ◌≤◌, ℕ, arith, ap, length, subst, sym, ◌∙◌}
+use Rattle.std.proofs.Common.{◌+◌, ◌≤◌, ℕ, ap, length, subst, sym, ◌∙◌}
 use Rattle.lab_rules.specs.Meanings.{IsMove}
-use Rattle.lab_rules.specs.Occasions.{IsRow}
 use Rattle.lab_search.specs.Rounds.{round_in, tally_of}
 use Rattle.lab_search.proofs.AlikeLemmas.{alike_length}
 use Rattle.lab_search.proofs.RoundLemmas.{found_later}
-use Rattle.lab_search.proofs.CourseLemmas.{ahead_start, candidate_at, moves_left, moves_none, moves_split, step_goes, step_halts, steps_end}
-use Rattle.lab_search.proofs.StepCountLemmas.{moves_from, sum_more, sum_within}
+use Rattle.lab_search.proofs.CourseLemmas.{candidate_at, moves_left, moves_none, moves_split, step_goes, step_halts, steps_end}
 use Rattle.lab_search.proofs.rounds.Search.try_moves.Goals as goal
 
-pub returns-then-is_some-clause-comes : goal.returns-then-is_some-clause-comes
-returns-then-is_some-clause-comes g c =
+pub returns-then-is_some : goal.returns-then-is_some
+returns-then-is_some g c =
     λ d ns n h k.
-    let a = c.loop-chosen.invariant.ahead d ns n h k in
+    let a = c.loop-chosen.invariant d ns n h k in
     let i = c.loop-chosen.chosen in
     let m = candidate_at d.rules c.args.exploration.now.rules c.args.applications.now _ i c.deref-listed-items.result.now c.listed-item.result c.in-Some.applies.now k c.deref-listed-items.ensures.value c.loop-chosen-test.true
     c.listed-item.is c.as_slice-ons.ensures.value c.as_slice.ensures.value c.in-Some.ensures.lookup.3.0 c.in-Some.ensures.lookup.1
     in
     step_halts d ns c.loop-chosen.self (moves_left d n i) _ a c.try_move.new.self (moves_left d n (i + 1)) _ c.in_ok-halt.halt (moves_split d n m.0 i (round_in d (tally_of c.loop-chosen.self) a.all) m.1)
-    (sym c.is_some.ensures ∙ c.if-is_some.true) (c.in_ok-halt.ensures.comes d a.all n m.0 (record { at = record { holds = a.holds; found = found_later ns a.all c.args.before n a.grew h.found }; candidate = m.2; place = m.1 }))
-
-pub loop-chosen-init : goal.loop-chosen-init
-loop-chosen-init g c = record { ahead = λ d ns n h k. ahead_start d ns c.args.self.now (moves_left d n 0) h.holds; steps = λ d ns n h k. omega arith }
+    (sym c.is_some.ensures ∙ c.if-is_some.true) (c.in_ok-halt.ensures d a.all n m.0 (record { at = record { holds = a.holds; found = found_later ns a.all c.args.before n a.grew h.found }; candidate = m.2; place = m.1 }))
 
 pub loop-chosen-preserved : goal.loop-chosen-preserved
 loop-chosen-preserved g c =
-    record {
-      ahead = λ d ns n h k.
-          let a = c.loop-chosen.invariant.ahead d ns n h k in
-          let i = c.loop-chosen.chosen in
-          let m = candidate_at d.rules c.args.exploration.now.rules c.args.applications.now _ i c.deref-listed-items.result.now c.listed-item.result c.in-Some.applies.now k c.deref-listed-items.ensures.value c.loop-chosen-test.true
-          c.listed-item.is c.as_slice-ons.ensures.value c.as_slice.ensures.value c.in-Some.ensures.lookup.3.0 c.in-Some.ensures.lookup.1
-          in
-          step_goes d ns c.loop-chosen.self (moves_left d n i) _ a c.try_move.new.self (moves_left d n (i + 1)) _ c.in_ok-halt.halt (moves_split d n m.0 i (round_in d (tally_of c.loop-chosen.self) a.all) m.1)
-          (sym c.is_some.ensures ∙ c.if-is_some.false) (c.in_ok-halt.ensures.comes d a.all n m.0 (record { at = record { holds = a.holds; found = found_later ns a.all c.args.before n a.grew h.found }; candidate = m.2; place = m.1 }));
-      steps = λ d ns n h k.
-          let a = c.loop-chosen.invariant.ahead d ns n h k in
-          let i = c.loop-chosen.chosen in
-          let m = candidate_at d.rules c.args.exploration.now.rules c.args.applications.now _ i c.deref-listed-items.result.now c.listed-item.result c.in-Some.applies.now k c.deref-listed-items.ensures.value c.loop-chosen-test.true
-          c.listed-item.is c.as_slice-ons.ensures.value c.as_slice.ensures.value c.in-Some.ensures.lookup.3.0 c.in-Some.ensures.lookup.1
-          in
-          sum_more _ _ _ c.args.steps.now _ c.loop-chosen.steps c.try_move.new.steps (moves_from d.rules.moves i m.0 n.state m.1) (c.loop-chosen.invariant.steps d ns n h k)
-          (c.try_move.ensures.steps d a.all n m.0 (record { at = record { holds = a.holds; found = found_later ns a.all c.args.before n a.grew h.found }; candidate = m.2; place = m.1 }));
-    }
-
-pub returns-clause-comes : goal.returns-clause-comes
-returns-clause-comes g c =
     λ d ns n h k.
-    let a = c.loop-chosen.invariant.ahead d ns n h k in
+    let a = c.loop-chosen.invariant d ns n h k in
+    let i = c.loop-chosen.chosen in
+    let m = candidate_at d.rules c.args.exploration.now.rules c.args.applications.now _ i c.deref-listed-items.result.now c.listed-item.result c.in-Some.applies.now k c.deref-listed-items.ensures.value c.loop-chosen-test.true
+    c.listed-item.is c.as_slice-ons.ensures.value c.as_slice.ensures.value c.in-Some.ensures.lookup.3.0 c.in-Some.ensures.lookup.1
+    in
+    step_goes d ns c.loop-chosen.self (moves_left d n i) _ a c.try_move.new.self (moves_left d n (i + 1)) _ c.in_ok-halt.halt (moves_split d n m.0 i (round_in d (tally_of c.loop-chosen.self) a.all) m.1)
+    (sym c.is_some.ensures ∙ c.if-is_some.false) (c.in_ok-halt.ensures d a.all n m.0 (record { at = record { holds = a.holds; found = found_later ns a.all c.args.before n a.grew h.found }; candidate = m.2; place = m.1 }))
+
+pub returns : goal.returns
+returns g c =
+    λ d ns n h k.
+    let a = c.loop-chosen.invariant d ns n h k in
     let value = c.deref-listed-items.ensures.value in
     let count = alike_length IsMove c.args.exploration.now.rules.moves.items d.rules.moves k.rules.moves in
     let none : length d.rules.moves ≤ c.loop-chosen.chosen = subst (λ (x : ℕ). x ≤ c.loop-chosen.chosen) (ap length value ∙ count) c.loop-chosen-test.false in
@@ -56,37 +41,12 @@ pub try_move-requires : goal.try_move-requires
 try_move-requires g c =
     let q = c.requires in
     let d = q.0 in
-    let a = c.loop-chosen.invariant.ahead d q.1 q.2 q.3 q.4 in
+    let a = c.loop-chosen.invariant d q.1 q.2 q.3 q.4 in
     let i = c.loop-chosen.chosen in
     let m = candidate_at d.rules c.args.exploration.now.rules c.args.applications.now _ i c.deref-listed-items.result.now c.listed-item.result c.in-Some.applies.now q.4 c.deref-listed-items.ensures.value c.loop-chosen-test.true
     c.listed-item.is c.as_slice-ons.ensures.value c.as_slice.ensures.value c.in-Some.ensures.lookup.3.0 c.in-Some.ensures.lookup.1
     in
     (d, a.all, q.2, m.0, record { at = record { holds = a.holds; found = found_later q.1 a.all c.args.before q.2 a.grew (q.3).found }; candidate = m.2; place = m.1 })
-
-pub returns-in_err-halt-clause-steps : goal.returns-in_err-halt-clause-steps
-returns-in_err-halt-clause-steps g c =
-    λ d ns n h k.
-    let a = c.loop-chosen.invariant.ahead d ns n h k in
-    let i = c.loop-chosen.chosen in
-    let m = candidate_at d.rules c.args.exploration.now.rules c.args.applications.now _ i c.deref-listed-items.result.now c.listed-item.result c.in-Some.applies.now k c.deref-listed-items.ensures.value c.loop-chosen-test.true
-    c.listed-item.is c.as_slice-ons.ensures.value c.as_slice.ensures.value c.in-Some.ensures.lookup.3.0 c.in-Some.ensures.lookup.1
-    in
-    sum_within _ _ _ c.args.steps.now _ c.loop-chosen.steps c.try_move.new.steps (moves_from d.rules.moves i m.0 n.state m.1) (c.loop-chosen.invariant.steps d ns n h k)
-    (c.try_move.ensures.steps d a.all n m.0 (record { at = record { holds = a.holds; found = found_later ns a.all c.args.before n a.grew h.found }; candidate = m.2; place = m.1 }))
-
-pub returns-then-is_some-clause-steps : goal.returns-then-is_some-clause-steps
-returns-then-is_some-clause-steps g c =
-    λ d ns n h k.
-    let a = c.loop-chosen.invariant.ahead d ns n h k in
-    let i = c.loop-chosen.chosen in
-    let m = candidate_at d.rules c.args.exploration.now.rules c.args.applications.now _ i c.deref-listed-items.result.now c.listed-item.result c.in-Some.applies.now k c.deref-listed-items.ensures.value c.loop-chosen-test.true
-    c.listed-item.is c.as_slice-ons.ensures.value c.as_slice.ensures.value c.in-Some.ensures.lookup.3.0 c.in-Some.ensures.lookup.1
-    in
-    sum_within _ _ _ c.args.steps.now _ c.loop-chosen.steps c.try_move.new.steps (moves_from d.rules.moves i m.0 n.state m.1) (c.loop-chosen.invariant.steps d ns n h k)
-    (c.try_move.ensures.steps d a.all n m.0 (record { at = record { holds = a.holds; found = found_later ns a.all c.args.before n a.grew h.found }; candidate = m.2; place = m.1 }))
-
-pub returns-clause-steps : goal.returns-clause-steps
-returns-clause-steps g c = λ d ns n h k. let steps = c.loop-chosen.invariant.steps d ns n h k in omega (arith, steps)
 
 pub unreachable-requires : goal.unreachable-requires
 unreachable-requires g c =

@@ -115,27 +115,3 @@ returns-clause-counted g c held ons k m kept candidate can =
     let counted = c.spend-broken.ensures.counted held k.allowances ons m (tried_step k m c.args.manner) spends in
     let many : length c.spend-broken.new.counts ≡ c.play.new.self.counts.len = search rules in
     take_at c.spend-broken.new.counts _ c.play.new.self.counts.len many ∙ counted
-
-pub returns-in_err-live-clause-steps : goal.returns-in_err-live-clause-steps
-returns-in_err-live-clause-steps g c held ons k m kept candidate can =
-    c.play.ensures.steps k m (c.in-Some.ensures (root_of c.args.self.now) k.base k.live kept.card) kept.budget_is candidate.move can
-
-pub returns-in_default-2-clause-steps : goal.returns-in_default-2-clause-steps
-returns-in_default-2-clause-steps g c held ons k m kept candidate can =
-    c.play.ensures.steps k m (c.in-Some.ensures (root_of c.args.self.now) k.base k.live kept.card) kept.budget_is candidate.move can
-
-pub returns-in_err-allowances-clause-steps : goal.returns-in_err-allowances-clause-steps
-returns-in_err-allowances-clause-steps g c held ons k m kept candidate can =
-    c.play.ensures.steps k m (c.in-Some.ensures (root_of c.args.self.now) k.base k.live kept.card) kept.budget_is candidate.move can
-
-pub returns-in-Some-broken-clause-steps : goal.returns-in-Some-broken-clause-steps
-returns-in-Some-broken-clause-steps g c held ons k m kept candidate can =
-    c.play.ensures.steps k m (c.in-Some.ensures (root_of c.args.self.now) k.base k.live kept.card) kept.budget_is candidate.move can
-
-pub returns-in_err-card-clause-steps : goal.returns-in_err-card-clause-steps
-returns-in_err-card-clause-steps g c held ons k m kept candidate can =
-    c.play.ensures.steps k m (c.in-Some.ensures (root_of c.args.self.now) k.base k.live kept.card) kept.budget_is candidate.move can
-
-pub returns-clause-steps : goal.returns-clause-steps
-returns-clause-steps g c held ons k m kept candidate can =
-    c.play.ensures.steps k m (c.in-Some.ensures (root_of c.args.self.now) k.base k.live kept.card) kept.budget_is candidate.move can

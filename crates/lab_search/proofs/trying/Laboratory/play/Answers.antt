@@ -27,10 +27,3 @@ returns-clause-tried g c k m shown budget is card can =
       counts = take_at c.try_on.new.counts _ c.zero.new.counts.len long ∙ t.counts ∙ ap (λ (ns : List ℕ). counts_after_turns c.args.candidate.now.ons.now c.args.candidate.now.applies.now (shown_turns played.turns played.stop) ns) zeros;
       state = t.state;
     }
-
-pub returns-clause-steps : goal.returns-clause-steps
-returns-clause-steps g c k m shown budget is can =
-    let words = c.put_card.ensures.words ∙ ap (λ (p : Player BranchState). image_with (device_of p).root c.args.saved.words.now) c.deref_mut.ensures.value in
-    let put = subst (λ (n : List (List ℕ)). IsShown n c.args.saved.live.now k.base k.live) (sym words) shown in
-    let here = subst (λ (p : Player BranchState). IsShown (device_of p).device.words c.args.saved.live.now k.base k.live) (sym c.deref_mut-2.ensures.value) put in
-    c.try_on.ensures.steps k m here budget is can

@@ -1,8 +1,8 @@
 use Rattle.std.proofs.Common.{ℕ, Result, Option, refl, sym, ◌∙◌, ap, subst, Ok, Err}
 use Rattle.std.proofs.lemmas.Result.{err_from_is_err_and}
-use Rattle.mc_base.specs.model_device.specs.declared.device.Stop.{Stop}
-use Rattle.mc_base.specs.model_device.specs.Orders.{answer_of}
-use Rattle.mc_base.specs.model_device.specs.Device.{Ended}
+use Rattle.mc_words.specs.model_device.specs.declared.device.Stop.{Stop}
+use Rattle.mc_words.specs.model_device.specs.Orders.{answer_of}
+use Rattle.mc_words.specs.model_device.specs.Device.{Ended}
 use Rattle.mc_apdu.specs.Command.{parts_of}
 use Rattle.mc_machine.specs.declared.outcome.Outcome.{Outcome}
 use Rattle.mc_machine.specs.declared.outcome.Outcome.TheVariants as outcome

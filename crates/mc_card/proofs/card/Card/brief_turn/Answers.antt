@@ -1,6 +1,6 @@
 use Rattle.std.proofs.Common.{Option, Ok, Err, sym, ◌∙◌, ap, subst}
 use Rattle.std.proofs.lemmas.Result.{err_from_is_err_and}
-use Rattle.mc_base.specs.model_device.proofs.LoopLemmas.{makes_same}
+use Rattle.mc_words.specs.model_device.proofs.LoopLemmas.{makes_same}
 use Rattle.mc_apdu.specs.model_machine.specs.Chain.{turn_of}
 use Rattle.mc_store.specs.GoingLaws.{going_is}
 use Rattle.mc_machine.specs.Chains.{Chained}

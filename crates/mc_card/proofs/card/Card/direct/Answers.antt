@@ -1,6 +1,6 @@
 use Rattle.std.proofs.Common.{ℕ, Result, Option, refl, sym, ◌∙◌, ap, subst, Ok, Err}
 use Rattle.std.proofs.lemmas.Result.{err_from_is_err_and}
-use Rattle.mc_base.specs.model_device.specs.declared.device.Stop.{Stop}
+use Rattle.mc_words.specs.model_device.specs.declared.device.Stop.{Stop}
 use Rattle.mc_apdu.specs.Command.{parts_of}
 use Rattle.mc_manager.specs.declared.routed.Ruling.{Ruling}
 use Rattle.mc_manager.specs.Ruled.{ruling_with_reply}

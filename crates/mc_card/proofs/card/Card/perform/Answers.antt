@@ -1,7 +1,7 @@
 use Rattle.std.proofs.Common.{ℕ, Result, Option, sym, ◌∙◌, ap, subst, Ok, Err}
 use Rattle.std.proofs.lemmas.Result.{err_from_is_err_and}
-use Rattle.mc_base.specs.model_device.specs.declared.device.Stop.{Stop}
-use Rattle.mc_base.specs.model_device.specs.Orders.{answer_of}
+use Rattle.mc_words.specs.model_device.specs.declared.device.Stop.{Stop}
+use Rattle.mc_words.specs.model_device.specs.Orders.{answer_of}
 use Rattle.mc_bank.specs.model_card.specs.Manager.{route}
 use Rattle.mc_apdu.specs.Command.{parts_of}
 use Rattle.mc_machine.specs.declared.outcome.End.{End}

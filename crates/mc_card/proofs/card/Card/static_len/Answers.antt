@@ -1,6 +1,6 @@
 use Rattle.std.proofs.Common.{◌∙◌, length, Option, sym, ap}
 use Rattle.std.specs.Prelude.{option_map}
-use Rattle.mc_base.specs.model_device.specs.Card.{App}
+use Rattle.mc_words.specs.model_device.specs.Card.{App}
 use Rattle.mc_card.proofs.StaticLemmas.{not_there, found_length}
 use Rattle.mc_card.proofs.card.Card.static_len.Goals as goal
 

@@ -1,5 +1,5 @@
 use Rattle.std.proofs.Common.{◌+◌, ◌≤◌, length, ◌∙◌, sym, ap, subst, take, drop}
-use Rattle.mc_base.specs.model_device.specs.Card.{App}
+use Rattle.mc_words.specs.model_device.specs.Card.{App}
 use Rattle.mc_card.proofs.StaticLemmas.{slot_app, not_there, none_there}
 use Rattle.mc_card.proofs.card.Card.static_of.Goals as goal
 

@@ -1,6 +1,5 @@
-use Rattle.std.proofs.Common.{ℕ, length, ◌-◌, ◌+◌, ◌*◌, ◌<◌, ◌≤◌}
+use Rattle.std.proofs.Common.{length, ◌-◌, ◌<◌, ◌≤◌}
 use Rattle.mc_lab.specs.SweepBodies.{front_of, AccountsHaveRoom}
-use Rattle.mc_lab.specs.SweepSteps.{most_through, IsDoubled}
 use Rattle.mc_lab.proofs.sweep_line.LineSweeper.bound.Given as goal
 
 -- the bounds that were exceeded already
@@ -10,7 +9,6 @@ invariant-loop-most g l =
       low : l.most ≤ l.bound;
       small : l.bound < 4294967295;
       room : AccountsHaveRoom l.self.ends l.self.pair (length l.place.names.now);
-      steps : (d : ℕ) → IsDoubled d l.most → (k : ℕ) × IsDoubled (d + k) l.bound × (l.steps ≤ l.fn.steps + k * most_through l.place);
       played : g.D.Trials.has_played l.self.trials (front_of l.place);
     }
 

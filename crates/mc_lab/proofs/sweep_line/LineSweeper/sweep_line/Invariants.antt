@@ -1,6 +1,5 @@
-use Rattle.std.proofs.Common.{◌≡◌, ◌+◌, ◌*◌, ◌≤◌, length}
-use Rattle.mc_lab.specs.SweepBodies.{account_value, front_of, state_at_place, writes_in, AccountsHaveRoom}
-use Rattle.mc_lab.specs.SweepSteps.{most_through}
+use Rattle.std.proofs.Common.{◌≡◌, length}
+use Rattle.mc_lab.specs.SweepBodies.{account_value, front_of, state_at_place, AccountsHaveRoom}
 use Rattle.mc_lab.specs.declared.sweep_trial.TrialLines.TheVariants as trial
 use Rattle.mc_lab.proofs.SweepLoops.{Sweeping}
 use Rattle.mc_lab.proofs.sweep_line.LineSweeper.sweep_line.Given as goal
@@ -14,7 +13,5 @@ invariant-loop-writes g l =
       after : account_value l.self.ends.after ≡ state_at_place l.place trial.Whole;
       room : AccountsHaveRoom l.self.ends l.self.pair (length l.place.names.now);
       size : length l.words ≡ length l.fn.words;
-      some : 1 ≤ writes_in l.place;
-      steps : l.steps ≤ l.fn.steps + (3 + l.plays + 2 * l.writes) * most_through l.place;
       played : g.D.Trials.has_played l.self.trials (front_of l.place);
     }

@@ -9,7 +9,7 @@ use Rattle.mc_script.proofs.player.Player.deck.Goals as goal
 pub loop-i-init : goal.loop-i-init
 loop-i-init g c =
     record {
-      between = λ s at. between_start g.N.Nvm.state g.N.Bench.bench s c.args.deck.now c.args.self.now c.args.steps.now at;
+      between = λ s at. between_start g.N.Nvm.state g.N.Bench.bench s c.args.deck.now c.args.self.now at;
       keeps_device = g.met.N.Nvm.itself _;
     }
 
@@ -24,8 +24,8 @@ loop-i-preserved g c =
     record {
       between =
           λ s at.
-          between_on state bench _ s deck a (drop (c.loop-i.i + 1) deck) line.0 (line_of line.1) c.loop-i.self c.line-answer.new.self _ _ c.line-answer.result c.args.steps.now c.loop-i.steps c.line-answer.new.steps
-          (subst (λ (left : List (ℕ × DeckLine)). Between state bench s deck a c.args.steps.now left c.loop-i.self c.loop-i.steps) here (c.loop-i.invariant.between s at)) c.line-answer.ensures.done c.line-answer.ensures.steps;
+          between_on state bench _ s deck a (drop (c.loop-i.i + 1) deck) line.0 (line_of line.1) c.loop-i.self c.line-answer.new.self _ _ c.line-answer.result
+          (subst (λ (left : List (ℕ × DeckLine)). Between state bench s deck a left c.loop-i.self) here (c.loop-i.invariant.between s at)) c.line-answer.ensures.done;
       keeps_device = g.met.N.Nvm.onward _ _ _ c.loop-i.invariant.keeps_device c.line-answer.ensures.keeps_device;
     }
 
@@ -35,17 +35,8 @@ returns-clause-done g c s at =
     let bench = g.N.Bench.bench in
     let deck = c.args.deck.now in
     let all : length deck ≤ c.loop-i.i = search rules in
-    (between_end state bench s deck c.args.self.now c.loop-i.self c.args.steps.now c.loop-i.steps
-    (subst (λ (left : List (ℕ × DeckLine)). Between state bench s deck (bench_of state bench c.args.self.now) c.args.steps.now left c.loop-i.self c.loop-i.steps) (no_line deck c.loop-i.i all) (c.loop-i.invariant.between s at))).played
-
-pub returns-clause-steps : goal.returns-clause-steps
-returns-clause-steps g c s at =
-    let state = g.N.Nvm.state in
-    let bench = g.N.Bench.bench in
-    let deck = c.args.deck.now in
-    let all : length deck ≤ c.loop-i.i = search rules in
-    between_end state bench s deck c.args.self.now c.loop-i.self c.args.steps.now c.loop-i.steps
-    (subst (λ (left : List (ℕ × DeckLine)). Between state bench s deck (bench_of state bench c.args.self.now) c.args.steps.now left c.loop-i.self c.loop-i.steps) (no_line deck c.loop-i.i all) (c.loop-i.invariant.between s at))
+    between_end state bench s deck c.args.self.now c.loop-i.self
+    (subst (λ (left : List (ℕ × DeckLine)). Between state bench s deck (bench_of state bench c.args.self.now) left c.loop-i.self) (no_line deck c.loop-i.i all) (c.loop-i.invariant.between s at))
 
 pub line-answer-requires-clause-playing : goal.line-answer-requires-clause-playing
 line-answer-requires-clause-playing g c = let h = c.loop-i.invariant.between c.requires.playing.0 c.requires.playing.1 in (h.here, h.at)

@@ -11,6 +11,6 @@ invariant-loop-i g l =
     let state = g.N.Nvm.state in
     let bench = g.N.Bench.bench in
     record {
-      between : (s : State) → IsPlayerAt state bench l.fn.self s → Between state bench s l.deck (bench_of state bench l.fn.self) l.fn.steps (drop l.i l.deck) l.self l.steps;
+      between : (s : State) → IsPlayerAt state bench l.fn.self s → Between state bench s l.deck (bench_of state bench l.fn.self) (drop l.i l.deck) l.self;
       keeps_device : g.N.Nvm.same (device_of l.fn.self) (device_of l.self);
     }

@@ -1,5 +1,5 @@
 use Rattle.std.proofs.Common.{◌≡◌, ℕ, List, length, ap, subst, ◌++◌, ◌∙◌}
-use Rattle.mc_base.specs.model_device.specs.Bytes.{bytes2, splice}
+use Rattle.mc_words.specs.model_device.specs.Bytes.{bytes2, splice}
 use Rattle.mc_segs.proofs.PublicLemmas.{new_public_is}
 use Rattle.mc_segs.proofs.public.Public.open.Goals as goal
 

@@ -1,5 +1,5 @@
 use Rattle.mc_store.proofs.ReadLemmas.{counted, all_apps}
-use Rattle.mc_base.specs.model_device.specs.Device.{sized}
+use Rattle.mc_words.specs.model_device.specs.Device.{sized}
 use Rattle.mc_store.proofs.store.StoreBank.count.Goals as goal
 
 pub returns-clause-count : goal.returns-clause-count

@@ -1,8 +1,8 @@
 use Rattle.std.proofs.Common.{ℕ, ap, subst, sym, ◌∙◌}
-use Rattle.mc_base.specs.model_device.specs.Card.{name_at}
+use Rattle.mc_words.specs.model_device.specs.Card.{name_at}
 use Rattle.mc_store.specs.Slots.{IsUsedBlock}
 use Rattle.mc_store.proofs.ReadLemmas.{of_slot, reported}
-use Rattle.mc_base.specs.model_device.specs.Device.{sized}
+use Rattle.mc_words.specs.model_device.specs.Device.{sized}
 use Rattle.mc_store.proofs.store.StoreBank.facts.Goals as goal
 
 pub name_of_block-requires : goal.name_of_block-requires

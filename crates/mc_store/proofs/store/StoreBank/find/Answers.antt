@@ -1,5 +1,5 @@
 use Rattle.mc_store.proofs.ReadLemmas.{good_words, finds_slot}
-use Rattle.mc_base.specs.model_device.specs.Device.{sized}
+use Rattle.mc_words.specs.model_device.specs.Device.{sized}
 use Rattle.mc_store.proofs.store.StoreBank.find.Goals as goal
 
 pub find_block-requires : goal.find_block-requires

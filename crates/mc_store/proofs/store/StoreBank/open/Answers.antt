@@ -1,6 +1,6 @@
 use Rattle.mc_store.specs.Store.{store_room, apps_in, words_of_sizes}
 use Rattle.mc_store.proofs.ReadLemmas.{answers, good_site, open_parts, open_steps}
-use Rattle.mc_base.specs.model_device.specs.Device.{sized}
+use Rattle.mc_words.specs.model_device.specs.Device.{sized}
 use Rattle.mc_store.proofs.store.StoreBank.open.Goals as goal
 
 pub returns-clause-answer : goal.returns-clause-answer

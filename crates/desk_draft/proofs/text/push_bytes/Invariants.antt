@@ -1,7 +1,0 @@
-use Rattle.std.proofs.Common.{◌≡◌, ◌++◌, drop}
-use Rattle.mc_text.specs.model_text.specs.Listing.{hex_text}
-use Rattle.desk_draft.proofs.text.push_bytes.Given as goal
-
--- the text so far with the digits of the bytes that are left is the old text with all digits
-abbrev pub invariant-loop-byte : goal.invariant-loop-byte
-invariant-loop-byte l = l.deck.items ++ hex_text (drop l.byte-index l.bytes) ≡ l.fn.deck.items ++ hex_text l.bytes
