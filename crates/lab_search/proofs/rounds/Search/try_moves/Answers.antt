@@ -1,5 +1,6 @@
 use Rattle.std.proofs.Common.{◌+◌, ◌≤◌, ℕ, ap, length, subst, sym, ◌∙◌}
 use Rattle.lab_rules.specs.Meanings.{IsMove}
+use Rattle.lab_rules.specs.Occasions.{IsRow}
 use Rattle.lab_search.specs.Rounds.{round_in, tally_of}
 use Rattle.lab_search.proofs.AlikeLemmas.{alike_length}
 use Rattle.lab_search.proofs.RoundLemmas.{found_later}
