@@ -86,7 +86,7 @@ def drafted(word: str, folder: str) -> str:
     if not word.endswith(".c") or not os.path.isfile(word):
         return word
     path = Path(folder, f"{Path(word).stem}.draft")
-    path.write_bytes(sources.compiled(Path(word)))
+    path.write_bytes(sources.compiled(Path(word)).draft)
     return str(path)
 
 
@@ -131,7 +131,9 @@ def version() -> str:
 def write_version() -> int:
     """Writes the version, and of each program where it is and whether it is proved; returns 1 if one is not there."""
     from card import program_path
+    from labtexts import end_with_reader
 
+    end_with_reader()
     print(f"mel {version()}")
     status = 0
     for name in PROGRAMS:
@@ -139,10 +141,11 @@ def write_version() -> int:
             path = program_path(name)
             is_proved = b"unproved: made by" not in Path(path).read_bytes()
             print(f"{name} {path}{'' if is_proved else ' (UNPROVED)'}")
-        except OSError as error:
+        except FileNotFoundError as error:
             print(f"mel: {error}", file=sys.stderr)
             status = 1
-    print("melc" if sources.melc_main() is not None else "melc is not installed: no application in C can be compiled")
+    main, why = sources.melc_main()
+    print("melc is there, for applications in C" if main is not None else f"no application in C can be compiled: {why}")
     return status
 
 

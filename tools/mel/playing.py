@@ -57,7 +57,8 @@ def play(given: argparse.Namespace) -> int:
     stated = {number: " ".join(lines[number - 1].split()) if 0 < number <= len(lines) else "" for number, _ in rows}
     width = min(60, max(map(len, stated.values()), default=0))
     for number, result in rows:
-        print(f"{number:>4} {stated[number]:<{width}}  {terminal.painted(result, 'good' if GOOD.match(result) else 'look')}")
+        place = source.place(number) if source.is_c else f"{number:>4}"
+        print(f"{place} {stated[number]:<{width}}  {terminal.painted(result, 'good' if GOOD.match(result) else 'look')}")
     return 0
 
 

@@ -77,7 +77,7 @@ def count_of(count: int, what: str) -> str:
 def explain(it: Trial) -> Done:
     """Tries whether the draft is read, and makes its deck."""
     ran = it.run("explain", "meldesk", ["explain", str(it.source.path)], it.source.draft)
-    lines = ran.text.splitlines()
+    lines = [explained(it.source, line) for line in ran.text.splitlines()]
     warnings = sum(": warning: " in line for line in lines)
     made = it.run("explain", "meldesk", ["deck"], it.source.draft)
     it.deck = made.text
@@ -85,6 +85,12 @@ def explain(it: Trial) -> Done:
         said = count_of(len(lines) - warnings, "fault") if lines else made.errors.strip() or f"status {ran.status}"
         return Done("explain", FAILED, said, ran.seconds, ran.status or made.status, ran.text, lines or made.errors.splitlines())
     return Done("explain", LOOK if warnings else PASSED, count_of(warnings, "warning") if warnings else "", ran.seconds, 0, ran.text, lines)
+
+
+def explained(source: Source, line: str) -> str:
+    """Returns a line of `meldesk explain`, for a file in C with the place in C."""
+    found = re.match(rf"{re.escape(str(source.path))}:(\d+):\d+: (.*)$", line)
+    return f"{source.place(int(found[1]))}: {found[2]}" if found is not None and source.is_c else line
 
 
 def check(it: Trial) -> Done:
@@ -140,12 +146,15 @@ def cover(it: Trial) -> Done:
     rows = [line.partition(":")[::2] for line in ran.text.splitlines()]
     lines = [value.split(",") for key, value in rows if key == "DA"]
     ways = [value.split(",") for key, value in rows if key == "BRDA"]
-    missed = [number for number, count in lines if count == "0"]
-    one_way = list(dict.fromkeys(way[0] for way in ways if way[3] in ("0", "-") and way[0] not in missed))
+    counts: Dict[str, int] = {}
+    for number, count in lines:
+        counts[it.source.place(int(number))] = counts.get(it.source.place(int(number)), 0) + int(count)
+    missed = [place for place, count in counts.items() if not count]
+    one_way = [place for place in dict.fromkeys(it.source.place(int(way[0])) for way in ways if way[3] in ("0", "-")) if place not in missed]
     if not lines:
         return Done("cover", LEFT_OUT, "the draft has no code", ran.seconds, 0, ran.text)
-    shown = [f"no command ran line {number}" for number in missed] + [f"the branch of line {number} went one way alone" for number in one_way]
-    said = f"{len(lines) - len(missed)} of {count_of(len(lines), 'line')}, {sum(way[3] not in ('0', '-') for way in ways)} of {len(ways)} branch ways"
+    shown = [f"no command ran {place}" for place in missed] + [f"the branch of {place} went one way alone" for place in one_way]
+    said = f"{len(counts) - len(missed)} of {count_of(len(counts), 'line')}, {sum(way[3] not in ('0', '-') for way in ways)} of {len(ways)} branch ways"
     return Done("cover", LOOK if shown else PASSED, said, ran.seconds, 0, ran.text, shown)
 
 
@@ -169,7 +178,7 @@ def mutate(it: Trial) -> Done:
     lines = ran.text.splitlines()
     if ran.status not in (0, 1):
         said = ran.errors.strip().rpartition("\n")[2].partition(": ")[2].replace(str(draft), it.source.path.name)
-        nothing = "nothing that tests it" in said
+        nothing = "nothing that tests it" in said or "has no instruction" in said
         return Done("mutate", LEFT_OUT if nothing else FAILED, said or f"status {ran.status}", ran.seconds, ran.status, ran.errors)
     rows = [json.loads(line) for line in it.mutants.splitlines()]
     left = sum(row["found"] is None for row in rows)
@@ -204,6 +213,7 @@ def tried(source: Source, names: List[str], options: Options, told: Callable[[Do
         if name == "explain":
             continue
         done = JOBS[name](trial) if trial.deck else Done(name, LEFT_OUT, "the draft is not read")
+        done.shown = [source.placed(line) for line in done.shown]
         found.append(done)
         told(done)
     return found, trial

@@ -351,7 +351,7 @@ def test_without_melc_there_is_a_sentence(tmp_path, command):
     (tmp_path / "app.c").write_text("void main(void) {}\n", encoding="utf-8")
     done = mel(command, "app.c", at=tmp_path, PYTHONPATH=str(tmp_path))
     assert (done.returncode, done.stdout) == (2, "")
-    assert done.stderr == f"mel {command}: app.c is written in C, and melc, which compiles it, is not installed here\n"
+    assert done.stderr == f"mel {command}: app.c is written in C, and melc is not installed here\n"
 
 
 def test_the_version_has_the_programs():
