@@ -28,9 +28,17 @@ def deck_of(source: Source) -> str:
     """
     made = terminal.run([program_path("meldesk"), "deck"], source.draft)
     if made.status:
-        said = terminal.run([program_path("meldesk"), "explain", str(source.path)], source.draft).text.strip()
-        raise NotRead(f"{source.path} is refused: {made.errors.strip() or f'status {made.status}'}" + (f"\n{said}" if said else ""))
+        raise refused(source, made.errors.strip() or f"status {made.status}")
     return made.text
+
+
+def refused(source: Source, text: str) -> NotRead:
+    """Returns why a deck was refused: the line that a program wrote, and what `meldesk explain` writes, or else the text of that line."""
+    said = terminal.run([program_path("meldesk"), "explain", str(source.path)], source.draft).text.strip()
+    found, lines = labtexts.REFUSAL.match(text), labtexts.lines_of(source.draft.decode("utf-8", "replace"))
+    if not said and found is not None and 0 < int(found[1]) <= len(lines):
+        said = f"{source.place(int(found[1]))}: {lines[int(found[1]) - 1].strip()}"
+    return NotRead(f"{source.path} is refused: {text}" + (f"\n{said}" if said else ""))
 
 
 def add_play(words: argparse.ArgumentParser) -> None:
@@ -48,6 +56,8 @@ def play(given: argparse.Namespace) -> int:
         return subprocess.run([program_path("meldesk"), "trace"], input=source.draft, check=False).returncode
     deck = deck_of(source)
     ran = terminal.run([program_path("melcard"), "play"], deck.encode("utf-8", "surrogateescape"), "play")
+    if ran.status == 1:
+        raise refused(source, ran.text.strip())
     labtexts.end_with_reader()
     if given.raw or ran.status:
         sys.stdout.write(ran.text)
@@ -74,6 +84,8 @@ def prove(given: argparse.Namespace) -> int:
     ran = terminal.run([program_path("mellab"), "prove"], deck_of(source).encode("utf-8", "surrogateescape"), "prove")
     if ran.text.strip() == "line 0 NoApplication":
         raise NotRead(f"{source.path} has no rules to prove, no line `#@ app NAME`: `mel rules` prints some")
+    if labtexts.REFUSAL.match(ran.text.strip()):
+        raise refused(source, ran.text.strip())
     labtexts.end_with_reader()
     for line in ran.text.splitlines():
         kind = "bad" if line.startswith(("broken ", "unknown ", "not proved")) else "good" if line.startswith("proved ") else ""

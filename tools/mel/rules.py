@@ -216,6 +216,10 @@ def deeds(draft: Draft, deed: str) -> List[Instruction]:
     found = [it for it in draft.code if it.line == number]
     if not found:
         raise NotRead(f"line {deed} has no instruction of {draft.section.name}")
+    alike = [str(it.line) for it in draft.code if it.text == found[0].text and it.line != number]
+    if alike:
+        others = f"line {alike[0]} has" if len(alike) == 1 else f"lines {', '.join(alike)} have"
+        print(f"mel rules: {others} the same instruction as line {number}, and the rule is about it too", file=sys.stderr)
     return found
 
 

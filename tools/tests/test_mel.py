@@ -259,8 +259,8 @@ def test_a_play_has_each_statement_with_its_result(badge):
 def test_a_play_is_gone_through_at_a_terminal(badge):
     done = mel("debug", "badge.draft", at=badge, text="b use\nc\nleft\nw left\nc\np\nleft == 3\nk\nu\nfoo bar\nt\nv\nl\nh\nq\n")
     assert (done.returncode, done.stderr) == (0, ""), done.stderr
-    for line in ("use: line 9", "stopped: breakpoint", "03 (3)", "left was changed by DECN SB[0],1 in line 13", "the play without a cut",
-                 "foo bar is no expression", ">   9  use:    CMPW Lc,0"):
+    for line in ("use: line 9", "stopped: function breakpoint", "03 (3)", "left was changed by DECN SB[0],1 in line 13", "the play without a cut",
+                 "foo bar is no expression", ">  13          DECN left"):
         assert line in done.stdout, done.stdout
     assert re.search(r"^\(mel\) line 26, power cut in write \d: ", done.stdout, re.MULTILINE)
     assert mel("debug", "badge.draft", at=badge, text="").returncode == 0

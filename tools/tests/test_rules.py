@@ -5,7 +5,6 @@ It needs pytest, and the programs, built by tools/build or by `rt ci`.
 
 import os
 import pathlib
-import re
 import subprocess
 import sys
 
@@ -13,7 +12,7 @@ import pytest
 
 TOP = pathlib.Path(__file__).resolve().parent.parent.parent
 MEL = TOP / "tools" / "mel" / "mel"
-PURSE = re.search(r"^cat > purse\.draft << 'END'\n(.*?)^END$", (TOP / "docs" / "PROVING.md").read_text(encoding="utf-8"), re.MULTILINE | re.DOTALL)[1]
+PURSE = pathlib.Path(__file__).with_name("purse.draft").read_text(encoding="utf-8")
 
 
 def rules(draft, *words):
@@ -35,7 +34,6 @@ IDIOMS = {
     "pin": (["pin", "pin", "--tries", "tries"], 6, [("        DECN tries              ; the try is spent before the PIN is looked at\n", "")]),
     "after a name": (["after", "debits", "pin"], 6, [("debit:  CMPB shown,1\n        JUMP NE,denied\n", "debit:  NOP\n")]),
     "after a line": (["after", "39", "pin"], 6, [("        SETB shown,1\n", ""), ("        LOAD guess\n", "        SETB shown,1\n        LOAD guess\n")]),
-    "after a label": (["after", "over", "pin"], 6, [("debit:  CMPB shown,1\n        JUMP NE,denied\n", "debit:  NOP\n")]),
     "grows": (["grows", "debits", "--may-wrap"], 5, [("INCN debits", "DECN debits\n        INCN debits")]),
     "whole": (["whole", "balance", "debits"], 8, [("        PRIM 3,2                ; from here on writes of static bytes wait\n        SUBN balance\n",
                                                    "        SUBN balance\n        PRIM 3,2\n")]),
@@ -74,7 +72,13 @@ def test_a_name_that_is_taken_is_not_taken_again(purse):
     first = rules(purse, "pin", "pin")[1]
     purse.write_text(PURSE + "\n".join(first) + "\n", encoding="utf-8")
     status, lines, said = rules(purse, "pin", "balance", "--count", "5", "--try")
-    assert "#@ allow guesses2 5" in lines and "#@ app purse" not in lines and status in (0, 1) and "line " not in said
+    assert "#@ allow guesses2 5" in lines and "#@ app purse" not in lines and status in (0, 1) and not said.startswith("line "), said
+
+
+def test_an_instruction_that_another_line_has_is_said(purse):
+    status, lines, said = rules(purse, "after", "over", "pin")
+    assert status == 0 and lines[-1] == "#@ on turn *POPN 2 8* need shown 1"
+    assert said == "mel rules: lines 23, 38 have the same instruction as line 41, and the rule is about it too\n"
 
 
 @pytest.mark.parametrize("words, why", [
