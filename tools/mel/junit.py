@@ -5,10 +5,10 @@
     tools/mel/junit.py [--no-between] --campaign FOLDER  a folder of texts and statuses, as docs/LABORATORY.md fills it; its decks are looked
                                                      for from the working folder on, or from --decks
 
-The cases of `expect` are the expectations of the deck, those of `sweep` the swept lines, those of `explore` the rules that spend, those
-of `prove` all its rules; of a refused deck it is its refused line. If no deck is given, there is a case for each line of the text alone. A
+The cases of `expect` are the expectations of the deck, those of `sweep` the swept lines, those of `explore` the rules that can be
+broken, those of `prove` all its rules; of a refused deck it is its refused line. If no deck is given, there is a case for each line of the text alone. A
 swept line fails if it is torn, or must be whole and is not, and with --no-between also if it is between. A rule is skipped if no try fits it,
-or not all was explored.
+not all was explored, or another rule was broken first. A text that has something broken is never without a failure.
 
 It needs Python 3.9. It ends with 1 if a case failed, and with 2 if it cannot read what it is given.
 """
@@ -59,16 +59,32 @@ def swept(text: Text, lines: List[str], no_between: bool) -> Iterator[Case]:
         yield named(number, statement_of(lines, number)), "failure", "this mark is of no swept line"
 
 
+def name_of(rule: str) -> Optional[str]:
+    """What a rule is called if it is broken, or None if it is one that cannot be: it sets an amount, or moves a sum."""
+    fields = rule.split()
+    if fields[:2] == ["never", "abend"]:
+        return "abend"
+    if fields[:1] == ["always"] and len(fields) > 1:
+        return fields[1]
+    return fields[-2] if fields[:1] == ["on"] and fields[-3:-2] in (["spend"], ["need"]) else None
+
+
 def explored(text: Text, lines: List[str]) -> Iterator[Case]:
-    """The cases of rules that spend an allowance. What was not explored whole, or has a rule that fits nothing, is skipped."""
-    rules = [it for it in labtexts.remarks_of(lines) if it.mark == "#@" and " spend " in f" {it.text} "]
-    remark, is_all = "\n".join(text.path), text.last.endswith(" all")
-    for it in rules:
-        is_broken, is_silent = it.text.split()[-2:-1] == [text.broken], it.number in text.silent
-        kind = "failure" if is_broken else "skipped" if is_silent or not is_all and not text.broken else None
-        yield named(it.number, statement_of(lines, it.number)), kind, remark if is_broken else "no try fits it" if is_silent else text.last
-    if not rules:
-        yield "explored", "failure" if text.broken else None if is_all else "skipped", remark or text.last
+    """The cases of the rules that can be broken, and of those that no try fits. What was not explored whole is skipped: so are the other
+    rules if one is broken, since the search ends there."""
+    remark, is_all, found = "\n".join(text.path), text.last.endswith(" all") and text.broken is None, 0
+    for it in labtexts.remarks_of(lines):
+        rule = name_of(it.text) if it.mark == "#@" else None
+        is_silent = it.number in text.silent
+        if rule is None and not is_silent:
+            continue
+        found += 1
+        is_broken = rule is not None and rule == text.broken
+        kind = "failure" if is_broken else None if is_all and not is_silent else "skipped"
+        said = "no try fits it" if is_silent else text.last if text.broken is None else f"the search ended where {text.broken} was broken"
+        yield named(it.number, statement_of(lines, it.number)), kind, remark or f"broken {text.broken}" if is_broken else said
+    if not found:
+        yield "explored", "failure" if text.broken else None if is_all else "skipped", remark or text.last or f"broken {text.broken}"
 
 
 def proved(text: Text, lines: List[str]) -> Iterator[Case]:
@@ -83,7 +99,21 @@ def proved(text: Text, lines: List[str]) -> Iterator[Case]:
 
 
 def cases(text: Text, lines: List[str], status: Optional[int], no_between: bool) -> Iterator[Case]:
-    """The cases of a text, and one more if the job did not end well."""
+    """The cases of a text, and one more if the job did not end well, or what did not hold is of none of the deck's lines."""
+    is_bad = False
+    for case in cases_of(text, lines, no_between):
+        is_bad = is_bad or case[1] in ("failure", "error")
+        yield case
+    if status is not None and status not in (0, 1, 6):
+        yield "the job", "error", f"status {status}: {labtexts.MEANINGS.get(status, 'ended by a signal')}"
+    elif text.refused is None and not text.is_whole:
+        yield "the job", "error", "its text has no end"
+    elif not is_bad and (status == 1 or did_not_hold(text)):
+        yield "the job", "failure", "\n".join([text.last, *text.path, *(line for _, line in text.unproved)])
+
+
+def cases_of(text: Text, lines: List[str], no_between: bool) -> Iterator[Case]:
+    """The cases of a text by its job."""
     if text.refused is not None:
         number, cause = text.refused
         yield named(number, statement_of(lines, number)), "error", cause
@@ -95,10 +125,12 @@ def cases(text: Text, lines: List[str], status: Optional[int], no_between: bool)
         yield from explored(text, lines)
     elif text.kind == "prove":
         yield from proved(text, lines)
-    if status is not None and status not in (0, 1, 6):
-        yield "the job", "error", f"status {status}: {labtexts.MEANINGS.get(status, 'ended by a signal')}"
-    elif text.refused is None and not text.is_whole:
-        yield "the job", "error", "its text has no end"
+
+
+def did_not_hold(text: Text) -> bool:
+    """Whether the text itself says that something did not hold."""
+    return bool(text.failed or text.broken or text.unproved or text.unswept or text.last.startswith("not proved")
+                or any(it.has("torn") or it.is_broken for it in text.swept))
 
 
 def clean(text: str) -> str:
@@ -133,6 +165,14 @@ def suites_of(given: argparse.Namespace) -> List[xml.Element]:
     return [suite(f"{name}.{text.kind or 'empty'}", list(cases(text, lines, None, given.no_between)))]
 
 
+def whole(found: List[xml.Element]) -> str:
+    """The text of all suites."""
+    made = xml.Element("testsuites")
+    made.extend(found)
+    xml.indent(made)
+    return f'<?xml version="1.0" encoding="UTF-8"?>\n{xml.tostring(made, encoding="unicode")}\n'
+
+
 def main() -> int:
     words = argparse.ArgumentParser(description="Writes what mellab wrote as JUnit XML.")
     words.add_argument("text", nargs="?", help="what mellab wrote; - is the standard input")
@@ -149,11 +189,7 @@ def main() -> int:
         print(f"junit.py: {error}", file=sys.stderr)
         return 2
     labtexts.end_with_reader()
-    made = xml.Element("testsuites")
-    made.extend(found)
-    xml.indent(made)
-    print('<?xml version="1.0" encoding="UTF-8"?>')
-    print(xml.tostring(made, encoding="unicode"))
+    print(whole(found), end="")
     return 1 if any(it.get("failures") != "0" or it.get("errors") != "0" for it in found) else 0
 
 

@@ -212,8 +212,8 @@ def mutants(folder: Path) -> Iterator[str]:
 SECTIONS = {"expect": ("Expectations", expectations), "sweep": ("Sweeps", sweeps), "explore": ("Explored", explored), "prove": ("Proved", proved)}
 
 
-def page(title: str, jobs: List[Job], folder: Path) -> Iterator[str]:
-    """The whole page."""
+def page(title: str, jobs: List[Job], folder: Path, front: str = "") -> Iterator[str]:
+    """The whole page. `front` is what stands between its sums and its verdicts."""
     kinds = [verdict(job)[1] for job in jobs]
     yield f'<!DOCTYPE html>\n<html lang="en"><head><meta charset="utf-8"><title>{escape(title)}</title>'
     yield f'<meta name="viewport" content="width=device-width, initial-scale=1"><style>{STYLE}{prove_html.STYLE}</style></head><body>'
@@ -223,9 +223,12 @@ def page(title: str, jobs: List[Job], folder: Path) -> Iterator[str]:
             (writes, "write swept" if writes == 1 else "writes swept", ""),
             (kinds.count(BAD), "did not hold", BAD if BAD in kinds else GOOD)]
     yield '<ul class="sums">' + "".join(f'<li class="{kind}"><b>{count:,}</b>{what}</li>' for count, what, kind in sums) + "</ul>"
+    if front:
+        yield front
     if (folder / "coverage" / "index.html").is_file():
         yield '<p><a href="coverage/index.html">Coverage of all decks</a></p>'
-    yield from table(jobs, folder)
+    if jobs:
+        yield from table(jobs, folder)
     for name, (head, section) in SECTIONS.items():
         found = [job for job in jobs if job.name == name]
         if found:

@@ -1,9 +1,9 @@
 #!/usr/bin/env python3
 """Sends every INS, with every length and every P1, to an application, and shows which answers are not 6D00.
 
-    tools/mel/scan.py DECK AID [--cla XX] [--but STATUS] [--longest N] [--whole]
+    mel scan DECK NAME [--cla XX] [--but STATUS] [--longest N] [--whole]
 
-The deck is played on a card, and AID selected. Each INS is sent with P1 and P2 of 0 and 0 to N bytes of data, all zeros, without and with an
+The deck is played on a card, and the application NAME selected: an AID in hexadecimal, or the name of a section. Each INS is sent with P1 and P2 of 0 and 0 to N bytes of data, all zeros, without and with an
 Le of 00; then with each other P1, without data and with the shortest and the longest data of each answer other than STATUS. With --whole each
 P1 is sent with each length, which takes minutes. Runs of lengths or of P1 with one answer are one line; what another P1 answers is shown where
 it is not what P1 00 answers. A card is new for each INS, and is reset before each command: what a command keeps in static bytes, as a try that
@@ -14,10 +14,11 @@ deck is refused.
 """
 
 import argparse
+import re
 import sys
 from typing import Dict, Iterator, List, Tuple
 
-from card import Card, ReaderEnded
+from card import Card, ReaderEnded, aid_of, text_of
 
 # The data bytes of a command, or None for one without any, and whether it has an Le.
 Length = Tuple[int, bool]
@@ -43,7 +44,7 @@ class Scan:
 
     def __init__(self, given: argparse.Namespace) -> None:
         self.given = given
-        aid = bytes.fromhex(given.aid)
+        aid = bytes.fromhex(aid_of(text_of(given.deck), given.aid))
         self.select = bytes.fromhex("00A4040C") + bytes([len(aid)]) + aid
 
     def answer(self, card: Card, ins: int, p1: int, length: Length) -> str:
@@ -97,17 +98,24 @@ def line(ins: int, p1: str, lengths: str, has_le: bool, word: str) -> str:
     return f"INS {ins:02X} P1 {p1} data {lengths}{' with Le' if has_le else ''}: {word}"
 
 
+def class_of(word: str) -> int:
+    """The class that a word of the command line is."""
+    if not re.fullmatch("[0-9A-Fa-f]{1,2}", word):
+        raise argparse.ArgumentTypeError(f"{word} is no class: it has two hexadecimal digits")
+    return int(word, 16)
+
+
 def main() -> int:
     words = argparse.ArgumentParser(description="Sends every INS, length and P1 to an application, and shows which answers are not 6D00.")
     words.add_argument("deck", metavar="DECK", help="the deck that is played first")
-    words.add_argument("aid", metavar="AID", help="the application, in hexadecimal")
-    words.add_argument("--cla", type=lambda word: int(word, 16), default=0x80, help="the class, in hexadecimal (80)")
+    words.add_argument("aid", metavar="NAME", help="the application: its AID in hexadecimal, or the name of its section")
+    words.add_argument("--cla", type=class_of, default=0x80, metavar="XX", help="the class, two hexadecimal digits (80)")
     words.add_argument("--but", default="6D00", help="the answer that is not shown (6D00)")
     words.add_argument("--longest", type=int, default=40, help="how many bytes of data are sent at the most, up to 255 (40)")
     words.add_argument("--whole", action="store_true", help="send each P1 with each length")
     given = words.parse_args()
-    if not 0 <= given.longest <= 255 or not 0 <= given.cla <= 255:
-        words.error("a class and a length are 0 to 255")
+    if not 0 <= given.longest <= 255:
+        words.error("--longest is 0 to 255")
     try:
         for text in Scan(given).lines():
             print(text, flush=True)

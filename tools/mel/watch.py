@@ -62,7 +62,7 @@ def taken(pid: int, seconds: float, written: Optional[int]) -> str:
     if written is None:
         written = numbers_of(read_proc(pid, "io")).get("wchar")
     if written is not None:
-        parts.append(f"written {written} bytes")
+        parts.append(f"written {written} byte{'' if written == 1 else 's'}")
     return ", ".join(parts)
 
 

@@ -71,6 +71,20 @@ def test_a_deck_has_no_names(card):
         card(TOP / "examples/counter.deck").static("count")
 
 
+def test_commands_are_hexadecimal_and_applications_are_named_by_their_sections(card):
+    purse = card(TOP / "examples" / "purse.draft")
+    name = next(line.split()[1:3] for line in (TOP / "examples" / "purse.draft").read_text(encoding="utf-8").splitlines() if line.startswith("app "))
+    assert purse.transmit(f"00A4 040C {len(name[1]) // 2:02X} {name[1]}") == b"\x90\x00"
+    assert purse.dump(name[0]) == purse.dump(name[1].lower()) is not None
+    with pytest.raises(ValueError, match=f"no section of the deck is named so; there are {name[0]}"):
+        purse.dump("wallet")
+    for wrong in ("80 5", "zz", "80 50 0000 02h"):
+        with pytest.raises(ValueError, match="whole bytes in hexadecimal"):
+            purse.transmit(wrong)
+    with pytest.raises(ValueError, match="two bytes at least"):
+        purse.transmit("80")
+
+
 def test_a_tear_names_bytes():
     shown = tear(DRAFT, 138, 10).stdout.splitlines()
     assert shown[0] == "line 138: apdu 80 40 0000 (00000123) 04"

@@ -61,6 +61,21 @@ def test_each_p1_is_sent_with_each_length(tmp_path):
             *(f"INS 07 P1 80-8F data {it} with Le: {word}" for it, word in ((0, "6700"), (1, "6700"), (2, "9000 and 1 byte")))]
 
 
+def test_an_application_is_named_by_its_section(tmp_path):
+    deck = tmp_path / "hidden.draft"
+    deck.write_text(HIDDEN.replace("load hidden 0 0", "load hidden"), encoding="utf-8")
+    found = run(deck, "hidden", "--longest", 0)
+    assert (found.returncode, found.stderr) == (0, "") and found.stdout == run(deck, "A000000101", "--longest", 0).stdout
+    assert "INS 07 P1 80-8F data 0: 6700" in found.stdout
+    other = run(deck, "hiden", "--longest", 0)
+    assert (other.returncode, other.stdout) == (2, "") and other.stderr.endswith("no section of the deck is named so; there are hidden\n")
+
+
+def test_a_class_that_is_none_is_a_sentence(tmp_path):
+    found = run(tmp_path / "no.deck", "hidden", "--cla", "zz")
+    assert found.returncode == 2 and "zz is no class: it has two hexadecimal digits" in found.stderr and "Traceback" not in found.stderr
+
+
 def test_runs():
     assert scan.runs_of([(1, "a"), (2, "a"), (4, "a"), (5, "b")]) == [("1-2", "a"), ("4", "a"), ("5", "b")]
 
@@ -69,6 +84,6 @@ def test_a_wrong_name_or_deck_is_status_2(tmp_path):
     deck = tmp_path / "hidden.deck"
     deck.write_text(HIDDEN, encoding="utf-8")
     assert run(deck, "A000000109").returncode == 2 and "cannot be selected" in run(deck, "A000000109").stderr
-    assert run(deck, "nothex").returncode == 2
+    assert run(deck, "nothex").returncode == 2 and "nothex is no AID" in run(deck, "nothex").stderr
     deck.write_text("nonsense\n", encoding="utf-8")
     assert "line 1 BadLine" in run(deck, "A000000101").stderr

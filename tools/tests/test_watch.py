@@ -20,7 +20,7 @@ import pytest
 from card import program_path
 
 WATCH = str(pathlib.Path(__file__).resolve().parent.parent / "mel" / "watch.py")
-LINE = re.compile(r"\d+ s, processor \d+ s, memory \d+ MiB, written \d+ bytes")
+LINE = re.compile(r"\d+ s, processor \d+ s, memory \d+ MiB, written \d+ bytes?")
 # Seven hundred thousand keys and more: some seconds of `mellab prove`.
 MANY = """format
 power

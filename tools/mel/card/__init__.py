@@ -15,10 +15,10 @@
 """
 
 from .cards import Card
-from .decks import Refused, deck_of, names_of, text_of
+from .decks import Refused, aid_of, deck_of, names_of, text_of
 from .programs import program_path
 from .readers import ATR, BUDGET, CUT, DONE, FAIL, POWER_OFF, RESET, Reader, ReaderEnded, framed, is_answered
 from .sessions import Session
 
 __all__ = ["ATR", "BUDGET", "CUT", "Card", "DONE", "FAIL", "POWER_OFF", "RESET", "Reader", "ReaderEnded", "Refused", "Session",
-           "deck_of", "framed", "is_answered", "names_of", "program_path", "text_of"]
+           "aid_of", "deck_of", "framed", "is_answered", "names_of", "program_path", "text_of"]

@@ -4,9 +4,9 @@ from __future__ import annotations
 
 import subprocess
 from types import TracebackType
-from typing import Optional, Type
+from typing import Optional, Type, Union
 
-from .decks import Path, names_of, opened
+from .decks import Path, aid_of, names_of, opened
 from .programs import program_path
 from .readers import ATR, BUDGET, CUT, DONE, FAIL, POWER_OFF, RESET, Reader, ReaderEnded
 
@@ -41,9 +41,18 @@ class Card:
         """Takes power away, until the next `reset`."""
         self.reader.send(POWER_OFF)
 
-    def transmit(self, command: bytes) -> bytes:
-        """The reply to a command: its data and its two status bytes; no bytes if the card gives no answer, since power was cut, no
-        card runs or it is mute."""
+    def transmit(self, command: Union[bytes, str]) -> bytes:
+        """The reply to a command, as bytes or in hexadecimal with blanks anywhere between bytes: its data and its two status bytes; no
+        bytes if the card gives no answer, since power was cut, no card runs or it is mute.
+
+        # Errors
+
+        ValueError, if the command is no hexadecimal, or has less than two bytes."""
+        if isinstance(command, str):
+            try:
+                command = bytes.fromhex(command)
+            except ValueError:
+                raise ValueError(f"a command is bytes, or whole bytes in hexadecimal, and {command!r} is neither") from None
         if len(command) < 2:
             raise ValueError("a command has two bytes at least")
         return self.reader.ask(bytes(command))
@@ -61,13 +70,13 @@ class Card:
         self._arm(BUDGET, n.to_bytes(4, "big"))
 
     def dump(self, aid: str) -> Optional[bytes]:
-        """The static bytes of an application, by its name in hexadecimal, or None if it is absent. `melcard` plays the session so far
-        and a line `dump`; the card itself is not asked.
+        """The static bytes of an application, by its AID in hexadecimal or the name of its section, or None if it is absent. `melcard`
+        plays the session so far and a line `dump`; the card itself is not asked.
 
         # Errors
 
-        ValueError, if no card runs: `reset` it first."""
-        return dumped(self.session(), aid)
+        ValueError, if no section of the deck has this name, or no card runs: `reset` it first."""
+        return dumped(self.session(), aid_of(self.reader.draft, aid))
 
     def static(self, name: str, section: Optional[str] = None) -> bytes:
         """The static bytes that a name of the draft stands for, as `dump` has them. `section` is one whose names are meant, if several have

@@ -4,6 +4,7 @@ from __future__ import annotations
 
 import json
 import os
+import re
 import subprocess
 from typing import IO, Any, Dict, List, Optional, Union
 
@@ -49,6 +50,20 @@ def deck_of(text: str) -> str:
     if done.returncode:
         raise Refused((done.stderr or done.stdout).decode(errors="replace").strip())
     return done.stdout.decode("utf-8", "surrogateescape")
+
+
+def aid_of(text: str, name: str) -> str:
+    """The AID of a name in hexadecimal: of 5 to 16 bytes in hexadecimal itself, else of the last section of a draft that is named so.
+
+    # Errors
+
+    ValueError, if the draft has no such section."""
+    if re.fullmatch("(?:[0-9A-Fa-f]{2}){5,16}", name):
+        return name.upper()
+    sections = {fields[1]: fields[2] for fields in map(str.split, text.splitlines()) if fields[:1] == ["app"] and len(fields) == 3}
+    if name not in sections:
+        raise ValueError(f"{name} is no AID, and no section of the deck is named so; there are {', '.join(sections) or 'none'}")
+    return sections[name].upper()
 
 
 def names_of(text: str) -> List[Dict[str, Any]]:

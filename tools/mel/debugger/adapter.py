@@ -261,7 +261,7 @@ class Adapter:
             return {"dataId": None, "description": str(why)}
         aid = spot.frame.aid if spot.frame is not None else ""
         return {"dataId": stops.watch_id(aid, found.address, len(found.content), name), "accessTypes": ["write"],
-                "description": f"{name}, {len(found.content)} bytes at {found.address:04X}", "canPersist": stops.is_kept(found.address)}
+                "description": f"{name}, {views.bytes_of(len(found.content))} at {found.address:04X}", "canPersist": stops.is_kept(found.address)}
 
     def watchable(self, expression: str, spot: Spot) -> Bytes:
         """Returns the bytes that an expression names."""
@@ -479,7 +479,7 @@ class Adapter:
             if said is not None:
                 return {"result": said.rstrip("\n"), "variablesReference": 0}
         value = value_of(text, spot.names())
-        more = {"memoryReference": hex(spot.depth * 0x10000 + value.address), "type": f"{len(value.content)} bytes"} \
+        more = {"memoryReference": hex(spot.depth * 0x10000 + value.address), "type": views.bytes_of(len(value.content))} \
             if isinstance(value, Bytes) else {"type": "number"}
         return {"result": views.value_text(value), "variablesReference": 0, **more}
 
@@ -582,13 +582,13 @@ class Adapter:
         """Does the word `watch`."""
         name = " ".join(rest)
         if not name:
-            return "\n".join(f"{it.name}: {it.size} bytes at {it.address:04X}" for it in self.stops.watches) or "no bytes are watched"
+            return "\n".join(f"{it.name}: {views.bytes_of(it.size)} at {it.address:04X}" for it in self.stops.watches) or "no bytes are watched"
         found = self.watchable(name, spot)
         data_id = stops.watch_id(spot.frame.aid if spot.frame else "", found.address, len(found.content), name)
         watch: Optional[Watch] = stops.watch_of(data_id, self.number(), "")
         if watch is not None:
             self.stops.watches.append(watch)
-        return f"{name}: {len(found.content)} bytes at {found.address:04X} are watched"
+        return f"{name}: {views.bytes_of(len(found.content))} at {found.address:04X} watched"
 
     def console_unwatch(self, rest: List[str]) -> str:
         """Does the word `unwatch`."""

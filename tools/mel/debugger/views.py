@@ -36,6 +36,11 @@ def text_of(content: bytes) -> str:
     return " ".join(parts)
 
 
+def bytes_of(count: int) -> str:
+    """Returns a number of bytes in words."""
+    return f"{count} byte" if count == 1 else f"{count} bytes"
+
+
 def value_text(value: Value) -> str:
     """Returns the value of an expression as it is shown."""
     if isinstance(value, Bytes):
@@ -50,7 +55,7 @@ def rows(state: State, depth: int, address: int, count: int, register: str, base
         content = state.read(depth, start, size)
         if content is not None:
             operand = f"{register}[{start - base}]"
-            yield Shown(operand, text_of(content), f"{size} bytes", f"{operand},{size}", start, size)
+            yield Shown(operand, text_of(content), bytes_of(size), f"{operand},{size}", start, size)
 
 
 def named(state: State, depth: int, section: Optional[Section], register: str, base: int, end: int) -> Iterator[Shown]:
@@ -88,7 +93,7 @@ def stack(state: State, depth: int) -> List[Shown]:
         if content is None:
             continue
         operand = f"DT[{it.start - frame.dt}]"
-        note = f"{it.end - it.start} bytes of {it.ins}" + (f", line {it.source}" if it.source else "")
+        note = f"{bytes_of(it.end - it.start)} of {it.ins}" + (f", line {it.source}" if it.source else "")
         found.append(Shown(operand, text_of(content), note, f"{operand},{it.end - it.start}", it.start, it.end - it.start))
         end = it.start
     if end > frame.floor:
