@@ -19,7 +19,8 @@ What a deck's statement is for the card:
 
 With --virtual the reader is melreader's, and takes cut, fail and budget as commands of class FF. Where a deck has a statement that cannot be
 done, its lines from there on are left out and counted, as are all lines of a deck with `poke`. `abend CC` is the answer 6FCC. What melcard
-answers with `off` or `mute` is not sent, nor is class FF, which PC/SC keeps for readers.
+answers with `off` or `mute` is sent to a program alone, since a host of a reader would wait for the answer. Class FF is not sent, since PC/SC
+keeps it for readers.
 
 It needs Python 3.9, `melcard`, and pyscard for PC/SC (Debian: python3-pyscard, for /usr/bin/python3). It ends with 1 if an answer differs, and
 with 2 if there is no such reader, card or deck.
@@ -61,8 +62,8 @@ class CannotDo(Exception):
 class ProgramCard:
     """The card of `melreader` itself."""
 
-    # It gives no power by itself.
-    was_pulled = False
+    # It gives no power by itself, and answers at once where a card in a reader would be waited for.
+    was_pulled, is_waited_for = False, False
 
     def __init__(self, program: Optional[str]) -> None:
         self.card = Card(program=program)
@@ -89,6 +90,8 @@ class ProgramCard:
 
 class PcscCard:
     """A card in a PC/SC reader."""
+
+    is_waited_for = True
 
     def __init__(self, name: str) -> None:
         try:
@@ -196,6 +199,7 @@ class Run:
         self.units: Dict[str, Unit] = units_of(lines)
         # The `cut` or `fail` that the next line to the card uses up.
         self.armed: Optional[List[str]] = None
+        self.had_power = False
 
     def shown(self, command: bytes) -> str:
         """The answer to a command, as a transcript has it."""
@@ -218,6 +222,7 @@ class Run:
         """Powers the card up, and sees whether it runs; it is not asked where it should not."""
         if self.given.reset is not None:
             hook(self.given.reset)
+        self.had_power = True
         self.device.reset()
         if not result.startswith("ready"):
             return answer_of(result)
@@ -289,7 +294,7 @@ class Run:
         for number, fields in statements(self.lines):
             result = results.get(number, "")
             # A card that does not run answers nothing, and a host that asks has to wait for it.
-            if result in ("off", "mute") and fields[0] != "power":
+            if result in ("off", "mute") and fields[0] != "power" and (self.device.is_waited_for or not self.had_power):
                 continue
             seen = self.statement(number, fields, result)
             if seen is not None:

@@ -34,7 +34,7 @@ def test_a_planted_fault_is_found_by_its_topic():
     done = run("mel/conform.py", "--program", FAULTY, "melreader", TOP / "conformance/commands", TOP / "conformance/machine")
     found = done.stdout.splitlines()
     assert done.returncode == 1
-    assert found[-1] == "machine: 10 decks, 462 answers, 0 differ" and found[-2].startswith("commands: ") and not found[-2].endswith(" 0 differ")
+    assert found[-1] == "machine: 10 decks, 477 answers, 0 differ" and found[-2].startswith("commands: ") and not found[-2].endswith(" 0 differ")
     assert all("the card answers 6986, and melcard 6985" in line for line in found[:-2])
 
 

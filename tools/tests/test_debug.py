@@ -242,7 +242,7 @@ def test_lines_without_code_move_a_breakpoint(client, draft):
 def test_wrong_requests_are_refused(client, draft):
     client.start(draft, line=FIRST)
     assert "no request" in client.refused("jump")
-    assert "malformed" in client.refused("scopes")
+    assert client.refused("scopes") == "scopes has no frameId"
     assert "no name" in client.refused("evaluate", expression="nothing", frameId=1)
     assert "not whole" in client.refused("evaluate", expression="SB[5],4", frameId=1)
     assert "no expression" in client.refused("evaluate", expression=None, frameId=1)

@@ -5,6 +5,7 @@ from __future__ import annotations
 import base64
 import os
 import re
+from dataclasses import dataclass
 from typing import Callable, Dict, List, Optional
 
 from desktexts import Play, Refused, Section, desk, sections_of
@@ -12,7 +13,9 @@ from labtexts import lines_of
 from units import statements
 
 from . import cuts, stops, views
+from .arguments import OF_A_PLAY, Wrong, address_of, check, hits_of
 from .expressions import BadExpression, Bytes, value_of
+from .forms import Form
 from .stack import CODE, Spot, instructions, memory, reference, spots
 from .stops import Breakpoint, Stop, Stops, Watch
 from .walk import Position, Walk, expectations_of
@@ -27,6 +30,9 @@ CAPABILITIES = {
     "exceptionBreakpointFilters": [{"filter": it, "label": text, "default": True} for it, text in stops.FILTERS.items()]}
 EXPLAINED = re.compile(r"(.*):(\d+):(\d+): (\w+): (.*)$")
 REFUSED = re.compile(r"line (\d+) \w+$")
+NUMBER, FILL = re.compile("[1-9][0-9]{0,8}"), re.compile("[0-9A-Fa-f]{16}")
+MOST_BYTES, MOST_INSTRUCTIONS = 1 << 16, 4096  # that one request reads
+LONGEST_DRAFT = (1 << 20) + 1  # bytes; a longer one is refused by meldesk, so the rest need not be read
 MOVES = ("continue", "next", "stepIn", "stepOut", "stepBack", "reverseContinue")
 # What is asked only of a play that stands still, besides moves.
 STANDING = ("evaluate", "cut", "whole", "restart", "launch", "configurationDone")
@@ -43,6 +49,24 @@ class Failed(Exception):
     """Why a request fails."""
 
 
+class NotPlayed(Failed):
+    """A play that has not begun."""
+
+    def __init__(self) -> None:
+        super().__init__("nothing was launched")
+
+
+@dataclass
+class Read:
+    """A draft that is played: its path and text, its sections, the lines of its statements, and what is expected of their results."""
+
+    path: str
+    draft: bytes
+    sections: List[Section]
+    lines: List[int]
+    expected: Dict[int, List[str]]
+
+
 class Adapter:
     """A session with one client."""
 
@@ -52,6 +76,9 @@ class Adapter:
         self.draft = b""
         self.sections: List[Section] = []
         self.statement_lines: List[int] = []
+        self.expected: Dict[int, List[str]] = {}
+        self.form = Form()
+        self.is_stopping = True
         self.walk: Optional[Walk] = None
         self.play: Optional[Play] = None
         self.whole: Optional[Position] = None
@@ -62,7 +89,7 @@ class Adapter:
         self.stopped: Optional[Stop] = None
         self.jumped: Optional[Stop] = None
         self.stop_on_entry = False
-        self.is_over = self.is_done = False
+        self.is_over = self.is_done = self.has_left = False
         self.told = 0
         self.numbers = 0
         self.refs: List[Callable[[], List[dict]]] = []
@@ -84,21 +111,24 @@ class Adapter:
 
     def handle(self, request: dict) -> None:
         """Answers one request."""
-        if request.get("type") != "request":
-            return
         name, given = request["command"], request.get("arguments") or {}
         self.jumped = None
         method = getattr(self, "on_" + name, None)
         if method is None:
-            self.wire.refuse(request, f"there is no request {name}")
+            self.wire.refuse(request, f"there is no request {name[:100]}")
             return
         try:
+            if name in OF_A_PLAY and self.walk is None:
+                raise NotPlayed
+            check(name, given)
             body = method(given)
-        except (Failed, Refused, BadExpression, cuts.NoCut) as why:
+        except (Failed, Refused, BadExpression, cuts.NoCut, Wrong) as why:
             self.wire.refuse(request, str(why))
             return
-        except (AttributeError, KeyError, IndexError, TypeError, ValueError) as why:
-            self.wire.refuse(request, f"{name} is malformed: {why!r}")
+        except BrokenPipeError:
+            raise
+        except Exception as why:  # a fault of the debugger ends no session
+            self.wire.refuse(request, f"{name} failed in the debugger: {type(why).__name__}: {why}")
             return
         self.wire.answer(request, body)
         if name in MOVES or name in ("configurationDone", "restart"):
@@ -115,73 +145,115 @@ class Adapter:
     # ---- the beginning and the end
 
     def on_initialize(self, given: dict) -> dict:
+        form = given.get("pathFormat") or "path"
+        if form not in ("path", "uri"):
+            raise Failed(f"pathFormat is path or uri, not {form[:100]}")
+        self.form = Form(0 if given.get("linesStartAt1") is False else 1, 0 if given.get("columnsStartAt1") is False else 1, form == "uri")
+        self.wire.form = self.form.shown
         return CAPABILITIES
 
     def on_launch(self, given: dict) -> None:
-        self.path = os.path.abspath(given["program"])
-        self.line = given.get("line")
-        self.stop_on_entry = bool(given.get("stopOnEntry"))
+        named = os.environ.get("MELDESK")
         if given.get("meldesk"):
             os.environ["MELDESK"] = given["meldesk"]
-        self.load()
+        try:
+            self.load(os.path.abspath(self.form.path(given["program"])), given.get("line"))
+        except (Failed, Refused):
+            if named is not None:
+                os.environ["MELDESK"] = named
+            else:
+                os.environ.pop("MELDESK", None)
+            raise
+        self.line, self.stop_on_entry = given.get("line"), bool(given.get("stopOnEntry"))
+        self.is_stopping = not given.get("noDebug")
 
     def on_restart(self, given: dict) -> None:
-        self.load()
+        self.load(self.path)
 
-    def load(self) -> None:
-        """Reads the draft and begins to play it."""
+    def load(self, path: str, line: Optional[int] = None) -> None:
+        """Reads a draft and begins to play it. One that is refused leaves the play that there is as it was."""
+        found = self.read(path)
+        if line is not None and line not in found.lines:
+            raise Failed(f"{os.path.basename(path)}: line {line} is no statement")
+        play = self.played(found.draft)
+        self.path, self.draft, self.sections, self.statement_lines, self.expected = found.path, found.draft, found.sections, found.lines, found.expected
+        self.whole, self.told, self.is_over = None, 0, False
+        self.use(play, lambda it: it, found.expected)
+
+    def read(self, path: str) -> Read:
+        """Reads a draft.
+
+        # Errors
+
+        Failed, if it cannot be read or is refused.
+        """
+        name = os.path.basename(path)
         try:
-            with open(self.path, "rb") as file:
-                self.draft = file.read()
-            is_told = self.explain()
-            self.sections = sections_of(self.draft)
-            deck = lines_of(desk(["deck"], self.draft))
+            if os.path.exists(path) and not os.path.isfile(path):
+                raise Failed(f"{name} is no file")
+            with open(path, "rb") as file:
+                draft = file.read(LONGEST_DRAFT)
+            is_told = self.explain(path, draft)
+            sections, deck = sections_of(draft), lines_of(desk(["deck"], draft))
         except OSError as error:
-            raise Failed(str(error)) from None
+            raise Failed(f"{error.filename or name}: {error.strerror or error}") from None
+        except ValueError:
+            raise Failed("program is no path of a file") from None
         except Refused as why:
             refused = REFUSED.match(why.text)
             if refused and not is_told:
-                self.console(f"{why}\n", "stderr", source=self.source(), line=int(refused.group(1)))
-            raise Failed(f"{os.path.basename(self.path)}: {why}") from None
-        self.statement_lines = [number for number, _ in statements(deck)]
-        self.whole, self.told, self.is_over = None, 0, False
-        self.begin(self.draft, lambda it: it, expectations_of(deck, self.statement_lines))
+                self.console(f"{why}\n", "stderr", source=source_of(path), line=int(refused.group(1)))
+            raise Failed(f"{name}: {why}") from None
+        lines = [number for number, _ in statements(deck)]
+        return Read(path, draft, sections, lines, expectations_of(deck, lines))
 
-    def begin(self, draft: bytes, line_of: Callable[[int], int], expected: Dict[int, List[str]]) -> None:
-        """Begins to play a draft."""
-        self.close()
-        self.play = Play(draft)
-        self.walk = Walk(self.play, self.sections, line_of, expected)
-        self.position, self.stopped = Position(0, 0), None
+    def played(self, draft: bytes) -> Play:
+        """Begins to play a draft.
 
-    def explain(self) -> bool:
-        """Writes all that is wrong with the draft, each with its line, and returns whether anything but warnings is."""
-        is_told, name = False, os.path.basename(self.path)
+        # Errors
+
+        Failed, if there is no such program.
+        """
         try:
-            text = desk(["explain", name], self.draft)
+            return Play(draft)
+        except OSError as error:
+            raise Failed(str(error)) from None
+
+    def use(self, play: Play, line_of: Callable[[int], int], expected: Dict[int, List[str]]) -> None:
+        """Goes to the beginning of a play, in place of the one that there is."""
+        self.close()
+        self.play = play
+        self.walk = Walk(play, self.sections, line_of, expected)
+        self.position, self.stopped = Position(0, 0), None
+        self.refs, self.shown = [], []
+
+    def explain(self, path: str, draft: bytes) -> bool:
+        """Writes all that is wrong with a draft, each with its line, and returns whether anything but warnings is."""
+        is_told, name = False, os.path.basename(path)
+        try:
+            text = desk(["explain", name], draft)
         except Refused as why:
             text = why.text
         for line in text.splitlines():
             found = EXPLAINED.match(line)
             if found:
                 is_told = is_told or found.group(4) != "warning"
-                self.console(line + "\n", "console" if found.group(4) == "warning" else "stderr", source=self.source(),
+                self.console(line + "\n", "console" if found.group(4) == "warning" else "stderr", source=source_of(path),
                              line=int(found.group(2)), column=int(found.group(3)))
         return is_told
 
     def on_configurationDone(self, given: dict) -> None:
-        if self.walk is None:
-            raise Failed("nothing was launched")
+        """Lets the play begin, which `handle` does after its answer."""
 
     def on_disconnect(self, given: dict) -> None:
-        self.is_done = True
+        self.is_done = self.has_left = True
 
     def on_terminate(self, given: dict) -> None:
         self.wire.event("terminated")
 
     def source(self) -> dict:
         """Returns the draft, as the protocol names it."""
-        return {"name": os.path.basename(self.path), "path": self.path}
+        return source_of(self.path)
 
     # ---- breakpoints
 
@@ -192,9 +264,15 @@ class Adapter:
 
     def made(self, given: dict, **where: object) -> Breakpoint:
         """Returns the breakpoint that was asked for."""
-        count = re.search(r"\d+", given.get("hitCondition") or "")
         return Breakpoint(self.number(), condition=given.get("condition") or "", message=given.get("logMessage") or "",
-                          count=int(count.group()) if count else 0, **where)  # type: ignore[arg-type]
+                          count=hits_of(given.get("hitCondition")) or 0, **where)  # type: ignore[arg-type]
+
+    def wrong_hits(self, given: dict) -> Optional[dict]:
+        """Returns what is answered of a breakpoint whose hit condition is none, or None."""
+        text = given.get("hitCondition")
+        if hits_of(text) is not None:
+            return None
+        return {"verified": False, "message": f"the hit condition {text[:100]} is no number"}
 
     def lines_with_code(self) -> List[int]:
         """Returns the lines on which a run may stop."""
@@ -203,21 +281,25 @@ class Adapter:
     def on_setBreakpoints(self, given: dict) -> dict:
         asked = given.get("breakpoints")
         asked = [{"line": it} for it in given.get("lines", [])] if asked is None else asked
-        path = given["source"].get("path") or ""
-        if os.path.realpath(path) != os.path.realpath(self.path):
-            return {"breakpoints": [{"verified": False, "message": f"{os.path.basename(self.path)} is what is played"} for _ in asked]}
+        path = self.form.path(given["source"].get("path") or "").replace("\0", "")
+        if self.path == "" or os.path.realpath(path) != os.path.realpath(self.path):
+            played = f"{os.path.basename(self.path)} is what is played" if self.path else "nothing was launched"
+            return {"breakpoints": [{"verified": False, "message": played} for _ in asked]}
         self.stops.lines, told, lines = [], [], self.lines_with_code()
         for it in asked:
-            line = next((at for at in lines if at >= it["line"]), None)
-            if line is None:
-                told.append({"verified": False, "message": "there is no code from this line on"})
+            asked_line = self.form.line(it["line"])
+            line = next((at for at in lines if at >= asked_line), None)
+            if line is None or asked_line < 1 or self.wrong_hits(it):
+                told.append(self.wrong_hits(it) or {"verified": False, "message": "there is no code from this line on" if asked_line > 0
+                                                    else "there is no such line"})
                 continue
             self.stops.lines.append(self.made(it, line=line))
             told.append({"id": self.numbers, "verified": True, "line": line, "source": self.source()})
         return {"breakpoints": told}
 
     def on_breakpointLocations(self, given: dict) -> dict:
-        first, last = given["line"], given.get("endLine", given["line"])
+        first = self.form.line(given["line"])
+        last = first if given.get("endLine") is None else self.form.line(given["endLine"])
         return {"breakpoints": [{"line": it} for it in self.lines_with_code() if first <= it <= last]}
 
     def on_setFunctionBreakpoints(self, given: dict) -> dict:
@@ -226,8 +308,8 @@ class Adapter:
             front, _, label = it["name"].rpartition(".")
             found = [(section, section.labels[label]) for section in self.sections if label in section.labels and front in ("", section.name)]
             found = found or [(section, 0) for section in self.sections if section.name == it["name"]]
-            if not found:
-                told.append({"verified": False, "message": f"there is no label {it['name']}"})
+            if not found or self.wrong_hits(it):
+                told.append(self.wrong_hits(it) or {"verified": False, "message": f"there is no label {it['name'][:100]}"})
                 continue
             section, place = found[0]
             self.stops.functions.append(self.made(it, section=section, place=place))
@@ -238,10 +320,12 @@ class Adapter:
     def on_setInstructionBreakpoints(self, given: dict) -> dict:
         self.stops.places, told = [], []
         for it in given["breakpoints"]:
-            index, place = divmod(int(it["instructionReference"], 0) + it.get("offset", 0) - CODE, 0x10000)
+            index, place = divmod(address_of("setInstructionBreakpoints", it, "instructionReference") - CODE, 0x10000)
             section = self.sections[index] if 0 <= index < len(self.sections) else None
             code = section.at(place) if section else None
-            if section and code and code.place == place:
+            if self.wrong_hits(it):
+                told.append(self.wrong_hits(it))
+            elif section and code and code.place == place:
                 self.stops.places.append(self.made(it, section=section, place=place))
                 told.append({"id": self.numbers, "verified": True, "line": code.line, "source": self.source()})
             else:
@@ -249,11 +333,12 @@ class Adapter:
         return {"breakpoints": told}
 
     def on_setExceptionBreakpoints(self, given: dict) -> None:
-        self.stops.filters = set(given.get("filters", [])) & set(stops.FILTERS)
+        self.stops.filters = set(given.get("filters") or []) & set(stops.FILTERS)
 
     def on_dataBreakpointInfo(self, given: dict) -> dict:
-        name, ref = given["name"], given.get("variablesReference")
-        shown = next((it for it in (self.shown[ref - 1] if ref else []) if it.name == name), None)
+        name, ref = given["name"], given.get("variablesReference") or 0
+        lines = self.shown[ref - 1] if 1 <= ref <= len(self.shown) else []
+        shown = next((it for it in lines if it.name == name), None)
         try:
             spot = self.spot(given.get("frameId"))
             found = self.watchable(shown.expression if shown is not None else name, spot)
@@ -285,8 +370,7 @@ class Adapter:
         return {"allThreadsContinued": True}
 
     def _move(self, given: dict) -> None:
-        if self.walk is None:
-            raise Failed("nothing was launched")
+        """Moves, which `handle` does after the answer."""
 
     on_next = on_stepIn = on_stepOut = on_stepBack = on_reverseContinue = _move
 
@@ -296,20 +380,31 @@ class Adapter:
     def move(self, name: str) -> None:
         """Goes to where a request leads, and says where that is."""
         if name == "continue" and self.is_over:
-            self.wire.event("terminated")
-            self.wire.event("exited", exitCode=0)
+            self.leave()
             return
         try:
-            self.stop(self.enter() if name == "entry" else self.run(name))
-        except Refused as why:
-            self.console(f"{why}\n", "stderr")
+            found = self.enter() if name == "entry" else self.run(name)
+        except (Refused, ValueError) as why:
+            self.console(f"{why}\n" if isinstance(why, Refused) else "meldesk ended while it wrote\n", "stderr")
             self.wire.event("terminated")
+            return
+        if self.is_over and not self.is_stopping:
+            self.leave()
+        else:
+            self.stop(found)
+
+    def leave(self) -> None:
+        """Says that the play is over."""
+        self.wire.event("terminated")
+        self.wire.event("exited", exitCode=0)
 
     def enter(self) -> Optional[Stop]:
         """Goes to where the launch asked for: a line's first turn, the first statement, or the first breakpoint."""
         assert self.walk is not None and self.play is not None
         if self.play.statement(0) is None:
             raise Refused("the draft has no statement", 1)
+        if not self.is_stopping:
+            return self.run("continue")
         if self.line is not None:
             self.go_to(self.line)
             return Stop("entry", f"line {self.line}")
@@ -344,7 +439,7 @@ class Adapter:
                             "the beginning of the play" if is_back else "the end of the play")
             self.position, self.is_over = found, False
             self.tell()
-            stop = self.stops.at(self.walk, found, is_back) or self.stepped(name, start)
+            stop = (self.stops.at(self.walk, found, is_back) if self.is_stopping else None) or self.stepped(name, start)
             if stop is not None:
                 return stop
             steps += 1
@@ -381,6 +476,7 @@ class Adapter:
                 self.wire.refuse(request, "the play runs")
             else:
                 self.handle(request)
+        self.is_done = self.is_done or self.wire.has_ended
         return self.is_done
 
     def tell(self, is_end: bool = False) -> None:
@@ -417,17 +513,19 @@ class Adapter:
     def spots(self) -> List[Spot]:
         """Returns the frames of the stack trace, the running one first."""
         if self.walk is None:
-            raise Failed("nothing was launched")
+            raise NotPlayed
         return spots(self.walk, self.position)
 
     def spot(self, number: Optional[int]) -> Spot:
         """Returns a frame by the number that the client has of it; the running one without."""
         found = self.spots()
+        if not 1 <= (number or 1) <= len(found):
+            raise Failed(f"there is no frame {number}")
         return found[(number or 1) - 1]
 
     def on_stackTrace(self, given: dict) -> dict:
         found = self.spots()
-        first, count = given.get("startFrame", 0), given.get("levels") or len(found)
+        first, count = max(given.get("startFrame") or 0, 0), max(given.get("levels") or 0, 0) or len(found)
         frames = []
         for number, it in enumerate(found[first:first + count], first + 1):
             frame = {"id": number, "name": it.name, "line": it.line or 0, "column": 1 if it.line else 0}
@@ -466,13 +564,13 @@ class Adapter:
         return {"scopes": scopes}
 
     def on_variables(self, given: dict) -> dict:
-        found = self.refs[given["variablesReference"] - 1]()
-        start = given.get("start") or 0
-        return {"variables": found[start:start + (given.get("count") or len(found))]}
+        number = given["variablesReference"]
+        if not 1 <= number <= len(self.refs):
+            raise Failed(f"there are no variables {number}")
+        found, start = self.refs[number - 1](), max(given.get("start") or 0, 0)
+        return {"variables": found[start:start + (max(given.get("count") or 0, 0) or len(found))]}
 
     def on_evaluate(self, given: dict) -> dict:
-        if not isinstance(given["expression"], str):
-            raise BadExpression("no expression")
         text, spot = given["expression"].strip(), self.spot(given.get("frameId"))
         if given.get("context") == "repl":
             said = self.order(text.split(), spot)
@@ -484,13 +582,17 @@ class Adapter:
         return {"result": views.value_text(value), "variablesReference": 0, **more}
 
     def on_readMemory(self, given: dict) -> dict:
-        address = int(given["memoryReference"], 0) + given.get("offset", 0)
-        start, content = memory(self.walk, self.position, address, given["count"])
-        return {"address": hex(start), "data": base64.b64encode(content).decode(), "unreadableBytes": given["count"] - len(content)}
+        address, count = address_of("readMemory", given, "memoryReference"), given["count"]
+        if count < 0:
+            raise Failed("count of readMemory is negative")
+        start, content = memory(self.walk, self.position, address, min(count, MOST_BYTES))
+        return {"address": hex(start), "data": base64.b64encode(content).decode(), "unreadableBytes": count - len(content)}
 
     def on_disassemble(self, given: dict) -> dict:
-        address = int(given["memoryReference"], 0) + given.get("offset", 0)
-        return {"instructions": instructions(self.sections, address, given.get("instructionOffset", 0), given["instructionCount"], self.source())}
+        address, count = address_of("disassemble", given, "memoryReference"), given["instructionCount"]
+        if not 0 <= count <= MOST_INSTRUCTIONS:
+            raise Failed(f"disassemble writes at most {MOST_INSTRUCTIONS} instructions")
+        return {"instructions": instructions(self.sections, address, given.get("instructionOffset") or 0, count, self.source())}
 
     # ---- cuts and the words of the console
 
@@ -507,7 +609,10 @@ class Adapter:
         return spot.section is not None and word in spot.section.names
 
     def on_cut(self, given: dict) -> dict:
-        text = self.play_cut(given.get("write"), given.get("fill") or cuts.FILL)
+        fill = given.get("fill") or cuts.FILL
+        if given.get("write") is not None and given["write"] < 1 or not FILL.fullmatch(fill):
+            raise Failed("cut has in write the number of a device write, and in fill 8 bytes")
+        text = self.play_cut(given.get("write"), fill)
         assert self.cut is not None
         return {"text": text, "line": self.cut.line, "write": self.cut.write, "before": self.cut.before, "after": self.cut.after,
                 "cut": self.cut.cut}
@@ -517,7 +622,7 @@ class Adapter:
 
     def console_cut(self, rest: List[str]) -> str:
         """Does the word `cut`."""
-        if len(rest) > 2 or rest and not rest[0].isdigit() or rest[1:] and not re.fullmatch("[0-9A-Fa-f]{16}", rest[1]):
+        if len(rest) > 2 or rest and not NUMBER.fullmatch(rest[0]) or rest[1:] and not FILL.fullmatch(rest[1]):
             raise Failed("cut [K [FILL]]: K is a device write, FILL 8 bytes")
         return self.play_cut(int(rest[0]) if rest else None, rest[1] if rest[1:] else cuts.FILL)
 
@@ -533,9 +638,9 @@ class Adapter:
         frames = self.walk.state(self.position).frames
         selected = frames[0].aid if frames and statement.turns else None
         made = cuts.cut_at(self.draft, statement.line, write, fill, selected)
-        number = self.position.statement
+        number, play = self.position.statement, self.played(made.draft)
         self.cut, self.whole = made, self.position
-        self.begin(made.draft, made.line_of, {})
+        self.use(play, made.line_of, {})
         self.go_after_cut(number, selected)
         self.jumped = Stop("goto", f"power was cut in write {made.write}")
         return cuts.report(made, self.sections)
@@ -557,17 +662,16 @@ class Adapter:
         """Goes back to the play without a cut, to where it was cut."""
         if self.whole is None:
             raise Failed("this play has no cut")
-        position, self.whole = self.whole, None
-        deck = lines_of(desk(["deck"], self.draft))
-        self.begin(self.draft, lambda it: it, expectations_of(deck, self.statement_lines))
+        play, position, self.whole = self.played(self.draft), self.whole, None
+        self.use(play, lambda it: it, self.expected)
         self.position, self.told = position, position.statement
         self.jumped = Stop("goto", "the play without a cut")
         return "the play without a cut"
 
     def console_goto(self, rest: List[str]) -> str:
         """Does the word `goto`."""
-        if len(rest) != 1 or not rest[0].isdigit():
-            raise Failed("goto LINE")
+        if len(rest) != 1 or not NUMBER.fullmatch(rest[0]):
+            raise Failed("goto LINE: LINE is the number of a statement's line")
         self.go_to(int(rest[0]))
         self.jumped = Stop("goto", f"line {rest[0]}")
         return f"line {rest[0]}"
@@ -594,3 +698,8 @@ class Adapter:
         """Does the word `unwatch`."""
         self.stops.watches = [it for it in self.stops.watches if rest and it.name != " ".join(rest)]
         return f"{len(self.stops.watches)} watched"
+
+
+def source_of(path: str) -> dict:
+    """Returns a draft, as the protocol names it."""
+    return {"name": os.path.basename(path), "path": path}

@@ -10,13 +10,15 @@ from __future__ import annotations
 import ast
 import operator
 import re
+import warnings
 from dataclasses import dataclass
-from typing import Callable, Dict, Optional, Union
+from typing import Callable, Dict, List, Optional, Union
 
 from desktexts import HEADER, REGISTERS, Section, State
 
 OPERAND = re.compile(r"\b(SB|ST|DB|LB|DT|PB|PT)\[\s*(-?\d+)\s*\](?:,(\d+))?")
 TOKEN = re.compile(r"0[xX][0-9A-Fa-f]+|\d+|[A-Za-z_]\w*")
+LONGEST, DEEPEST, WIDEST = 1000, 50, 4096  # characters of an expression, levels of it, and bits of a number
 # The form in which a name is no word of Python's, which reads the expression.
 MARK = "name_"
 BINARY: Dict[type, Callable] = {
@@ -101,15 +103,27 @@ def parsed(text: str) -> ast.expr:
 
     BadExpression, if it is none.
     """
+    if len(text) > LONGEST:
+        raise BadExpression(f"an expression has at most {LONGEST} characters")
     marked = OPERAND.sub(lambda it: f"{it.group(1)}[{it.group(2)}:{it.group(3) or 1}]", text.strip())
     marked = re.sub(r"!(?!=)", " not ", marked.replace("&&", " and ").replace("||", " or "))
     marked = TOKEN.sub(lambda it: it.group() if it.group()[0].isdigit() or it.group() in ("and", "or", "not") else MARK + it.group(), marked)
     # A decimal number may have leading zeros.
     marked = re.sub(r"(?<![\w.])0+(?=\d)", "", marked)
     try:
-        return ast.parse(marked, mode="eval").body
+        with warnings.catch_warnings():
+            warnings.simplefilter("ignore")
+            found = ast.parse(marked, mode="eval").body
     except (SyntaxError, ValueError):
-        raise BadExpression(f"{text.strip()} is no expression") from None
+        raise BadExpression(f"{text.strip() or 'nothing'} is no expression") from None
+    except (RecursionError, MemoryError):
+        raise BadExpression(f"an expression is at most {DEEPEST} levels deep") from None
+    level: List[ast.AST] = [found]
+    for _ in range(DEEPEST):
+        level = [part for it in level for part in ast.iter_child_nodes(it)]
+        if not level:
+            return found
+    raise BadExpression(f"an expression is at most {DEEPEST} levels deep")
 
 
 def value_of(text: str, names: Names) -> Value:
@@ -121,8 +135,12 @@ def value_of(text: str, names: Names) -> Value:
     """
     try:
         return _value(parsed(text), names)
-    except (ZeroDivisionError, OverflowError, ValueError, MemoryError) as error:
-        raise BadExpression(str(error)) from None
+    except ZeroDivisionError:
+        raise BadExpression("a number is divided by zero") from None
+    except ValueError:
+        raise BadExpression("a number is shifted by less than zero") from None
+    except (OverflowError, MemoryError):
+        raise BadExpression(f"a number has at most {WIDEST} bits") from None
 
 
 def _name(node: ast.expr) -> Optional[str]:
@@ -140,10 +158,10 @@ def _operand(node: ast.Subscript, names: Names) -> Bytes:
 def _sum(node: ast.BinOp, names: Names) -> Optional[Bytes]:
     """The bytes of `name+K`, which has no blank, as in a draft: K places further."""
     name = _name(node.left)
-    if not (isinstance(node.op, ast.Add) and name and isinstance(node.right, ast.Constant)) or \
+    if not (isinstance(node.op, ast.Add) and name and isinstance(node.right, ast.Constant) and isinstance(node.right.value, int)) or \
             node.right.col_offset != (node.left.end_col_offset or 0) + 1:
         return None
-    found, further = names.place(name), int(node.right.value)  # type: ignore[arg-type]
+    found, further = names.place(name), node.right.value
     return Bytes(found.address + further, found.content[further:]) if found is not None and further < len(found.content) else None
 
 
@@ -160,12 +178,20 @@ def _value(node: ast.expr, names: Names) -> Value:
     if isinstance(node, ast.Subscript):
         return _operand(node, names)
     if isinstance(node, ast.BinOp):
-        shift = isinstance(node.op, ast.LShift) and int(_value(node.right, names)) > 4096
-        if type(node.op) not in BINARY or shift:
-            raise BadExpression("no such operator")
+        if type(node.op) not in BINARY:
+            raise BadExpression("there is no such operator")
         found = _sum(node, names)
-        return found if found is not None else BINARY[type(node.op)](int(_value(node.left, names)), int(_value(node.right, names)))
+        return found if found is not None else _calculated(node.op, int(_value(node.left, names)), int(_value(node.right, names)))
     return _truth(node, names)
+
+
+def _calculated(op: ast.operator, left: int, right: int) -> int:
+    if isinstance(op, ast.LShift) and right > WIDEST:
+        raise OverflowError
+    found: int = BINARY[type(op)](left, right)
+    if found.bit_length() > WIDEST:
+        raise OverflowError
+    return found
 
 
 def _truth(node: ast.expr, names: Names) -> Value:
@@ -177,4 +203,4 @@ def _truth(node: ast.expr, names: Names) -> Value:
     if isinstance(node, ast.Compare) and all(type(it) in COMPARED for it in node.ops):
         parts = [int(_value(it, names)) for it in (node.left, *node.comparators)]
         return int(all(COMPARED[type(op)](parts[at], parts[at + 1]) for at, op in enumerate(node.ops)))
-    raise BadExpression("no such operator")
+    raise BadExpression("this is no part of an expression")

@@ -2,6 +2,7 @@
 
 from __future__ import annotations
 
+import re
 from dataclasses import dataclass, field
 from typing import Callable, Dict, List, Optional, Set, Tuple
 
@@ -174,7 +175,7 @@ def watch_id(aid: str, address: int, size: int, name: str) -> str:
 def watch_of(data_id: str, number: int, condition: str) -> Optional[Watch]:
     """Returns the watch of such a name, or None if it is none."""
     fields = data_id.split(":", 3)
-    if len(fields) != 4 or not fields[1].isdigit() or not fields[2].isdigit():
+    if len(fields) != 4 or not all(re.fullmatch("[0-9]{1,6}", it) for it in fields[1:3]):
         return None
     return Watch(number, fields[0], int(fields[1]), int(fields[2]), fields[3], condition)
 
