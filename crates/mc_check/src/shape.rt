@@ -27,7 +27,7 @@ pub struct Counts {
 }
 
 /// An instruction at a place, and the place after it.
-#[derive(Clone, Copy, Debug, PartialEq, Eq)]
+#[derive(Clone, Copy, Debug)]
 pub struct Seen {
     pub ins: Ins,
     pub next: u16,

@@ -16,7 +16,7 @@ const PLACES: usize = 256;
 const NOWHERE: u32 = 0x10000;
 
 /// An instruction, its code address, and the address after it.
-#[derive(Clone, Copy, Debug, PartialEq, Eq)]
+#[derive(Clone, Copy, Debug)]
 pub struct Known {
     pub at: u32,
     pub next: u16,

@@ -89,7 +89,7 @@ pub struct Turn {
 
 /// A turn without the bytes of its reply: as `Turn`, but of a reply it says only that the chain ends with it. The reply
 /// is in the public segment of the chain, or in the place that it was written to.
-#[derive(Clone, Copy, Debug, PartialEq, Eq)]
+#[derive(Clone, Copy, Debug)]
 pub struct BriefTurn {
     pub depth: u8,
     pub at: u16,
@@ -128,7 +128,7 @@ pub enum End {
 }
 
 // The record of a turn, without its place.
-#[derive(Clone, Copy, Debug, PartialEq, Eq)]
+#[derive(Clone, Copy, Debug)]
 pub struct Step {
     pub ins: Option<Ins>,
     pub dt: u16,

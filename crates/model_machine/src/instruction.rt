@@ -13,7 +13,7 @@ pub enum DecodeFault {
 /// One instruction. A tag of an address is 0 for the top of the stack, then 1 to 7 for SB, ST, DB, LB, DT, PB, PT;
 /// an offset is 0 if the tag is 0. A condition is 1 to 7 for EQ, LT, LE, GT, GE, NE, ALL, and 0 for an address
 /// from the stack.
-#[derive(Clone, Copy, Debug, PartialEq, Eq)]
+#[derive(Clone, Copy, Debug)]
 pub enum Ins {
     Nop,
     Setsw { sw: u16 },
