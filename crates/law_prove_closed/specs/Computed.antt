@@ -1,4 +1,4 @@
--- The text of a deck's proof, for rows that compute it.
+-- Whether the tables of a deck are closed, for rows that compute it.
 use Rattle.std.specs.Prelude.{ℕ, Bool, false, List, ◌++◌, codes, Option, Some, None, Result, Ok, Err}
 use Rattle.law_prove_commands.specs.model_rules.specs.Rules.{AppRules, Target}
 use Rattle.law_prove_commands.specs.model_prove.specs.Arrivals.{Setting}
@@ -15,12 +15,7 @@ use Rattle.law_prove_commands.specs.model_play.specs.DeckGrammar.{deck_read}
 use Rattle.law_prove_commands.specs.model_rules.specs.model_events.specs.Matching.{fits}
 use Rattle.law_prove_commands.specs.model_rule_text.specs.Reading.{RuleCause, app_rules_read}
 use Rattle.law_prove_commands.specs.model_prove.specs.Tables.{is_closed}
-use Rattle.law_prove_closed.specs.Search.{tables_after, prove_text, text_of_read}
-
--- the text of the proof of a deck's text, after at most n steps of the search
-unfoldable pub proof_of : ℕ → List ℕ → Result (List ℕ) (ℕ × RuleCause)
-unfolding digits name_of apdu_read touched_words bytes_at write_effect too_many later_causes causes shape prim_shape turn_line deck_read fits app_rules_read prove_text
-proof_of n text = text_of_read n (app_rules_read text)
+use Rattle.law_prove_closed.specs.Search.{tables_after}
 
 -- an application of some lines of assembly with some numbers of static and session bytes, loaded, and some rules
 abbrev pub deck_of : List ℕ → List ℕ → List ℕ → List ℕ
@@ -33,12 +28,6 @@ counter_deck =
     ++ codes "load counter 2 0\nselect A000000001\napdu 8001000002\n#@ app counter\n#@ allow step 0\n#@ on command * allow step 1\n"
     ++ codes "#@ on turn 1*INCN SB[0],2* spend step 1\n#@ allow done 0\n#@ on command * allow done 0\n#@ on turn *INCN SB[0],2* allow done 1\n"
     ++ codes "#@ on answer * gives *9000 need done 1\n#@ never abend\n"
-
--- the text of its proof
-abbrev pub counter_text : List ℕ
-counter_text =
-    codes "idle step 0 done 0: SB[0] 00 SB[1] 00\nidle step 0 done 1:\nidle step 1 done 0:\nidle step 1 done 1:\n"
-    ++ codes "session step 0 done 0: SB[0] 00 SB[1] 00\nsession step 0 done 1:\nsession step 1 done 0:\nsession step 1 done 1:\nproved keys 31\n"
 
 -- whether the tables after at most n steps of the search are closed
 abbrev pub closed_for : ℕ → AppRules → Option Target → Bool
