@@ -1,4 +1,2 @@
 pub mod SummedLemmas
 pub mod FirstDeck
-pub mod SecondDeck
-pub mod LastDeck
