@@ -16,11 +16,11 @@ use Rattle.mc_text.specs.Texts.{sunk}
 use Rattle.mc_machine.specs.declared.outcome.BriefTurn.{BriefTurn}
 use Rattle.mc_card.specs.declared.card.Card.{Card}
 use Rattle.mc_card.specs.Parts.{RunsChain}
-use Rattle.desk_json.specs.law_steps.specs.Nexts.{open_by}
-use Rattle.desk_json.specs.law_steps.specs.Writes.{chain_span, moves_in, waits_of}
-use Rattle.desk_json.specs.law_steps.specs.Readings.{Reading, first_sets, reading_of, sets_between, turn_sets}
+use Rattle.law_steps.specs.Nexts.{open_by}
+use Rattle.law_steps.specs.Writes.{chain_span, moves_in, waits_of}
+use Rattle.law_steps.specs.Readings.{Reading, first_sets, reading_of, sets_between, turn_sets}
 use Rattle.desk_cover.specs.Looking.{Shows}
-use Rattle.desk_json.specs.Sheets.{PutsOn}
+use Rattle.desk_steps.specs.Sheets.{PutsOn}
 use Rattle.desk_steps.specs.declared.recording.Recorder.{Recorder}
 use Rattle.desk_steps.specs.declared.shot.Shot.{Shot}
 use Rattle.desk_steps.specs.Counted.{count_after, moves_by_shots, waits_by_shots, writes_after}

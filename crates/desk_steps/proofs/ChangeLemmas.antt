@@ -1,7 +1,7 @@
 -- The runs of three segments, and the lines of frames.
 use Rattle.std.proofs.Common.{◌≡◌, ℕ, Bool, true, List, [], ◌∷◌, ◌++◌, None, refl, sym, ap, ◌∙◌, append_assoc, append-nil, codes}
-use Rattle.desk_json.specs.Json.{any_run, runs_more}
-use Rattle.desk_json.proofs.RunLemmas.{more_append}
+use Rattle.desk_steps.specs.Json.{any_run, runs_more}
+use Rattle.desk_steps.proofs.RunLemmas.{more_append}
 use Rattle.desk_steps.specs.Lines.{aid_key, command_key, number_key, sets_key}
 
 -- ---- runs of three segments

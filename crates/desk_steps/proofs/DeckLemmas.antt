@@ -13,8 +13,8 @@ use Rattle.mc_streams.specs.declared.sink.Sink.{Ghosts}
 use Rattle.mc_text.specs.Texts.{sunk, Puts, Sunk}
 use Rattle.desk_draft.specs.Listings.{Source}
 use Rattle.mc_script.specs.Plays.{Bench, Played}
-use Rattle.desk_json.specs.Sheets.{written_by, HoldsBy}
-use Rattle.desk_json.proofs.SheetLemmas.{holds_none, holds_whole}
+use Rattle.desk_steps.specs.Sheets.{written_by, HoldsBy}
+use Rattle.desk_steps.proofs.SheetLemmas.{holds_none, holds_whole}
 use Rattle.desk_steps.specs.declared.recording.Recorder.{Recorder}
 use Rattle.desk_steps.specs.Recorded.{RecordsPlay, ShowsSteps, StepsDeck}
 

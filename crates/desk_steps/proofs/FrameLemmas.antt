@@ -6,12 +6,12 @@ use Rattle.mc_text.specs.model_machine.specs.declared.instruction.Ins.{Ins}
 use Rattle.mc_text.specs.model_machine.specs.declared.machine.Abend.{Abend}
 use Rattle.mc_text.specs.model_machine.specs.Frame.{Frame}
 use Rattle.mc_text.specs.model_machine.specs.Chain.{Chain, Follows, Continues, Ends, Abended, depth_of, turn_of}
-use Rattle.desk_json.specs.law_steps.specs.Nexts.{Nexts}
-use Rattle.desk_json.specs.law_steps.specs.Readings.{Reading, first_sets, no_reading, reading_of, sets_between}
-use Rattle.desk_json.specs.law_steps.specs.Registers.{frame_after}
-use Rattle.desk_json.specs.law_steps.specs.Shown.{is_exit_of}
-use Rattle.desk_json.specs.law_steps.proofs.NextFrames.{next_law}
-use Rattle.desk_json.specs.law_steps.proofs.Opens.{next_end}
+use Rattle.law_steps.specs.Nexts.{Nexts}
+use Rattle.law_steps.specs.Readings.{Reading, first_sets, no_reading, reading_of, sets_between}
+use Rattle.law_steps.specs.Registers.{frame_after}
+use Rattle.law_steps.specs.Shown.{is_exit_of}
+use Rattle.law_steps.proofs.NextFrames.{next_law}
+use Rattle.law_steps.proofs.Opens.{next_end}
 use Rattle.desk_steps.specs.declared.shot.Shot.{Shot}
 use Rattle.desk_steps.specs.Lines.{frame_text}
 use Rattle.desk_steps.specs.Recorded.{first_before, first_by}

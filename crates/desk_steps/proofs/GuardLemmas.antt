@@ -4,7 +4,7 @@ use Rattle.std.specs.Prelude.{◌==◌, get_or, insert, nat_le, nat_lt, not, opt
 use Rattle.std.specs.List.{position_or_len}
 use Rattle.std.proofs.lemmas.Bool.Decides.{nat_tests}
 use Rattle.mc_words.specs.model_device.specs.Pieces.{with_number}
-use Rattle.desk_json.specs.law_steps.specs.Writes.{with_wait, with_waits}
+use Rattle.law_steps.specs.Writes.{with_wait, with_waits}
 use Rattle.desk_steps.specs.Guards.{placed}
 
 placed_later : (n k : ℕ) (ws : List ℕ) (o : Option ℕ) → placed n (k ∷ ws) (option_map suc o) ≡ k ∷ placed n ws o

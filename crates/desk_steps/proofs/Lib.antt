@@ -10,3 +10,5 @@ pub mod TurnLemmas
 pub mod GuardLemmas
 pub mod SeenLemmas
 pub mod StatementLemmas
+pub mod SheetLemmas
+pub mod RunLemmas

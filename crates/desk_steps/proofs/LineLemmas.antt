@@ -11,10 +11,10 @@ use Rattle.mc_bank.specs.model_card.specs.Manager.{Selected, SessionState, Route
 use Rattle.mc_script.specs.Runs.{SentCommand}
 use Rattle.mc_script.specs.Watching.{seen_of, seen_of_application, seen_of_route, seen_of_run, seen_on}
 use Rattle.desk_draft.specs.Listings.{Source}
-use Rattle.desk_json.specs.law_steps.specs.Nexts.{OpensOf, open_after, open_by}
-use Rattle.desk_json.specs.law_steps.specs.Writes.{WaitsOf, turn_moves}
-use Rattle.desk_json.specs.law_steps.proofs.Opens.{opens_law}
-use Rattle.desk_json.specs.law_steps.proofs.Waits.{writes_law}
+use Rattle.law_steps.specs.Nexts.{OpensOf, open_after, open_by}
+use Rattle.law_steps.specs.Writes.{WaitsOf, turn_moves}
+use Rattle.law_steps.proofs.Opens.{opens_law}
+use Rattle.law_steps.proofs.Waits.{writes_law}
 use Rattle.desk_steps.specs.Counted.{count_after, writes_after}
 use Rattle.desk_steps.specs.Guards.{all_clear}
 use Rattle.desk_steps.specs.Moments.{Moment, moment}

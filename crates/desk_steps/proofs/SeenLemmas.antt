@@ -14,13 +14,13 @@ use Rattle.mc_text.specs.model_machine.specs.Frame.{Frame, Place, Static, Dynami
 use Rattle.mc_text.specs.model_machine.specs.Primitives.{number_below_top}
 use Rattle.mc_text.specs.model_machine.specs.Chain.{Abended, Chain, Outcome, Reply, Turn as ModelTurn, around, delegator_in, depth_of, frame_at, turn_of}
 use Rattle.mc_machine.specs.declared.outcome.BriefTurn.{BriefTurn}
-use Rattle.desk_json.specs.law_steps.specs.Readings.{Reading, reading_after, reading_of}
-use Rattle.desk_json.specs.law_steps.specs.Registers.{mode_of}
-use Rattle.desk_json.specs.law_steps.specs.Spans.{Looks, SeesName}
-use Rattle.desk_json.specs.law_steps.specs.Writes.{IsRoomy, chain_span, moves_in, now_by, now_of, waits_by, waits_of, writes_of_words}
-use Rattle.desk_json.specs.law_steps.proofs.DoneRows.{RanDone, name_read, ran_done}
-use Rattle.desk_json.specs.law_steps.proofs.SeenSpans.{SeesIns, target_is}
-use Rattle.desk_json.specs.law_steps.proofs.TurnWrites.{span_at}
+use Rattle.law_steps.specs.Readings.{Reading, reading_after, reading_of}
+use Rattle.law_steps.specs.Registers.{mode_of}
+use Rattle.law_steps.specs.Spans.{Looks, SeesName}
+use Rattle.law_steps.specs.Writes.{IsRoomy, chain_span, moves_in, now_by, now_of, waits_by, waits_of, writes_of_words}
+use Rattle.law_steps.proofs.DoneRows.{RanDone, name_read, ran_done}
+use Rattle.law_steps.proofs.SeenSpans.{SeesIns, target_is}
+use Rattle.law_steps.proofs.TurnWrites.{span_at}
 use Rattle.desk_steps.specs.declared.shot.Shot.{Shot}
 use Rattle.desk_steps.specs.Counted.{moves_by_shots, waits_by_shots}
 use Rattle.desk_steps.specs.Shots.{dynamics, look_of, name_seen, shot_byte, shot_number, shot_reading, span_seen, statics}

@@ -15,11 +15,11 @@ use Rattle.mc_bank.specs.Bank.{app_of}
 use Rattle.mc_segs.specs.HeldFrames.{Seen, frame_reading, no_pieces}
 use Rattle.mc_card.specs.declared.card.Card.{Card}
 use Rattle.mc_card.specs.Parts.{RunsChain, card_in}
-use Rattle.desk_json.specs.law_steps.specs.Readings.{Reading, reading_of}
-use Rattle.desk_json.specs.law_steps.specs.Registers.{frame_after, registers_of, registers_shown}
-use Rattle.desk_json.specs.law_steps.specs.Shown.{exit_public, is_exit_of, shown_reading}
-use Rattle.desk_json.specs.law_steps.proofs.AfterTurns.{abended_reading, exited_reading, going_reading}
-use Rattle.desk_json.specs.law_steps.proofs.RegistersAfter.{registers_law}
+use Rattle.law_steps.specs.Readings.{Reading, reading_of}
+use Rattle.law_steps.specs.Registers.{frame_after, registers_of, registers_shown}
+use Rattle.law_steps.specs.Shown.{exit_public, is_exit_of, shown_reading}
+use Rattle.law_steps.proofs.AfterTurns.{abended_reading, exited_reading, going_reading}
+use Rattle.law_steps.proofs.RegistersAfter.{registers_law}
 use Rattle.desk_cover.specs.Looking.{Shows}
 use Rattle.desk_cover.specs.Watching.{frame_in, name_in}
 use Rattle.desk_cover.proofs.LookLemmas.{alike}

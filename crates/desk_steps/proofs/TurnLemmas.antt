@@ -9,8 +9,8 @@ use Rattle.mc_words.specs.model_device.specs.Card.{App}
 use Rattle.mc_words.specs.model_device.specs.Device.{DeviceState}
 use Rattle.mc_text.specs.model_machine.specs.Chain.{Chain, Continues, Ends, Follows, Outcome as ModelOutcome, Turn as ModelTurn, Write, turn_of, turn_of_chain}
 use Rattle.mc_bank.specs.model_card.specs.Items.{write_items}
-use Rattle.desk_json.specs.law_steps.specs.Shown.{EndsFrame}
-use Rattle.desk_json.specs.law_steps.proofs.AfterTurns.{ended_writes}
+use Rattle.law_steps.specs.Shown.{EndsFrame}
+use Rattle.law_steps.proofs.AfterTurns.{ended_writes}
 use Rattle.mc_bank.specs.Bank.{app_of, name_or}
 use Rattle.mc_segs.specs.HeldFrames.{Seen}
 use Rattle.mc_machine.specs.declared.outcome.Turn.{Turn}

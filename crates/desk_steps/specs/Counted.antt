@@ -1,6 +1,6 @@
 -- The device writes of turns, counted in their line.
 use Rattle.std.specs.Prelude.{ℕ, ◌+◌, Bool, cond, ◌==◌, min, nat_lt, List, Option, Some, None}
-use Rattle.desk_json.specs.law_steps.specs.Writes.{now_of, waits_of, writes_of_words}
+use Rattle.law_steps.specs.Writes.{now_of, waits_of, writes_of_words}
 use Rattle.mc_machine.specs.declared.outcome.BriefTurn.{BriefTurn}
 use Rattle.desk_steps.specs.declared.shot.Shot.{Shot}
 use Rattle.desk_steps.specs.Shots.{span_seen}

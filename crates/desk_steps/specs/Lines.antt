@@ -7,7 +7,7 @@ use Rattle.mc_text.specs.model_text.specs.Listing.{hex_text}
 use Rattle.mc_text.specs.model_text.specs.TurnText.{bit_text, ins_text}
 use Rattle.mc_deck.specs.model_play.specs.Play.{LineResult}
 use Rattle.mc_deck.specs.model_play.specs.Transcript.{text_of_result}
-use Rattle.desk_json.specs.Json.{characters, runs_text}
+use Rattle.desk_steps.specs.Json.{characters, runs_text}
 
 -- ---- keys
 

@@ -12,11 +12,11 @@ use Rattle.desk_draft.specs.FullTurns.{turns_of_step}
 use Rattle.desk_draft.specs.Listings.{Source}
 use Rattle.desk_draft.specs.Traces.{line_of_turn}
 use Rattle.mc_script.specs.Plays.{Bench, Played, SumsDeck}
-use Rattle.desk_json.specs.Sheets.{PutsOn, puts_both, puts_nothing}
-use Rattle.desk_json.specs.law_steps.specs.Nexts.{called_opens, open_after, open_by, opens_after}
-use Rattle.desk_json.specs.law_steps.specs.Readings.{first_sets, turn_sets}
-use Rattle.desk_json.specs.law_steps.specs.Registers.{frame_after}
-use Rattle.desk_json.specs.law_steps.specs.Writes.{IsRoomy, called_waits, moves_in, turn_moves, waits_after}
+use Rattle.desk_steps.specs.Sheets.{PutsOn, puts_both, puts_nothing}
+use Rattle.law_steps.specs.Nexts.{called_opens, open_after, open_by, opens_after}
+use Rattle.law_steps.specs.Readings.{first_sets, turn_sets}
+use Rattle.law_steps.specs.Registers.{frame_after}
+use Rattle.law_steps.specs.Writes.{IsRoomy, called_waits, moves_in, turn_moves, waits_after}
 use Rattle.desk_steps.specs.declared.recording.Recorder.{Recorder}
 use Rattle.desk_steps.specs.declared.shot.Shot.{Shot}
 use Rattle.desk_steps.specs.Counted.{count_after, writes_after}

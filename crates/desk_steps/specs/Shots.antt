@@ -2,9 +2,9 @@
 use Rattle.std.specs.Prelude.{ℕ, ◌+◌, ◌-◌, ◌*◌, min, Bool, cond, nat_le, nat_lt, List, [], ◌++◌, get_or, take, Option, Some, None}
 use Rattle.mc_text.specs.model_machine.specs.declared.instruction.Ins.{Ins}
 use Rattle.mc_text.specs.model_machine.specs.Frame.{dynamic_base, public_base}
-use Rattle.desk_json.specs.law_steps.specs.Runs.{changes}
-use Rattle.desk_json.specs.law_steps.specs.Readings.{Reading, no_reading, sets_between}
-use Rattle.desk_json.specs.law_steps.specs.Spans.{Look, static_only, target}
+use Rattle.law_steps.specs.Runs.{changes}
+use Rattle.law_steps.specs.Readings.{Reading, no_reading, sets_between}
+use Rattle.law_steps.specs.Spans.{Look, static_only, target}
 use Rattle.desk_steps.specs.declared.shot.Shot.{Shot}
 
 -- the static bytes

@@ -6,10 +6,10 @@ use Rattle.mc_text.specs.model_machine.specs.declared.instruction.Ins.{Ins}
 use Rattle.mc_text.specs.model_machine.specs.declared.machine.Abend.{Abend}
 use Rattle.mc_text.specs.model_machine.specs.Frame.{Frame}
 use Rattle.mc_text.specs.model_machine.specs.Chain.{Chain, Follows, Continues, Ends, Outcome, Reply, Abended, Turn, depth_of, turn_of}
-use Rattle.desk_json.specs.law_steps.specs.Readings.{reading_after, reading_of}
-use Rattle.desk_json.specs.law_steps.specs.Registers.{frame_after}
-use Rattle.desk_json.specs.law_steps.specs.Shown.{EndsFrame, is_exit_of}
-use Rattle.desk_json.specs.law_steps.specs.Writes.{IsRoomy}
+use Rattle.law_steps.specs.Readings.{reading_after, reading_of}
+use Rattle.law_steps.specs.Registers.{frame_after}
+use Rattle.law_steps.specs.Shown.{EndsFrame, is_exit_of}
+use Rattle.law_steps.specs.Writes.{IsRoomy}
 use Rattle.mc_bank.specs.Bank.{app_of}
 use Rattle.mc_machine.specs.declared.outcome.End.{End}
 use Rattle.mc_machine.specs.declared.outcome.End.TheVariants as end

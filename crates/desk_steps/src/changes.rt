@@ -1,13 +1,13 @@
 // The bytes that differ between two shots of a frame, as runs of addresses.
 ghost use Rattle.std.specs.Prelude.{◌≡◌, [], false};
-ghost use Rattle.desk_json.specs.Sheets.{Adds};
-ghost use Rattle.desk_json.specs.Json.{any_run, runs_more, runs_text};
-ghost use Rattle.desk_json.specs.law_steps.specs.Runs.{changes};
+ghost use Rattle.desk_steps.specs.Sheets.{Adds};
+ghost use Rattle.desk_steps.specs.Json.{any_run, runs_more, runs_text};
+ghost use Rattle.law_steps.specs.Runs.{changes};
 ghost use Rattle.mc_text.specs.model_machine.specs.Frame.{dynamic_base, public_base};
 ghost use Rattle.desk_steps.specs.Shots.{dynamic_changes, dynamics, frame_changes, public_changes, shot_changes, shown_public, static_changes, statics};
 
 use crate::shot::{DYNAMIC, PUBLIC, Shot};
-use desk_json::{Sheet, add_runs};
+use crate::{Sheet, add_runs};
 use mc_streams::Sink;
 
 // Adds the runs of the static bytes.

@@ -1,6 +1,6 @@
 // The words that wait for a commit in a frame.
 ghost use Rattle.std.specs.Prelude.{◌≡◌, ◌+◌, ◌^◌, ◌<◌, ◌≤◌, [], length, nat_le, position, IfSome, Some};
-ghost use Rattle.desk_json.specs.law_steps.specs.Writes.{with_wait, with_waits};
+ghost use Rattle.law_steps.specs.Writes.{with_wait, with_waits};
 ghost use Rattle.desk_steps.specs.Guards.{placed};
 
 use arrayvec::ArrayVec;

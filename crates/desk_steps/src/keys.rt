@@ -3,11 +3,11 @@ ghost use Rattle.std.specs.Prelude.{ℕ, ◌≤◌, length, Option, Some, IfSome
 ghost use Rattle.mc_text.specs.model_machine.specs.Code.{Shaped};
 ghost use Rattle.mc_text.specs.model_machine.specs.Chain.{Abended};
 ghost use Rattle.mc_text.specs.model_text.specs.TurnText.{bit_text, ins_text};
-ghost use Rattle.desk_json.specs.Sheets.{Adds};
+ghost use Rattle.desk_steps.specs.Sheets.{Adds};
 ghost use Rattle.desk_steps.specs.Lines.{abend_key, aid_key, command_key, flag_key, ins_key, open_key, place_keys, range_text, register_keys, source_key, writes_key};
 ghost use Rattle.desk_steps.specs.Turning.{bare_value, end_of};
 
-use desk_json::Sheet;
+use crate::Sheet;
 use law_steps::model_machine::Abend;
 use mc_isa::{Ins, text_of};
 use mc_machine::{BriefTurn, End};

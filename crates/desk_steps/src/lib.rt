@@ -10,9 +10,13 @@ mod memory;
 mod modes;
 mod playing;
 mod recording;
+mod runs;
+mod sheet;
 mod shot;
 mod statements;
 mod watching;
 mod writes;
 
 pub use playing::put_steps;
+pub use runs::add_runs;
+pub use sheet::{Sheet, written};

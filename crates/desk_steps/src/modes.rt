@@ -1,9 +1,9 @@
 // How a turn ends, and the protection after it.
 ghost use Rattle.std.specs.Prelude.{◌≡◌, option_map, Some};
 ghost use Rattle.mc_isa.specs.Primitives.{primitive_of};
-ghost use Rattle.desk_json.specs.law_steps.specs.Nexts.{open_by, open_on};
-ghost use Rattle.desk_json.specs.law_steps.specs.Registers.{mode_of, pair_mode};
-ghost use Rattle.desk_json.specs.law_steps.specs.Shown.{is_exit_of};
+ghost use Rattle.law_steps.specs.Nexts.{open_by, open_on};
+ghost use Rattle.law_steps.specs.Registers.{mode_of, pair_mode};
+ghost use Rattle.law_steps.specs.Shown.{is_exit_of};
 ghost use Rattle.desk_steps.specs.Turning.{abend_of, end_of, exit_in};
 
 use mc_card::BriefTurn;

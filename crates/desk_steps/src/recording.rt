@@ -7,9 +7,9 @@ ghost use Rattle.mc_deck.specs.Lines.{line_of};
 ghost use Rattle.desk_cover.specs.Looking.{Shows};
 ghost use Rattle.desk_cover.specs.Watching.{IsWatched};
 ghost use Rattle.mc_text.specs.Texts.{sunk};
-ghost use Rattle.desk_json.specs.Sheets.{Adds, PutsOn};
-ghost use Rattle.desk_json.specs.law_steps.specs.Nexts.{open_by};
-ghost use Rattle.desk_json.specs.law_steps.specs.Readings.{first_sets};
+ghost use Rattle.desk_steps.specs.Sheets.{Adds, PutsOn};
+ghost use Rattle.law_steps.specs.Nexts.{open_by};
+ghost use Rattle.law_steps.specs.Readings.{first_sets};
 ghost use Rattle.desk_steps.specs.Counted.{count_after, moves_by_shots, waits_by_shots, writes_after};
 ghost use Rattle.desk_steps.specs.Guards.{all_clear};
 ghost use Rattle.desk_steps.specs.Lines.{aid_key, frame_text, number_key, sets_key, turn_text};
@@ -18,13 +18,13 @@ ghost use Rattle.desk_steps.specs.Recorded.{first_by, next_number, CallsNext, Is
 ghost use Rattle.desk_steps.specs.Shots.{frame_changes, shot_changes};
 ghost use Rattle.desk_steps.specs.Turning.{all_shut, bare_value, end_of, frame_place, is_deeper, IsAfter, IsBefore, IsOneDeeper, IsWideNext, WasTurn};
 
+use crate::Sheet;
 use crate::changes::{add_changes, add_frame};
 use crate::keys::{add_aid, add_command, add_place, add_registers, add_writes};
 use crate::looking::running_aid;
 use crate::memory::Memory;
 use crate::shot::Shot;
 use desk_cover::Sections;
-use desk_json::Sheet;
 use mc_card::{BriefTurn, Card};
 use mc_deck::Line;
 use mc_nvm::Nvm;

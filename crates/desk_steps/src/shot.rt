@@ -5,8 +5,8 @@ ghost use Rattle.mc_words.specs.model_device.specs.Bytes.{bytes2, lookup, splice
 ghost use Rattle.mc_bank.specs.Bank.{app_of};
 ghost use Rattle.mc_card.specs.Parts.{IsUp, card_in};
 ghost use Rattle.mc_segs.specs.HeldFrames.{CanRun, frame_on_bank};
-ghost use Rattle.desk_json.specs.law_steps.specs.Readings.{reading_of};
-ghost use Rattle.desk_json.specs.law_steps.specs.Spans.{look_register, look_resolve};
+ghost use Rattle.law_steps.specs.Readings.{reading_of};
+ghost use Rattle.law_steps.specs.Spans.{look_register, look_resolve};
 ghost use Rattle.desk_steps.specs.Shots.{dynamics, look_of, shot_byte, shot_number, shot_reading, statics};
 
 use mc_bank::Bank;

@@ -1,9 +1,9 @@
 // The static bytes that an executed instruction writes, and the device writes that they take.
 ghost use Rattle.std.specs.Prelude.{◌≡◌, ◌≤◌, ◌+◌, ◌-◌, ◌||◌, ◌==◌, cond, length, nat_lt, option_map, []};
 ghost use Rattle.mc_isa.specs.Primitives.{primitive_of};
-ghost use Rattle.desk_json.specs.law_steps.specs.Registers.{mode_of};
-ghost use Rattle.desk_json.specs.law_steps.specs.Spans.{below_top, pair_target, placed, pointed, pointer, prim_target, static_only, target};
-ghost use Rattle.desk_json.specs.law_steps.specs.Writes.{now_by, now_of, span_now, span_waits, waits_by, waits_of, words_under, writes_of_words};
+ghost use Rattle.law_steps.specs.Registers.{mode_of};
+ghost use Rattle.law_steps.specs.Spans.{below_top, pair_target, placed, pointed, pointer, prim_target, static_only, target};
+ghost use Rattle.law_steps.specs.Writes.{now_by, now_of, span_now, span_waits, waits_by, waits_of, words_under, writes_of_words};
 ghost use Rattle.desk_steps.specs.Shots.{look_of, name_seen, span_seen};
 ghost use Rattle.desk_steps.specs.Turning.{end_of};
 

@@ -1,2 +1,4 @@
 mod TogetherLemmas
 pub mod ReadLemmas
+pub mod MoveLemmas
+pub mod NamedLemmas

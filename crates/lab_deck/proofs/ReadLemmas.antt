@@ -7,11 +7,11 @@ use Rattle.mc_deck.specs.model_play.specs.DeckGrammar.{deck_read, DeckLine}
 use Rattle.mc_deck.specs.declared.refusal.DeckRefusal.{DeckRefusal}
 use Rattle.mc_deck.specs.declared.refusal.DeckRefusal.TheVariants as refusal
 use Rattle.mc_deck.specs.Refused.{DeckRefuses}
-use Rattle.lab_moves.specs.law_explore_text.specs.law_explore.specs.Rules as model
-use Rattle.lab_moves.specs.law_explore_text.specs.law_explore.specs.Rules.{is_some_of}
+use Rattle.law_histories.specs.law_explore.specs.Rules as model
+use Rattle.law_histories.specs.law_explore.specs.Rules.{is_some_of}
 use Rattle.prove_facts.specs.model_rules.specs.Rules.{AppRules, OnLine, SumLine, Target, Total}
-use Rattle.lab_moves.specs.law_histories.specs.model_rule_text.specs.Reading.{Deck, app_rules_read}
-use Rattle.lab_moves.specs.law_histories.specs.Histories.{app_exploration_read, can_break, line_fault, tested, AppExploration, AppFault, NoMove, NoRule}
+use Rattle.law_histories.specs.model_rule_text.specs.Reading.{Deck, app_rules_read}
+use Rattle.law_histories.specs.Histories.{app_exploration_read, can_break, line_fault, tested, AppExploration, AppFault, NoMove, NoRule}
 use Rattle.lab_app_rules.specs.declared.rules.Always.{Always}
 use Rattle.lab_app_rules.specs.declared.rules.Balance.{Balance}
 use Rattle.lab_app_rules.specs.declared.rules.Effect.{Effect}
@@ -31,7 +31,7 @@ use Rattle.lab_rules.specs.Meanings.{AlikeLists, AreRules, IsMove}
 use Rattle.lab_deck.specs.declared.reading.Application.{Application}
 use Rattle.lab_deck.specs.declared.refusal.ApplicationRefusal.TheVariants as refused
 use Rattle.lab_deck.specs.Applications.{AreMovesRefused, counting, first_refusal, move_refusal, IsApplication, IsApplicationRead, RefusesApplication}
-use Rattle.lab_moves.specs.Moves.{moves_read, AreMovesRead}
+use Rattle.lab_deck.specs.Moves.{moves_read, AreMovesRead}
 use Rattle.lab_deck.proofs.TogetherLemmas.{before_or, explored_by, from_parts, rules_refused, together}
 
 -- ---- rules that can be broken

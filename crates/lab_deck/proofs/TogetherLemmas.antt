@@ -6,13 +6,13 @@ use Rattle.mc_text.specs.model_text.specs.Text.{◌>>=◌, err_as, fields, lines
 use Rattle.mc_deck.specs.model_play.specs.declared.deck.DeckCause.{DeckCause}
 use Rattle.mc_deck.specs.model_play.specs.declared.deck.DeckCause.TheVariants.{BadLine}
 use Rattle.mc_deck.specs.model_play.specs.DeckGrammar.{deck_read, DeckLine}
-use Rattle.lab_moves.specs.law_explore_text.specs.law_explore.specs.Rules as model
+use Rattle.law_histories.specs.law_explore.specs.Rules as model
 use Rattle.mc_deck.specs.model_play.specs.RuleLines.{is_marked, line_if, marked_lines}
 use Rattle.mc_text.specs.model_text.specs.Text.{stays_inside}
 use Rattle.prove_facts.specs.model_rules.specs.Rules.{no_app_rules, AppRules, Target}
-use Rattle.lab_moves.specs.law_histories.specs.model_rule_text.specs.Reading.{Deck, LoadLine, NoApplication, RuleCause, app_line, app_rule, app_rules_from, app_rules_read, app_words, load_names, loads_of, with_some_app}
-use Rattle.lab_moves.specs.law_histories.specs.Histories.{app_exploration_read, line_fault, parts_from, tested, with_move_line, AppExploration, AppFault, LineFault}
-use Rattle.lab_moves.specs.Moves.{moves_from, moves_read, with_move, with_move_of}
+use Rattle.law_histories.specs.model_rule_text.specs.Reading.{Deck, LoadLine, NoApplication, RuleCause, app_line, app_rule, app_rules_from, app_rules_read, app_words, load_names, loads_of, with_some_app}
+use Rattle.law_histories.specs.Histories.{app_exploration_read, line_fault, parts_from, tested, with_move_line, AppExploration, AppFault, LineFault}
+use Rattle.lab_deck.specs.Moves.{moves_from, moves_read, with_move, with_move_of}
 
 abbrev Loads : Type 0
 Loads = List (List ℕ × LoadLine)

@@ -4,8 +4,8 @@ use Rattle.mc_deck.specs.model_play.specs.declared.deck.DeckCause.{DeckCause}
 use Rattle.mc_deck.specs.declared.refusal.DeckRefusal.{DeckRefusal}
 use Rattle.mc_deck.specs.declared.refusal.DeckRefusal.TheVariants as refusal
 use Rattle.mc_deck.specs.Refused.{DeckRefuses}
-use Rattle.lab_moves.specs.law_explore_text.specs.law_explore.specs.Rules as model
-use Rattle.lab_moves.specs.law_histories.specs.Histories.{AppExploration, AppFault, LineFault, NoMove, NoRule}
+use Rattle.law_histories.specs.law_explore.specs.Rules as model
+use Rattle.law_histories.specs.Histories.{AppExploration, AppFault, LineFault, NoMove, NoRule}
 use Rattle.lab_app_rules.specs.Rules.{AreRules as AreAppRules}
 use Rattle.prove_rules.specs.declared.fault.RuleCause.TheVariants as cause
 use Rattle.prove_rules.specs.declared.fault.RuleRefusal.{RuleRefusal}

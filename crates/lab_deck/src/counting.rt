@@ -1,7 +1,7 @@
 // The exploration that a deck's moves are, with one rule that counts the instructions of each try.
 ghost use Rattle.std.specs.Prelude.{◌≡◌, List, ℕ, IfOk, Ok};
 ghost use Rattle.mc_deck.specs.model_play.specs.DeckGrammar.{deck_read, DeckLine};
-ghost use Rattle.lab_moves.specs.law_explore_text.specs.law_explore.specs.Rules as model;
+ghost use Rattle.law_histories.specs.law_explore.specs.Rules as model;
 ghost use Rattle.lab_rules.specs.Meanings.{AlikeLists, AreRules, IsMove, IsOn};
 ghost use Rattle.lab_deck.specs.Applications.{counter, counting};
 

@@ -2,20 +2,20 @@
 ghost use Rattle.std.specs.Prelude.{◌≡◌, ◌≤◌, ◌||◌, ℕ, length, IfErr, IfOk, List, Ok};
 ghost use Rattle.mc_text.specs.model_text.specs.Text.{lines};
 ghost use Rattle.mc_deck.specs.model_play.specs.DeckGrammar.{deck_read, DeckLine};
-ghost use Rattle.lab_moves.specs.law_histories.specs.model_rule_text.specs.Reading.{app_rules_read};
+ghost use Rattle.law_histories.specs.model_rule_text.specs.Reading.{app_rules_read};
 ghost use Rattle.prove_facts.specs.model_rules.specs.Rules.{AppRules, Target};
-ghost use Rattle.lab_moves.specs.law_explore_text.specs.law_explore.specs.Rules.{is_some_of};
-ghost use Rattle.lab_moves.specs.law_histories.specs.Histories.{app_exploration_read, can_break};
+ghost use Rattle.law_histories.specs.law_explore.specs.Rules.{is_some_of};
+ghost use Rattle.law_histories.specs.Histories.{app_exploration_read, can_break};
 ghost use Rattle.lab_app_rules.specs.Rules.{AreRules};
 ghost use Rattle.prove_rules.specs.Refused.{RefusesRules};
 ghost use Rattle.lab_app_rules.specs.Sums.{AreSums};
-ghost use Rattle.lab_moves.specs.Moves.{moves_read};
+ghost use Rattle.lab_deck.specs.Moves.{moves_read};
 ghost use Rattle.lab_deck.specs.Applications.{AreMovesRefused, IsApplicationRead, RefusesApplication};
 
 use crate::counting::counting;
+use crate::read_moves;
 use crate::refusal::{ApplicationRefusal, first_refusal, move_refusal};
 use lab_app_rules::Rules;
-use lab_moves::read_moves;
 use lab_rules::Exploration;
 use mc_deck::{Deck, DeckRefusal};
 use mc_words::Aid;

@@ -1,4 +1,4 @@
-use lab_moves::{names_application, read_moves};
+use lab_deck::{names_application, read_moves};
 use mc_deck::{DeckCause, DeckRefusal, Line};
 use std::test::Fail;
 

@@ -6,3 +6,4 @@ mod Runs
 mod Commands
 mod Plays
 mod Callers
+mod Needed

@@ -2,8 +2,10 @@
 
 //! Which families of applications are closed, and what a closed family sees, over the definitions alone.
 
+mod apart_rows;
 mod rows;
 
+ghost use Rattle.law_closed.specs.ApartLaws.{NeededLaw, SameNeededLaw};
 ghost use Rattle.law_closed.specs.Laws.{ClosedByCodeLaw, DelegationLaw, FamiliesLaw, SameGivenLaw};
 
 /// If two families are closed in some lines, so are the family of the names of both, the family of the names that both
@@ -29,4 +31,11 @@ pub fn delegations_come_from_code()
 /// outside a family can, the family is closed once its own commands delegate to its own names alone.
 pub fn families_are_closed_by_code()
     ensures closed { ClosedByCodeLaw }
+{}
+
+/// Whatever two plays that a closed family is in, with any strangers, power lines and stops: if both give it the same
+/// but for the losses of a selection that it does not have, it sees the same.
+pub fn neighbours_are_no_input()
+    ensures needed { NeededLaw }
+    ensures same { SameNeededLaw }
 {}

@@ -1,1 +1,12 @@
 pub mod CardMoves
+pub mod Adds
+pub mod Makings
+pub mod AnyDomain
+pub mod Begins
+pub mod Steps
+pub mod Tries
+pub mod Searching
+pub mod Stops
+pub mod Moves
+pub mod Starts
+pub mod KeptLemmas

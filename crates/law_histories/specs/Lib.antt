@@ -1,6 +1,8 @@
 pub mod Histories
 pub mod Searches
 pub mod Computed
+pub mod Kept
+pub mod KeptComputed
 -- the libraries below that those above cite through this one
 pub use Rattle.law_explore_text.specs.model_device as model_device
 pub use Rattle.law_explore_text.specs.model_machine as model_machine

@@ -1,5 +1,7 @@
 pub mod Coverings
 pub mod Laws
+pub mod TargetLaws
+pub mod ReachLaws
 -- the libraries below that those above cite through this one
 pub use Rattle.model_prove.specs.model_device as model_device
 pub use Rattle.model_prove.specs.model_machine as model_machine

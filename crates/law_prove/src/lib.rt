@@ -3,9 +3,11 @@
 //! What closed tables of abstract states cover of the plays of an application. The law of a row is of any tables: what
 //! it leads to at their places is covered by all tables that include the outcomes, as closed tables include their own.
 
-ghost use Rattle.model_prove.specs.model_machine.specs.declared.instruction.Ins.TheVariants.{Nop};
 ghost use Rattle.law_prove.specs.Laws.{MomentLaw, PlaceLaw, LeadLaw, PopLaw, StatusLaw, JumpLaw, PushLaw};
 ghost use Rattle.law_prove.specs.Laws.{MoveLaw, CompareLaw, SumLaw, BitLaw, PrimitiveLaw, MaskLaw, ReturnLaw};
+ghost use Rattle.law_prove.specs.ReachLaws.{StoreLaw, CopyLaw, ResultLaw, DelegatorLaw};
+ghost use Rattle.law_prove.specs.TargetLaws.{TargetLaw};
+ghost use Rattle.model_prove.specs.model_machine.specs.declared.instruction.Ins.TheVariants.{Nop};
 
 /// Between commands: each moment that may follow one is one that closed tables have, and none breaks a rule.
 pub fn moments_are_covered()
@@ -88,3 +90,33 @@ pub fn returns_are_covered()
 {}
 
 pub use model_prove::model_machine;
+
+/// After JUMP and CALL to the address in the top two bytes of the stack closed tables have the place that it names, with
+/// these two bytes known; or what follows abend 02, if it is not in the code, or another abend.
+pub fn targets_are_covered()
+    ensures { TargetLaw }
+{}
+
+/// After STOREI closed tables have the next place, with what is then known of the bytes that were written and of the
+/// others, whether few addresses are followed each or many together; and what stops in a write of static bytes and
+/// abends lead to.
+pub fn stores_through_addresses_are_covered()
+    ensures { StoreLaw }
+{}
+
+/// So they have after the copies of as many bytes as the stack or the instruction has, from and to the addresses that
+/// the stack has.
+pub fn copies_are_covered()
+    ensures { CopyLaw }
+{}
+
+/// So they have after the digest of a message and after each cipher over one, whose results have no fact.
+pub fn results_are_covered()
+    ensures { ResultLaw }
+{}
+
+/// So they have after the name of the delegator was written at an address that the stack has, with any name of 5 to 16
+/// bytes, in a frame that a delegation began; and with Z set and nothing written in another.
+pub fn delegator_names_are_covered()
+    ensures { DelegatorLaw }
+{}

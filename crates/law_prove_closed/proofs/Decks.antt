@@ -2,15 +2,15 @@
 use Rattle.std.proofs.Common.{◌≡◌, ℕ, ◌+◌, true, List, [], ◌∷◌, length, Option, Some, None, Result, Ok, Err, refl, subst}
 use Rattle.std.specs.Prelude.{◌&&◌, nat_lt, nat_le}
 use Rattle.std.proofs.lemmas.Bool.{and_parts, ltb-true, leb-true}
-use Rattle.law_prove_commands.specs.model_device.specs.Bytes.{AreBytes}
-use Rattle.law_prove_commands.specs.model_device.specs.Card.{App}
-use Rattle.law_prove_commands.specs.model_machine.specs.Frame.{dynamic_base, dynamic_end}
-use Rattle.law_prove_commands.specs.model_rules.specs.Rules.{Target, Total, AppRules}
-use Rattle.law_prove_commands.specs.model_rule_text.specs.Reading.{RuleCause, app_rules_read}
-use Rattle.law_prove_commands.specs.law_rules.specs.Law.{AreKeptBy}
-use Rattle.law_prove_commands.specs.model_prove.specs.Arrivals.{Setting}
-use Rattle.law_prove_commands.specs.model_rules.specs.Loadable.{IsLoadable}
-use Rattle.law_prove_commands.specs.model_prove.specs.Tables.{is_closed}
+use Rattle.law_prove.specs.model_device.specs.Bytes.{AreBytes}
+use Rattle.law_prove.specs.model_device.specs.Card.{App}
+use Rattle.law_prove.specs.model_machine.specs.Frame.{dynamic_base, dynamic_end}
+use Rattle.law_prove.specs.model_rules.specs.Rules.{Target, Total, AppRules}
+use Rattle.law_prove.specs.model_rule_text.specs.Reading.{RuleCause, app_rules_read}
+use Rattle.law_prove.specs.law_rules.specs.Law.{AreKeptBy}
+use Rattle.law_prove.specs.model_prove.specs.Arrivals.{Setting}
+use Rattle.law_prove.specs.model_rules.specs.Loadable.{IsLoadable}
+use Rattle.law_prove.specs.model_prove.specs.Tables.{is_closed}
 use Rattle.law_prove_closed.specs.Search.{tables_after}
 use Rattle.law_prove_closed.specs.Decks.{are_bytes, is_loadable, has_no_totals, proves_for, proves_read, proves_deck, TargetIsKept, AreKeptAsRead, DeckLaw}
 use Rattle.law_prove_closed.proofs.Rows.{closed_law}

@@ -2,37 +2,37 @@
 use Rattle.std.proofs.Common.{◌≡◌, inl, inr, ℕ, zero, suc, ◌+◌, ◌-◌, ◌<◌, ◌≤◌, Bool, true, false, cond, List, [], ◌∷◌, ◌++◌, length, Ok, refl, sym, ap, subst, ◌∙◌, arith}
 use Rattle.std.specs.Prelude.{◌&&◌, nat_lt, nat_le, flat_map, slice_index}
 use Rattle.std.proofs.lemmas.Bool.{and_parts, leb-true, lt-ltb}
-use Rattle.law_prove_commands.specs.model_device.specs.Bytes.{num}
-use Rattle.law_prove_commands.specs.model_machine.specs.declared.instruction.Ins.{Ins}
-use Rattle.law_prove_commands.specs.model_machine.specs.declared.machine.Abend.{Abend}
-use Rattle.law_prove_commands.specs.model_machine.specs.declared.machine.Abend.TheVariants.{A01, A02, A03, A04, A05, A06, A07, A08, A09, A0A}
-use Rattle.law_prove_commands.specs.model_machine.specs.Frame.{Frame, dynamic_base, public_base, static_bytes}
-use Rattle.law_prove_commands.specs.model_machine.specs.Primitives.{Delegates, frame_effect}
-use Rattle.law_prove_commands.specs.model_machine.specs.Row.{Does}
-use Rattle.law_prove_commands.specs.law_bytes.specs.OfBytes.{IsByteFrame}
-use Rattle.law_prove_commands.specs.model_rules.specs.model_events.specs.Deeds.{Deed}
-use Rattle.law_prove_commands.specs.law_promise.specs.Outline.{Entry, is_direct}
-use Rattle.law_prove_commands.specs.law_promise.specs.Domain.{RowCovered, FitsDepth, IsRowCause}
-use Rattle.law_prove_commands.specs.model_rules.specs.Rules.{Target}
-use Rattle.law_prove_commands.specs.model_rules.specs.Happenings.{Event, History, Did}
-use Rattle.law_prove_commands.specs.model_rules.specs.Keeping.{Amounts, Standing, after_occasion, OnTurn, line_of, line_of_deed, after_deed, standing_after}
-use Rattle.law_prove_commands.specs.law_rules.specs.Law.{domain_of_rules}
-use Rattle.law_prove_commands.specs.model_prove.specs.Facts.{Memory}
-use Rattle.law_prove_commands.specs.model_prove.specs.Compares.{Compare, NoCompare, Bounds, Ordered, bytes_from, compare_below, has_order, IsSo}
-use Rattle.law_prove_commands.specs.model_prove.specs.Keys.{Start, PlaceKey, Tables}
-use Rattle.law_prove_commands.specs.model_prove.specs.Laws.{Among}
-use Rattle.law_prove_commands.specs.model_prove.specs.Arrivals.{Setting, Arrival, stopped, abended}
-use Rattle.law_prove_commands.specs.model_prove.specs.Steps.{Spot, after_delegation, arrived, delegate_abends, follows}
-use Rattle.law_prove_commands.specs.model_rules.specs.Loadable.{IsLoadable}
-use Rattle.law_prove_commands.specs.model_prove.specs.Tables.{includes, includes_all}
-use Rattle.law_prove_commands.specs.law_prove.specs.Coverings.{frame_memory, IsFrameOf, IsPlace, StartsAs, covering_of}
-use Rattle.law_prove_commands.specs.law_prove.specs.Laws.{LeadsInto}
-use Rattle.law_prove_commands.specs.law_prove.proofs.Closed.{included_first, included_second, Arrives}
-use Rattle.law_prove_commands.specs.law_prove.proofs.Moments.{within_holds}
-use Rattle.law_prove_commands.specs.law_prove.proofs.Places.{abend_arrives}
-use Rattle.law_prove_commands.specs.law_prove.proofs.Spots.{place_key, did_stands, turn_arrives, Covers, spot_arrives}
-use Rattle.law_prove_commands.specs.law_prove.proofs.Turns.{memory_of_bytes, stopped_arrives, before_it}
-use Rattle.law_prove_reach.proofs.Choices.{one_of}
+use Rattle.law_prove.specs.model_device.specs.Bytes.{num}
+use Rattle.law_prove.specs.model_machine.specs.declared.instruction.Ins.{Ins}
+use Rattle.law_prove.specs.model_machine.specs.declared.machine.Abend.{Abend}
+use Rattle.law_prove.specs.model_machine.specs.declared.machine.Abend.TheVariants.{A01, A02, A03, A04, A05, A06, A07, A08, A09, A0A}
+use Rattle.law_prove.specs.model_machine.specs.Frame.{Frame, dynamic_base, public_base, static_bytes}
+use Rattle.law_prove.specs.model_machine.specs.Primitives.{Delegates, frame_effect}
+use Rattle.law_prove.specs.model_machine.specs.Row.{Does}
+use Rattle.law_prove.specs.law_bytes.specs.OfBytes.{IsByteFrame}
+use Rattle.law_prove.specs.model_rules.specs.model_events.specs.Deeds.{Deed}
+use Rattle.law_prove.specs.law_promise.specs.Outline.{Entry, is_direct}
+use Rattle.law_prove.specs.law_promise.specs.Domain.{RowCovered, FitsDepth, IsRowCause}
+use Rattle.law_prove.specs.model_rules.specs.Rules.{Target}
+use Rattle.law_prove.specs.model_rules.specs.Happenings.{Event, History, Did}
+use Rattle.law_prove.specs.model_rules.specs.Keeping.{Amounts, Standing, after_occasion, OnTurn, line_of, line_of_deed, after_deed, standing_after}
+use Rattle.law_prove.specs.law_rules.specs.Law.{domain_of_rules}
+use Rattle.law_prove.specs.model_prove.specs.Facts.{Memory}
+use Rattle.law_prove.specs.model_prove.specs.Compares.{Compare, NoCompare, Bounds, Ordered, bytes_from, compare_below, has_order, IsSo}
+use Rattle.law_prove.specs.model_prove.specs.Keys.{Start, PlaceKey, Tables}
+use Rattle.law_prove.specs.model_prove.specs.Laws.{Among}
+use Rattle.law_prove.specs.model_prove.specs.Arrivals.{Setting, Arrival, stopped, abended}
+use Rattle.law_prove.specs.model_prove.specs.Steps.{Spot, after_delegation, arrived, delegate_abends, follows}
+use Rattle.law_prove.specs.model_rules.specs.Loadable.{IsLoadable}
+use Rattle.law_prove.specs.model_prove.specs.Tables.{includes, includes_all}
+use Rattle.law_prove.specs.Coverings.{frame_memory, IsFrameOf, IsPlace, StartsAs, covering_of}
+use Rattle.law_prove.specs.Laws.{LeadsInto}
+use Rattle.law_prove.proofs.Closed.{included_first, included_second, Arrives}
+use Rattle.law_prove.proofs.Moments.{within_holds}
+use Rattle.law_prove.proofs.Places.{abend_arrives}
+use Rattle.law_prove.proofs.Spots.{place_key, did_stands, turn_arrives, Covers, spot_arrives}
+use Rattle.law_prove.proofs.Turns.{memory_of_bytes, stopped_arrives, before_it}
+use Rattle.law_prove.proofs.Choices.{one_of}
 
 -- ---- lists of outcomes
 

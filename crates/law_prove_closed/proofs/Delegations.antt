@@ -5,47 +5,47 @@ use Rattle.std.specs.Prelude.{◌==◌, ◌&&◌, ◌||◌, not, nat_lt, nat_le,
 use Rattle.std.specs.List.{AllByRecursion}
 use Rattle.std.proofs.lemmas.Bool.{ltb-false, leb-true, le-leb, and_parts, and_from}
 use Rattle.std.proofs.lemmas.List.{length-replicate}
-use Rattle.law_prove_commands.specs.model_device.specs.Bytes.{num, zeros}
-use Rattle.law_prove_commands.specs.model_machine.specs.declared.instruction.Ins.{Ins}
-use Rattle.law_prove_commands.specs.model_machine.specs.declared.instruction.Ins.TheVariants as ins
-use Rattle.law_prove_commands.specs.model_machine.specs.declared.machine.Abend.{Abend}
-use Rattle.law_prove_commands.specs.model_machine.specs.declared.machine.Abend.TheVariants.{A03, A04, A06, A0A}
-use Rattle.law_prove_commands.specs.model_machine.specs.Code.{Decodes}
-use Rattle.law_prove_commands.specs.model_machine.specs.Frame.{Frame, Place, Static, Dynamic, Public, where_is, is_outside, is_under, frame_after_pop, dynamic_base, dynamic_end, public_base, public_end, bytes_in, bytes_at}
-use Rattle.law_prove_commands.specs.model_machine.specs.Primitives.{Around, Delegates, DelegateTo, in_range, has_bit, number_below_top, count_at, later_causes}
-use Rattle.law_prove_commands.specs.model_machine.specs.Row.{causes, row, first_cause, row_end, Does}
-use Rattle.law_prove_commands.specs.model_machine.specs.Chain.{frame_at}
-use Rattle.law_prove_commands.specs.model_machine.specs.Shapes.{Stays, Shape, act_effect, shape_effect, meaning, prim_shape, shape}
-use Rattle.law_prove_commands.specs.law_bytes.specs.OfBytes.{IsByteEffect}
-use Rattle.law_prove_commands.specs.model_rules.specs.Rules.{Target}
-use Rattle.law_prove_commands.specs.model_prove.specs.Facts.{Memory}
-use Rattle.law_prove_commands.specs.model_prove.specs.Compares.{bytes_from}
-use Rattle.law_prove_commands.specs.model_prove.specs.Keys.{Start, Delegated, OfClass, Known, Tables, calls_below}
-use Rattle.law_prove_commands.specs.model_prove.specs.Laws.{Among, values_in}
-use Rattle.law_prove_commands.specs.model_prove.specs.Splits.{Scene, Choice, stand_in, with_values, top_places, combinations, count_of_combinations, most_combinations, few_if, few_combinations}
-use Rattle.law_prove_commands.specs.model_prove.specs.Work.{AsShaped}
-use Rattle.law_prove_commands.specs.model_prove.specs.Arrivals.{Setting, Arrival, fails}
-use Rattle.law_prove_commands.specs.model_prove.specs.Steps.{Spot, lowered, settled_spot, follows, caused, instruction, arounds, chosen, with_first_choice, with_choice, inside, by_choices, coarse_around, coarse_for, coarse_done, coarse_arrivals}
-use Rattle.law_prove_commands.specs.model_prove.specs.Reach.{Coarse, Leads, may_miss, known_causes}
-use Rattle.law_prove_commands.specs.model_rules.specs.Loadable.{IsLoadable}
-use Rattle.law_prove_commands.specs.model_prove.specs.Tables.{includes_all}
-use Rattle.law_prove_commands.specs.model_prove.proofs.ChangeLemmas.{choice_is_there}
-use Rattle.law_prove_commands.specs.law_prove.specs.Coverings.{frame_memory, IsFrameOf}
-use Rattle.law_prove_commands.specs.law_prove.specs.Laws.{LeadsInto, LeadLaw}
-use Rattle.law_prove_commands.specs.law_prove.proofs.Acts.{spot_of, Framed, Led, stays_led, led_covers, lowered_seen}
-use Rattle.law_prove_commands.specs.law_prove.proofs.Alike.{Sized, read_is, top_is, stack_length}
-use Rattle.law_prove_commands.specs.law_prove.proofs.Closed.{included_first, included_second}
-use Rattle.law_prove_commands.specs.law_prove.proofs.Places.{of_closed, fails_by}
-use Rattle.law_prove_commands.specs.law_prove.proofs.Seen.{Seen}
-use Rattle.law_prove_commands.specs.law_prove.proofs.Single.{Turn, here, there, IsRowCovered, row_is, shape_bytes, law_from}
-use Rattle.law_prove_commands.specs.law_prove.proofs.Turns.{frame_of, nobody, walked, included_at, decoded_at, leaves_bytes}
-use Rattle.law_prove_targets.proofs.Scenes.{both_inside}
+use Rattle.law_prove.specs.model_device.specs.Bytes.{num, zeros}
+use Rattle.law_prove.specs.model_machine.specs.declared.instruction.Ins.{Ins}
+use Rattle.law_prove.specs.model_machine.specs.declared.instruction.Ins.TheVariants as ins
+use Rattle.law_prove.specs.model_machine.specs.declared.machine.Abend.{Abend}
+use Rattle.law_prove.specs.model_machine.specs.declared.machine.Abend.TheVariants.{A03, A04, A06, A0A}
+use Rattle.law_prove.specs.model_machine.specs.Code.{Decodes}
+use Rattle.law_prove.specs.model_machine.specs.Frame.{Frame, Place, Static, Dynamic, Public, where_is, is_outside, is_under, frame_after_pop, dynamic_base, dynamic_end, public_base, public_end, bytes_in, bytes_at}
+use Rattle.law_prove.specs.model_machine.specs.Primitives.{Around, Delegates, DelegateTo, in_range, has_bit, number_below_top, count_at, later_causes}
+use Rattle.law_prove.specs.model_machine.specs.Row.{causes, row, first_cause, row_end, Does}
+use Rattle.law_prove.specs.model_machine.specs.Chain.{frame_at}
+use Rattle.law_prove.specs.model_machine.specs.Shapes.{Stays, Shape, act_effect, shape_effect, meaning, prim_shape, shape}
+use Rattle.law_prove.specs.law_bytes.specs.OfBytes.{IsByteEffect}
+use Rattle.law_prove.specs.model_rules.specs.Rules.{Target}
+use Rattle.law_prove.specs.model_prove.specs.Facts.{Memory}
+use Rattle.law_prove.specs.model_prove.specs.Compares.{bytes_from}
+use Rattle.law_prove.specs.model_prove.specs.Keys.{Start, Delegated, OfClass, Known, Tables, calls_below}
+use Rattle.law_prove.specs.model_prove.specs.Laws.{Among, values_in}
+use Rattle.law_prove.specs.model_prove.specs.Splits.{Scene, Choice, stand_in, with_values, top_places, combinations, count_of_combinations, most_combinations, few_if, few_combinations}
+use Rattle.law_prove.specs.model_prove.specs.Work.{AsShaped}
+use Rattle.law_prove.specs.model_prove.specs.Arrivals.{Setting, Arrival, fails}
+use Rattle.law_prove.specs.model_prove.specs.Steps.{Spot, lowered, settled_spot, follows, caused, instruction, arounds, chosen, with_first_choice, with_choice, inside, by_choices, coarse_around, coarse_for, coarse_done, coarse_arrivals}
+use Rattle.law_prove.specs.model_prove.specs.Reach.{Coarse, Leads, may_miss, known_causes}
+use Rattle.law_prove.specs.model_rules.specs.Loadable.{IsLoadable}
+use Rattle.law_prove.specs.model_prove.specs.Tables.{includes_all}
+use Rattle.law_prove.specs.model_prove.proofs.ChangeLemmas.{choice_is_there}
+use Rattle.law_prove.specs.Coverings.{frame_memory, IsFrameOf}
+use Rattle.law_prove.specs.Laws.{LeadsInto, LeadLaw}
+use Rattle.law_prove.proofs.Acts.{spot_of, Framed, Led, stays_led, led_covers, lowered_seen}
+use Rattle.law_prove.proofs.Alike.{Sized, read_is, top_is, stack_length}
+use Rattle.law_prove.proofs.Closed.{included_first, included_second}
+use Rattle.law_prove.proofs.Places.{of_closed, fails_by}
+use Rattle.law_prove.proofs.Seen.{Seen}
+use Rattle.law_prove.proofs.Single.{Turn, here, there, IsRowCovered, row_is, shape_bytes, law_from}
+use Rattle.law_prove.proofs.Turns.{frame_of, nobody, walked, included_at, decoded_at, leaves_bytes}
+use Rattle.law_prove.proofs.Scenes.{both_inside}
 use Rattle.law_prove_closed.specs.Laws.{DelegateLaw}
 use Rattle.law_prove_closed.proofs.Stands.{Stands, place_in, same_outside, stands_sized, scene_memory, memory_is, HasValues, values_set, all_inside, filtered_inside, chosen_facts, chosen_holds}
 use Rattle.law_prove_closed.proofs.Delegated.{delegates_covered}
-use Rattle.law_prove_commands.specs.law_prove.proofs.Blocks.{among_left, among_right}
-use Rattle.law_prove_reads.proofs.Scenes.{values_both}
-use Rattle.law_prove_reach.proofs.Choices.{one_of, chosen_is}
+use Rattle.law_prove.proofs.Blocks.{among_left, among_right}
+use Rattle.law_prove_closed.proofs.Scenes.{values_both}
+use Rattle.law_prove.proofs.Choices.{one_of, chosen_is}
 
 -- ---- causes and shape
 

@@ -2,19 +2,19 @@
 use Rattle.std.proofs.Common.{◌≡◌, ℕ, Bool, true, false, cond, List, [], ◌∷◌, Option, Some, None, refl, sym, ap, subst, ◌∙◌}
 use Rattle.std.specs.Prelude.{◌&&◌, ◌||◌, filter}
 use Rattle.std.proofs.lemmas.Bool.{and_parts, and_from}
-use Rattle.law_prove_commands.specs.model_machine.specs.Frame.{Frame}
-use Rattle.law_prove_commands.specs.law_promise.specs.Outline.{Entry}
-use Rattle.law_prove_commands.specs.model_rules.specs.Happenings.{Event, History}
-use Rattle.law_prove_commands.specs.model_prove.specs.Facts.{Facts}
-use Rattle.law_prove_commands.specs.model_prove.specs.Keys.{PlaceKey, MomentKey, Known, Tables, same_places, same_moments}
-use Rattle.law_prove_commands.specs.model_prove.specs.Arrivals.{Setting, Arrival, AtPlace, AtMoment, Breaks, Lost}
-use Rattle.law_prove_commands.specs.model_prove.specs.Steps.{place_arrivals}
-use Rattle.law_prove_commands.specs.model_prove.specs.Tables.{moment_at, place_at, has_facts, has_known, includes, includes_all}
-use Rattle.law_prove_commands.specs.law_prove.specs.Coverings.{IsMoment, IsPlace, key_of, IsKnown}
-use Rattle.law_prove_commands.specs.law_prove.specs.Laws.{LeadsInto}
-use Rattle.law_prove_commands.specs.law_prove.proofs.Keys.{moments_are, places_are}
-use Rattle.law_prove_commands.specs.law_prove.proofs.Moments.{from_memory}
-use Rattle.law_prove_commands.specs.law_prove.proofs.Places.{places_in, place_closed, is_spent, is_unfetched}
+use Rattle.law_prove.specs.model_machine.specs.Frame.{Frame}
+use Rattle.law_prove.specs.law_promise.specs.Outline.{Entry}
+use Rattle.law_prove.specs.model_rules.specs.Happenings.{Event, History}
+use Rattle.law_prove.specs.model_prove.specs.Facts.{Facts}
+use Rattle.law_prove.specs.model_prove.specs.Keys.{PlaceKey, MomentKey, Known, Tables, same_places, same_moments}
+use Rattle.law_prove.specs.model_prove.specs.Arrivals.{Setting, Arrival, AtPlace, AtMoment, Breaks, Lost}
+use Rattle.law_prove.specs.model_prove.specs.Steps.{place_arrivals}
+use Rattle.law_prove.specs.model_prove.specs.Tables.{moment_at, place_at, has_facts, has_known, includes, includes_all}
+use Rattle.law_prove.specs.Coverings.{IsMoment, IsPlace, key_of, IsKnown}
+use Rattle.law_prove.specs.Laws.{LeadsInto}
+use Rattle.law_prove.proofs.Keys.{moments_are, places_are}
+use Rattle.law_prove.proofs.Moments.{from_memory}
+use Rattle.law_prove.proofs.Places.{places_in, place_closed, is_spent, is_unfetched}
 use Rattle.law_prove_closed.specs.Outcomes.{some_outcome, leads_to, ends_at, tables_of, LeftLaw, NextLaw, NextEndLaw, ClosedNextLaw}
 use Rattle.law_prove_closed.proofs.Rows.{all_leads}
 

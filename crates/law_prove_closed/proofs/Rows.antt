@@ -2,29 +2,29 @@
 use Rattle.std.proofs.Common.{◌≡◌, ℕ, Bool, true, false, cond, List, [], ◌∷◌, Option, Some, None, refl, sym, subst}
 use Rattle.std.specs.Prelude.{◌==◌, ⊤}
 use Rattle.std.proofs.lemmas.Bool.{eqb-true}
-use Rattle.law_prove_commands.specs.model_machine.specs.declared.instruction.Ins.TheVariants as ins
-use Rattle.law_prove_commands.specs.model_machine.specs.Primitives.{Primitive, entry_of_number, primitives}
+use Rattle.law_prove.specs.model_machine.specs.declared.instruction.Ins.TheVariants as ins
+use Rattle.law_prove.specs.model_machine.specs.Primitives.{Primitive, entry_of_number, primitives}
 use Rattle.law_prove_closed.specs.ClosedLaw.{ClosedLaw}
-use Rattle.law_prove_commands.specs.law_prove.specs.Laws.{LeadLaw}
-use Rattle.law_prove_commands.specs.law_prove.proofs.Places.{of_closed}
-use Rattle.law_prove_commands.specs.law_prove.proofs.Plain.{nop_law, pop_laws, status_laws, jump_laws, push_laws}
-use Rattle.law_prove_commands.specs.law_prove.proofs.Moves.{move_laws}
-use Rattle.law_prove_commands.specs.law_prove.proofs.Numbers.{compare_laws, sum_laws, bit_laws}
-use Rattle.law_prove_commands.specs.law_prove.proofs.Prims.{primitive_laws}
-use Rattle.law_prove_commands.specs.law_prove.proofs.Masks.{mask_laws}
-use Rattle.law_prove_commands.specs.law_prove.proofs.Returns.{return_laws}
-use Rattle.law_prove_commands.proofs.Exits.{exit_laws}
-use Rattle.law_prove_targets.proofs.Targets.{target_laws}
-use Rattle.law_prove_reads.proofs.Address.{address_laws}
-use Rattle.law_prove_reads.proofs.Compared.{block_laws}
-use Rattle.law_prove_reads.proofs.Pairs.{unknown_laws}
-use Rattle.law_prove_reads.proofs.Searches.{search_laws}
-use Rattle.law_prove_reads.proofs.Shifts.{shift_laws}
-use Rattle.law_prove_reads.proofs.Tops.{flag_laws}
-use Rattle.law_prove_reach.proofs.Delegators.{delegator_law}
-use Rattle.law_prove_reach.proofs.FixedCopies.{copy_laws}
-use Rattle.law_prove_reach.proofs.Signatures.{result_laws}
-use Rattle.law_prove_reach.proofs.Stores.{store_law}
+use Rattle.law_prove.specs.Laws.{LeadLaw}
+use Rattle.law_prove.proofs.Places.{of_closed}
+use Rattle.law_prove.proofs.Plain.{nop_law, pop_laws, status_laws, jump_laws, push_laws}
+use Rattle.law_prove.proofs.Moves.{move_laws}
+use Rattle.law_prove.proofs.Numbers.{compare_laws, sum_laws, bit_laws}
+use Rattle.law_prove.proofs.Prims.{primitive_laws}
+use Rattle.law_prove.proofs.Masks.{mask_laws}
+use Rattle.law_prove.proofs.Returns.{return_laws}
+use Rattle.law_prove_closed.proofs.Exits.{exit_laws}
+use Rattle.law_prove.proofs.Targets.{target_laws}
+use Rattle.law_prove_closed.proofs.Address.{address_laws}
+use Rattle.law_prove_closed.proofs.Compared.{block_laws}
+use Rattle.law_prove_closed.proofs.Pairs.{unknown_laws}
+use Rattle.law_prove_closed.proofs.Searches.{search_laws}
+use Rattle.law_prove_closed.proofs.Shifts.{shift_laws}
+use Rattle.law_prove_closed.proofs.Tops.{flag_laws}
+use Rattle.law_prove.proofs.Delegators.{delegator_law}
+use Rattle.law_prove.proofs.FixedCopies.{copy_laws}
+use Rattle.law_prove.proofs.Signatures.{result_laws}
+use Rattle.law_prove.proofs.Stores.{store_law}
 use Rattle.law_prove_closed.specs.Laws.{AllLeadsLaw, AllRowsLaw}
 use Rattle.law_prove_closed.proofs.Delegations.{delegate_lead}
 use Rattle.law_prove_closed.proofs.Sound.{kept_by_rows}

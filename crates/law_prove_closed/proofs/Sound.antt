@@ -1,26 +1,26 @@
 -- Closed tables are a sound covering under which no rule is broken, if each row is covered.
 use Rattle.std.proofs.Common.{◌≡◌, ℕ, true, List, [], Result, Ok, Err, refl}
-use Rattle.law_prove_commands.specs.model_machine.specs.declared.instruction.Ins.{Ins}
-use Rattle.law_prove_commands.specs.model_machine.specs.declared.instruction.DecodeFault.{DecodeFault}
-use Rattle.law_prove_commands.specs.model_machine.specs.Code.{instruction_at}
-use Rattle.law_prove_commands.specs.model_machine.specs.Frame.{Frame}
-use Rattle.law_prove_commands.specs.model_machine.specs.Primitives.{Around}
-use Rattle.law_prove_commands.specs.law_promise.specs.Outline.{Entry, FitsEntry}
-use Rattle.law_prove_commands.specs.law_promise.specs.Domain.{Domain, IsSegment, IsDelegator, FitsDepth, FetchCovered, IsSound}
-use Rattle.law_prove_commands.specs.model_rules.specs.Rules.{AppRules, Target}
-use Rattle.law_prove_commands.specs.model_rules.specs.Happenings.{Event, History}
-use Rattle.law_prove_commands.specs.law_rules.specs.Law.{Covering, CoversRules, domain_of_rules}
-use Rattle.law_prove_commands.specs.law_rules.proofs.Covered.{covered_rules}
-use Rattle.law_prove_commands.specs.model_prove.specs.Keys.{Tables}
-use Rattle.law_prove_commands.specs.model_prove.specs.Arrivals.{Setting}
-use Rattle.law_prove_commands.specs.model_rules.specs.Loadable.{IsLoadable}
-use Rattle.law_prove_commands.specs.model_prove.specs.Tables.{is_closed}
+use Rattle.law_prove.specs.model_machine.specs.declared.instruction.Ins.{Ins}
+use Rattle.law_prove.specs.model_machine.specs.declared.instruction.DecodeFault.{DecodeFault}
+use Rattle.law_prove.specs.model_machine.specs.Code.{instruction_at}
+use Rattle.law_prove.specs.model_machine.specs.Frame.{Frame}
+use Rattle.law_prove.specs.model_machine.specs.Primitives.{Around}
+use Rattle.law_prove.specs.law_promise.specs.Outline.{Entry, FitsEntry}
+use Rattle.law_prove.specs.law_promise.specs.Domain.{Domain, IsSegment, IsDelegator, FitsDepth, FetchCovered, IsSound}
+use Rattle.law_prove.specs.model_rules.specs.Rules.{AppRules, Target}
+use Rattle.law_prove.specs.model_rules.specs.Happenings.{Event, History}
+use Rattle.law_prove.specs.law_rules.specs.Law.{Covering, CoversRules, domain_of_rules}
+use Rattle.law_prove.specs.law_rules.proofs.Covered.{covered_rules}
+use Rattle.law_prove.specs.model_prove.specs.Keys.{Tables}
+use Rattle.law_prove.specs.model_prove.specs.Arrivals.{Setting}
+use Rattle.law_prove.specs.model_rules.specs.Loadable.{IsLoadable}
+use Rattle.law_prove.specs.model_prove.specs.Tables.{is_closed}
 use Rattle.law_prove_closed.specs.ClosedLaw.{ClosedLaw}
-use Rattle.law_prove_commands.specs.law_prove.specs.Coverings.{IsPlace, covering_of}
-use Rattle.law_prove_commands.specs.law_prove.specs.Laws.{MomentsCovered, PlacesCovered}
-use Rattle.law_prove_commands.specs.law_prove.proofs.Moments.{moment_law}
-use Rattle.law_prove_commands.specs.law_prove.proofs.Places.{place_law}
-use Rattle.law_prove_commands.proofs.Begins.{begin_law}
+use Rattle.law_prove.specs.Coverings.{IsPlace, covering_of}
+use Rattle.law_prove.specs.Laws.{MomentsCovered, PlacesCovered}
+use Rattle.law_prove.proofs.Moments.{moment_law}
+use Rattle.law_prove.proofs.Places.{place_law}
+use Rattle.law_prove_closed.proofs.Begins.{begin_law}
 use Rattle.law_prove_closed.specs.Laws.{AllRowsLaw}
 
 module _ (r : AppRules) (g : Target) (t : Tables) (loadable : IsLoadable g.app) (closed : is_closed (record { rules = r; app = g.app }) t ≡ true) (rows : AllRowsLaw) where

@@ -3,21 +3,21 @@ use Rattle.std.proofs.Common.{◌≡◌, ◌⊎◌, inl, inr, ℕ, ◌+◌, ◌-
 use Rattle.std.specs.Prelude.{◌==◌, ◌&&◌, not, nat_lt, nat_le, is_none, filter}
 use Rattle.std.specs.List.{AllByRecursion}
 use Rattle.std.proofs.lemmas.Bool.{lt-ltb, ltb-true, ltb-false}
-use Rattle.law_prove_commands.specs.model_device.specs.Bytes.{splice}
-use Rattle.law_prove_commands.specs.model_device.specs.Pieces.{laid_pieces}
-use Rattle.law_prove_commands.specs.model_device.proofs.ListLemmas.{length_splice, splice_longer}
-use Rattle.law_prove_commands.specs.model_machine.specs.Frame.{Frame, Place, Static, Dynamic, Public, where_is, is_outside, dynamic_base, dynamic_end, public_base, public_end}
-use Rattle.law_prove_commands.specs.law_rows.specs.Keeping.{PiecesWithin}
-use Rattle.law_prove_commands.specs.model_prove.specs.Facts.{Facts, Memory, Holds, know}
-use Rattle.law_prove_commands.specs.model_prove.specs.Laws.{Among, values_in}
-use Rattle.law_prove_commands.specs.model_prove.specs.Splits.{Scene, Choice, with_byte, with_values}
-use Rattle.law_prove_commands.specs.model_prove.specs.Steps.{Spot, with_facts, chosen}
-use Rattle.law_prove_commands.specs.model_prove.proofs.ChangeLemmas.{written_holds}
-use Rattle.law_prove_commands.specs.model_prove.proofs.SetLemmas.{is_first}
-use Rattle.law_prove_commands.specs.law_prove.specs.Coverings.{parts_memory, frame_memory}
-use Rattle.law_prove_commands.specs.law_prove.proofs.Parts.{not_lt, static_same, dynamic_same, public_same, static_new, dynamic_new, public_new}
-use Rattle.law_prove_commands.specs.law_prove.proofs.Acts.{LiesIn, lies_in}
-use Rattle.law_prove_commands.specs.law_prove.proofs.Alike.{Sized}
+use Rattle.law_prove.specs.model_device.specs.Bytes.{splice}
+use Rattle.law_prove.specs.model_device.specs.Pieces.{laid_pieces}
+use Rattle.law_prove.specs.model_device.proofs.ListLemmas.{length_splice, splice_longer}
+use Rattle.law_prove.specs.model_machine.specs.Frame.{Frame, Place, Static, Dynamic, Public, where_is, is_outside, dynamic_base, dynamic_end, public_base, public_end}
+use Rattle.law_prove.specs.law_rows.specs.Keeping.{PiecesWithin}
+use Rattle.law_prove.specs.model_prove.specs.Facts.{Facts, Memory, Holds, know}
+use Rattle.law_prove.specs.model_prove.specs.Laws.{Among, values_in}
+use Rattle.law_prove.specs.model_prove.specs.Splits.{Scene, Choice, with_byte, with_values}
+use Rattle.law_prove.specs.model_prove.specs.Steps.{Spot, with_facts, chosen}
+use Rattle.law_prove.specs.model_prove.proofs.ChangeLemmas.{written_holds}
+use Rattle.law_prove.specs.model_prove.proofs.SetLemmas.{is_first}
+use Rattle.law_prove.specs.Coverings.{parts_memory, frame_memory}
+use Rattle.law_prove.proofs.Parts.{not_lt, static_same, dynamic_same, public_same, static_new, dynamic_new, public_new}
+use Rattle.law_prove.proofs.Acts.{LiesIn, lies_in}
+use Rattle.law_prove.proofs.Alike.{Sized}
 
 -- ---- a scene for a frame
 

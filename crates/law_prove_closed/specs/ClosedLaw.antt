@@ -1,10 +1,10 @@
 -- The law of closed tables.
 use Rattle.std.specs.Prelude.{◌≡◌, true, [], Some}
-use Rattle.law_prove_commands.specs.model_rules.specs.Rules.{Target, AppRules}
-use Rattle.law_prove_commands.specs.law_rules.specs.Law.{AreKept}
-use Rattle.law_prove_commands.specs.model_prove.specs.Keys.{Tables}
-use Rattle.law_prove_commands.specs.model_prove.specs.Tables.{is_closed}
-use Rattle.law_prove_commands.specs.model_rules.specs.Loadable.{IsLoadable}
+use Rattle.law_prove.specs.model_rules.specs.Rules.{Target, AppRules}
+use Rattle.law_prove.specs.law_rules.specs.Law.{AreKept}
+use Rattle.law_prove.specs.model_prove.specs.Keys.{Tables}
+use Rattle.law_prove.specs.model_prove.specs.Tables.{is_closed}
+use Rattle.law_prove.specs.model_rules.specs.Loadable.{IsLoadable}
 
 -- The law of closed tables: the rules without sums are kept of an application that a card can have in every play of
 -- every deck.

@@ -1,23 +1,23 @@
 -- The law of closed tables for the rules of a deck: one check that is computed decides that they are kept.
 use Rattle.std.specs.Prelude.{◌≡◌, ℕ, ◌+◌, Bool, true, false, ◌&&◌, nat_lt, nat_le, List, [], ◌∷◌, length, Option, Some, None, Result, Ok, Err}
 use Rattle.std.specs.Fmt.{digits}
-use Rattle.law_prove_commands.specs.model_device.specs.Card.{App}
-use Rattle.law_prove_commands.specs.model_device.specs.Pieces.{touched_words}
-use Rattle.law_prove_commands.specs.model_machine.specs.Apdu.{apdu_read}
-use Rattle.law_prove_commands.specs.model_machine.specs.Frame.{dynamic_base, dynamic_end, bytes_at, write_effect, too_many}
-use Rattle.law_prove_commands.specs.model_machine.specs.Primitives.{later_causes}
-use Rattle.law_prove_commands.specs.model_machine.specs.Row.{causes}
-use Rattle.law_prove_commands.specs.model_card.specs.Units.{name_of}
-use Rattle.law_prove_commands.specs.model_text.specs.TurnText.{turn_line}
-use Rattle.law_prove_commands.specs.model_play.specs.DeckGrammar.{deck_read}
-use Rattle.law_prove_commands.specs.model_machine.specs.Shapes.{shape, prim_shape}
-use Rattle.law_prove_commands.specs.model_rules.specs.model_events.specs.Matching.{fits}
-use Rattle.law_prove_commands.specs.model_rules.specs.Rules.{Target, Total, AppRules}
-use Rattle.law_prove_commands.specs.model_rule_text.specs.Reading.{RuleCause, app_rules_read}
-use Rattle.law_prove_commands.specs.law_rules.specs.Law.{KeptInAll}
-use Rattle.law_prove_commands.specs.model_prove.specs.Keys.{Tables}
-use Rattle.law_prove_commands.specs.model_prove.specs.Arrivals.{Setting}
-use Rattle.law_prove_commands.specs.model_prove.specs.Tables.{is_closed}
+use Rattle.law_prove.specs.model_device.specs.Card.{App}
+use Rattle.law_prove.specs.model_device.specs.Pieces.{touched_words}
+use Rattle.law_prove.specs.model_machine.specs.Apdu.{apdu_read}
+use Rattle.law_prove.specs.model_machine.specs.Frame.{dynamic_base, dynamic_end, bytes_at, write_effect, too_many}
+use Rattle.law_prove.specs.model_machine.specs.Primitives.{later_causes}
+use Rattle.law_prove.specs.model_machine.specs.Row.{causes}
+use Rattle.law_prove.specs.model_card.specs.Units.{name_of}
+use Rattle.law_prove.specs.model_text.specs.TurnText.{turn_line}
+use Rattle.law_prove.specs.model_play.specs.DeckGrammar.{deck_read}
+use Rattle.law_prove.specs.model_machine.specs.Shapes.{shape, prim_shape}
+use Rattle.law_prove.specs.model_rules.specs.model_events.specs.Matching.{fits}
+use Rattle.law_prove.specs.model_rules.specs.Rules.{Target, Total, AppRules}
+use Rattle.law_prove.specs.model_rule_text.specs.Reading.{RuleCause, app_rules_read}
+use Rattle.law_prove.specs.law_rules.specs.Law.{KeptInAll}
+use Rattle.law_prove.specs.model_prove.specs.Keys.{Tables}
+use Rattle.law_prove.specs.model_prove.specs.Arrivals.{Setting}
+use Rattle.law_prove.specs.model_prove.specs.Tables.{is_closed}
 use Rattle.law_prove_closed.specs.Search.{tables_after}
 
 -- whether numbers are bytes

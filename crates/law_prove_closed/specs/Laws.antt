@@ -1,8 +1,8 @@
 -- The laws of closed tables that all rows together give.
 use Rattle.std.specs.Prelude.{ℕ, List}
-use Rattle.law_prove_commands.specs.model_machine.specs.declared.instruction.Ins.{Ins}
-use Rattle.law_prove_commands.specs.model_machine.specs.declared.instruction.Ins.TheVariants as ins
-use Rattle.law_prove_commands.specs.law_prove.specs.Laws.{LeadLaw, RowLaw}
+use Rattle.law_prove.specs.model_machine.specs.declared.instruction.Ins.{Ins}
+use Rattle.law_prove.specs.model_machine.specs.declared.instruction.Ins.TheVariants as ins
+use Rattle.law_prove.specs.Laws.{LeadLaw, RowLaw}
 
 -- of the primitive that delegates
 abbrev pub DelegateLaw : Type 0

@@ -1,26 +1,26 @@
 -- The tables that are left by the keys of some outcomes, and what a row leads to in them: after an instruction comes a
 -- place with one of the keys of its outcomes.
 use Rattle.std.specs.Prelude.{◌≡◌, ℕ, Bool, true, false, ◌||◌, List, [], ◌∷◌, filter, Ok, Err}
-use Rattle.law_prove_commands.specs.model_machine.specs.declared.instruction.DecodeFault.{DecodeFault}
-use Rattle.law_prove_commands.specs.model_machine.specs.declared.instruction.Ins.{Ins}
-use Rattle.law_prove_commands.specs.model_machine.specs.declared.machine.Abend.TheVariants.{A07}
-use Rattle.law_prove_commands.specs.model_machine.specs.Code.{instruction_at}
-use Rattle.law_prove_commands.specs.model_machine.specs.Frame.{Frame, session_of}
-use Rattle.law_prove_commands.specs.model_machine.specs.Primitives.{Around}
-use Rattle.law_prove_commands.specs.model_machine.specs.Row.{row}
-use Rattle.law_prove_commands.specs.model_machine.specs.Chain.{Abended, frame_at}
-use Rattle.law_prove_commands.specs.law_promise.specs.History.{fetch_cause}
-use Rattle.law_prove_commands.specs.law_promise.specs.Outline.{Entry, FitsEntry}
-use Rattle.law_prove_commands.specs.law_promise.specs.Domain.{IsSegment, IsDelegator, EndCovered, AbendCovered, RowCovered, FitsDepth}
-use Rattle.law_prove_commands.specs.model_rules.specs.Rules.{Target, AppRules}
-use Rattle.law_prove_commands.specs.model_rules.specs.Happenings.{Event, History, Failed}
-use Rattle.law_prove_commands.specs.law_rules.specs.Law.{domain_of_rules}
-use Rattle.law_prove_commands.specs.model_prove.specs.Keys.{PlaceKey, MomentKey, Known, Tables, same_places, same_moments}
-use Rattle.law_prove_commands.specs.model_prove.specs.Arrivals.{Setting, Arrival, AtPlace, AtMoment, Breaks, Lost}
-use Rattle.law_prove_commands.specs.model_prove.specs.Steps.{place_arrivals}
-use Rattle.law_prove_commands.specs.model_prove.specs.Tables.{includes_all, is_closed}
-use Rattle.law_prove_commands.specs.model_rules.specs.Loadable.{IsLoadable}
-use Rattle.law_prove_commands.specs.law_prove.specs.Coverings.{IsMoment, IsPlace, key_of, IsKnown, covering_of}
+use Rattle.law_prove.specs.model_machine.specs.declared.instruction.DecodeFault.{DecodeFault}
+use Rattle.law_prove.specs.model_machine.specs.declared.instruction.Ins.{Ins}
+use Rattle.law_prove.specs.model_machine.specs.declared.machine.Abend.TheVariants.{A07}
+use Rattle.law_prove.specs.model_machine.specs.Code.{instruction_at}
+use Rattle.law_prove.specs.model_machine.specs.Frame.{Frame, session_of}
+use Rattle.law_prove.specs.model_machine.specs.Primitives.{Around}
+use Rattle.law_prove.specs.model_machine.specs.Row.{row}
+use Rattle.law_prove.specs.model_machine.specs.Chain.{Abended, frame_at}
+use Rattle.law_prove.specs.law_promise.specs.History.{fetch_cause}
+use Rattle.law_prove.specs.law_promise.specs.Outline.{Entry, FitsEntry}
+use Rattle.law_prove.specs.law_promise.specs.Domain.{IsSegment, IsDelegator, EndCovered, AbendCovered, RowCovered, FitsDepth}
+use Rattle.law_prove.specs.model_rules.specs.Rules.{Target, AppRules}
+use Rattle.law_prove.specs.model_rules.specs.Happenings.{Event, History, Failed}
+use Rattle.law_prove.specs.law_rules.specs.Law.{domain_of_rules}
+use Rattle.law_prove.specs.model_prove.specs.Keys.{PlaceKey, MomentKey, Known, Tables, same_places, same_moments}
+use Rattle.law_prove.specs.model_prove.specs.Arrivals.{Setting, Arrival, AtPlace, AtMoment, Breaks, Lost}
+use Rattle.law_prove.specs.model_prove.specs.Steps.{place_arrivals}
+use Rattle.law_prove.specs.model_prove.specs.Tables.{includes_all, is_closed}
+use Rattle.law_prove.specs.model_rules.specs.Loadable.{IsLoadable}
+use Rattle.law_prove.specs.Coverings.{IsMoment, IsPlace, key_of, IsKnown, covering_of}
 
 -- whether one of some outcomes passes a test
 abbrev pub some_outcome : (Arrival → Bool) → List Arrival → Bool

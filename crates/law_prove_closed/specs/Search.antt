@@ -1,12 +1,12 @@
 -- The least tables of rules, for rows that compute them.
 use Rattle.std.specs.Prelude.{ℕ, zero, suc, ◌-◌, cond, not, List, [], ◌∷◌, Option, Some, None}
-use Rattle.law_prove_commands.specs.model_rules.specs.Rules.{Range}
-use Rattle.law_prove_commands.specs.model_prove.specs.Facts.{Facts, join}
-use Rattle.law_prove_commands.specs.model_prove.specs.Keys.{PlaceKey, MomentKey, Known, Tables, same_places, same_moments, join_known}
-use Rattle.law_prove_commands.specs.model_prove.specs.Arrivals.{Setting, Arrival, AtPlace, AtMoment, Breaks, Lost}
-use Rattle.law_prove_commands.specs.model_prove.specs.Steps.{place_arrivals}
-use Rattle.law_prove_commands.specs.model_prove.specs.Between.{Class, classes, moment_arrivals, created, rounded}
-use Rattle.law_prove_commands.specs.model_prove.specs.Tables.{includes, moment_at, place_at}
+use Rattle.law_prove.specs.model_rules.specs.Rules.{Range}
+use Rattle.law_prove.specs.model_prove.specs.Facts.{Facts, join}
+use Rattle.law_prove.specs.model_prove.specs.Keys.{PlaceKey, MomentKey, Known, Tables, same_places, same_moments, join_known}
+use Rattle.law_prove.specs.model_prove.specs.Arrivals.{Setting, Arrival, AtPlace, AtMoment, Breaks, Lost}
+use Rattle.law_prove.specs.model_prove.specs.Steps.{place_arrivals}
+use Rattle.law_prove.specs.model_prove.specs.Between.{Class, classes, moment_arrivals, created, rounded}
+use Rattle.law_prove.specs.model_prove.specs.Tables.{includes, moment_at, place_at}
 
 -- ---- the least tables
 

@@ -4,16 +4,18 @@
 
 mod worked;
 
-ghost use Rattle.std.specs.Prelude.{◌≡◌, [], ◌∷◌};
-ghost use Rattle.law_prove_commands.specs.model_prove.specs.Compares.{NoCompare, Bounds};
-ghost use Rattle.law_prove_closed.specs.Computed.{counter_deck};
-ghost use Rattle.law_prove_commands.specs.model_prove.specs.Facts.{Facts};
-ghost use Rattle.law_prove_commands.specs.model_prove.specs.Keys.{PlaceKey};
-ghost use Rattle.law_prove_commands.specs.model_prove.specs.Steps.{after_delegation};
+ghost use Rattle.law_prove.specs.model_prove.specs.Compares.{NoCompare, Bounds};
+ghost use Rattle.law_prove.specs.model_prove.specs.Facts.{Facts};
+ghost use Rattle.law_prove.specs.model_prove.specs.Keys.{PlaceKey};
+ghost use Rattle.law_prove.specs.model_prove.specs.Steps.{after_delegation};
 ghost use Rattle.law_prove_closed.specs.ClosedLaw.{ClosedLaw};
+ghost use Rattle.law_prove_closed.specs.CommandLaws.{PatternLaw, ClassLaw, BeginLaw, ExitLaw};
+ghost use Rattle.law_prove_closed.specs.Computed.{counter_deck};
+ghost use Rattle.law_prove_closed.specs.Decks.{DeckLaw, DeckIsKept};
 ghost use Rattle.law_prove_closed.specs.Laws.{DelegateLaw, AllRowsLaw, AllLeadsLaw};
 ghost use Rattle.law_prove_closed.specs.Outcomes.{LeftLaw, NextLaw, NextEndLaw, ClosedNextLaw};
-ghost use Rattle.law_prove_closed.specs.Decks.{DeckLaw, DeckIsKept};
+ghost use Rattle.law_prove_closed.specs.ReadLaws.{UnknownLaw, ShiftLaw, AddressLaw, SearchLaw, BlockLaw, FlagLaw};
+ghost use Rattle.std.specs.Prelude.{◌≡◌, [], ◌∷◌};
 
 /// After PRIM 7 closed tables have the place after the delegation, whatever public segment comes back, and the moments
 /// to which an abend of a delegate and a stop in it lead; or what follows an abend of its own.
@@ -84,4 +86,64 @@ pub fn counter_is_kept()
     ensures { DeckIsKept counter_deck }
 {}
 
-pub use law_prove_commands::model_machine;
+pub use crate::model_machine;
+
+/// The ways that a pattern leaves open after a text decide whether it fits the text.
+pub fn patterns_are_followed()
+    ensures { PatternLaw }
+{}
+
+/// Each command of bytes that reaches an application is in a class of its rules: the class has the bytes of its header,
+/// and exactly those lines match whose patterns fit the command.
+pub fn commands_have_classes()
+    ensures { ClassLaw }
+{}
+
+/// A command that is sent to the selected application begins its frame at a place that closed tables have, with the
+/// allowances that its event leaves, and with what is known of its public segment and of the bytes of its session.
+pub fn beginnings_are_covered()
+    ensures { BeginLaw }
+{}
+
+/// After EXIT, EXITSW, EXITLA and EXITSWLA closed tables have the moment after the answer, which breaks no rule, or what
+/// follows abend 09; and after those of a delegated frame the moment without a session.
+pub fn exits_are_covered()
+    ensures { ExitLaw }
+{}
+
+pub use law_prove::model_machine;
+
+/// A pair of set and number that is no primitive abends, and closed tables have what follows.
+pub fn unknown_pairs_are_covered()
+    ensures { UnknownLaw }
+{}
+
+/// After SHIFT LEFT and SHIFT RIGHT closed tables have the place with the top shifted, and with the last bit that was
+/// shifted out in C; or what follows an abend.
+pub fn shifts_are_covered()
+    ensures { ShiftLaw }
+{}
+
+/// After LOADI and INDEX closed tables have the place with the bytes at the address pushed, or with the address of the
+/// entry; or what follows an abend.
+pub fn addresses_are_covered()
+    ensures { AddressLaw }
+{}
+
+/// After the search of a table closed tables have the place with the index of the byte pushed, or 0 if it is not there;
+/// or what follows an abend.
+pub fn searches_are_covered()
+    ensures { SearchLaw }
+{}
+
+/// After the primitives that compare the bytes at two addresses closed tables have the place with the flags of the
+/// subtraction; or what follows an abend.
+pub fn blocks_are_covered()
+    ensures { BlockLaw }
+{}
+
+/// After CHECK CASE and STORE CCR closed tables have the place with the flags by the top byte of the stack; or what
+/// follows an abend.
+pub fn flags_are_covered()
+    ensures { FlagLaw }
+{}

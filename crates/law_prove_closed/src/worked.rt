@@ -2,8 +2,8 @@
 
 // Worked rows: tables of small applications, closed and not closed.
 ghost use Rattle.std.specs.Prelude.{◌≡◌, [], ◌∷◌, ◌++◌, codes, true, false};
-ghost use Rattle.law_prove_commands.specs.model_rules.specs.Rules.{no_app_rules};
-ghost use Rattle.law_prove_commands.specs.model_prove.specs.Between.{commanded};
+ghost use Rattle.law_prove.specs.model_rules.specs.Rules.{no_app_rules};
+ghost use Rattle.law_prove.specs.model_prove.specs.Between.{commanded};
 ghost use Rattle.law_prove_closed.specs.Computed.{closed_after, deck_of};
 
 /// An application that does nothing: a moment without a session and one in it, and the first place of a frame that a

@@ -26,13 +26,13 @@ use Rattle.law_prove_closed.specs.law_prove.specs.Laws.{PlacesCovered}
 use Rattle.law_prove_closed.specs.law_prove.proofs.Parts.{memory_public}
 use Rattle.law_prove_closed.specs.law_prove.proofs.Picks.{commanded_is}
 use Rattle.law_prove_closed.specs.law_prove.proofs.Places.{place_law}
-use Rattle.law_prove_closed.specs.law_prove_commands.specs.Laws.{HasClass}
-use Rattle.law_prove_closed.specs.law_prove_commands.proofs.Begins.{begin_law}
-use Rattle.law_prove_closed.specs.law_prove_commands.proofs.Classes.{class_law}
-use Rattle.law_sum_rows.specs.model_sums.specs.Sums.{SumsTable, sums_at, first_known}
-use Rattle.law_sum_rows.specs.model_sums.specs.Says.{Holds, TotalsHold, SumsHold}
-use Rattle.law_sum_rows.specs.model_sums.specs.Closed.{has_sums, all_pass, start_closed}
-use Rattle.law_sum_rows.specs.law_sums.proofs.KnownLemmas.{follow_holds, start_holds}
+use Rattle.law_prove_closed.specs.CommandLaws.{HasClass}
+use Rattle.law_prove_closed.proofs.Begins.{begin_law}
+use Rattle.law_prove_closed.proofs.Classes.{class_law}
+use Rattle.law_sums.specs.model_sums.specs.Sums.{SumsTable, sums_at, first_known}
+use Rattle.law_sums.specs.model_sums.specs.Says.{Holds, TotalsHold, SumsHold}
+use Rattle.law_sums.specs.model_sums.specs.Closed.{has_sums, all_pass, start_closed}
+use Rattle.law_sums.proofs.KnownLemmas.{follow_holds, start_holds}
 use Rattle.law_sum_plays.specs.Coverings.{IsSumMoment, IsSumPlace}
 use Rattle.law_sum_plays.proofs.Standings.{one_standing, IsAllowed, allowed, then_event}
 use Rattle.law_sum_plays.proofs.Totals.{AreWithin, totals_hold, reads_static}

@@ -10,8 +10,8 @@ use Rattle.law_prove_closed.specs.model_prove.specs.Between.{Class, classes, mom
 use Rattle.law_prove_closed.specs.model_prove.specs.Tables.{moment_at, place_at}
 use Rattle.law_prove_closed.specs.law_prove.proofs.Keys.{moments_are, places_are}
 use Rattle.law_prove_closed.specs.Outcomes.{some_outcome, leads_to}
-use Rattle.law_sum_rows.specs.model_sums.specs.Sums.{SumsTable, sums_at}
-use Rattle.law_sum_rows.specs.model_sums.specs.Closed.{all_pass, is_sum, place_closed, places_closed, start_closed, starts_closed, sums_closed}
+use Rattle.law_sums.specs.model_sums.specs.Sums.{SumsTable, sums_at}
+use Rattle.law_sums.specs.model_sums.specs.Closed.{all_pass, is_sum, place_closed, places_closed, start_closed, starts_closed, sums_closed}
 use Rattle.law_sum_plays.proofs.Totals.{AreWithin, within_by}
 
 -- ---- lists that pass a test

@@ -21,19 +21,19 @@ use Rattle.law_prove_closed.specs.model_rules.specs.Loadable.{IsLoadable}
 use Rattle.law_prove_closed.specs.law_prove.specs.Coverings.{frame_memory, IsPlace, key_of}
 use Rattle.law_prove_closed.specs.law_prove.proofs.Parts.{memory_public}
 use Rattle.law_prove_closed.specs.Outcomes.{some_outcome, leads_to}
-use Rattle.law_sum_rows.specs.model_sums.specs.Origins.{Origins, origin_at}
-use Rattle.law_sum_rows.specs.model_sums.specs.Sums.{Sums, SumsTable, sums_at, are_even}
-use Rattle.law_sum_rows.specs.model_sums.specs.Says.{IsFrom, OriginsHold, MoreHolds, OffsHold, Holds, read_sums}
-use Rattle.law_sum_rows.specs.model_sums.specs.Writes.{delegated}
-use Rattle.law_sum_rows.specs.model_sums.specs.Moves.{after_next}
-use Rattle.law_sum_rows.specs.model_sums.specs.Events.{public_size, drops, asks, counted}
-use Rattle.law_sum_rows.specs.model_sums.specs.Closed.{Turn, is_settled, has_sums, event_leads_to, all_pass, depth_closed, arrival_closed}
-use Rattle.law_sum_rows.specs.law_sums.specs.EventLaws.{PublicHolds}
-use Rattle.law_sum_rows.specs.law_sums.specs.TurnLaws.{row_sums, TurnHolds}
-use Rattle.law_sum_rows.specs.law_sums.proofs.KnownLemmas.{follow_holds}
-use Rattle.law_sum_rows.specs.law_sums.proofs.LossLemmas.{delegated_holds}
-use Rattle.law_sum_rows.specs.law_sums.proofs.TurnLemmas.{turn_holds}
-use Rattle.law_sum_rows.specs.Rows.{spot_at}
+use Rattle.law_sums.specs.model_sums.specs.Origins.{Origins, origin_at}
+use Rattle.law_sums.specs.model_sums.specs.Sums.{Sums, SumsTable, sums_at, are_even}
+use Rattle.law_sums.specs.model_sums.specs.Says.{IsFrom, OriginsHold, MoreHolds, OffsHold, Holds, read_sums}
+use Rattle.law_sums.specs.model_sums.specs.Writes.{delegated}
+use Rattle.law_sums.specs.model_sums.specs.Moves.{after_next}
+use Rattle.law_sums.specs.model_sums.specs.Events.{public_size, drops, asks, counted}
+use Rattle.law_sums.specs.model_sums.specs.Closed.{Turn, is_settled, has_sums, event_leads_to, all_pass, depth_closed, arrival_closed}
+use Rattle.law_sums.specs.EventLaws.{PublicHolds}
+use Rattle.law_sums.specs.TurnLaws.{row_sums, TurnHolds}
+use Rattle.law_sums.proofs.KnownLemmas.{follow_holds}
+use Rattle.law_sums.proofs.LossLemmas.{delegated_holds}
+use Rattle.law_sums.proofs.TurnLemmas.{turn_holds}
+use Rattle.law_sum_plays.specs.Rows.{spot_at}
 use Rattle.law_sum_plays.specs.Laws.{Guards}
 use Rattle.law_sum_plays.specs.Coverings.{IsSumPlace}
 use Rattle.law_sum_plays.proofs.Standings.{IsDone, done_stands, moves_have_sums}

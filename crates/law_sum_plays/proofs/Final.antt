@@ -1,5 +1,5 @@
 -- Rules with sums are kept in every play if closed tables are known for them: each row leaves what its place says.
-use Rattle.law_sum_rows.proofs.All.{all_rows}
+use Rattle.law_sum_plays.proofs.All.{all_rows}
 use Rattle.law_sum_plays.specs.Laws.{ClosedSumsLaw}
 use Rattle.law_sum_plays.proofs.Sound.{suffice_law}
 

@@ -19,7 +19,7 @@ use Rattle.law_prove_closed.specs.law_rules.specs.Law.{domain_of_rules}
 use Rattle.law_prove_closed.specs.model_prove.specs.Keys.{Tables}
 use Rattle.law_prove_closed.specs.model_prove.specs.Arrivals.{Setting}
 use Rattle.law_prove_closed.specs.law_prove.specs.Coverings.{IsMoment, covering_of}
-use Rattle.law_sum_rows.specs.model_sums.specs.Sums.{SumsTable}
+use Rattle.law_sums.specs.model_sums.specs.Sums.{SumsTable}
 use Rattle.law_sum_plays.specs.Laws.{IsQuiet}
 use Rattle.law_sum_plays.specs.Coverings.{IsSumMoment, sums_covering_of}
 use Rattle.law_sum_plays.proofs.Standings.{one_standing, quiet_kept}

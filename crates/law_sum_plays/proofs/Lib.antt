@@ -9,3 +9,25 @@ pub mod Turns
 pub mod Begins
 pub mod Sound
 pub mod Final
+pub mod Memories
+pub mod Acts
+pub mod Moved
+pub mod Scenes
+pub mod Coarse
+pub mod Rows
+pub mod Plain
+pub mod Copied
+pub mod Operated
+pub mod Sums
+pub mod Addresses
+pub mod Written
+pub mod Prims
+pub mod Targets
+pub mod Masks
+pub mod Blocks
+pub mod Ciphers
+pub mod Delegators
+pub mod All
+pub mod Decks
+mod Rules
+mod KeptDecks

@@ -15,8 +15,8 @@ use Rattle.law_prove_closed.specs.model_prove.specs.Tables.{place_at}
 use Rattle.law_prove_closed.specs.law_prove.specs.Coverings.{StartsAs, IsPlace, key_of}
 use Rattle.law_prove_closed.specs.Outcomes.{some_outcome, leads_to, tables_of}
 use Rattle.law_prove_closed.proofs.Outcomes.{found}
-use Rattle.law_sum_rows.specs.model_sums.specs.Sums.{Sums, sums_follow}
-use Rattle.law_sum_rows.specs.model_sums.specs.Closed.{all_pass, has_sums, event_leads_to}
+use Rattle.law_sums.specs.model_sums.specs.Sums.{Sums, sums_follow}
+use Rattle.law_sums.specs.model_sums.specs.Closed.{all_pass, has_sums, event_leads_to}
 
 -- ---- tests
 

@@ -11,7 +11,7 @@ use Rattle.law_prove_closed.specs.model_machine.specs.Shapes.{Act, Stays, Answer
 use Rattle.law_prove_closed.specs.law_rows.proofs.RowShapes.{shapes}
 use Rattle.law_prove_closed.specs.law_rows.proofs.Keeping.{on_done}
 use Rattle.law_prove_closed.specs.model_rules.specs.Keeping.{mode_of_primitive, mode_of}
-use Rattle.law_sum_rows.specs.model_sums.specs.Events.{is_commit}
+use Rattle.law_sums.specs.model_sums.specs.Events.{is_commit}
 use Rattle.law_sum_plays.specs.Laws.{Guards, GuardLaw}
 
 -- ---- acts that leave the protection

@@ -21,8 +21,8 @@ use Rattle.law_prove_closed.specs.law_prove.specs.Coverings.{IsMoment, covering_
 use Rattle.law_prove_closed.specs.law_prove.proofs.Moments.{idle_ranges}
 use Rattle.law_prove_closed.proofs.Rows.{all_rows}
 use Rattle.law_prove_closed.proofs.Sound.{is_sound}
-use Rattle.law_sum_rows.specs.model_sums.specs.Sums.{SumsTable}
-use Rattle.law_sum_rows.specs.Rows.{AllSumRowsLaw}
+use Rattle.law_sums.specs.model_sums.specs.Sums.{SumsTable}
+use Rattle.law_sum_plays.specs.Rows.{AllSumRowsLaw}
 use Rattle.law_sum_plays.specs.Coverings.{IsSumMoment, sums_covering_of}
 use Rattle.law_sum_plays.specs.Laws.{BeginSumsLaw, RowsSufficeLaw}
 use Rattle.law_sum_plays.proofs.Checked.{SumsClosed, closed_parts}

@@ -11,11 +11,11 @@ use Rattle.law_prove_closed.specs.model_rules.specs.model_events.specs.Matching.
 use Rattle.law_prove_closed.specs.model_rules.specs.Rules.{SumLine, AppRules}
 use Rattle.law_prove_closed.specs.model_rules.specs.Happenings.{Event, Did, Failed, Commanded, Answers, Session, History}
 use Rattle.law_prove_closed.specs.model_rules.specs.Keeping.{Amounts, Break, Sum, Standing, OnTurn, OnCommand, OnAnswer, OnSession, after_occasion, line_of_deed, moved_sum, after_sum_line, after_moves, mode_of, first_sums, first_standing, protected_sums, after_deed, with_allowances, after_abend, after_event, standing_after}
-use Rattle.law_sum_rows.specs.model_sums.specs.Says.{read_sums}
-use Rattle.law_sum_rows.specs.model_sums.specs.Closed.{all_pass, is_sum}
-use Rattle.law_sum_rows.specs.law_sums.specs.EventLaws.{has_sum}
+use Rattle.law_sums.specs.model_sums.specs.Says.{read_sums}
+use Rattle.law_sums.specs.model_sums.specs.Closed.{all_pass, is_sum}
+use Rattle.law_sums.specs.EventLaws.{has_sum}
 use Rattle.law_sum_plays.specs.Laws.{IsQuiet, QuietLaw, AreNamed, NameLaw}
-use Rattle.law_sum_rows.specs.law_sums.proofs.EventLemmas.{names_stay}
+use Rattle.law_sums.proofs.EventLemmas.{names_stay}
 
 -- ---- one
 

@@ -13,8 +13,8 @@ use Rattle.law_prove_closed.specs.model_prove.specs.Facts.{Memory}
 use Rattle.law_prove_closed.specs.model_prove.specs.Compares.{bytes_from}
 use Rattle.law_prove_closed.specs.law_prove.specs.Coverings.{frame_memory}
 use Rattle.law_prove_closed.specs.law_prove.proofs.Parts.{memory_static}
-use Rattle.law_sum_rows.specs.model_sums.specs.Says.{number_at, TotalHolds, TotalsHold}
-use Rattle.law_sum_rows.specs.model_sums.specs.Closed.{all_pass}
+use Rattle.law_sums.specs.model_sums.specs.Says.{number_at, TotalHolds, TotalsHold}
+use Rattle.law_sums.specs.model_sums.specs.Closed.{all_pass}
 
 -- a memory has static bytes at their addresses
 abbrev pub HasStatic : Memory → List ℕ → Type 0

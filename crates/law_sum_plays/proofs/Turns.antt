@@ -30,10 +30,10 @@ use Rattle.law_prove_closed.specs.law_prove.proofs.Places.{place_law}
 use Rattle.law_prove_closed.specs.Outcomes.{tables_of}
 use Rattle.law_prove_closed.proofs.Outcomes.{closed_next_law}
 use Rattle.law_prove_closed.proofs.Rows.{all_rows}
-use Rattle.law_sum_rows.specs.model_sums.specs.Sums.{Sums, SumsTable, sums_at}
-use Rattle.law_sum_rows.specs.model_sums.specs.Moves.{after_next}
-use Rattle.law_sum_rows.specs.model_sums.specs.Closed.{Turn, after_event, is_settled, has_sums, all_pass, arrival_closed, exit_settled, fetched_closed, place_closed}
-use Rattle.law_sum_rows.specs.Rows.{IsDelegation, SumsMove, spot_at, AllSumRowsLaw}
+use Rattle.law_sums.specs.model_sums.specs.Sums.{Sums, SumsTable, sums_at}
+use Rattle.law_sums.specs.model_sums.specs.Moves.{after_next}
+use Rattle.law_sums.specs.model_sums.specs.Closed.{Turn, after_event, is_settled, has_sums, all_pass, arrival_closed, exit_settled, fetched_closed, place_closed}
+use Rattle.law_sum_plays.specs.Rows.{IsDelegation, SumsMove, spot_at, AllSumRowsLaw}
 use Rattle.law_sum_plays.specs.Laws.{Guards}
 use Rattle.law_sum_plays.specs.Coverings.{IsSumPlace, sums_covering_of}
 use Rattle.law_sum_plays.proofs.Protection.{row_guards}

@@ -10,8 +10,8 @@ use Rattle.law_prove_closed.specs.law_rules.specs.Law.{Covering}
 use Rattle.law_prove_closed.specs.model_prove.specs.Keys.{Tables}
 use Rattle.law_prove_closed.specs.model_prove.specs.Arrivals.{Setting}
 use Rattle.law_prove_closed.specs.law_prove.specs.Coverings.{IsMoment, IsUnbroken, frame_memory, IsPlace, key_of}
-use Rattle.law_sum_rows.specs.model_sums.specs.Sums.{Sums, SumsTable, sums_at}
-use Rattle.law_sum_rows.specs.model_sums.specs.Says.{SumsHold}
+use Rattle.law_sums.specs.model_sums.specs.Sums.{Sums, SumsTable, sums_at}
+use Rattle.law_sums.specs.model_sums.specs.Says.{SumsHold}
 
 -- A moment between commands that the tables of facts have, at which each total holds of the static bytes and of the sums
 -- as power would leave both.

@@ -21,12 +21,12 @@ use Rattle.law_prove_closed.specs.model_prove.specs.Keys.{Tables}
 use Rattle.law_prove_closed.specs.model_prove.specs.Arrivals.{Setting}
 use Rattle.law_prove_closed.specs.model_rules.specs.Loadable.{IsLoadable}
 use Rattle.law_prove_closed.specs.model_prove.specs.Tables.{is_closed}
-use Rattle.law_sum_rows.specs.model_sums.specs.Sums.{SumsTable}
-use Rattle.law_sum_rows.specs.model_sums.specs.Events.{asks}
-use Rattle.law_sum_rows.specs.model_sums.specs.Closed.{is_sum, sums_closed}
-use Rattle.law_sum_rows.specs.law_sums.specs.EventLaws.{has_sum}
-use Rattle.law_sum_rows.specs.law_sums.specs.TurnLaws.{StaysProtected}
-use Rattle.law_sum_rows.specs.Rows.{AllSumRowsLaw}
+use Rattle.law_sums.specs.model_sums.specs.Sums.{SumsTable}
+use Rattle.law_sums.specs.model_sums.specs.Events.{asks}
+use Rattle.law_sums.specs.model_sums.specs.Closed.{is_sum, sums_closed}
+use Rattle.law_sums.specs.EventLaws.{has_sum}
+use Rattle.law_sums.specs.TurnLaws.{StaysProtected}
+use Rattle.law_sum_plays.specs.Rows.{AllSumRowsLaw}
 use Rattle.law_sum_plays.specs.Coverings.{IsSumMoment, IsSumPlace, sums_covering_of}
 
 -- ---- what stands after a history

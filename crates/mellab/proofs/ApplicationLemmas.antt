@@ -3,8 +3,8 @@ use Rattle.std.specs.Prelude.{◌≡◌, ℕ, List, Result, Ok, Err}
 use Rattle.std.proofs.Common.{ap, refl, subst, sym, ◌∙◌}
 use Rattle.mc_deck.specs.model_play.specs.DeckGrammar.{DeckLine, deck_read}
 use Rattle.mc_deck.specs.model_play.specs.declared.deck.DeckCause.{DeckCause}
-use Rattle.lab_moves.specs.law_histories.specs.Histories.{AppExploration, AppFault, app_exploration_read}
-use Rattle.lab_moves.specs.law_histories.proofs.CardMoves.{cards_of, deck_first}
+use Rattle.lab_deck.specs.law_histories.specs.Histories.{AppExploration, AppFault, app_exploration_read}
+use Rattle.lab_deck.specs.law_histories.proofs.CardMoves.{cards_of, deck_first}
 use Rattle.lab_deck.specs.Applications.{IsApplication, IsApplicationRead}
 use Rattle.lab_deck.specs.declared.reading.Application.{Application}
 use Rattle.lab_application.specs.Shadows.{AreMovesOf}

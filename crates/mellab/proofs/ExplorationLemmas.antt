@@ -2,14 +2,14 @@
 use Rattle.std.specs.Prelude.{◌≡◌, ℕ, ◌+◌, Bool, true, false, List, length, Option, Some, None, Result, Ok, Err, IfOk, IfErr}
 use Rattle.std.proofs.Common.{ap, arith, inr, refl, subst, sym, ◌∙◌}
 use Rattle.mc_text.specs.Texts.{Fails}
-use Rattle.lab_moves.specs.law_explore_text.specs.law_explore.specs.Rules as rule
-use Rattle.lab_moves.specs.law_explore_text.specs.law_explore.specs.Rules.{exploration_read}
-use Rattle.lab_moves.specs.law_explore_text.specs.law_explore.specs.Search.{Ending, All, AtDepth, Broken, TooMany, search_of}
-use Rattle.lab_moves.specs.law_explore_text.specs.law_explore.specs.States.{play_of_deck}
-use Rattle.lab_moves.specs.law_explore_text.specs.Report.{text_within}
-use Rattle.lab_moves.specs.law_explore_text.specs.law_explore.proofs.ReadRules.{moves_of_exploration}
-use Rattle.lab_moves.specs.law_histories.specs.Histories.{AppExploration, AppFault, app_exploration_read, names_application}
-use Rattle.lab_moves.specs.law_histories.specs.Searches.{text_of_search}
+use Rattle.lab_deck.specs.law_explore_text.specs.law_explore.specs.Rules as rule
+use Rattle.lab_deck.specs.law_explore_text.specs.law_explore.specs.Rules.{exploration_read}
+use Rattle.lab_deck.specs.law_explore_text.specs.law_explore.specs.Search.{Ending, All, AtDepth, Broken, TooMany, search_of}
+use Rattle.lab_deck.specs.law_explore_text.specs.law_explore.specs.States.{play_of_deck}
+use Rattle.lab_deck.specs.law_explore_text.specs.Report.{text_within}
+use Rattle.lab_deck.specs.law_explore_text.specs.law_explore.proofs.ReadRules.{moves_of_exploration}
+use Rattle.lab_deck.specs.law_histories.specs.Histories.{AppExploration, AppFault, app_exploration_read, names_application}
+use Rattle.lab_deck.specs.law_histories.specs.Searches.{text_of_search}
 use Rattle.lab_rules.specs.Meanings.{IsExplorationRead}
 use Rattle.lab_rules.specs.declared.reading.Exploration.{Exploration}
 use Rattle.lab_search.specs.Kept.{IsExplorationOf}

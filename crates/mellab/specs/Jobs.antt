@@ -3,7 +3,7 @@ use Rattle.std.specs.Prelude.{ℕ, List, [], ◌∷◌, ◌++◌, bytes_eq, code
 use Rattle.std.specs.declared.alloc.Global.{Global}
 use Rattle.std.specs.declared.string.String.{String}
 use Rattle.mc_text.specs.model_text.specs.Text.{decimal_number}
-use Rattle.lab_moves.specs.law_explore_text.specs.law_explore.specs.Search.{most_states}
+use Rattle.lab_deck.specs.law_explore_text.specs.law_explore.specs.Search.{most_states}
 use Rattle.mellab.specs.declared.job.Job.{Job}
 use Rattle.mellab.specs.declared.job.Job.TheVariants as job
 use Rattle.mellab.specs.declared.job.About.{About}

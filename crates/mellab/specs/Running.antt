@@ -1,11 +1,11 @@
 -- The parts of a job, and why a job is not done.
 use Rattle.std.specs.Prelude.{◌≡◌, ℕ, List, Result, Ok, Err}
-use Rattle.lab_moves.specs.law_explore_text.specs.law_explore.specs.Rules.{Exploration, ExplorationFault, exploration_read}
-use Rattle.lab_moves.specs.law_explore_text.specs.law_explore.specs.Search.{search_of}
-use Rattle.lab_moves.specs.law_explore_text.specs.Report.{text_within}
+use Rattle.lab_deck.specs.law_explore_text.specs.law_explore.specs.Rules.{Exploration, ExplorationFault, exploration_read}
+use Rattle.lab_deck.specs.law_explore_text.specs.law_explore.specs.Search.{search_of}
+use Rattle.lab_deck.specs.law_explore_text.specs.Report.{text_within}
 use Rattle.lab_search.specs.Endings.{IsExplored}
-use Rattle.lab_moves.specs.law_explore_text.specs.law_explore.specs.States.{play_of_deck}
-use Rattle.lab_moves.specs.law_histories.specs.Histories.{AppExploration, AppFault, app_exploration_read}
+use Rattle.lab_deck.specs.law_explore_text.specs.law_explore.specs.States.{play_of_deck}
+use Rattle.lab_deck.specs.law_histories.specs.Histories.{AppExploration, AppFault, app_exploration_read}
 use Rattle.lab_app_rules.specs.Rules.{AreRules as AreAppRules}
 use Rattle.lab_app_rules.specs.declared.rules.Rules.{Rules as CodeRules}
 use Rattle.mc_text.specs.Texts.{Sunk}

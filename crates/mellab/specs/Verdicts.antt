@@ -8,13 +8,13 @@ use Rattle.mc_lab.specs.Expectations.{ExpectedDeck, ExpectationFault, DeckFault,
 use Rattle.mc_lab.specs.declared.remark.Mark.TheVariants as mark
 use Rattle.mc_lab.specs.Remarks.{Remark, remarks}
 use Rattle.mc_lab.specs.Sweeps.{is_whole, sweep_text}
-use Rattle.lab_moves.specs.law_explore_text.specs.law_explore.specs.Rules.{Exploration, ExplorationFault, LineFault, NoMove, NoRule, exploration_read}
-use Rattle.lab_moves.specs.law_explore_text.specs.law_explore.specs.Search.{Ending, All, AtDepth, Broken, TooMany, search_of}
-use Rattle.lab_moves.specs.law_explore_text.specs.Report.{text_within}
-use Rattle.lab_moves.specs.law_explore_text.specs.law_explore.specs.States.{play_of_deck}
-use Rattle.lab_moves.specs.law_histories.specs.Histories.{AppExploration, AppFault, app_exploration_read, names_application}
-use Rattle.lab_moves.specs.law_histories.specs.Histories as histories
-use Rattle.lab_moves.specs.law_histories.specs.Searches.{Search as AppSearch, text_of_search}
+use Rattle.lab_deck.specs.law_explore_text.specs.law_explore.specs.Rules.{Exploration, ExplorationFault, LineFault, NoMove, NoRule, exploration_read}
+use Rattle.lab_deck.specs.law_explore_text.specs.law_explore.specs.Search.{Ending, All, AtDepth, Broken, TooMany, search_of}
+use Rattle.lab_deck.specs.law_explore_text.specs.Report.{text_within}
+use Rattle.lab_deck.specs.law_explore_text.specs.law_explore.specs.States.{play_of_deck}
+use Rattle.lab_deck.specs.law_histories.specs.Histories.{AppExploration, AppFault, app_exploration_read, names_application}
+use Rattle.lab_deck.specs.law_histories.specs.Histories as histories
+use Rattle.lab_deck.specs.law_histories.specs.Searches.{Search as AppSearch, text_of_search}
 use Rattle.lab_application.specs.Texts.{IsFoundFrom}
 use Rattle.lab_app_rules.specs.Rules.{AreRules as AreAppRules}
 use Rattle.lab_app_rules.specs.declared.rules.Rules.{Rules as CodeRules}

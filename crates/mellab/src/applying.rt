@@ -1,9 +1,9 @@
 // The exploration of a deck whose rules speak of one application.
 ghost use Rattle.std.specs.Prelude.{◌≡◌, ℕ, List, IfErr, IfOk, Ok};
 ghost use Rattle.mc_deck.specs.model_play.specs.DeckGrammar.{deck_read, DeckLine};
-ghost use Rattle.lab_moves.specs.law_explore_text.specs.law_explore.specs.Rules.{Move};
-ghost use Rattle.lab_moves.specs.law_explore_text.specs.law_explore.specs.States.{play_of_deck};
-ghost use Rattle.lab_moves.specs.law_histories.specs.Histories.{app_exploration_read};
+ghost use Rattle.lab_deck.specs.law_explore_text.specs.law_explore.specs.Rules.{Move};
+ghost use Rattle.lab_deck.specs.law_explore_text.specs.law_explore.specs.States.{play_of_deck};
+ghost use Rattle.lab_deck.specs.law_histories.specs.Histories.{app_exploration_read};
 ghost use Rattle.mc_filter.specs.Inputs.{Rejects};
 ghost use Rattle.mc_text.specs.Texts.{sunk};
 ghost use Rattle.lab_application.specs.Shadows.{AreMovesOf};

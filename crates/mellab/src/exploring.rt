@@ -1,6 +1,6 @@
 // The exploration of a deck.
 ghost use Rattle.std.specs.Prelude.{◌≡◌, IfErr, IfOk};
-ghost use Rattle.lab_moves.specs.law_explore_text.specs.law_explore.specs.Rules.{exploration_read};
+ghost use Rattle.lab_deck.specs.law_explore_text.specs.law_explore.specs.Rules.{exploration_read};
 ghost use Rattle.lab_rules.specs.Meanings.{IsExplorationRead};
 ghost use Rattle.mc_text.specs.Texts.{sunk};
 ghost use Rattle.mc_filter.specs.Inputs.{Rejects};
@@ -10,7 +10,7 @@ ghost use Rattle.mellab.specs.Running.{refused_exploration, status_explored, End
 ghost use Rattle.mellab.specs.Statuses.{MellabEnds};
 
 use crate::applying::explore_application;
-use lab_moves::names_application;
+use lab_deck::names_application;
 use lab_rules::{Exploration, ExplorationRefusal, read_exploration};
 use lab_search::{Explored, explore_within};
 use mc_filter::{Rejection, Status, read_input, refused};

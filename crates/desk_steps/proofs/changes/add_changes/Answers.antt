@@ -1,6 +1,6 @@
 use Rattle.std.proofs.Common.{false, codes, ap, ◌∙◌, ◌++◌, List, ℕ}
-use Rattle.desk_json.specs.Json.{runs_more}
-use Rattle.desk_json.specs.Sheets.{adds_as, adds_on}
+use Rattle.desk_steps.specs.Json.{runs_more}
+use Rattle.desk_steps.specs.Sheets.{adds_as, adds_on}
 use Rattle.desk_steps.specs.Shots.{dynamic_changes, public_changes, static_changes}
 use Rattle.desk_steps.proofs.ChangeLemmas.{bracketed, three_runs}
 use Rattle.desk_steps.proofs.changes.add_changes.Goals as goal

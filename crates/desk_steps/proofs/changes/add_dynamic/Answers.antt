@@ -1,8 +1,8 @@
 use Rattle.std.proofs.Common.{List, ℕ, ap, ◌∙◌}
 use Rattle.mc_text.specs.model_machine.specs.Frame.{dynamic_base}
-use Rattle.desk_json.specs.Json.{any_run, runs_more}
-use Rattle.desk_json.specs.law_steps.specs.Runs.{changes}
-use Rattle.desk_json.specs.Sheets.{adds_as}
+use Rattle.desk_steps.specs.Json.{any_run, runs_more}
+use Rattle.law_steps.specs.Runs.{changes}
+use Rattle.desk_steps.specs.Sheets.{adds_as}
 use Rattle.desk_steps.specs.Shots.{dynamics}
 use Rattle.desk_steps.proofs.changes.add_dynamic.Goals as goal
 

@@ -1,8 +1,8 @@
 use Rattle.std.proofs.Common.{false, codes, ap, ◌∙◌, ◌++◌, List, ℕ, []}
 use Rattle.mc_text.specs.model_machine.specs.Frame.{dynamic_base, public_base}
-use Rattle.desk_json.specs.law_steps.specs.Runs.{changes}
-use Rattle.desk_json.specs.Json.{runs_more}
-use Rattle.desk_json.specs.Sheets.{adds_as, adds_on}
+use Rattle.law_steps.specs.Runs.{changes}
+use Rattle.desk_steps.specs.Json.{runs_more}
+use Rattle.desk_steps.specs.Sheets.{adds_as, adds_on}
 use Rattle.desk_steps.specs.Shots.{dynamics, shown_public, statics}
 use Rattle.desk_steps.proofs.ChangeLemmas.{bracketed, three_runs}
 use Rattle.desk_steps.proofs.changes.add_frame.Goals as goal

@@ -1,7 +1,7 @@
 use Rattle.std.proofs.Common.{List, ℕ, false, ap, ◌∙◌}
-use Rattle.desk_json.specs.Json.{any_run, runs_more}
-use Rattle.desk_json.specs.law_steps.specs.Runs.{changes}
-use Rattle.desk_json.specs.Sheets.{adds_as}
+use Rattle.desk_steps.specs.Json.{any_run, runs_more}
+use Rattle.law_steps.specs.Runs.{changes}
+use Rattle.desk_steps.specs.Sheets.{adds_as}
 use Rattle.desk_steps.specs.Shots.{statics}
 use Rattle.desk_steps.proofs.changes.add_static.Goals as goal
 

@@ -1,5 +1,5 @@
 use Rattle.std.proofs.Common.{List, ℕ, ap}
-use Rattle.desk_json.specs.Sheets.{adds_as, adds_on}
+use Rattle.desk_steps.specs.Sheets.{adds_as, adds_on}
 use Rattle.desk_steps.specs.Lines.{aid_key}
 use Rattle.desk_steps.proofs.keys.add_aid.Goals as goal
 

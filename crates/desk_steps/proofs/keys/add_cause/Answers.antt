@@ -1,6 +1,6 @@
 use Rattle.std.proofs.Common.{[], ◌∷◌, ◌++◌, ℕ, ap, codes}
 use Rattle.mc_text.specs.model_text.specs.Listing.{hex_text}
-use Rattle.desk_json.specs.Sheets.{adds_as, adds_on}
+use Rattle.desk_steps.specs.Sheets.{adds_as, adds_on}
 use Rattle.desk_steps.proofs.keys.add_cause.Goals as goal
 
 pub returns : goal.returns

@@ -1,5 +1,5 @@
 use Rattle.std.proofs.Common.{Bool, ap, sym}
-use Rattle.desk_json.specs.Sheets.{adds_as}
+use Rattle.desk_steps.specs.Sheets.{adds_as}
 use Rattle.desk_steps.specs.Lines.{open_key}
 use Rattle.desk_steps.proofs.keys.add_open.Goals as goal
 

@@ -1,5 +1,5 @@
 use Rattle.std.proofs.Common.{◌++◌, List, ℕ, ap, codes, ◌∙◌}
-use Rattle.desk_json.specs.Sheets.{adds_as, adds_on}
+use Rattle.desk_steps.specs.Sheets.{adds_as, adds_on}
 use Rattle.desk_steps.proofs.playing.add_given.Goals as goal
 
 pub returns : goal.returns

@@ -1,5 +1,5 @@
 use Rattle.std.proofs.Common.{codes}
-use Rattle.desk_json.specs.Sheets.{adds_as, adds_on}
+use Rattle.desk_steps.specs.Sheets.{adds_as, adds_on}
 use Rattle.desk_steps.proofs.ChangeLemmas.{text_without_command}
 use Rattle.desk_steps.proofs.recording.put_called.Goals as goal
 

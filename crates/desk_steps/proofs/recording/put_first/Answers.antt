@@ -1,5 +1,5 @@
 use Rattle.std.proofs.Common.{List, ℕ, Some, true, ap}
-use Rattle.desk_json.specs.Sheets.{adds_as, adds_on}
+use Rattle.desk_steps.specs.Sheets.{adds_as, adds_on}
 use Rattle.desk_steps.specs.Lines.{frame_text}
 use Rattle.desk_steps.specs.Shots.{frame_changes}
 use Rattle.desk_steps.proofs.recording.put_first.Goals as goal

@@ -1,4 +1,4 @@
-use Rattle.desk_json.specs.Sheets.{adds_on}
+use Rattle.desk_steps.specs.Sheets.{adds_on}
 use Rattle.desk_steps.proofs.recording.put_turn.Goals as goal
 
 pub returns-clause-adds : goal.returns-clause-adds

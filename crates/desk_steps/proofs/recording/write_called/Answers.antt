@@ -1,6 +1,6 @@
 use Rattle.std.proofs.Common.{ap, rules, ◌∙◌}
 use Rattle.mc_text.specs.Texts.{sunk}
-use Rattle.desk_json.proofs.SheetLemmas.{sheet_put}
+use Rattle.desk_steps.proofs.SheetLemmas.{sheet_put}
 use Rattle.desk_steps.proofs.recording.write_called.Goals as goal
 
 pub returns : goal.returns

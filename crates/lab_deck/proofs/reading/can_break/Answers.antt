@@ -1,5 +1,5 @@
 use Rattle.std.proofs.Common.{◌∙◌, ap}
-use Rattle.lab_moves.specs.law_explore_text.specs.law_explore.specs.Rules.{is_some_of}
+use Rattle.law_histories.specs.law_explore.specs.Rules.{is_some_of}
 use Rattle.lab_deck.proofs.ReadLemmas.{can_break_by}
 use Rattle.lab_deck.proofs.reading.can_break.Goals as goal
 

@@ -1,6 +1,6 @@
 use Rattle.std.proofs.Common.{◌≡◌, arith, false, length, refl, subst, sym, true}
 use Rattle.std.specs.Prelude.{◌==◌}
-use Rattle.lab_moves.specs.law_histories.specs.Histories.{app_exploration_read}
+use Rattle.law_histories.specs.Histories.{app_exploration_read}
 use Rattle.lab_rules.proofs.ReadLemmas.{few_lines}
 use Rattle.lab_deck.specs.Applications.{RefusesApplication}
 use Rattle.lab_deck.proofs.ReadLemmas.{is_read, move_refused, no_move, no_rule, same_deck}

@@ -1,4 +1,4 @@
-use Rattle.lab_moves.specs.Moves.{moves_read}
+use Rattle.lab_deck.specs.Moves.{moves_read}
 use Rattle.lab_deck.proofs.ReadLemmas.{moves_of}
 use Rattle.lab_deck.proofs.reading.refused_move.Goals as goal
 

@@ -1,5 +1,5 @@
 use Rattle.std.proofs.Common.{subst, sym}
-use Rattle.lab_moves.specs.law_histories.specs.Histories.{app_exploration_read}
+use Rattle.law_histories.specs.Histories.{app_exploration_read}
 use Rattle.lab_deck.specs.Applications.{RefusesApplication}
 use Rattle.lab_deck.proofs.ReadLemmas.{rule_refused}
 use Rattle.lab_deck.proofs.reading.refused_rule.Goals as goal

@@ -1,6 +1,6 @@
 use Rattle.mc_filter.specs.Inputs.{refused_deck, Rejects}
 use Rattle.mc_deck.specs.model_play.specs.DeckGrammar.{deck_read}
-use Rattle.lab_moves.specs.law_histories.specs.Histories.{app_exploration_read}
+use Rattle.lab_deck.specs.law_histories.specs.Histories.{app_exploration_read}
 use Rattle.mellab.specs.Running.{refused_application}
 use Rattle.mellab.proofs.ApplicationLemmas.{deck_rejects}
 use Rattle.mellab.proofs.ExplorationLemmas.{if_err}

@@ -1,7 +1,7 @@
 use Rattle.std.proofs.Common.{subst, sym, ◌∙◌, ap}
 use Rattle.std.specs.Prelude.{List, ℕ}
-use Rattle.lab_moves.specs.law_explore_text.specs.law_explore.specs.Rules.{exploration_read}
-use Rattle.lab_moves.specs.law_histories.specs.Histories.{app_exploration_read, names_application}
+use Rattle.lab_deck.specs.law_explore_text.specs.law_explore.specs.Rules.{exploration_read}
+use Rattle.lab_deck.specs.law_histories.specs.Histories.{app_exploration_read, names_application}
 use Rattle.mc_filter.specs.Inputs.{ReadWhole, Rejects}
 use Rattle.mc_filter.specs.Outside.{outside, Outside}
 use Rattle.mc_filter.specs.declared.status.Status.{Status}

@@ -1,5 +1,5 @@
 use Rattle.std.proofs.Common.{◌≡◌, ◌+◌, ◌-◌}
-use Rattle.desk_json.specs.law_steps.specs.Writes.{with_waits}
+use Rattle.law_steps.specs.Writes.{with_waits}
 use Rattle.desk_steps.proofs.guard.Guard.keep.Given as goal
 
 -- the words that are left, kept from here, are all of them, kept from the start

@@ -1,8 +1,8 @@
 use Rattle.std.proofs.Common.{◌≡◌, ℕ, List, [], Bool, false, Option, refl, ap, subst, rules, ◌∙◌}
 use Rattle.std.specs.Prelude.{get_or}
 use Rattle.mc_text.specs.Texts.{sunk}
-use Rattle.desk_json.specs.law_steps.specs.Nexts.{open_by}
-use Rattle.desk_json.specs.Sheets.{PutsOn}
+use Rattle.law_steps.specs.Nexts.{open_by}
+use Rattle.desk_steps.specs.Sheets.{PutsOn}
 use Rattle.desk_steps.specs.declared.shot.Shot.{Shot}
 use Rattle.desk_steps.specs.Counted.{moves_by_shots, writes_after}
 use Rattle.desk_steps.specs.Lines.{turn_text, Found}

@@ -1,5 +1,0 @@
-use Rattle.desk_json.specs.Sheets.{adds_on}
-use Rattle.desk_json.proofs.sheet.Sheet.add_code.Goals as goal
-
-pub returns : goal.returns
-returns g c = adds_on g.T.Sink _ _ _ _ _ c.add.ensures c.add_byte.ensures

@@ -1,3 +1,0 @@
-pub mod Needed
-pub mod Laws
-pub mod Computed

@@ -1,5 +1,0 @@
-use Rattle.law_kept.proofs.KeptLemmas.{only_target_law}
-use Rattle.law_kept.proofs.laws.moves_without_creations_break_no_rules.Goals as goal
-
-pub returns : goal.returns
-returns c = only_target_law

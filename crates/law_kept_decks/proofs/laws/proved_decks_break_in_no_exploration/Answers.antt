@@ -1,5 +1,0 @@
-use Rattle.law_kept_decks.proofs.Decks.{proved_deck_law}
-use Rattle.law_kept_decks.proofs.laws.proved_decks_break_in_no_exploration.Goals as goal
-
-pub returns : goal.returns
-returns c = proved_deck_law

@@ -1,4 +1,0 @@
-//! Decks whose rules are proved, and their explorations.
-#![tactic(auto)]
-
-mod laws;

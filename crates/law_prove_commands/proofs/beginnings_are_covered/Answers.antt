@@ -1,5 +1,0 @@
-use Rattle.law_prove_commands.proofs.Begins.{begin_law}
-use Rattle.law_prove_commands.proofs.beginnings_are_covered.Goals as goal
-
-pub returns : goal.returns
-returns c = begin_law

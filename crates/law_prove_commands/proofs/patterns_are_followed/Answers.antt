@@ -1,5 +1,0 @@
-use Rattle.law_prove_commands.proofs.Ways.{pattern_law}
-use Rattle.law_prove_commands.proofs.patterns_are_followed.Goals as goal
-
-pub returns : goal.returns
-returns c = pattern_law

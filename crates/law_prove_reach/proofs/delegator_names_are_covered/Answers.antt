@@ -1,5 +1,0 @@
-use Rattle.law_prove_reach.proofs.Delegators.{delegator_law}
-use Rattle.law_prove_reach.proofs.delegator_names_are_covered.Goals as goal
-
-pub returns : goal.returns
-returns c = delegator_law

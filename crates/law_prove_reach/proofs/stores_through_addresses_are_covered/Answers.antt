@@ -1,5 +1,0 @@
-use Rattle.law_prove_reach.proofs.Stores.{store_law}
-use Rattle.law_prove_reach.proofs.stores_through_addresses_are_covered.Goals as goal
-
-pub returns : goal.returns
-returns c = store_law

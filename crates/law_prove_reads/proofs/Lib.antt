@@ -1,9 +1,0 @@
-pub mod Scenes
-pub mod Reading
-pub mod Chosen
-pub mod Pairs
-pub mod Shifts
-pub mod Address
-pub mod Searches
-pub mod Compared
-pub mod Tops

@@ -1,5 +1,0 @@
-use Rattle.law_prove_reads.proofs.Shifts.{shift_laws}
-use Rattle.law_prove_reads.proofs.shifts_are_covered.Goals as goal
-
-pub returns : goal.returns
-returns c = shift_laws

@@ -1,5 +1,0 @@
-use Rattle.law_prove_targets.proofs.Targets.{target_laws}
-use Rattle.law_prove_targets.proofs.targets_are_covered.Goals as goal
-
-pub returns : goal.returns
-returns c = target_laws

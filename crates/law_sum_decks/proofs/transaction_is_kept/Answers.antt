@@ -1,5 +1,0 @@
-use Rattle.law_sum_decks.proofs.Decks.{transaction_kept}
-use Rattle.law_sum_decks.proofs.transaction_is_kept.Goals as goal
-
-pub returns : goal.returns
-returns c = transaction_kept

@@ -1,2 +1,0 @@
-pub mod Decks
-pub mod Computed
