@@ -17,6 +17,8 @@ ghost use Rattle.law_prove_closed.specs.Outcomes.{LeftLaw, NextLaw, NextEndLaw, 
 ghost use Rattle.law_prove_closed.specs.ReadLaws.{UnknownLaw, ShiftLaw, AddressLaw, SearchLaw, BlockLaw, FlagLaw};
 ghost use Rattle.std.specs.Prelude.{◌≡◌, [], ◌∷◌};
 
+pub use law_prove::model_machine;
+
 /// After PRIM 7 closed tables have the place after the delegation, whatever public segment comes back, and the moments
 /// to which an abend of a delegate and a stop in it lead; or what follows an abend of its own.
 pub fn delegations_are_covered()
@@ -86,8 +88,6 @@ pub fn counter_is_kept()
     ensures { DeckIsKept counter_deck }
 {}
 
-pub use crate::model_machine;
-
 /// The ways that a pattern leaves open after a text decide whether it fits the text.
 pub fn patterns_are_followed()
     ensures { PatternLaw }
@@ -110,8 +110,6 @@ pub fn beginnings_are_covered()
 pub fn exits_are_covered()
     ensures { ExitLaw }
 {}
-
-pub use law_prove::model_machine;
 
 /// A pair of set and number that is no primitive abends, and closed tables have what follows.
 pub fn unknown_pairs_are_covered()

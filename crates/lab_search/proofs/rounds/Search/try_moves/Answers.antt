@@ -1,4 +1,4 @@
-use Rattle.std.proofs.Common.{◌+◌, ◌≤◌, ℕ, ap, length, subst, sym, ◌∙◌}
+use Rattle.std.proofs.Common.{arith, ◌+◌, ◌≤◌, ℕ, ap, length, subst, sym, ◌∙◌}
 use Rattle.lab_rules.specs.Meanings.{IsMove}
 use Rattle.lab_rules.specs.Occasions.{IsRow}
 use Rattle.lab_search.specs.Rounds.{round_in, tally_of}
