@@ -1,7 +1,0 @@
-use Rattle.std.specs.Prelude.{refl}
-use Rattle.law_prove_closed.specs.Computed.{proof_of}
-use Rattle.law_prove_closed.proofs.worked.counter.Goals as goal
-
-pub returns : goal.returns
-unfolding proof_of
-returns c = refl
