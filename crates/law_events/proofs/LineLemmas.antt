@@ -1,6 +1,6 @@
 -- The history of a line is its command, the events of its turns, its answer and its session.
-use Rattle.std.proofs.Common.{◌≡◌, inl, inr, ℕ, zero, suc, ◌≤◌, Bool, true, false, cond, List, [], ◌∷◌, length, take, Option, Some, None, option_map, refl, arith, sym, ap, subst, ◌∙◌}
-use Rattle.std.specs.Prelude.{◌&&◌, ◌||◌, ◌==◌, bytes_eq, is_none, not}
+use Rattle.std.proofs.Common.{◌≡◌, inl, inr, ℕ, zero, suc, Bool, true, false, cond, List, [], ◌∷◌, length, take, Option, Some, None, option_map, refl, arith, sym, ap, subst, ◌∙◌}
+use Rattle.std.specs.Prelude.{◌||◌, ◌==◌, bytes_eq, is_none, not}
 use Rattle.law_promise.specs.model_events.specs.model_device.specs.declared.device.Stop.{Stop}
 use Rattle.law_promise.specs.model_events.specs.model_device.specs.declared.device.Stop.TheVariants as stop
 use Rattle.law_promise.specs.model_events.specs.model_device.specs.Bytes.{lookup}
@@ -8,10 +8,10 @@ use Rattle.law_promise.specs.model_events.specs.model_device.specs.Card.{App, Ca
 use Rattle.law_promise.specs.model_events.specs.model_device.specs.Image.{Journal}
 use Rattle.law_promise.specs.model_events.specs.model_device.specs.PowerUp.{Base, OnCard, AtFault}
 use Rattle.law_promise.specs.model_events.specs.model_machine.specs.Apdu.{ApduParts, Rest, apdu_read, rest_read}
-use Rattle.law_promise.specs.model_events.specs.model_machine.specs.Chain.{Chain, Outcome, Ran, Turn, run, run_of_chain, start}
+use Rattle.law_promise.specs.model_events.specs.model_machine.specs.Chain.{Outcome, run, run_of_chain, start}
 use Rattle.law_promise.specs.model_card.specs.Items.{Atomic, Created, Deleted, Fixed, Item, Plain, StopAt, moves}
 use Rattle.law_promise.specs.model_card.specs.Commands.{Command, application_command, by_route, command, manager_command, ran_command}
-use Rattle.law_promise.specs.model_card.specs.Manager.{Accepts, Declines, Managed, Route, Selected, SessionState, ToApplication, ToManager, ToSelect, WrongClass, WrongLength, answer_unless, first_status, is_selected, manage, room_on, route, route_of_parts, select, select_done, select_refusals, is_empty}
+use Rattle.law_promise.specs.model_card.specs.Manager.{Route, Selected, SessionState, ToApplication, ToManager, ToSelect, WrongClass, WrongLength, answer_unless, is_selected, route, route_of_parts, select, select_done, is_empty}
 use Rattle.law_promise.specs.model_play.specs.DeckGrammar.{DeckCommand, DeckLine}
 use Rattle.law_promise.specs.model_play.specs.DeckGrammar as line
 use Rattle.law_promise.specs.model_play.specs.Given.{is_power}

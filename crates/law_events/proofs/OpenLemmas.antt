@@ -9,8 +9,7 @@ use Rattle.law_promise.specs.model_events.specs.model_machine.specs.Frame.{Frame
 use Rattle.law_promise.specs.model_events.specs.model_machine.specs.Primitives.{Primitive, SetProtection, primitive}
 use Rattle.law_promise.specs.model_events.specs.model_machine.specs.Chain.{Chain, Continues, Follows, Outcome, depth_of, turn_of}
 use Rattle.law_steps.specs.Registers.{frame_after, mode_of as mode_by_shape, pair_mode, protection_after_mode}
-use Rattle.law_steps.specs.Shown.{is_exit_of}
-use Rattle.law_steps.specs.Nexts.{AllOpen, CallsFrame, LeavesFrame, Nexts, OpensOf, RanOn, StaysOn, called_opens, open_by, open_on, opens_after}
+use Rattle.law_steps.specs.Nexts.{AllOpen, Nexts, OpensOf, RanOn, called_opens, open_by, open_on, opens_after}
 use Rattle.law_steps.proofs.NextFrames.{next_law}
 use Rattle.law_steps.proofs.Opens.{next_end, opens_law}
 use Rattle.model_rules.specs.Keeping.{mode_of, mode_of_primitive}

@@ -10,7 +10,7 @@ use Rattle.law_promise.specs.model_events.specs.model_machine.specs.Code.{instru
 use Rattle.law_promise.specs.model_events.specs.model_machine.specs.Frame.{Effect, Frame, la_of}
 use Rattle.law_promise.specs.model_events.specs.model_machine.specs.Primitives.{Then, Goes, Exits, Delegates}
 use Rattle.law_promise.specs.model_events.specs.model_machine.specs.Row.{RowEnd, Abends, Does, row}
-use Rattle.law_promise.specs.model_events.specs.model_machine.specs.Chain.{Abended, Acted, Chain, Continues, Ends, Follows, Outcome, Reply, after_exit, around, chain_after_call, chain_after_effect, code_in, depth_of, done_turn, end_of, follows, frame_at, pair_of, reply_of, row_turn, turn_of, turn_of_chain, turn_of_fetch}
+use Rattle.law_promise.specs.model_events.specs.model_machine.specs.Chain.{Abended, Chain, Continues, Ends, Follows, Outcome, after_exit, around, chain_after_call, chain_after_effect, code_in, depth_of, done_turn, end_of, follows, frame_at, pair_of, reply_of, row_turn, turn_of, turn_of_chain, turn_of_fetch}
 use Rattle.law_promise.specs.model_events.specs.model_text.specs.TurnText.{turn_line}
 use Rattle.law_promise.specs.model_events.specs.Amounts.{turn_text}
 use Rattle.law_promise.specs.model_events.specs.Deeds.{Deed}
@@ -18,7 +18,7 @@ use Rattle.law_promise.specs.History.{done_event, event_if, fetched_event, is_fi
 use Rattle.model_rules.specs.Happenings.{Event, Did, rule_watch}
 use Rattle.model_rules.specs.Keeping.{line_of_deed}
 use Rattle.law_events.specs.Events.{event_of}
-use Rattle.law_events.specs.Turns.{IsDeed, Shows}
+use Rattle.law_events.specs.Turns.{Shows}
 
 -- an instruction that was done
 abbrev deed_of : Chain → Ins → Effect → Deed

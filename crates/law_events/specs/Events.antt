@@ -5,7 +5,6 @@ use Rattle.law_promise.specs.model_events.specs.model_device.specs.Card.{App}
 use Rattle.law_promise.specs.model_events.specs.model_device.specs.Image.{Two}
 use Rattle.law_promise.specs.model_events.specs.model_device.specs.PowerUp.{Base, OnCard, AtFault}
 use Rattle.law_promise.specs.model_events.specs.model_device.specs.Stopped.{cost, stands}
-use Rattle.law_promise.specs.model_events.specs.model_machine.specs.Apdu.{ApduParts}
 use Rattle.law_promise.specs.model_events.specs.model_machine.specs.Chain.{Chain, Outcome, Reply, Follows, Continues, Ends, Turn, start, turn_of_chain}
 use Rattle.law_promise.specs.model_events.specs.Deeds.{Watch}
 use Rattle.law_promise.specs.model_card.specs.Items.{StopAt}
@@ -16,7 +15,7 @@ use Rattle.law_promise.specs.model_play.specs.Play.{Live, Running, Unpowered, Mu
 use Rattle.law_promise.specs.model_play.specs.Given.{is_power}
 use Rattle.law_promise.specs.model_play.specs.TraceText.{before_stop}
 use Rattle.law_promise.specs.History.{is_selected_in, turn_event, with_event}
-use Rattle.model_rules.specs.Happenings.{Event, Commanded, Answers, Session, ended_session, rule_watch}
+use Rattle.model_rules.specs.Happenings.{Event, Commanded, Answers, ended_session, rule_watch}
 
 -- ---- turns
 

@@ -1,11 +1,11 @@
 -- The laws.
-use Rattle.std.specs.Prelude.{◌≡◌, ℕ, suc, ◌≤◌, Bool, true, false, List, [], bytes_eq, Option, Some, None, ⊤}
-use Rattle.law_promise.specs.model_events.specs.model_device.specs.PowerUp.{Base, OnCard, AtFault}
+use Rattle.std.specs.Prelude.{◌≡◌, ℕ, ◌≤◌, Bool, true, false, List, [], bytes_eq, Option, Some, None, ⊤}
+use Rattle.law_promise.specs.model_events.specs.model_device.specs.PowerUp.{Base, AtFault}
 use Rattle.law_promise.specs.model_events.specs.model_machine.specs.Chain.{Chain, Continues, turn_of}
 use Rattle.law_promise.specs.model_card.specs.Items.{StopAt, moves}
 use Rattle.law_promise.specs.model_play.specs.DeckGrammar.{DeckLine}
 use Rattle.law_promise.specs.model_play.specs.Given.{is_power}
-use Rattle.law_promise.specs.model_play.specs.Play.{FailedWrite, Live, Running, State, BeforePower, AfterPower, Step, step}
+use Rattle.law_promise.specs.model_play.specs.Play.{FailedWrite, Live, Running, State, BeforePower, AfterPower, step}
 use Rattle.law_promise.specs.History.{after_step}
 use Rattle.law_steps.specs.Nexts.{OpensOf}
 use Rattle.model_rules.specs.Happenings.{rule_watch}

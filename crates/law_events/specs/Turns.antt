@@ -1,5 +1,5 @@
 -- What the turn of a chain shows of its event, and the protection of frames, turn by turn.
-use Rattle.std.specs.Prelude.{◌≡◌, ℕ, ◌+◌, Bool, true, false, List, length, get_or, slice_set, Option, Some, None}
+use Rattle.std.specs.Prelude.{◌≡◌, ℕ, ◌+◌, Bool, false, List, length, get_or, slice_set, Option, Some, None}
 use Rattle.law_promise.specs.model_events.specs.Amounts.{turn_text}
 use Rattle.law_promise.specs.model_events.specs.Deeds.{Deed}
 use Rattle.law_promise.specs.model_events.specs.model_machine.specs.declared.instruction.Ins.{Ins}
