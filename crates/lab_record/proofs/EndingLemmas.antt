@@ -2,7 +2,7 @@
 use Rattle.std.proofs.Common.{◌≡◌, ℕ, false, List, Option, Some, None, option_map, refl}
 use Rattle.mc_words.specs.model_device.specs.Card.{App}
 use Rattle.mc_words.specs.model_device.specs.Device.{DeviceState}
-use Rattle.law_promise.specs.model_play.specs.Play.{LineResult, static_of}
+use Rattle.law_events.specs.law_promise.specs.model_play.specs.Play.{LineResult, static_of}
 use Rattle.mc_card.specs.declared.card.Card.{Card}
 use Rattle.mc_script.specs.Players.{answer_value, dump_value}
 use Rattle.mc_script.specs.declared.answer.Answer.{Answer}
@@ -10,7 +10,8 @@ use Rattle.mc_script.specs.declared.answer.Answer.TheVariants as answer
 use Rattle.mc_script.specs.declared.player.Power.{Power}
 use Rattle.mc_script.specs.declared.player.Power.TheVariants as power
 use Rattle.mc_script.specs.declared.player.Player.{Player}
-use Rattle.lab_record.specs.Courses.{ended_by, is_outcome, is_stop, outcome_in, stop_in}
+use Rattle.law_events.specs.Events.{outcome_in}
+use Rattle.lab_record.specs.Courses.{ended_by, is_outcome, is_stop, stop_in}
 
 -- no command ended with this result, and no stop hit its line
 record IsQuiet (r : LineResult) : Type 0 where

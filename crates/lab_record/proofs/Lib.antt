@@ -3,5 +3,6 @@ mod StaticLemmas
 mod SightLemmas
 mod EndingLemmas
 mod LogLemmas
+mod EventLemmas
 mod RecordingLemmas
 mod SteadyLemmas

@@ -2,8 +2,8 @@
 use Rattle.std.specs.Prelude.{List, Option}
 use Rattle.mc_words.specs.model_device.specs.Device.{DeviceState, BenchState}
 use Rattle.mc_apdu.specs.model_machine.specs.Chain.{Turn}
-use Rattle.law_promise.specs.model_play.specs.DeckGrammar.{DeckLine}
-use Rattle.law_promise.specs.model_play.specs.Play.{step}
+use Rattle.law_events.specs.law_promise.specs.model_play.specs.DeckGrammar.{DeckLine}
+use Rattle.law_events.specs.law_promise.specs.model_play.specs.Play.{step}
 use Rattle.mc_script.specs.declared.answer.Answer.{Answer}
 use Rattle.mc_script.specs.declared.player.Player.{Player}
 use Rattle.mc_script.specs.Players.{IsPlaying}

@@ -4,12 +4,12 @@ use Rattle.mc_words.specs.model_device.specs.Device.{DeviceState, BenchState}
 use Rattle.mc_words.specs.model_device.specs.PowerUp.{Base, OnCard}
 use Rattle.mc_apdu.specs.model_machine.specs.Chain.{Turn}
 use Rattle.mc_bank.specs.model_card.specs.Items.{StopAt}
-use Rattle.law_promise.specs.model_play.specs.DeckGrammar.{DeckLine}
-use Rattle.law_promise.specs.model_play.specs.DeckGrammar as line
-use Rattle.law_promise.specs.model_play.specs.Family.{is_running, live_in}
-use Rattle.law_promise.specs.model_play.specs.Play.{Armed, FailedWrite, Live, Running, Unpowered, Muted, State, BeforePower, AfterPower, Warm, after_power_step, before_power_step, card_line, step}
-use Rattle.law_promise.specs.model_play.specs.TraceText.{before_stop, shown_turns}
-use Rattle.law_promise.specs.model_play.proofs.PlayLemmas.{step_is}
+use Rattle.law_events.specs.law_promise.specs.model_play.specs.DeckGrammar.{DeckLine}
+use Rattle.law_events.specs.law_promise.specs.model_play.specs.DeckGrammar as line
+use Rattle.law_events.specs.law_promise.specs.model_play.specs.Family.{is_running, live_in}
+use Rattle.law_events.specs.law_promise.specs.model_play.specs.Play.{Armed, FailedWrite, Live, Running, Unpowered, Muted, State, BeforePower, AfterPower, Warm, after_power_step, before_power_step, card_line, step}
+use Rattle.law_events.specs.law_promise.specs.model_play.specs.TraceText.{before_stop, shown_turns}
+use Rattle.law_events.specs.law_promise.specs.model_play.proofs.PlayLemmas.{step_is}
 use Rattle.mc_card.specs.Parts.{card_in, session_state_in}
 use Rattle.mc_script.specs.declared.player.Player.{Player}
 use Rattle.mc_script.specs.declared.player.Power.{Power}

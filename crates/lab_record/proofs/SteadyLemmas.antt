@@ -3,11 +3,10 @@ use Rattle.std.specs.Prelude.{◌≡◌, ◌≢◌, ℕ, zero, suc, ◌+◌, Lis
 use Rattle.std.proofs.Common.{arith, ap, sym, subst, ◌∙◌}
 use Rattle.mc_words.specs.model_device.specs.Device.{BenchState, DeviceState}
 use Rattle.mc_apdu.specs.model_machine.specs.Chain.{Turn}
-use Rattle.law_promise.specs.model_play.specs.DeckGrammar.{DeckLine}
-use Rattle.law_promise.specs.model_play.specs.Play.{FailedWrite, State, armed_stop_in, moves_of, steady_at, step}
+use Rattle.law_events.specs.law_promise.specs.model_play.specs.DeckGrammar.{DeckLine}
+use Rattle.law_events.specs.law_promise.specs.model_play.specs.Play.{FailedWrite, State, armed_stop_in, moves_of, steady_at, step}
 use Rattle.mc_deck.specs.Lines.{line_of}
 use Rattle.mc_deck.specs.declared.line.Line.{Line}
-use Rattle.mc_deck.specs.declared.line.Line.TheVariants as Line
 use Rattle.mc_script.specs.declared.answer.Answer.{Answer}
 use Rattle.mc_script.specs.declared.player.Player.{Player}
 use Rattle.mc_script.specs.Lines.{LineDone}

@@ -1,7 +1,7 @@
 -- The `on` lines that fit an event, and what they move.
 use Rattle.std.specs.Prelude.{ℕ, ◌+◌, ◌-◌, Bool, true, false, cond, ◌&&◌, ◌||◌, List, [], ◌∷◌, take, drop, slice_get, Option, Some, None}
 use Rattle.mc_words.specs.model_device.specs.Bytes.{num}
-use Rattle.law_promise.specs.model_events.specs.Matching.{fits}
+use Rattle.law_events.specs.law_promise.specs.model_events.specs.Matching.{fits}
 use Rattle.lab_app_rules.specs.declared.rules.Amount.{Amount}
 use Rattle.lab_app_rules.specs.declared.rules.Amount.TheVariants as amount
 use Rattle.lab_app_rules.specs.declared.rules.Effect.{Effect}

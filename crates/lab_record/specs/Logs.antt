@@ -1,12 +1,15 @@
 -- What is recorded of the instructions of a command: what each of them does to what is counted of one application.
-use Rattle.std.specs.Prelude.{ℕ, ◌+◌, Bool, true, false, cond, not, ◌&&◌, ◌||◌, ◌==◌, nat_le, nat_lt, min, List, [], ◌∷◌, ◌++◌, bytes_eq, is_none, slice_get, Option, Some, None}
+use Rattle.std.specs.Prelude.{ℕ, ◌+◌, Bool, true, false, cond, not, ◌&&◌, ◌||◌, ◌==◌, min, List, [], ◌∷◌, ◌++◌, get_or, is_none, length, slice_get, Option, Some, None}
 use Rattle.mc_words.specs.model_device.specs.Bytes.{num}
 use Rattle.mc_apdu.specs.model_machine.specs.declared.instruction.Ins.{Ins}
 use Rattle.mc_apdu.specs.model_machine.specs.declared.machine.Abend.{Abend}
 use Rattle.mc_apdu.specs.model_machine.specs.declared.machine.Abend.TheVariants as abend
-use Rattle.mc_apdu.specs.model_machine.specs.Chain.{Chain, Turn, Outcome, Reply, Abended, turn_of}
-use Rattle.law_promise.specs.model_events.specs.Amounts.{turn_text}
-use Rattle.lab_app_rules.specs.model_rules.specs.Keeping.{mode_of}
+use Rattle.mc_apdu.specs.model_machine.specs.Chain.{Chain, Turn, Outcome, Reply, Abended}
+use Rattle.law_events.specs.law_promise.specs.model_events.specs.Amounts.{turn_text}
+use Rattle.law_events.specs.Events.{event_of}
+use Rattle.law_events.specs.Turns.{mode_in, opens_seen}
+use Rattle.lab_app_rules.specs.model_rules.specs.Happenings.{Event, Did, Failed, Commanded, Answers, Session, rule_watch}
+use Rattle.lab_app_rules.specs.model_rules.specs.Keeping.{line_of_deed, mode_of}
 use Rattle.lab_app_rules.specs.declared.rules.Effect.{Effect}
 use Rattle.lab_app_rules.specs.declared.rules.Effect.TheVariants as effect
 use Rattle.lab_app_rules.specs.declared.rules.Event.TheVariants as event
@@ -14,6 +17,9 @@ use Rattle.lab_app_rules.specs.declared.rules.On.{On}
 use Rattle.lab_history.specs.declared.course.Deed.{Deed}
 use Rattle.lab_history.specs.declared.course.Deed.TheVariants as deed
 use Rattle.lab_history.specs.declared.course.Happening.{Happening}
+use Rattle.mc_isa.specs.model_text.specs.Listing.{hex_text}
+use Rattle.mc_text.specs.model_text.specs.TurnText.{outcome_text}
+use Rattle.lab_record.specs.Courses.{answered_from, session_from}
 use Rattle.lab_record.specs.Fitting.{amount_of, are_sums, fitting_from}
 
 -- ---- deeds
@@ -45,29 +51,25 @@ values_of (h ∷ hs) = happening_value h ∷ values_of hs
 
 -- ---- what is seen of an instruction
 
--- the name of its application, the public segment before it, and its turn
+-- the chain before it, with this much of the budget left
 pub record Sight : Type 0 where
-  pub name : List ℕ
-  pub public : List ℕ
-  pub turn : Turn
+  pub left : ℕ
+  pub chain : Chain
 
--- what is seen of the instruction of a chain with this much of the budget left
+-- what is seen of the instruction of a chain
 abbrev pub sight : ℕ → Chain → Sight
-sight n ch = record { name = ch.frame.name; public = ch.public; turn = (turn_of n ch).turn }
+sight n ch = record { left = n; chain = ch }
 
 -- ---- a log
 
--- What was recorded: the depth of the frame of the application, 0 if it has none; whether protection is on in it; the
--- number of turns, of which one that abends is one; and the deeds.
+-- what was recorded: the number of turns, of which one that abends is one; and the deeds
 pub record Log : Type 0 where
-  pub frame : ℕ
-  pub protected : Bool
   pub turns : ℕ
   pub deeds : List (ℕ × DeedValue)
 
 -- nothing was recorded
 abbrev pub no_log : Log
-no_log = record { frame = 0; protected = false; turns = 0; deeds = [] }
+no_log = record { turns = 0; deeds = [] }
 
 -- the rules as a log needs them: the `on` lines, whether there is a sum, and whether no instruction may abend
 pub record LogRules : Type 0 where
@@ -109,63 +111,86 @@ log_sums false r public lines mode g =
     cond (is_none mode && not (are_sums r.ons lines)) (log_lines r.ons public lines g)
     (with_deed Keeps (log_lines r.ons public lines (with_deed Drops g)))
 
--- a log after an instruction that the lines with these numbers fit
-abbrev pub log_fitting : LogRules → List ℕ → List ℕ → Option ℕ → Log → Log
-log_fitting r public lines mode g = cond r.sums (log_sums g.protected r public lines mode g) (log_lines r.ons public lines g)
-
--- the mode that an instruction gives the protection, if there is one
-abbrev pub mode_in : Option Ins → Option ℕ
-mode_in None = None
-mode_in (Some i) = mode_of i
-
--- a log with the protection after a mode, if there is one
-abbrev pub with_mode : Option ℕ → Log → Log
-with_mode None g = g
-with_mode (Some mode) g = record g { protected = nat_le 2 mode }
+-- a log after an instruction that the lines with these numbers fit, by whether it was under protection
+abbrev pub log_fitting : LogRules → Bool → List ℕ → List ℕ → Option ℕ → Log → Log
+log_fitting r on public lines mode g = cond r.sums (log_sums on r public lines mode g) (log_lines r.ons public lines g)
 
 -- the public segment that is seen: that of a log without sums is none
 abbrev pub public_seen : LogRules → List ℕ → List ℕ
 public_seen r public = cond r.sums public []
 
--- a log after an instruction that was done
-abbrev pub log_done : LogRules → Sight → Log → Log
-log_done r x g =
-    with_mode (mode_in x.turn.ins)
-    (log_fitting r (public_seen r x.public) (fitting_from 0 event.Turn (turn_text x.turn) r.ons) (mode_in x.turn.ins) g)
+-- a log after an instruction that was done, by its line and the mode that it gives the protection
+abbrev pub log_done : LogRules → Bool → List ℕ → List ℕ → Option ℕ → Log → Log
+log_done r on public text mode g = log_fitting r on (public_seen r public) (fitting_from 0 event.Turn text r.ons) mode g
 
--- a log after an abend: one with 07 is none of the application
-abbrev pub log_abend : LogRules → Abend → Log → Log
-log_abend r abend.A07 g = g
-log_abend r c g = cond r.never (with_deed Abends g) g
+-- a log after an instruction that abended
+abbrev pub log_abend : LogRules → Log → Log
+log_abend r g = cond r.never (with_deed Abends g) g
 
--- a log after an instruction by its end
-abbrev pub log_end : LogRules → Sight → Option Outcome → Log → Log
-log_end r x (Some (Abended c)) g = log_abend r c g
-log_end r x (Some (Reply body sw)) g = log_done r x g
-log_end r x None g = log_done r x g
+-- a log after the `on` lines with these numbers applied
+abbrev pub log_applied : List ℕ → Log → Log
+log_applied [] g = g
+log_applied (i ∷ is) g = log_applied is (with_deed (Applies i) g)
 
--- a log after a frame was left: one that lies below that of the application runs
-abbrev pub log_left : ℕ → Log → Log
-log_left depth g = cond (nat_lt depth g.frame) (record g { frame = 0 }) g
-
--- a log at an instruction of the application: the first one of its frame begins it, without protection
-abbrev pub log_entered : ℕ → Log → Log
-log_entered depth g = cond (g.frame == 0) (record g { frame = depth; protected = false }) g
-
--- a log after an instruction, by whether it is one of the application
-abbrev pub log_own : Bool → LogRules → Sight → Log → Log
-log_own true r x g = log_end r x x.turn.end (log_entered x.turn.depth g)
-log_own false r x g = g
+-- a log after an event, if there is one, by whether protection is on before it
+abbrev pub log_event : LogRules → Bool → Option Event → Log → Log
+log_event r on None g = g
+log_event r on (Some (Did d)) g = log_done r on d.public (line_of_deed d) (mode_of d.ins) g
+log_event r on (Some (Failed at cause)) g = log_abend r g
+log_event r on (Some (Commanded b)) g = log_applied (fitting_from 0 event.Command (hex_text b) r.ons) g
+log_event r on (Some (Answers b o)) g = log_applied (answered_from 0 (hex_text b) (outcome_text o) r.ons) g
+log_event r on (Some Session) g = log_applied (session_from 0 r.ons) g
 
 -- a log with one instruction more; the last number stands for all after it
 abbrev pub log_counted : Log → Log
 log_counted g = record g { turns = min (g.turns + 1) 18446744073709551615 }
 
--- a log after an instruction
-abbrev pub log_turn : LogRules → List ℕ → Sight → Log → Log
-log_turn r name x g = log_counted (log_own (bytes_eq x.name name) r x (log_left x.turn.depth g))
+-- whether an event is one under protection
+abbrev pub is_protected : Option Event → Bool
+is_protected (Some (Did d)) = d.frame.protected
+is_protected e = false
 
--- a log after some instructions
-abbrev pub log_turns : LogRules → List ℕ → List Sight → Log → Log
-log_turns r name [] g = g
-log_turns r name (x ∷ xs) g = log_turns r name xs (log_turn r name x g)
+-- a log after the events of some turns
+abbrev pub log_events : LogRules → List (Option Event) → Log → Log
+log_events r [] g = g
+log_events r (e ∷ es) g = log_events r es (log_counted (log_event r (is_protected e) e g))
+
+-- ---- by the turns alone
+
+-- protection by depth, and a log
+pub record Marks : Type 0 where
+  pub opens : List Bool
+  pub log : Log
+
+-- no protection is on, and nothing was recorded
+abbrev pub no_marks : Marks
+no_marks = record { opens = false ∷ false ∷ false ∷ false ∷ []; log = no_log }
+
+-- marks after an instruction
+abbrev pub log_turn : LogRules → List ℕ → Sight → Marks → Marks
+log_turn r name x m =
+    record {
+      opens = opens_seen x.left x.chain m.opens;
+      log = log_counted (log_event r (get_or m.opens (length x.chain.below) false) (event_of (rule_watch name) x.left x.chain) m.log);
+    }
+
+-- marks after some instructions
+abbrev pub log_turns : LogRules → List ℕ → List Sight → Marks → Marks
+log_turns r name [] m = m
+log_turns r name (x ∷ xs) m = log_turns r name xs (log_turn r name x m)
+
+-- whether a turn without an instruction ended since the budget is spent
+abbrev pub is_spent : Option Ins → Abend → Bool
+is_spent None abend.A07 = true
+is_spent i c = false
+
+-- a log after a turn of the application by its end
+abbrev pub log_end : LogRules → Bool → List ℕ → Turn → Option Outcome → Log → Log
+log_end r on public t (Some (Abended c)) g = cond (is_spent t.ins c) g (log_abend r g)
+log_end r on public t (Some (Reply body sw)) g = log_done r on public (turn_text t) (mode_in t.ins) g
+log_end r on public t None g = log_done r on public (turn_text t) (mode_in t.ins) g
+
+-- a log after a turn, by whether it is one of the application
+abbrev pub log_own : Bool → LogRules → Bool → List ℕ → Turn → Log → Log
+log_own true r on public t g = log_end r on public t t.end g
+log_own false r on public t g = g

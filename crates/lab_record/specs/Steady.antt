@@ -2,9 +2,9 @@
 -- they armed last.
 use Rattle.std.specs.Prelude.{◌≡◌, ℕ, true, List, [], ◌∷◌, Option, Some}
 use Rattle.mc_words.specs.model_device.specs.Device.{BenchState, DeviceState}
-use Rattle.law_promise.specs.model_play.specs.DeckGrammar.{DeckLine}
-use Rattle.law_promise.specs.model_play.specs.DeckGrammar as line
-use Rattle.law_promise.specs.model_play.specs.Play.{State, Step, armed_stop_in, moves_of, steady_at, step}
+use Rattle.law_events.specs.law_promise.specs.model_play.specs.DeckGrammar.{DeckLine}
+use Rattle.law_events.specs.law_promise.specs.model_play.specs.DeckGrammar as line
+use Rattle.law_events.specs.law_promise.specs.model_play.specs.Play.{State, Step, armed_stop_in, moves_of, steady_at, step}
 use Rattle.mc_script.specs.declared.player.Player.{Player}
 use Rattle.mc_script.specs.Players.{device_of, IsPlayerAt}
 

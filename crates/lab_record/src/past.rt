@@ -1,7 +1,7 @@
 // What happened to an application while the lines of its deck were played.
 ghost use Rattle.std.specs.Prelude.{◌≡◌, ◌<◌, ◌≤◌, ℕ, length, option_map, slice_get, take, None, OnOk, Some};
-ghost use Rattle.law_promise.specs.model_play.specs.DeckGrammar.{DeckLine};
-ghost use Rattle.law_promise.specs.model_play.specs.Play.{State};
+ghost use Rattle.law_events.specs.law_promise.specs.model_play.specs.DeckGrammar.{DeckLine};
+ghost use Rattle.law_events.specs.law_promise.specs.model_play.specs.Play.{State};
 ghost use Rattle.mc_script.specs.Benches.{IsPlaying};
 ghost use Rattle.lab_record.specs.Benches.{IsSteadyAt};
 ghost use Rattle.lab_record.specs.Steady.{armed_in, steady_step};

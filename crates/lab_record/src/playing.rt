@@ -1,6 +1,6 @@
 // A line that is played, of which nothing is recorded.
 ghost use Rattle.std.specs.Prelude.{◌≤◌, ℕ, length, take};
-ghost use Rattle.law_promise.specs.model_play.specs.Play.{State};
+ghost use Rattle.law_events.specs.law_promise.specs.model_play.specs.Play.{State};
 ghost use Rattle.mc_deck.specs.Lines.{line_of, GoodLine};
 ghost use Rattle.mc_script.specs.Players.{device_of};
 ghost use Rattle.mc_script.specs.Benches.{IsPlaying};

@@ -1,13 +1,17 @@
 // What the instructions of a line do to what is counted of an application, recorded.
-ghost use Rattle.std.specs.Prelude.{◌≡◌, ◌≤◌, ◌∷◌, ℕ, [], bytes_eq, false, slice_get, true, IfSome, OnOk};
+ghost use Rattle.std.specs.Prelude.{◌≡◌, ◌-◌, ◌≤◌, ◌∷◌, ℕ, List, [], bytes_eq, cond, false, slice_get, true, IfSome, OnOk};
 ghost use Rattle.mc_apdu.specs.model_machine.specs.Chain.{Chain};
 ghost use Rattle.mc_apdu.specs.model_machine.specs.Code.{Shaped};
 ghost use Rattle.mc_card.specs.Parts.{IsRunning, RunsChain};
 ghost use Rattle.mc_machine.specs.declared.outcome.Outcome.{Outcome as ModelOutcome};
 ghost use Rattle.mc_machine.specs.Turns.{full_turn, turn_value, AgreesWithEnd};
 ghost use Rattle.lab_record.specs.Fitting.{amount_of};
-ghost use Rattle.lab_record.specs.Logs.{deed_value, log_abend, log_counted, log_done, log_end, log_entered, log_fitting, log_left, log_lines, log_on, log_own, log_settled, no_log, public_seen, with_deed, with_mode, Drops, Keeps, Moves, Sight};
-ghost use Rattle.lab_record.specs.Recorders.{log_of, log_rules, IsSight, LooksAt, Recorded, Stays};
+ghost use Rattle.law_events.specs.Turns.{mode_in, opens_by};
+ghost use Rattle.law_events.specs.law_steps.specs.Registers.{protection_after_mode};
+ghost use Rattle.law_events.specs.law_promise.specs.model_events.specs.Amounts.{turn_text};
+ghost use Rattle.mc_apdu.specs.model_machine.specs.Chain.{Turn as ModelTurn};
+ghost use Rattle.lab_record.specs.Logs.{deed_value, is_spent, log_abend, log_counted, log_done, log_end, log_fitting, log_lines, log_on, log_own, log_settled, no_marks, public_seen, with_deed, Drops, Keeps, Moves, Sight};
+ghost use Rattle.lab_record.specs.Recorders.{log_of, log_rules, marks_of, IsSight, LooksAt, Recorded, Stays};
 
 use crate::fitting::{move_sums, number_of};
 use crate::subject::Subject;
@@ -16,6 +20,7 @@ use lab_app_rules::{Amount, Effect, Rules};
 use lab_branch::push;
 use lab_history::{Deed, Happening};
 use mc_card::{BriefTurn, Card};
+use mc_isa::Ins;
 use mc_machine::{End, Outcome};
 use mc_nvm::Nvm;
 use mc_script::{Runner, Watcher, run_watched};
@@ -32,10 +37,8 @@ pub struct Recorder<'a> {
     aid: &'a Aid,
     /// The public segment before an instruction of the application, if there is a sum.
     public: Vec<u8>,
-    /// The depth of the frame of the application, 0 if there is none.
-    frame: u8,
-    /// Whether protection is on in that frame.
-    protected: bool,
+    /// Whether protection is on in each frame, the first one first.
+    opens: [bool; 4],
     /// Whether it was out of memory.
     pub is_short: bool,
     /// The turns that were taken, of all applications: one that abends is among them.
@@ -65,20 +68,39 @@ fn public_of<N: Nvm>(card: &Card<N>) -> &[u8]
     }
 }
 
+// Whether a turn ended since the budget is spent: it has no instruction then.
+fn is_spent(ins: &Option<Ins>, abend: Abend) -> bool
+    ensures { result ≡ is_spent ins.now abend }
+{
+    match ins {
+        None => abend == Abend::A07,
+        Some(_) => false,
+    }
+}
+
+// Whether protection is on after a mode, if there is one.
+fn protection_after(mode: Option<u8>, on: bool) -> bool
+    ensures { result ≡ protection_after_mode mode on }
+{
+    match mode {
+        Some(mode) => mode >= 2,
+        None => on,
+    }
+}
+
 impl<'a> Recorder<'a> {
     /// Returns a recorder of a line that is not begun.
     pub fn new(alloc: Global, subject: Subject<'a>) -> Recorder<'a>
         ensures rules { result.rules ≡ subject.entry.rules }
         ensures aid { result.aid ≡ subject.entry.aid }
-        ensures log { log_of result ≡ no_log }
+        ensures marks { marks_of result ≡ no_marks }
     {
         Recorder {
             alloc,
             rules: subject.rules,
             aid: subject.aid,
             public: Vec::new(alloc),
-            frame: 0,
-            protected: false,
+            opens: [false; 4],
             is_short: false,
             turns: 0,
             deeds: Vec::new(alloc),
@@ -183,16 +205,17 @@ impl<'a> Recorder<'a> {
         self.add(Deed::Keep)
     }
 
-    // Records an instruction that was done, by the lines that fit it and the mode that it gives the protection.
-    fn add_done(&mut self, lines: &[usize], mode: Option<u8>) -> Result<(), NoMemory>
+    // Records an instruction that was done, by whether it was under protection, by the lines that fit it and the mode that
+    // it gives the protection.
+    fn add_done(&mut self, on: bool, lines: &[usize], mode: Option<u8>) -> Result<(), NoMemory>
         ensures stays { Stays self.old self.new }
         ensures log { OnOk result (log_of self.new
-            ≡ log_fitting (log_rules self.old.rules.now) self.old.public.items lines.now mode (log_of self.old)) }
+            ≡ log_fitting (log_rules self.old.rules.now) on self.old.public.items lines.now mode (log_of self.old)) }
     {
         if !self.has_sums() {
             return self.add_lines(lines);
         }
-        if self.protected {
+        if on {
             self.add_lines(lines)?;
             return self.settle(mode);
         }
@@ -202,117 +225,104 @@ impl<'a> Recorder<'a> {
         self.add_kept(lines)
     }
 
-    // Sets the protection by a mode, if there is one.
-    fn protect(&mut self, mode: Option<u8>)
-        ensures stays { Stays self.old self.new }
-        ensures log { log_of self.new ≡ with_mode mode (log_of self.old) }
-    {
-        if let Some(mode) = mode {
-            self.protected = mode >= 2;
-        }
-    }
-
     // Records an instruction that was done.
-    fn see_done(&mut self, turn: &BriefTurn) -> Result<(), NoMemory>
+    fn see_done(&mut self, turn: &BriefTurn, on: bool) -> Result<(), NoMemory>
         requires shaped { IfSome turn.now.ins Shaped }
         requires low { 1 ≤ turn.now.depth }
         requires high { turn.now.depth ≤ 4 }
         ensures stays { Stays self.old self.new }
-        ensures log { (o : ModelOutcome) (x : Sight)
-            → x.turn ≡ turn_value (full_turn turn.now o) x.turn.wrote
-            → self.old.public.items ≡ public_seen (log_rules self.old.rules.now) x.public
-            → OnOk result (log_of self.new ≡ log_done (log_rules self.old.rules.now) x (log_of self.old)) }
+        ensures log { (o : ModelOutcome) (t : ModelTurn) (public : List ℕ) → t ≡ turn_value (full_turn turn.now o) t.wrote
+            → self.old.public.items ≡ public_seen (log_rules self.old.rules.now) public → OnOk result (log_of self.new
+            ≡ log_done (log_rules self.old.rules.now) on public (turn_text t) (mode_in t.ins) (log_of self.old)) }
     {
         let lines = fitting_turn(self.alloc, self.rules.ons.as_slice(), turn)?;
-        let mode = mode_of(&turn.ins);
-        self.add_done(lines.as_slice(), mode)?;
-        self.protect(mode);
-        Ok(())
+        self.add_done(on, lines.as_slice(), mode_of(&turn.ins))
     }
 
-    // Records an instruction that abended.
-    fn see_abend(&mut self, abend: Abend) -> Result<(), NoMemory>
+    // Records an instruction that abended, or that the budget is spent.
+    fn see_abend(&mut self, ins: &Option<Ins>, abend: Abend) -> Result<(), NoMemory>
         ensures stays { Stays self.old self.new }
-        ensures log { OnOk result (log_of self.new ≡ log_abend (log_rules self.old.rules.now) abend (log_of self.old)) }
+        ensures log { OnOk result (log_of self.new ≡ cond (is_spent ins.now abend) (log_of self.old)
+            (log_abend (log_rules self.old.rules.now) (log_of self.old))) }
     {
-        if abend == Abend::A07 || self.rules.never.is_none() {
+        if is_spent(ins, abend) || self.rules.never.is_none() {
             return Ok(());
         }
         self.add(Deed::Abend)
     }
 
-    // Records an instruction of the application that was not stopped.
-    fn see(&mut self, turn: &BriefTurn) -> Result<(), NoMemory>
+    // Records a turn of the application that was not stopped, by whether it was under protection.
+    fn see(&mut self, turn: &BriefTurn, on: bool) -> Result<(), NoMemory>
         requires shaped { IfSome turn.now.ins Shaped }
         requires low { 1 ≤ turn.now.depth }
         requires high { turn.now.depth ≤ 4 }
         ensures stays { Stays self.old self.new }
-        ensures log { (o : ModelOutcome) (x : Sight) → AgreesWithEnd turn.now.end o
-            → x.turn ≡ turn_value (full_turn turn.now o) x.turn.wrote
-            → self.old.public.items ≡ public_seen (log_rules self.old.rules.now) x.public
-            → OnOk result (log_of self.new ≡ log_end (log_rules self.old.rules.now) x x.turn.end (log_of self.old)) }
+        ensures log { (o : ModelOutcome) (t : ModelTurn) (public : List ℕ) → AgreesWithEnd turn.now.end o
+            → t ≡ turn_value (full_turn turn.now o) t.wrote
+            → self.old.public.items ≡ public_seen (log_rules self.old.rules.now) public → OnOk result (log_of self.new
+            ≡ log_end (log_rules self.old.rules.now) on public t t.end (log_of self.old)) }
     {
         match &turn.end {
-            Some(End::Abend(abend)) => self.see_abend(*abend),
-            Some(End::Reply) => self.see_done(turn),
-            None => self.see_done(turn),
+            Some(End::Abend(abend)) => self.see_abend(&turn.ins, *abend),
+            Some(End::Reply) => self.see_done(turn, on),
+            None => self.see_done(turn, on),
         }
     }
 
-    // Leaves the frame of the application, if one that lies below it runs.
-    fn leave(&mut self, depth: u8)
-        ensures stays { Stays self.old self.new }
-        ensures log { log_of self.new ≡ log_left depth (log_of self.old) }
-    {
-        if depth < self.frame {
-            self.frame = 0;
-        }
-    }
-
-    // Begins a frame of the application without protection, if it has none.
-    fn enter(&mut self, depth: u8)
-        ensures stays { Stays self.old self.new }
-        ensures log { log_of self.new ≡ log_entered depth (log_of self.old) }
-    {
-        if self.frame == 0 {
-            self.frame = depth;
-            self.protected = false;
-        }
-    }
-
-    // Records an instruction of the application.
-    fn see_own(&mut self, turn: &BriefTurn)
+    // Records a turn of the application.
+    fn see_own(&mut self, turn: &BriefTurn, on: bool)
         requires shaped { IfSome turn.now.ins Shaped }
         requires low { 1 ≤ turn.now.depth }
         requires high { turn.now.depth ≤ 4 }
         ensures rules { self.new.rules ≡ self.old.rules }
         ensures aid { self.new.aid ≡ self.old.aid }
+        ensures opens { self.new.opens ≡ self.old.opens }
         ensures had { self.new.is_short ≡ false → self.old.is_short ≡ false }
-        ensures log { (o : ModelOutcome) (x : Sight) → AgreesWithEnd turn.now.end o
-            → x.turn ≡ turn_value (full_turn turn.now o) x.turn.wrote
-            → self.old.public.items ≡ public_seen (log_rules self.old.rules.now) x.public → self.new.is_short ≡ false
-            → log_of self.new ≡ log_own true (log_rules self.old.rules.now) x (log_of self.old) }
+        ensures log { (o : ModelOutcome) (t : ModelTurn) (public : List ℕ) → AgreesWithEnd turn.now.end o
+            → t ≡ turn_value (full_turn turn.now o) t.wrote
+            → self.old.public.items ≡ public_seen (log_rules self.old.rules.now) public → self.new.is_short ≡ false
+            → log_of self.new ≡ log_own true (log_rules self.old.rules.now) on public t (log_of self.old) }
     {
-        self.enter(turn.depth);
-        if self.see(turn).is_err() {
+        if self.see(turn, on).is_err() {
             self.is_short = true;
         }
     }
 
-    // Records an instruction, if it is one of the application.
-    fn see_if(&mut self, turn: &BriefTurn, own: bool)
+    // Records a turn, if it is one of the application.
+    fn see_if(&mut self, turn: &BriefTurn, own: bool, on: bool)
         requires shaped { IfSome turn.now.ins Shaped }
         requires low { 1 ≤ turn.now.depth }
         requires high { turn.now.depth ≤ 4 }
         ensures rules { self.new.rules ≡ self.old.rules }
         ensures aid { self.new.aid ≡ self.old.aid }
+        ensures opens { self.new.opens ≡ self.old.opens }
         ensures had { self.new.is_short ≡ false → self.old.is_short ≡ false }
-        ensures log { (o : ModelOutcome) (x : Sight) → AgreesWithEnd turn.now.end o
-            → IsSight self.old (full_turn turn.now o) own x → self.new.is_short ≡ false
-            → log_of self.new ≡ log_own own (log_rules self.old.rules.now) x (log_of self.old) }
+        ensures log { (o : ModelOutcome) (t : ModelTurn) (public : List ℕ) → AgreesWithEnd turn.now.end o
+            → t ≡ turn_value (full_turn turn.now o) t.wrote
+            → (own ≡ true → self.old.is_short ≡ false
+            → self.old.public.items ≡ public_seen (log_rules self.old.rules.now) public) → self.new.is_short ≡ false
+            → log_of self.new ≡ log_own own (log_rules self.old.rules.now) on public t (log_of self.old) }
     {
         if own {
-            self.see_own(turn);
+            self.see_own(turn, on);
+        }
+    }
+
+    // Sets the protection of the frame that ran a turn; that of a frame that it called is off.
+    fn open(&mut self, turn: &BriefTurn)
+        requires low { 1 ≤ turn.now.depth }
+        requires high { turn.now.depth ≤ 4 }
+        ensures rules { self.new.rules ≡ self.old.rules }
+        ensures aid { self.new.aid ≡ self.old.aid }
+        ensures is_short { self.new.is_short ≡ self.old.is_short }
+        ensures log { log_of self.new ≡ log_of self.old }
+        ensures opens { self.new.opens ≡ opens_by (turn.now.depth - 1) turn.now.ins self.old.opens }
+    {
+        let place = turn.depth as usize - 1;
+        let on = self.opens[place];
+        self.opens[place] = protection_after(mode_of(&turn.ins), on);
+        if place < 3 {
+            self.opens[place + 1] = false;
         }
     }
 
@@ -324,7 +334,7 @@ impl<'a> Recorder<'a> {
         self.turns = self.turns.saturating_add(1);
     }
 
-    // Records an instruction that was not stopped, by whether it is one of the application.
+    // Records a turn that was not stopped, by whether it is one of the application.
     fn see_turn(&mut self, turn: &BriefTurn, own: bool)
         requires shaped { IfSome turn.now.ins Shaped }
         requires low { 1 ≤ turn.now.depth }
@@ -332,8 +342,9 @@ impl<'a> Recorder<'a> {
         ensures { (o : ModelOutcome) (x : Sight) → AgreesWithEnd turn.now.end o
             → IsSight self.old (full_turn turn.now o) own x → Recorded self.old (x ∷ []) self.new }
     {
-        self.leave(turn.depth);
-        self.see_if(turn, own);
+        let on = self.opens[turn.depth as usize - 1];
+        self.see_if(turn, own, on);
+        self.open(turn);
         self.count();
     }
 }

@@ -1,8 +1,8 @@
 // A line that is played and recorded.
 ghost use Rattle.std.specs.Prelude.{◌≡◌, ℕ, false, List, IfOk, Option, option_map, Some};
-ghost use Rattle.law_promise.specs.model_play.specs.Play as play;
-ghost use Rattle.law_promise.specs.model_play.specs.Play.{FailedWrite, State, step};
-ghost use Rattle.law_promise.specs.History.{is_selected_in, is_selected_on};
+ghost use Rattle.law_events.specs.law_promise.specs.model_play.specs.Play as play;
+ghost use Rattle.law_events.specs.law_promise.specs.model_play.specs.Play.{FailedWrite, State, step};
+ghost use Rattle.law_events.specs.law_promise.specs.History.{is_selected_in, is_selected_on};
 ghost use Rattle.mc_isa.specs.model_text.specs.Listing.{hex_text};
 ghost use Rattle.mc_deck.specs.Lines.{line_of, GoodLine};
 ghost use Rattle.mc_script.specs.Benches.{IsPlayerAt, IsPlaying};
@@ -10,7 +10,8 @@ ghost use Rattle.mc_script.specs.Lives.{LiveShows};
 ghost use Rattle.mc_script.specs.Players.{device_of};
 ghost use Rattle.mc_text.specs.model_text.specs.TurnText.{outcome_text};
 ghost use Rattle.mc_machine.specs.Turns.{outcome_value};
-ghost use Rattle.lab_record.specs.Courses.{answer_lines, answered_from, command_lines, ended_by, has_session, is_answered, own_command};
+ghost use Rattle.lab_record.specs.Courses.{answer_lines, answered_from, command_lines, ended_by, is_answered};
+ghost use Rattle.law_events.specs.Events.{has_session, own_command};
 ghost use Rattle.lab_record.specs.Benches.{IsSteadyAt};
 ghost use Rattle.lab_record.specs.Logs.{values_of};
 ghost use Rattle.lab_record.specs.Playing.{IsCourse, IsPlayed};

@@ -3,7 +3,9 @@ ghost use Rattle.std.specs.Prelude.{◌≡◌, option_map, Some};
 ghost use Rattle.mc_bank.specs.model_card.specs.Manager.{route};
 ghost use Rattle.mc_deck.specs.Lines.{line_of};
 ghost use Rattle.mc_machine.specs.Turns.{outcome_value};
-ghost use Rattle.lab_record.specs.Courses.{ended_by, is_done, is_outcome, is_power, is_selection, is_to_application, is_to_select, passed_command, stop_in};
+ghost use Rattle.law_events.specs.Events.{is_done, is_selection, is_to_application, is_to_select, passed_command};
+ghost use Rattle.law_events.specs.law_promise.specs.model_play.specs.Given.{is_power};
+ghost use Rattle.lab_record.specs.Courses.{ended_by, is_outcome, stop_in};
 
 use mc_apdu::parse;
 use mc_deck::Line;

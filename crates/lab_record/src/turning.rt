@@ -3,14 +3,14 @@ ghost use Rattle.std.specs.Prelude.{◌≡◌, ◌≤◌, ◌==◌, ℕ, bytes_e
 ghost use Rattle.mc_apdu.specs.model_machine.specs.Code.{Shaped};
 ghost use Rattle.mc_isa.specs.model_text.specs.Text.{first_cut};
 ghost use Rattle.lab_app_rules.specs.model_rules.specs.Keeping.{mode_of_primitive};
-ghost use Rattle.law_promise.specs.model_events.specs.Amounts.{turn_text};
+ghost use Rattle.law_events.specs.law_promise.specs.model_events.specs.Amounts.{turn_text};
 ghost use Rattle.mc_bank.specs.Bank.{name_or};
 ghost use Rattle.mc_machine.specs.declared.outcome.Outcome.{Outcome as ModelOutcome};
 ghost use Rattle.mc_machine.specs.Turns.{full_turn, turn_value};
 ghost use Rattle.mc_isa.specs.Primitives.{primitive_of};
 ghost use Rattle.mc_segs.specs.HeldFrames.{CanRun};
 ghost use Rattle.lab_record.specs.Fitting.{fitting_from};
-ghost use Rattle.lab_record.specs.Logs.{mode_in};
+ghost use Rattle.law_events.specs.Turns.{mode_in};
 ghost use Rattle.lab_app_rules.specs.declared.rules.Event.TheVariants as event;
 
 use crate::fitting::fitting;

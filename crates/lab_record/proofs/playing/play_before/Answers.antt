@@ -1,6 +1,6 @@
 use Rattle.std.specs.Prelude.{take}
 use Rattle.std.proofs.Common.{sym, subst}
-use Rattle.law_promise.specs.model_play.specs.Play.{State}
+use Rattle.law_events.specs.law_promise.specs.model_play.specs.Play.{State}
 use Rattle.mc_deck.specs.Lines.{line_of}
 use Rattle.lab_record.specs.Steady.{state_after, IsSteadyAt}
 use Rattle.lab_record.proofs.SteadyLemmas.{after_first, after_next}

@@ -1,5 +1,5 @@
 use Rattle.std.specs.Prelude.{take}
-use Rattle.law_promise.specs.model_play.specs.Play.{State}
+use Rattle.law_events.specs.law_promise.specs.model_play.specs.Play.{State}
 use Rattle.mc_script.specs.Players.{IsPlaying}
 use Rattle.lab_record.specs.Steady.{state_after, IsSteadyAt}
 use Rattle.lab_record.proofs.playing.play_before.Given as goal

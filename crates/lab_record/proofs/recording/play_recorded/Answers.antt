@@ -26,7 +26,7 @@ returns-clause-played g c =
     λ s n at.
     let h = played_line g.N.Nvm.state g.N.Bench.bench c.args.subject.rules.now c.args.subject.aid.now c.args.player.now c.line-answer.new.self (line_of c.args.line.now) c.line-answer.result c.new-recorder.result c.line-answer.new.runner
     c.in_ok-was_selected.was_selected c.is_outcome-ended.result c.is_stopped.result c.is_some.result c.in_ok-course.course c.line-answer.ensures.done (ap (λ u. u.now) c.new-recorder.ensures.rules) (ap (λ u. u.now) c.new-recorder.ensures.aid)
-    c.new-recorder.ensures.log (search rules) c.in_ok-was_selected.ensures c.is_outcome-ended.ensures c.is_stopped.ensures (c.is_some.ensures ∙ some_by _ _ c.passed_command.ensures) c.in_ok-course.ensures s n at in
+    c.new-recorder.ensures.marks (search rules) c.in_ok-was_selected.ensures c.is_outcome-ended.ensures c.is_stopped.ensures (c.is_some.ensures ∙ some_by _ _ c.passed_command.ensures) c.in_ok-course.ensures s n at in
     (h.0, h.1, h.2)
 
 pub returns-clause-recorded : goal.returns-clause-recorded
@@ -34,7 +34,7 @@ returns-clause-recorded g c =
     λ s n at.
     let h = played_line g.N.Nvm.state g.N.Bench.bench c.args.subject.rules.now c.args.subject.aid.now c.args.player.now c.line-answer.new.self (line_of c.args.line.now) c.line-answer.result c.new-recorder.result c.line-answer.new.runner
     c.in_ok-was_selected.was_selected c.is_outcome-ended.result c.is_stopped.result c.is_some.result c.in_ok-course.course c.line-answer.ensures.done (ap (λ u. u.now) c.new-recorder.ensures.rules) (ap (λ u. u.now) c.new-recorder.ensures.aid)
-    c.new-recorder.ensures.log (search rules) c.in_ok-was_selected.ensures c.is_outcome-ended.ensures c.is_stopped.ensures (c.is_some.ensures ∙ some_by _ _ c.passed_command.ensures) c.in_ok-course.ensures s n at.at in (
+    c.new-recorder.ensures.marks (search rules) c.in_ok-was_selected.ensures c.is_outcome-ended.ensures c.is_stopped.ensures (c.is_some.ensures ∙ some_by _ _ c.passed_command.ensures) c.in_ok-course.ensures s n at.at in (
       line_steady g.N.Nvm.state g.N.Bench.bench _ c.args.player.now c.line-answer.new.self (line_of c.args.line.now) _ _ c.line-answer.result c.line-answer.ensures.done s n at,
       recorded_line g.N.Nvm.state g.N.Bench.bench c.args.subject.rules.now c.args.subject.aid.now c.args.player.now s (n, line_of c.args.line.now) _ h.0 at h.2 h.3,
     )

@@ -1,6 +1,6 @@
 use Rattle.std.specs.Prelude.{ℕ}
 use Rattle.std.proofs.Common.{subst}
-use Rattle.law_promise.specs.model_play.specs.DeckGrammar.{DeckLine}
+use Rattle.law_events.specs.law_promise.specs.model_play.specs.DeckGrammar.{DeckLine}
 use Rattle.mc_deck.specs.Lines.{line_of}
 use Rattle.lab_record.specs.Steady.{steady_step, IsSteadyAt}
 use Rattle.lab_record.proofs.SteadyLemmas.{on_ok, same_line}
