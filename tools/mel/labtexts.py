@@ -58,9 +58,14 @@ def read_given(path: str) -> str:
 
 
 def write(text: str) -> None:
-    """Writes a text to the standard output in UTF-8, whatever the locale is."""
+    """Writes a text to the standard output in UTF-8, whatever the locale is. Bytes of the command line that the locale has no characters for
+    are written as they came."""
+    try:
+        content = text.encode("utf-8", "surrogateescape")
+    except UnicodeEncodeError:
+        content = text.encode("utf-8", "replace")
     sys.stdout.flush()
-    sys.stdout.buffer.write(text.encode("utf-8", "replace"))
+    sys.stdout.buffer.write(content)
     sys.stdout.buffer.flush()
 
 

@@ -193,7 +193,7 @@ GARBAGE = [
     (b"app a A000000001\nEXIT\n", "the section `app a` has no end"), (b"app a A000000001\nend\n", "the section `app a` has no code"),
     (b"app a A000000001\nDATA 0\nEXIT\nend\n", "line 2 of the deck: DATA has no"), (b"app a A000000001\nEXIT\nend\nload a x y\n", "line 4 of the deck: load has two sizes"),
     (b"app a A000000001\nEXIT\nend\nload a -1 99999999999\n", "line 4 of the deck: load has two sizes"),
-    (b"app a A000000001\n\xff\xfe\nend\n", "melcard asm ended with 1: line 1 BadLine"), (b"app a A000000001\nnonsense\nend\n", "melcard asm ended with 1: line 1 BadLine")]
+    (b"app a A000000001\n\xff\xfe\nend\n", "melcard asm ended with 1: line 1 UnknownWord"), (b"app a A000000001\nnonsense\nend\n", "melcard asm ended with 1: line 1 UnknownWord")]
 
 
 @pytest.mark.parametrize("content, why", GARBAGE)
@@ -209,4 +209,4 @@ def test_an_outline_that_is_garbage_differs(deck, tmp_path):
     file = tmp_path / "garbage.antt"
     file.write_bytes(bytes(range(256)) * 3)
     made = outline(deck, "ticket", "--check", file)
-    assert (made.returncode, made.stderr) == (1, "") and made.stdout
+    assert (made.returncode, made.stdout) == (2, "") and made.stderr.startswith("outline: ") and made.stderr.count("\n") == 1
