@@ -348,9 +348,21 @@ class Part:
                 self.settle(walk.state, place + 1)
                 last = place + 1, walk.state.copy()
         if last is None or last[0] == 0:
+            self.see_end(count)
             first, end = self.items[0].start + 1, self.items[count - 1].start + 1 if count else self.items[0].start + 1
             raise NotDivided(f"between lines {first} and {end} there is no power line that answers `ready`, and no selection that succeeds")
         return last
+
+    def see_end(self, count: int) -> None:
+        """Sees that the item behind so many is no section without an end.
+
+        # Errors
+
+        NotDivided, with what `melcard` says of it.
+        """
+        item = self.items[count] if count < len(self.items) else None
+        if item is not None and item.fields[:1] == ["app"] and not any(fields_of(line) == ["end"] for line in item.lines):
+            raise NotDivided(f"melcard refuses the deck: line {item.start + 1} NoEnd")
 
     def settle(self, state: State, count: int) -> None:
         """Finds out whether an application is there of which a stop left that open."""
@@ -402,6 +414,7 @@ def parts_of(lines: List[str], name: str, most: int) -> Iterator[Tuple[int, List
             yield first, part.text(count)
             return
         if not count:
+            part.see_end(count)
             raise NotDivided(f"the card before line {first} takes more than {most} lines")
         count, state = part.divided(count)
         yield first, part.text(count)

@@ -131,9 +131,8 @@ def test_the_grammar_and_the_extension_are_whole():
 
 def test_warnings_are_warnings_in_vs_code():
     matcher = json.loads((TOP / "tools" / "editors" / "vscode" / "package.json").read_text(encoding="utf-8"))["contributes"]["problemMatchers"][0]
-    draft = PURSE.read_bytes().replace(b"STATIC payer 2", b"STATIC payer 2\nCONST unused 5", 1)
-    assert b"unused" in draft
-    written = subprocess.run([program_path("meldesk"), "explain", "a.draft"], input=draft + b"nonsense\n", stdout=subprocess.PIPE, check=False).stdout.decode()
+    draft = b"format\npower\napp a A000000001\nCONST unused 5\n EXIT\nend\nnonsense\n"
+    written = subprocess.run([program_path("meldesk"), "explain", "a.draft"], input=draft, stdout=subprocess.PIPE, check=False).stdout.decode()
     pattern, found = matcher["pattern"], []
     for line in written.splitlines():
         parts = re.match(pattern["regexp"], line)
