@@ -219,13 +219,13 @@ class Run:
                 self.order(["budget", BUDGET])
 
     def power(self, result: str) -> str:
-        """Powers the card up, and sees whether it runs; it is not asked where it should not."""
+        """Powers the card up, and sees whether it runs. A card in a reader is not asked if it should not run, since a host would wait for it."""
         if self.given.reset is not None:
             hook(self.given.reset)
         self.had_power = True
         self.device.reset()
         if not result.startswith("ready"):
-            return answer_of(result)
+            return answer_of(result) if self.device.is_waited_for or not self.device.send(PROBE) else "ready"
         return result if self.device.send(PROBE) else NO_ANSWER
 
     def arm(self) -> None:

@@ -5,8 +5,8 @@
 
 LINE is the number of a statement whose command runs an application. The page has the source with the current line, the bytes by the names of
 the draft with what the last turn changed, the stack, and a bar with the device writes. Each write shows what the card is if power goes in
-it and comes back; FILL are the 8 bytes, in hexadecimal, that are left in its word (zeros if none are given). The page stands alone, and loads
-nothing.
+it and comes back; FILL are the 8 bytes, in hexadecimal, that are left in its word (zeros if none are given). The page stands alone, loads
+nothing, and lets a browser run its own script alone. It is UTF-8, whatever the locale is.
 
 It needs Python 3.9, and `meldesk` and `melcard`, built by tools/build or by `rt ci`. It ends with 0, with 1 if the draft is refused or the
 line runs no application, and with 2 if it cannot read the draft.
@@ -15,6 +15,8 @@ line runs no application, and with 2 if it cannot read the draft.
 from __future__ import annotations
 
 import argparse
+import base64
+import hashlib
 import json
 import re
 import sys
@@ -25,7 +27,7 @@ import tear
 from card.sessions import armed_in
 from debugger import cuts, views
 from desktexts import Play, Refused, Section, State, Statement, desk, sections_of
-from labtexts import end_with_reader, lines_of
+from labtexts import end_with_reader, lines_of, write
 
 TEMPLATE = Path(__file__).resolve().parent / "film.html"
 GROUPS = ("Static", "Session", "Stack", "Public", "Header", "Flags")
@@ -152,6 +154,15 @@ def outcomes_of(draft: bytes, line: int, count: int, fill: str, sections: List[S
     return found, made
 
 
+def policy_of(template: str) -> str:
+    """Returns the policy by which a browser runs the template's script, uses its style, and loads nothing (W3C, Content Security Policy 3)."""
+    words = ["default-src 'none'", "base-uri 'none'", "form-action 'none'"]
+    for tag in ("script", "style"):
+        content = template.partition(f"<{tag}>")[2].partition(f"</{tag}>")[0]
+        words.append(f"{tag}-src 'sha256-{base64.b64encode(hashlib.sha256(content.encode()).digest()).decode()}'")
+    return "; ".join(words)
+
+
 def film(given: argparse.Namespace, draft: bytes) -> str:
     """Returns the page.
 
@@ -179,7 +190,8 @@ def film(given: argparse.Namespace, draft: bytes) -> str:
             "stop": f"the draft has a stop in write {stop[1]} of this line" if stop is not None else ""}
     # No text of a draft ends the element that has it.
     data = json.dumps(told, separators=(",", ":")).replace("<", "\\u003C")
-    return TEMPLATE.read_text(encoding="utf-8").replace("FILM</script>", data + "</script>", 1)
+    template = TEMPLATE.read_text(encoding="utf-8")
+    return template.replace("POLICY", policy_of(template), 1).replace("FILM</script>", data + "</script>", 1)
 
 
 def main() -> int:
@@ -200,7 +212,7 @@ def main() -> int:
         print(f"film.py: {why}", file=sys.stderr)
         return 1
     end_with_reader()
-    print(page, end="")
+    write(page)
     return 0
 
 

@@ -10,7 +10,8 @@ broken, those of `prove` all its rules; of a refused deck it is its refused line
 swept line fails if it is torn, or must be whole and is not, and with --no-between also if it is between. A rule is skipped if no try fits it,
 not all was explored, or another rule was broken first. A text that has something broken is never without a failure.
 
-It needs Python 3.9. It ends with 1 if a case failed, and with 2 if it cannot read what it is given.
+It needs Python 3.9. It ends with 1 if a case failed, and with 2 if it cannot read what it is given, if a folder has no texts, or if a text is of
+another deck.
 """
 
 import argparse
@@ -20,6 +21,7 @@ import xml.etree.ElementTree as xml
 from pathlib import Path
 from typing import Iterator, List, Optional, Tuple
 
+import fits
 import labtexts
 from labtexts import BadText, Text
 
@@ -59,22 +61,12 @@ def swept(text: Text, lines: List[str], no_between: bool) -> Iterator[Case]:
         yield named(number, statement_of(lines, number)), "failure", "this mark is of no swept line"
 
 
-def name_of(rule: str) -> Optional[str]:
-    """What a rule is called if it is broken, or None if it is one that cannot be: it sets an amount, or moves a sum."""
-    fields = rule.split()
-    if fields[:2] == ["never", "abend"]:
-        return "abend"
-    if fields[:1] == ["always"] and len(fields) > 1:
-        return fields[1]
-    return fields[-2] if fields[:1] == ["on"] and fields[-3:-2] in (["spend"], ["need"]) else None
-
-
 def explored(text: Text, lines: List[str]) -> Iterator[Case]:
     """The cases of the rules that can be broken, and of those that no try fits. What was not explored whole is skipped: so are the other
     rules if one is broken, since the search ends there."""
     remark, is_all, found = "\n".join(text.path), text.last.endswith(" all") and text.broken is None, 0
     for it in labtexts.remarks_of(lines):
-        rule = name_of(it.text) if it.mark == "#@" else None
+        rule = fits.name_of(it.text.split()) if it.mark == "#@" else None
         is_silent = it.number in text.silent
         if rule is None and not is_silent:
             continue
@@ -157,10 +149,12 @@ def suite(name: str, found: List[Case]) -> xml.Element:
 def suites_of(given: argparse.Namespace) -> List[xml.Element]:
     """The suites of what is asked for."""
     if given.campaign is not None:
-        jobs = labtexts.jobs_of(Path(given.campaign), Path(given.decks))
+        jobs = fits.campaign_of(Path(given.campaign), Path(given.decks))
         return [suite(f"{it.stem}.{it.name}", list(cases(it.text, it.lines, it.status, given.no_between))) for it in jobs]
-    text = labtexts.read_text(sys.stdin.read() if given.text == "-" else labtexts.read(given.text))
+    text = labtexts.read_text(labtexts.read_given(given.text))
     lines = [] if given.deck is None else labtexts.lines_of(labtexts.read(given.deck))
+    if given.deck is not None:
+        fits.check(text, lines, given.text)
     name = Path(given.deck or given.text).stem
     return [suite(f"{name}.{text.kind or 'empty'}", list(cases(text, lines, None, given.no_between)))]
 
@@ -189,7 +183,7 @@ def main() -> int:
         print(f"junit.py: {error}", file=sys.stderr)
         return 2
     labtexts.end_with_reader()
-    print(whole(found), end="")
+    labtexts.write(whole(found))
     return 1 if any(it.get("failures") != "0" or it.get("errors") != "0" for it in found) else 0
 
 

@@ -5,6 +5,7 @@ Python 3.9 and its standard library alone.
 
 import re
 import signal
+import sys
 from dataclasses import dataclass, field
 from pathlib import Path
 from typing import Dict, List, Optional, Tuple
@@ -25,7 +26,7 @@ BROKEN = re.compile(r"broken (\S+) after (\d+) lines?$")
 SILENT = re.compile(r"silent line (\d+)$")
 NOT_SWEPT = re.compile(r"line (\d+) not swept$")
 # Of `prove`: a key, a broken rule, a place of unknown control, and the end. Behind ` ; ` is help.
-KEY = re.compile(r"(?:idle|session)(?: \w+ \d+)*:")
+KEY = re.compile(r"(?:idle|session)((?: \w+ \d+)*):")
 BROKEN_RULE = re.compile(r"broken (\S+) line (\d+)(?: at ([0-9A-F]{4}))?(?: ; .*)?$")
 UNKNOWN = re.compile(r"unknown ([0-9A-F]{4})(?: ; .*)?$")
 PROVED = re.compile(r"(?:not )?proved keys (\d+)$")
@@ -49,6 +50,23 @@ def read(path: str) -> str:
     """The text of a file, whatever bytes stand in it, with its line ends as they are."""
     with open(path, encoding="utf-8", errors="replace", newline="") as file:
         return file.read()
+
+
+def read_given(path: str) -> str:
+    """The text of a file, or of the standard input if the path is -."""
+    return sys.stdin.buffer.read().decode("utf-8", "replace") if path == "-" else read(path)
+
+
+def write(text: str) -> None:
+    """Writes a text to the standard output in UTF-8, whatever the locale is. Bytes of the command line that the locale has no characters for
+    are written as they came."""
+    try:
+        content = text.encode("utf-8", "surrogateescape")
+    except UnicodeEncodeError:
+        content = text.encode("utf-8", "replace")
+    sys.stdout.flush()
+    sys.stdout.buffer.write(content)
+    sys.stdout.buffer.flush()
 
 
 def lines_of(text: str) -> List[str]:
@@ -117,7 +135,7 @@ class Failed:
 class Text:
     """What a job wrote of a deck; `kind` is `expect`, `sweep`, `explore`, `prove` or `refused`, or empty if nothing was written. `silent` are the
     rules that no try fits, `unswept` the marks that are of no swept line, `unproved` the lines of what was not proved, by the rule's number or
-    by 0."""
+    by 0, `amounts` the names that keys have an amount of."""
 
     kind: str = ""
     is_whole: bool = False
@@ -131,6 +149,7 @@ class Text:
     silent: List[int] = field(default_factory=list)
     unswept: List[int] = field(default_factory=list)
     unproved: List[Tuple[int, str]] = field(default_factory=list)
+    amounts: List[str] = field(default_factory=list)
 
     def says(self, kind: str, number: int) -> None:
         """Takes in that a line is of a job, which is that of all lines."""
@@ -172,8 +191,9 @@ def read_text(text: str) -> Text:
         elif found := NOT_SWEPT.match(line):
             made.says("sweep", number)
             made.unswept.append(int(found.group(1)))
-        elif KEY.match(line):
+        elif found := KEY.match(line):
             made.says("prove", number)
+            made.amounts = list(dict.fromkeys([*made.amounts, *found.group(1).split()[::2]]))
         elif found := BROKEN_RULE.match(line) or UNKNOWN.match(line):
             made.says("prove", number)
             made.unproved.append((int(found.group(2)) if line.startswith("broken") else 0, line))

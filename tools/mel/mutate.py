@@ -367,6 +367,8 @@ def main() -> int:
     words.add_argument("--no-between", action="store_true", help="a swept line that is between is found too")
     words.add_argument("--every", action="store_true", help="write the mutants that were found too")
     given = words.parse_args()
+    if given.jobs < 1 or given.explore < 1 or not given.seconds > 0:
+        words.error("--jobs and --explore are 1 at least, and --seconds is more than 0")
     try:
         return mutate(given)
     except (NotDone, OSError) as why:

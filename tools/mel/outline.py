@@ -85,27 +85,51 @@ class Section:
     is_loaded: bool = False
 
 
+def hex_of(fields: List[str], number: int, what: str) -> bytes:
+    """The bytes of fields of a line.
+
+    # Errors
+
+    NotDone, if they are no hexadecimal bytes.
+    """
+    digits = "".join(fields)
+    if not re.fullmatch("(?:[0-9A-Fa-f]{2})*", digits):
+        raise NotDone(f"line {number} of the deck: {what} has no hexadecimal bytes")
+    return bytes.fromhex(digits)
+
+
 def section_of(lines: List[str], name: str) -> Section:
-    """The section of a name, with the sizes of its first `load` line."""
+    """The section of a name, with the sizes of its first `load` line.
+
+    # Errors
+
+    NotDone, if there is none, or what was read here of it is malformed.
+    """
     found: Optional[Section] = None
     is_inside = is_ours = False
-    for line in lines:
+    for number, line in enumerate(lines, 1):
         fields = fields_of(line)
         if is_inside and fields == ["end"]:
             is_inside = is_ours = False
         elif is_inside and fields[:1] == ["DATA"]:
             if is_ours and found is not None:
-                found.data += bytes.fromhex("".join(fields[1:]))
+                found.data += hex_of(fields[1:], number, "DATA")
         elif is_inside:
             if is_ours and found is not None:
                 found.text.append(line)
         elif fields[:1] == ["app"]:
             is_inside, is_ours = True, fields[1:2] == [name] and found is None
-            found = Section(name, bytes.fromhex("".join(fields[2:3]))) if is_ours else found
+            found = Section(name, hex_of(fields[2:3], number, "the name")) if is_ours else found
         elif found is not None and fields[:2] == ["load", name] and len(fields) == 4 and not found.is_loaded:
+            if not all(re.fullmatch("[0-9]{1,5}", it) for it in fields[2:]):
+                raise NotDone(f"line {number} of the deck: load has two sizes")
             found.static, found.session, found.is_loaded = int(fields[2]), int(fields[3]), True
     if found is None:
         raise NotDone(f"the deck has no section `app {name}`")
+    if is_ours:
+        raise NotDone(f"the section `app {name}` has no end")
+    if not re.fullmatch("[A-Za-z0-9_]{1,32}", name) or not 5 <= len(found.aid) <= 16:
+        raise NotDone(f"the line `app {name}` has a malformed name")
     if not found.is_loaded:
         found.static = len(found.data)
     return found
@@ -1338,6 +1362,8 @@ def main() -> int:
         section = section_of(lines_of(read(given.deck)), given.name)
         digits = melcard("asm", "".join(f"{line}\n" for line in section.text))
         code = bytes.fromhex(digits)
+        if not code:
+            raise NotDone(f"the section `app {given.name}` has no code")
         it = Writer(section, code, shape(decoded(code, melcard("list", digits).splitlines()), section))
         if given.into is not None:
             make_crate(it, Path(given.into))

@@ -7,7 +7,7 @@ TEXT is the text that `mellab prove` wrote, or - for the standard input. A row i
 key; a byte that has one value at every key has a line above the matrix in place of a column. With a DRAFT whose deck was proved the bytes have
 its names. The page stands alone: it has no script, and loads nothing.
 
-It needs Python 3.9, and `meldesk` for a draft. It ends with 2 if it cannot read what it is given.
+It needs Python 3.9, and `meldesk` for a draft. It ends with 2 if it cannot read what it is given or the text is of another draft.
 """
 
 import argparse
@@ -19,6 +19,7 @@ from pathlib import Path
 from typing import Dict, Iterator, List, Tuple
 
 import card
+import fits
 import labtexts
 from labtexts import BadText
 
@@ -135,14 +136,16 @@ def main() -> int:
     given = words.parse_args()
     labtexts.end_with_reader()
     try:
-        text = sys.stdin.read() if given.text == "-" else labtexts.read(given.text)
+        text = labtexts.read_given(given.text)
         if labtexts.read_text(text).kind != "prove":
             raise BadText("this is no text of mellab prove")
+        if given.draft:
+            fits.check(labtexts.read_text(text), labtexts.lines_of(labtexts.read(given.draft)), given.text)
         names = names_in(card.text_of(Path(given.draft))) if given.draft else []
     except (OSError, BadText) as error:
         print(f"prove_html.py: {error}", file=sys.stderr)
         return 2
-    sys.stdout.writelines(f"{line}\n" for line in page(text, names))
+    labtexts.write("".join(f"{line}\n" for line in page(text, names)))
     return 0
 
 

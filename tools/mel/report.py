@@ -10,7 +10,7 @@ nothing.
 
 If a deck has a draft of its name beside it, a dump that was not as expected names its bytes, as `meldesk names` has them.
 
-It needs Python 3.9. It ends with 1 if a job did not hold, and with 2 if it cannot read what it is given.
+It needs Python 3.9. It ends with 1 if a job did not hold, and with 2 if it cannot read what it is given or a text is of another deck.
 """
 
 import argparse
@@ -21,6 +21,7 @@ from pathlib import Path
 from typing import Dict, Iterator, List, Tuple
 
 import card
+import fits
 import labtexts
 import prove_html
 import sweep_svg
@@ -251,14 +252,12 @@ def main() -> int:
     given = words.parse_args()
     folder = Path(given.folder)
     try:
-        jobs = labtexts.jobs_of(folder, Path(given.decks))
-        if not jobs:
-            raise BadText(f"{folder} has no verdicts: docs/LABORATORY.md shows how a campaign is made")
+        jobs = fits.campaign_of(folder, Path(given.decks))
     except (OSError, BadText) as error:
         print(f"report.py: {error}", file=sys.stderr)
         return 2
     labtexts.end_with_reader()
-    print("\n".join(page(given.title or f"Campaign {folder.resolve().name}", jobs, folder)))
+    labtexts.write("".join(f"{line}\n" for line in page(given.title or f"Campaign {folder.resolve().name}", jobs, folder)))
     return 1 if any(verdict(job)[1] == BAD for job in jobs) else 0
 
 

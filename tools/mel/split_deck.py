@@ -12,11 +12,12 @@ them are made by applications that are deleted again.
 A deck is divided after a `power` line that answers `ready`, or before a selection that succeeds, where no load is open and no stop armed: there
 session bytes are lost anyway.
 
-It needs Python 3.9 and `melcard`, built by tools/build or by `rt ci`. It ends with 1 if the deck cannot be divided, with the lines where it
-would have to be, and with 2 if it cannot be read.
+It needs Python 3.9 and `melcard`, built by tools/build or by `rt ci`. It ends with 1 if the deck is refused or cannot be divided, with the lines
+where it would have to be, and with 2 if it cannot be read. Then no part is written.
 """
 
 import argparse
+import re
 import subprocess
 import sys
 from dataclasses import dataclass, field
@@ -24,7 +25,7 @@ from pathlib import Path
 from typing import Dict, Iterator, List, Optional, Tuple
 
 from card import program_path
-from labtexts import fields_of, lines_of, read
+from labtexts import fields_of, lines_of
 from units import CODE, CREATE, DATA, DELETE, DIR, FCI, OPEN, SECTIONS, BadUnit, Unit, assembled, delete_command, load_commands, named, parted
 
 LINES, BYTES = 20_000, 1_048_576
@@ -33,8 +34,24 @@ LINES, BYTES = 20_000, 1_048_576
 HEAP, SMALLEST, LARGEST, MOST_STATIC = 131, 8, 1543, 512
 
 
+REFUSAL = re.compile(r"line (\d+) (\w+)$")
+
+
 class NotDivided(Exception):
     """Why a deck was not divided."""
+
+
+class RefusedPart(NotDivided):
+    """A part that `melcard` refuses: the line of the part, and the cause."""
+
+    def __init__(self, number: int, cause: str) -> None:
+        super().__init__(f"line {number} {cause}")
+        self.number, self.cause = number, cause
+
+
+def bytes_of(lines: List[str]) -> bytes:
+    """The bytes of lines."""
+    return "".join(f"{line}\n" for line in lines).encode("utf-8", "surrogateescape")
 
 
 @dataclass
@@ -156,10 +173,17 @@ def items_of(lines: List[str]) -> List[Item]:
 
 
 def results_of(lines: List[str]) -> Dict[int, str]:
-    """The results of a play, by the places of their lines from 0."""
-    text = "".join(f"{line}\n" for line in lines)
-    done = subprocess.run([program_path("melcard"), "play"], input=text.encode("utf-8", "replace"), stdout=subprocess.PIPE, check=False)
+    """The results of a play, by the places of their lines from 0.
+
+    # Errors
+
+    RefusedPart, if `melcard` refuses the lines; NotDivided, if it ends otherwise.
+    """
+    done = subprocess.run([program_path("melcard"), "play"], input=bytes_of(lines), stdout=subprocess.PIPE, check=False)
     transcript = done.stdout.decode(errors="replace").splitlines()
+    refused = REFUSAL.match(transcript[0]) if done.returncode == 1 and len(transcript) == 1 else None
+    if refused:
+        raise RefusedPart(int(refused.group(1)), refused.group(2))
     if done.returncode:
         raise NotDivided(f"melcard ended with {done.returncode}: {' '.join(transcript)}")
     return {int(number) - 1: result for number, _, result in (line.partition(" ") for line in transcript)}
@@ -283,10 +307,10 @@ class Part:
 
     def fitting(self, most: int) -> int:
         """How many of the items fit."""
-        count, size = len(self.front), sum(len(line.encode("utf-8", "replace")) + 1 for line in self.front)
+        count, size = len(self.front), len(bytes_of(self.front))
         for place, item in enumerate(self.items):
             count += len(item.lines)
-            size += sum(len(line.encode("utf-8", "replace")) + 1 for line in item.lines)
+            size += len(bytes_of(item.lines))
             if count > most or size > BYTES:
                 return place
         return len(self.items)
@@ -296,8 +320,16 @@ class Part:
         return [*self.front, *(line for item in self.items[:count] for line in item.lines)]
 
     def results(self, count: int) -> List[str]:
-        """The results of these items."""
-        found = results_of(self.text(count))
+        """The results of these items.
+
+        # Errors
+
+        NotDivided, if `melcard` refuses them, with the line of the whole deck.
+        """
+        try:
+            found = results_of(self.text(count))
+        except RefusedPart as why:
+            raise NotDivided(f"melcard refuses the deck: line {self.items[0].start + why.number - len(self.front)} {why.cause}") from None
         places, at = [], len(self.front)
         for item in self.items[:count]:
             places.append(at)
@@ -316,9 +348,21 @@ class Part:
                 self.settle(walk.state, place + 1)
                 last = place + 1, walk.state.copy()
         if last is None or last[0] == 0:
+            self.see_end(count)
             first, end = self.items[0].start + 1, self.items[count - 1].start + 1 if count else self.items[0].start + 1
             raise NotDivided(f"between lines {first} and {end} there is no power line that answers `ready`, and no selection that succeeds")
         return last
+
+    def see_end(self, count: int) -> None:
+        """Sees that the item behind so many is no section without an end.
+
+        # Errors
+
+        NotDivided, with what `melcard` says of it.
+        """
+        item = self.items[count] if count < len(self.items) else None
+        if item is not None and item.fields[:1] == ["app"] and not any(fields_of(line) == ["end"] for line in item.lines):
+            raise NotDivided(f"melcard refuses the deck: line {item.start + 1} NoEnd")
 
     def settle(self, state: State, count: int) -> None:
         """Finds out whether an application is there of which a stop left that open."""
@@ -355,15 +399,22 @@ def is_calm(state: State) -> bool:
 
 
 def parts_of(lines: List[str], name: str, most: int) -> Iterator[Tuple[int, List[str]]]:
-    """The parts of a deck: the first line of each in the deck, and its lines."""
+    """The parts of a deck: the first line of each in the deck, and its lines.
+
+    # Errors
+
+    NotDivided, if `melcard` refuses the deck, or there is no place to divide it.
+    """
     part, number = Part([], State(), items_of(lines)), 1
     while part.items:
         count = part.fitting(most)
         first = part.items[0].start + 1
         if count == len(part.items):
+            part.results(count)
             yield first, part.text(count)
             return
         if not count:
+            part.see_end(count)
             raise NotDivided(f"the card before line {first} takes more than {most} lines")
         count, state = part.divided(count)
         yield first, part.text(count)
@@ -372,19 +423,36 @@ def parts_of(lines: List[str], name: str, most: int) -> Iterator[Tuple[int, List
         part = part.next(count, state, about)
 
 
+def write_parts(parts: List[Tuple[int, List[str]]], folder: Path, stem: str) -> None:
+    """Writes the parts to a folder: all, or none if one cannot be written."""
+    made: List[Path] = []
+    folder.mkdir(parents=True, exist_ok=True)
+    try:
+        for number, (_, part) in enumerate(parts, 1):
+            path = folder / f"{stem}.{number}.deck"
+            with open(path, "wb") as file:
+                made.append(path)
+                file.write(bytes_of(part))
+    except OSError:
+        for path in made:
+            path.unlink()
+        raise
+    for path, (first, _) in zip(made, parts):
+        print(f"{path}: from line {first} on")
+
+
 def main() -> int:
     words = argparse.ArgumentParser(description="Divides a deck into parts, each of which begins with the card that the part before it left.")
     words.add_argument("deck", metavar="DECK", help="the deck, as a recorded session")
     words.add_argument("folder", metavar="FOLDER", help="where the parts go")
     words.add_argument("--lines", metavar="N", type=int, default=LINES, help="how many lines a part has at the most (20,000)")
     given = words.parse_args()
+    if not 1 <= given.lines <= LINES:
+        words.error(f"N is 1 to {LINES}")
     source, folder = Path(given.deck), Path(given.folder)
     try:
-        folder.mkdir(parents=True, exist_ok=True)
-        for number, (first, part) in enumerate(parts_of(lines_of(read(given.deck)), source.name, given.lines), 1):
-            path = folder / f"{source.stem}.{number}.deck"
-            path.write_text("".join(f"{line}\n" for line in part), encoding="utf-8", newline="\n")
-            print(f"{path}: from line {first} on")
+        parts = list(parts_of(lines_of(source.read_bytes().decode("utf-8", "surrogateescape")), source.name, given.lines))
+        write_parts(parts, folder, source.stem)
     except (NotDivided, BadUnit) as why:
         print(f"split_deck: {why}", file=sys.stderr)
         return 1

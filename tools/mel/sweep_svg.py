@@ -7,7 +7,7 @@ SWEEP is the text that `mellab sweep` wrote, or - for the standard input. If the
 beside its bar. Each write is as wide as each other, 64 in a row: a long load takes more rows, and those of them that are of one word alone
 are drawn as one. The number of a line that must be whole and is not is red.
 
-It needs Python 3.9. It ends with 2 if it cannot read what it is given.
+It needs Python 3.9. It ends with 2 if it cannot read what it is given or the sweep is of another deck.
 """
 
 import argparse
@@ -15,6 +15,7 @@ import sys
 from typing import Iterator, List, Optional, Tuple
 from xml.sax.saxutils import escape
 
+import fits
 import labtexts
 from labtexts import BadText, Swept
 
@@ -116,17 +117,19 @@ def main() -> int:
     words.add_argument("deck", nargs="?", help="the deck that it is of")
     given = words.parse_args()
     try:
-        text = labtexts.read_text(sys.stdin.read() if given.sweep == "-" else labtexts.read(given.sweep))
+        text = labtexts.read_text(labtexts.read_given(given.sweep))
         if text.kind == "":
             raise BadText(f"{given.sweep} has no sweep: it is empty")
         if text.kind != "sweep":
             raise BadText(f"{given.sweep} is no sweep: {text.last or 'the deck is refused'}")
         statements = [] if given.deck is None else labtexts.lines_of(labtexts.read(given.deck))
+        if given.deck is not None:
+            fits.check(text, statements, given.sweep)
     except (OSError, BadText) as error:
         print(f"sweep_svg.py: {error}", file=sys.stderr)
         return 2
     labtexts.end_with_reader()
-    print("\n".join(picture(text.swept, text.last if text.is_whole else None, statements)))
+    labtexts.write("".join(f"{line}\n" for line in picture(text.swept, text.last if text.is_whole else None, statements)))
     return 0
 
 

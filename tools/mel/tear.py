@@ -158,8 +158,11 @@ def main() -> int:
     words.add_argument("--aid", action="append", default=[], help="another application to look at; may be given again")
     words.add_argument("--deck", metavar="FILE", help="write the deck that plays the cut to this file")
     given = words.parse_args()
-    if given.write < 1 or not re.fullmatch("[0-9A-Fa-f]{16}", given.fill):
-        words.error("K is 1 at least, and FILL is 16 hexadecimal digits")
+    if not 1 <= given.write < 1 << 32 or not re.fullmatch("[0-9A-Fa-f]{16}", given.fill):
+        words.error("K is 1 to 4,294,967,295, and FILL is 16 hexadecimal digits")
+    wrong = next((it for it in given.aid if not re.fullmatch("(?:[0-9A-Fa-f]{2}){5,16}", it)), None)
+    if wrong is not None:
+        words.error(f"AID is 5 to 16 bytes in hexadecimal, not {wrong or 'nothing'}")
     try:
         deck = tear(given)
         if given.deck is not None:

@@ -3,10 +3,14 @@
 It needs pytest, and the programs, built by tools/build or by `rt ci`.
 """
 
+import importlib
+import shutil
+import sys
 import time
 
 import pytest
 
+from conformance_edits import EDITS
 from conformance_faults import GIVEN, TOP, Model, conform, decks, found_by, rows
 from model_card.faults import TOPICS
 from units import statements
@@ -38,6 +42,40 @@ def test_every_topic_has_wrong_cards():
 @pytest.mark.parametrize("fault", TOPICS)
 def test_a_wrong_card_is_found_by_a_deck_of_its_topic(found, fault):
     assert found[fault], f"no deck of {TOPICS[fault]} finds a card of which is true: {fault}"
+
+
+@pytest.fixture(name="cards", scope="module")
+def _cards(tmp_path_factory):
+    folder = tmp_path_factory.mktemp("cards")
+    sys.path.insert(0, str(folder))
+    yield folder
+    sys.path.remove(str(folder))
+
+
+@pytest.mark.parametrize("number", range(len(EDITS)), ids=lambda it: EDITS[it][1].replace(" ", "_"))
+def test_an_edited_card_is_found_by_a_deck_of_its_topic(cards, number):
+    topic, what, file, old, new = EDITS[number]
+    source = TOP / "tools" / "tests" / "model_card"
+    text = (source / file).read_text(encoding="utf-8")
+    assert text.count(old) == 1
+    shutil.copytree(source, cards / f"edited_{number}", ignore=shutil.ignore_patterns("__pycache__"))
+    (cards / f"edited_{number}" / file).write_text(text.replace(old, new), encoding="utf-8")
+    reader = importlib.import_module(f"edited_{number}.reader").Reader
+    assert any(is_found(it, reader) for it in decks() if it.topic == topic), f"no deck of {topic} finds a card of which is true: {what}"
+
+
+def is_found(deck, reader):
+    """Whether an answer of a card differs, or the card breaks down."""
+    class Edited(Model):
+        def format(self):
+            self.reader = reader(self.faults)
+            self.reset()
+
+    run = conform.Run(GIVEN, Edited(frozenset()), deck.lines)
+    try:
+        return any(seen != wanted for _, _, seen, wanted in run.answers(deck.results))
+    except (AttributeError, IndexError, KeyError, TypeError, ValueError):
+        return True
 
 
 def test_the_page_has_the_wrong_cards_with_the_decks_that_find_them(found):

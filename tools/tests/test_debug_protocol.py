@@ -15,6 +15,7 @@ import dap
 import pytest
 from debugger.adapter import Adapter
 from debugger.expressions import DEEPEST, LONGEST, BadExpression, Names, value_of
+from debugger.walk import holds
 from debugger.wire import LONGEST as LONGEST_MESSAGE
 from debugger.wire import Broken, Malformed, Wire, framed, read_content, request_of
 from desktexts import Play, sections_of
@@ -186,6 +187,56 @@ def test_a_launch_that_names_no_file_leaves_the_old_session_alive(client, draft,
     assert client.frames()[0] == ("counter", LINE)
     client.ask("restart")
     assert client.event("stopped")["reason"] == "breakpoint"
+
+
+def test_a_draft_without_statements_ends_no_session(client, draft):
+    draft.write_text("# nothing\n", encoding="utf-8")
+    client.ask("launch", program=str(draft))
+    client.ask("configurationDone")
+    client.event("terminated")
+    for command, arguments in (("stackTrace", {}), ("scopes", {"frameId": 1}), ("evaluate", {"expression": "1"}), ("cut", {}),
+                               ("readMemory", {"memoryReference": "0x10000", "count": 1}), ("dataBreakpointInfo", {"name": "count"})):
+        assert command == "dataBreakpointInfo" or client.refused(command, **arguments) == "the draft has no statement", command
+    for command in ("next", "stepIn", "stepOut", "stepBack", "reverseContinue", "continue"):
+        client.ask(command, threadId=1)
+        client.event("terminated")
+    draft.write_text(DRAFT, encoding="utf-8")
+    client.ask("restart")
+    assert client.event("stopped")["description"].startswith("line 16 expected ")
+
+
+def test_what_is_no_path_is_a_sentence(client, draft):
+    client.start(draft, lines=[LINE])
+    assert client.refused("launch", program="\ud800") == "program is no path of a file"
+    assert client.refused("launch", program=str(draft), meldesk="a\0b") == "meldesk is no path of a program"
+    assert client.refused("launch", program=str(draft), meldesk="\ud800") == "meldesk is no path of a program"
+    for path in ("\ud800", "\0", "file://[", "x" * 100000):
+        found = client.ask("setBreakpoints", source={"path": path}, breakpoints=[{"line": 1}])["breakpoints"]
+        assert found == [{"verified": False, "message": "counter.draft is what is played"}]
+    client.ask("initialize", pathFormat="uri")
+    assert client.refused("launch", program="file://[").endswith("[: No such file or directory")
+    assert not client.ask("setBreakpoints", source={"path": "file://["}, breakpoints=[{"line": 1}])["breakpoints"][0]["verified"]
+    assert client.frames()[0] == ("counter", LINE)
+
+
+def test_bytes_may_have_a_hit_condition(client, draft):
+    client.start(draft, lines=[LINE])
+    data_id = client.ask("dataBreakpointInfo", name="count", frameId=1)["dataId"]
+    asked = [{"dataId": data_id, "hitCondition": it} for it in ("often", "2")] + [{"dataId": "count"}]
+    found = client.ask("setDataBreakpoints", breakpoints=asked)["breakpoints"]
+    assert [it["verified"] for it in found] == [False, True, False] and all(it.get("message") for it in found if not it["verified"])
+    client.ask("setBreakpoints", source={"path": str(draft)}, breakpoints=[])
+    assert client.move("continue")["reason"] == "data breakpoint"
+    assert client.value("count") == "0002 (2)"
+
+
+@pytest.mark.parametrize("pattern, result, does", [
+    ("*0" * 40 + "*1", "0" * 4000, False), ("*0?" * 30 + "*", "0" * 4000, True), ("*", "", True), ("", "", False), ("??", "9", False), ("9?00", "9000", True),
+    ("9* 00", "9000", True), ("*9000", "00019000", True), ("00*00", "000", False), ("a*b*a", "ABA", True), ("a*b*a", "aba b", False), ("*00*00", "0000", True),
+    ("*000*00", "0000", False), ("[0-9]*", "9", False), ("st*03*", "static 0A 03", True)])
+def test_a_pattern_is_compared_in_bounded_time(pattern, result, does):
+    begun = time.process_time()
+    assert holds(pattern, result) == does and time.process_time() - begun < 2
 
 
 # ---- what a client chose

@@ -4,11 +4,12 @@ It needs pytest, and the programs, built by tools/build or by `rt ci`.
 """
 
 import pathlib
+import re
 import subprocess
 import sys
 
 import pytest
-from card import ReaderEnded
+from card import ReaderEnded, program_path
 
 TOP = pathlib.Path(__file__).resolve().parent.parent.parent
 DRAFT = TOP / "examples/wallet.draft"
@@ -102,3 +103,21 @@ def test_a_report_names_bytes(tmp_path):
     page = subprocess.run([sys.executable, str(TOP / "tools" / "mel" / "report.py"), str(tmp_path), "--decks", str(tmp_path)], stdout=subprocess.PIPE,
                           text=True, check=False)
     assert page.returncode == 1 and '<td class="text">payer+1</td>' in page.stdout
+
+
+MISSPELT = [
+    ("LOAD balance", "LOAD balanec", "balanec"), ("JUMP EQ,again", "JUMP EQ,agian", "agian"), ("load purse", "load pruse", "pruse"),
+    ("LOAD balance", "LAOD balance", "LAOD"), ("SETB DB[0],1", "SETB BD[0],1", "BD[0]"), ("CONST limit 3", "CNOST limit 3", "CNOST")]
+
+
+@pytest.mark.parametrize("was, now, wrong", MISSPELT)
+def test_advice_names_no_similar_name(was, now, wrong):
+    """What a writer meant is for the writer to say: a name that is close may be another one."""
+    draft = ("format\npower\napp purse A000000001\nSTATIC balance 2\nSTATIC balances 2\nCONST limit 3\nagain: LOAD balance\n JUMP EQ,again\n SETB DB[0],1\n"
+             " CMPB balance+1,limit\n STORE balances\n EXIT\nend\nload purse\n")
+    assert draft.count(was) >= 1
+    written = subprocess.run([program_path("meldesk"), "explain", "a.draft"], input=draft.replace(was, now, 1).encode(), stdout=subprocess.PIPE,
+                             check=False).stdout.decode()
+    line = next(it for it in written.splitlines() if f"`{wrong}`" in it and ": warning: " not in it)
+    advice = line.split(": ", 2)[2].replace(f"`{wrong}`", "")
+    assert not [it for it in ("balance", "balances", "again", "purse", "limit") if re.search(rf"\b{it}\b", advice)], line

@@ -4,7 +4,10 @@ It needs pytest, and the programs, built by tools/build or by `rt ci`; the page 
 (Debian: chromium, chromium-driver, python3-selenium).
 """
 
+import base64
+import hashlib
 import json
+import os
 import pathlib
 import re
 import shutil
@@ -74,6 +77,27 @@ def test_a_film_stands_alone(page):
     assert not re.search(r"https?://|src=|@import|url\(", page) and page.count("</script>") == 2
 
 
+def test_a_film_lets_a_browser_run_its_own_script_alone(page):
+    policy = re.search(r'<meta http-equiv="Content-Security-Policy" content="([^"]*)">', page)
+    assert policy and policy.start() < page.index("<style>")
+    rules = dict(it.split(" ", 1) for it in policy.group(1).split("; "))
+    assert (rules["default-src"], rules["base-uri"], rules["form-action"]) == ("'none'",) * 3
+    for tag in ("script", "style"):
+        content = re.search(f"<{tag}>(.*?)</{tag}>", page, re.DOTALL).group(1)
+        assert rules[f"{tag}-src"] == f"'sha256-{base64.b64encode(hashlib.sha256(content.encode()).digest()).decode()}'"
+    assert not re.search(r"<[^>]* (style|on\w+)=", page)
+
+
+def test_a_film_has_the_same_bytes_in_each_locale(page, tmp_path):
+    draft = tmp_path / "purse.draft"
+    draft.write_bytes(PURSE.read_bytes() + "# é – ü\n".encode())
+    locales = [{}, {"LC_ALL": "C", "PYTHONUTF8": "0", "PYTHONCOERCECLOCALE": "0"}, {"PYTHONIOENCODING": "latin-1"}]
+    made = [subprocess.run([sys.executable, str(TOOLS / "film.py"), str(draft), str(DEBIT)], stdout=subprocess.PIPE, stderr=subprocess.PIPE,
+                           env={**os.environ, **it}, check=False) for it in locales]
+    assert [(it.returncode, it.stderr) for it in made] == [(0, b"")] * 3
+    assert made[0].stdout == made[1].stdout == made[2].stdout and "▶".encode() in made[0].stdout
+
+
 def test_a_film_of_a_line_that_runs_nothing_is_refused():
     made = tool("film.py", PURSE, 17)
     assert (made.returncode, "runs no application" in made.stderr) == (1, True)
@@ -103,6 +127,25 @@ def test_the_grammar_and_the_extension_are_whole():
     found = [next(it["name"] for it in grammar["patterns"] if re.search(it["match"], text)) for text in
              ("#> 9000", "# text", "load purse", "add: NOP", " INCN", " EXIT", "STATIC", " 0x10")]
     assert [it.split(".")[0] for it in found] == ["string", "comment", "keyword", "entity", "keyword", "keyword", "storage", "constant"]
+
+
+def test_warnings_are_warnings_in_vs_code():
+    matcher = json.loads((TOP / "tools" / "editors" / "vscode" / "package.json").read_text(encoding="utf-8"))["contributes"]["problemMatchers"][0]
+    draft = b"format\npower\napp a A000000001\nCONST unused 5\n EXIT\nend\nnonsense\n"
+    written = subprocess.run([program_path("meldesk"), "explain", "a.draft"], input=draft, stdout=subprocess.PIPE, check=False).stdout.decode()
+    pattern, found = matcher["pattern"], []
+    for line in written.splitlines():
+        parts = re.match(pattern["regexp"], line)
+        # A word that is no severity is the matcher's own.
+        said = parts.group(pattern["severity"])
+        found.append((said if said in ("error", "warning", "info") else matcher["severity"], parts.group(pattern["code"])))
+    assert ("warning", "warning") in found and ("error", "BadLine") in found
+
+
+def test_the_page_promises_no_button_that_vs_code_does_not_have():
+    package = json.loads((TOP / "tools" / "editors" / "vscode" / "package.json").read_text(encoding="utf-8"))
+    section = (TOP / "docs" / "DEBUGGING.md").read_text(encoding="utf-8").partition("VS Code: ")[2].partition("Neovim")[0]
+    assert "launch.json" in section and ("main" in package or "button" not in section)
 
 
 # ---- the page in a browser
@@ -154,3 +197,30 @@ def test_a_film_goes_forward_and_back_by_its_keys(browser, page, tmp_path, width
     assert "After" in browser.find_element("id", "off").text
     assert browser.execute_script("return document.documentElement.scrollWidth <= window.innerWidth")
     assert browser.get_log("browser") == []
+
+
+@pytest.mark.parametrize("width", [390, 320])
+def test_no_button_of_a_film_breaks_in_a_narrow_window(browser, page, tmp_path, width):
+    path = tmp_path / "film.html"
+    path.write_text(page, encoding="utf-8")
+    browser.get("about:blank")
+    browser.execute_cdp_cmd("Emulation.setDeviceMetricsOverride", {"width": width, "height": 844, "deviceScaleFactor": 1, "mobile": True})
+    try:
+        browser.get(path.as_uri())
+        assert browser.execute_script("return window.innerWidth") == width
+        heights = browser.execute_script("return [...document.querySelectorAll('#controls button')].map(it => it.getClientRects()[0].height)")
+        assert len(heights) == 5 and max(heights) < 1.2 * min(heights) and max(heights) < 32
+        assert browser.execute_script("return [...document.querySelectorAll('button')].every(it => it.scrollWidth <= it.offsetWidth)")
+        assert browser.execute_script("return document.documentElement.scrollWidth") <= width
+        assert browser.execute_script("return document.getElementById('slider').offsetWidth") > 150
+        assert browser.get_log("browser") == []
+    finally:
+        browser.execute_cdp_cmd("Emulation.clearDeviceMetricsOverride", {})
+
+
+def test_a_page_that_was_changed_runs_nothing(browser, page, tmp_path):
+    path = tmp_path / "film.html"
+    path.write_text(page.replace("<body>", "<body><img src=x onerror=\"document.title='in'\"><script>document.title='in'</script>"), encoding="utf-8")
+    browser.get(path.as_uri())
+    assert browser.execute_script("return document.title") == "purse.draft, line 23"
+    assert any("Content Security Policy" in it["message"] for it in browser.get_log("browser"))

@@ -92,7 +92,21 @@ def test_the_other_rules_are_skipped_where_one_is_broken(tmp_path):
 def test_what_is_broken_of_none_of_the_decks_lines_fails_too(tmp_path, text):
     path = tmp_path / "a.deck"
     path.write_text("format\npower\n#> ready 0\n#@ app a\n#@ never abend\n", encoding="utf-8")
-    assert cases(text, path)[0] == cases(text)[0] == 1
+    assert cases(text)[0] == 1
+    if text.startswith(("not proved", "unknown")):
+        assert cases(text, path)[0] == 1
+
+
+@pytest.mark.parametrize("name", ["junit.py", "report.py"])
+@pytest.mark.parametrize("content", [None, ""])
+def test_a_campaign_without_texts_is_status_2(tmp_path, name, content):
+    if content is not None:
+        (tmp_path / "expect.verdicts").write_text(content, encoding="utf-8")
+    words = ["--campaign", tmp_path] if name == "junit.py" else [tmp_path]
+    for folder in (words, [*words[:-1], tmp_path / "none"]):
+        done = subprocess.run([sys.executable, str(TOOL.with_name(name)), *map(str, folder)], stdout=subprocess.PIPE, stderr=subprocess.PIPE,
+                              text=True, check=False)
+        assert (done.returncode, done.stdout) == (2, "") and f"{folder[-1]} has no verdicts" in done.stderr
 
 
 def test_a_status_that_says_so_is_a_failure():

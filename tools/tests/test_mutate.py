@@ -99,6 +99,13 @@ def test_a_result_that_nothing_expects_is_said(draft):
     assert shown[0] == f"    left out: {mutate.SHOWN}"
 
 
+@pytest.mark.parametrize("words", [["--jobs", "0"], ["--jobs", "-1"], ["--explore", "0"], ["--seconds", "0"], ["--seconds", "nan"]])
+def test_a_number_out_of_range_is_a_sentence(draft, tmp_path, words):
+    done = tool("mutate.py", draft, "--into", tmp_path / "campaign", *words)
+    assert (done.returncode, done.stdout) == (2, "") and not (tmp_path / "campaign").exists()
+    assert done.stderr.endswith("error: --jobs and --explore are 1 at least, and --seconds is more than 0\n")
+
+
 def test_a_draft_without_tests_is_no_work(draft):
     draft.write_text(COUNTER.replace("#>", "# >"), encoding="utf-8")
     done = tool("mutate.py", draft)

@@ -185,3 +185,28 @@ def test_what_a_skeleton_names_is_imported():
     imports = " ".join(line for line in written.splitlines() if line.startswith("use "))
     for name in ("zero", "◌*◌", "Worked", "sub_blocks", "is_zero"):
         assert name in imports
+
+
+GARBAGE = [
+    (b"", "the deck has no section `app a`"), (bytes(range(256)) * 3, "the deck has no section `app a`"), (b"app a zz\nEXIT\nend\n", "line 1 of the deck: the name has no"),
+    (b"app a\nEXIT\nend\n", "the line `app a` has a malformed name"), (b"app a A0\nEXIT\nend\n", "the line `app a` has a malformed name"),
+    (b"app a A000000001\nEXIT\n", "the section `app a` has no end"), (b"app a A000000001\nend\n", "the section `app a` has no code"),
+    (b"app a A000000001\nDATA 0\nEXIT\nend\n", "line 2 of the deck: DATA has no"), (b"app a A000000001\nEXIT\nend\nload a x y\n", "line 4 of the deck: load has two sizes"),
+    (b"app a A000000001\nEXIT\nend\nload a -1 99999999999\n", "line 4 of the deck: load has two sizes"),
+    (b"app a A000000001\n\xff\xfe\nend\n", "melcard asm ended with 1: line 1 UnknownWord"), (b"app a A000000001\nnonsense\nend\n", "melcard asm ended with 1: line 1 UnknownWord")]
+
+
+@pytest.mark.parametrize("content, why", GARBAGE)
+def test_garbage_is_a_sentence(tmp_path, content, why):
+    deck = tmp_path / "garbage.deck"
+    deck.write_bytes(content)
+    made = outline(deck, "a", "--into", tmp_path / "a")
+    assert (made.returncode, made.stdout) == (2, "") and made.stderr.startswith(f"outline: {why}") and made.stderr.count("\n") == 1
+    assert not (tmp_path / "a").exists()
+
+
+def test_an_outline_that_is_garbage_differs(deck, tmp_path):
+    file = tmp_path / "garbage.antt"
+    file.write_bytes(bytes(range(256)) * 3)
+    made = outline(deck, "ticket", "--check", file)
+    assert (made.returncode, made.stdout) == (2, "") and made.stderr.startswith("outline: ") and made.stderr.count("\n") == 1

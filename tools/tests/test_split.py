@@ -140,6 +140,35 @@ def test_places_and_large_gaps_are_kept():
         assert at == count and seen[-left:] == whole[-left:] and set(seen[:-left]) == {"formatted", "ready 0", "9000"}
 
 
+@pytest.mark.parametrize("line, cause", [("nonsense", "BadLine"), ("apdu 8", "BadHex"), ("load counter x 1", "BadNumber"), ("load nobody 2 1", "UnknownName"),
+                                         ("format", "LateLine"), ("app counter A000000001\n EXIT\nend", "NameTwice"), ("app more A000000003\n EXIT", "NoEnd")])
+def test_a_deck_that_is_refused_is_not_divided(tmp_path, line, cause):
+    lines = deck_of(0, 400)
+    for at in (30, len(lines) // 2, len(lines)):
+        deck, folder = tmp_path / "bad.deck", tmp_path / "parts"
+        deck.write_text("".join(f"{it}\n" for it in [*lines[:at], line, *lines[at:]]), encoding="utf-8")
+        done = split(deck, folder, "--lines", 130)
+        assert (done.returncode, done.stdout) == (1, "") and not folder.exists()
+        assert done.stderr == f"split_deck: melcard refuses the deck: line {at + 1} {cause}\n"
+
+
+def test_a_part_that_cannot_be_written_leaves_none(tmp_path):
+    deck, folder = tmp_path / "long.deck", tmp_path / "parts"
+    deck.write_text("".join(f"{it}\n" for it in deck_of(1, 400)), encoding="utf-8")
+    (folder / "long.2.deck").mkdir(parents=True)
+    done = split(deck, folder, "--lines", 130)
+    assert (done.returncode, done.stdout) == (2, "") and "long.2.deck" in done.stderr
+    assert [it.name for it in folder.iterdir()] == ["long.2.deck"]
+    assert split(deck, folder, "--lines", 0).returncode == split(deck, folder, "--lines", 20001).returncode == 2
+
+
+def test_bytes_that_are_no_text_stay(tmp_path):
+    deck = tmp_path / "raw.deck"
+    deck.write_bytes(b"# \xff\xfe\nformat\r\npower\n# \xe9")
+    assert split(deck, tmp_path / "parts").returncode == 0
+    assert (tmp_path / "parts" / "raw.1.deck").read_bytes() == b"# \xff\xfe\nformat\npower\n# \xe9\n"
+
+
 def test_a_session_without_an_end_is_not_divided(tmp_path):
     deck = tmp_path / "one.deck"
     deck.write_text("".join(f"{line}\n" for line in [*deck_of(1, 0)[:-3], "select A000000001", *["apdu 8001000003"] * 200]), encoding="utf-8")

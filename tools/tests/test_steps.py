@@ -173,3 +173,27 @@ def test_writes_are_those_that_cuts_count(name):
             tried = "".join(f"{it}\n" for it in [*deck[:number - 1], f"cut {cut} 0000000000000000", deck[number - 1]])
             result = run("melcard", "play", tried.encode())[0].decode().splitlines()[-1]
             assert result.endswith(f"off at write {cut}") == stops, f"line {number}, write {cut}: {result}"
+
+
+LOOP = b"""format
+power
+app loop A000000001
+SESSION n 2
+again:  INCN n
+        CMPW n,0x0800
+        JUMP NE,again
+        EXIT
+end
+load loop
+select loop
+apdu 80010000
+"""
+
+
+@pytest.mark.parametrize("text", [b"format\n", LOOP], ids=["a line", "megabytes"])
+@pytest.mark.parametrize("job", ["steps", "trace"])
+def test_steps_to_a_full_disk_are_status_4(job, text):
+    with open("/dev/full", "wb") as full:
+        done = subprocess.run([program_path("meldesk"), job], input=text, stdout=full, stderr=subprocess.PIPE, timeout=60, check=False)
+    assert (done.returncode, done.stderr) == (4, b"")
+    assert run("meldesk", job, text)[1] == 0

@@ -54,6 +54,18 @@ def test_a_write_that_a_line_does_not_make_is_none():
     assert (shown.returncode, "has no write 7" in shown.stderr) == (1, True)
 
 
+@pytest.mark.parametrize("aid", ["zz", "", "A0", "A00000000", "A0" * 17, "A0000000 1"])
+def test_an_application_that_is_no_name_is_said(aid):
+    shown = tool("tear.py", TOP / "examples/purse.deck", 21, 1, "--aid", aid)
+    assert (shown.returncode, shown.stdout) == (2, "")
+    assert shown.stderr.endswith(f"error: AID is 5 to 16 bytes in hexadecimal, not {aid or 'nothing'}\n")
+
+
+def test_a_write_past_all_numbers_is_said():
+    shown = tool("tear.py", TOP / "examples/purse.deck", 21, 1 << 32)
+    assert shown.returncode == 2 and "K is 1 to 4,294,967,295" in shown.stderr
+
+
 def test_a_line_that_a_deck_does_not_have_is_said():
     shown = tool("tear.py", TOP / "examples/purse.deck", 999, 1)
     assert (shown.returncode, "has no line 999: it has 33" in shown.stderr) == (2, True)

@@ -23,7 +23,7 @@ from card import program_path
 from labtexts import lines_of
 from units import Unit, load_commands, statements, units_of
 
-from . import rows
+from . import probes, rows
 
 TOP = Path(__file__).resolve().parent.parent.parent.parent
 FOLDER = TOP / "conformance"
@@ -324,6 +324,8 @@ def files() -> Dict[Path, str]:
         add(found, topic, name, text)
     for topic, name, deck, _ in [*of_instructions(), *of_rooms(), *of_access()]:
         add(found, topic, name, deck)
+    for topic, name, deck, is_seen in probes.decks():
+        add(found, topic, name, seeing(name, deck)[0] if is_seen else deck)
     for topic, names in WRITTEN.items():
         for name in names:
             add(found, topic, name, (FOLDER / topic / f"{name}.deck").read_text(encoding="utf-8"))

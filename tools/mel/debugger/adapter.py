@@ -155,7 +155,10 @@ class Adapter:
     def on_launch(self, given: dict) -> None:
         named = os.environ.get("MELDESK")
         if given.get("meldesk"):
-            os.environ["MELDESK"] = given["meldesk"]
+            try:
+                os.environ["MELDESK"] = given["meldesk"]
+            except ValueError:
+                raise Failed("meldesk is no path of a program") from None
         try:
             self.load(os.path.abspath(self.form.path(given["program"])), given.get("line"))
         except (Failed, Refused):
@@ -281,8 +284,7 @@ class Adapter:
     def on_setBreakpoints(self, given: dict) -> dict:
         asked = given.get("breakpoints")
         asked = [{"line": it} for it in given.get("lines", [])] if asked is None else asked
-        path = self.form.path(given["source"].get("path") or "").replace("\0", "")
-        if self.path == "" or os.path.realpath(path) != os.path.realpath(self.path):
+        if self.path == "" or not is_same_file(self.form.path(given["source"].get("path") or ""), self.path):
             played = f"{os.path.basename(self.path)} is what is played" if self.path else "nothing was launched"
             return {"breakpoints": [{"verified": False, "message": played} for _ in asked]}
         self.stops.lines, told, lines = [], [], self.lines_with_code()
@@ -358,10 +360,12 @@ class Adapter:
     def on_setDataBreakpoints(self, given: dict) -> dict:
         self.stops.watches, told = [], []
         for it in given["breakpoints"]:
-            watch = stops.watch_of(it["dataId"], self.number(), it.get("condition") or "")
-            if watch is not None:
-                self.stops.watches.append(watch)
-            told.append({"id": self.numbers, "verified": watch is not None})
+            watch = stops.watch_of(it["dataId"], self.number(), it.get("condition") or "", hits_of(it.get("hitCondition")) or 0)
+            if watch is None or self.wrong_hits(it):
+                told.append(self.wrong_hits(it) or {"verified": False, "message": "this is no dataId of dataBreakpointInfo"})
+                continue
+            self.stops.watches.append(watch)
+            told.append({"id": self.numbers, "verified": True})
         return {"breakpoints": told}
 
     # ---- moves
@@ -689,7 +693,7 @@ class Adapter:
             return "\n".join(f"{it.name}: {views.bytes_of(it.size)} at {it.address:04X}" for it in self.stops.watches) or "no bytes are watched"
         found = self.watchable(name, spot)
         data_id = stops.watch_id(spot.frame.aid if spot.frame else "", found.address, len(found.content), name)
-        watch: Optional[Watch] = stops.watch_of(data_id, self.number(), "")
+        watch: Optional[Watch] = stops.watch_of(data_id, self.number(), "", 0)
         if watch is not None:
             self.stops.watches.append(watch)
         return f"{name}: {views.bytes_of(len(found.content))} at {found.address:04X} watched"
@@ -698,6 +702,14 @@ class Adapter:
         """Does the word `unwatch`."""
         self.stops.watches = [it for it in self.stops.watches if rest and it.name != " ".join(rest)]
         return f"{len(self.stops.watches)} watched"
+
+
+def is_same_file(path: str, other: str) -> bool:
+    """Whether two paths are of one file; what is no path is none's."""
+    try:
+        return os.path.realpath(path) == os.path.realpath(other)
+    except ValueError:
+        return False
 
 
 def source_of(path: str) -> dict:

@@ -40,5 +40,8 @@ class Form:
         return number + 1 - self.first_line
 
     def path(self, given: str) -> str:
-        """Returns the path of a file that the client named."""
-        return unquote(urlsplit(given).path) if self.is_uri and given.startswith("file:") else given
+        """Returns the path of a file that the client named; what is no address is taken as it is."""
+        try:
+            return unquote(urlsplit(given).path) if self.is_uri and given.startswith("file:") else given
+        except ValueError:
+            return given

@@ -45,7 +45,7 @@ class Breakpoint:
 
 @dataclass
 class Watch:
-    """Bytes whose changes stop a run: of an application, or of any if `aid` is empty."""
+    """Bytes whose changes stop a run, from the `count`-th on: of an application, or of any if `aid` is empty."""
 
     number: int
     aid: str
@@ -53,12 +53,19 @@ class Watch:
     size: int
     name: str
     condition: str = ""
+    count: int = 0
+    hits: int = 0
 
     def is_changed_by(self, turn: dict) -> bool:
         """Whether a turn changes one of the bytes."""
         end = self.address + self.size
         of_it = self.aid in ("", turn["aid"])
         return of_it and any(at < end and self.address < at + len(digits) // 2 for at, digits in turn["sets"])
+
+    def is_due(self) -> bool:
+        """Counts a change, and returns whether a run stops at it."""
+        self.hits += 1
+        return self.hits >= self.count
 
 
 class Stops:
@@ -162,7 +169,7 @@ class Stops:
             return None
         turn = statement.turn(at)
         hit = [it for it in self.watches if it.is_changed_by(turn)
-               and (not it.condition or self._condition(it.number, it.condition, walk, position))]
+               and (not it.condition or self._condition(it.number, it.condition, walk, position)) and it.is_due()]
         what = "changes here" if is_back else f"was changed by {turn['ins']}" + (f" in line {turn['source']}" if turn["source"] else "")
         return Stop("data breakpoint", f"{hit[0].name} {what}", [it.number for it in hit]) if hit else None
 
@@ -172,12 +179,12 @@ def watch_id(aid: str, address: int, size: int, name: str) -> str:
     return f"{'' if address >= PUBLIC else aid}:{address}:{size}:{name}"
 
 
-def watch_of(data_id: str, number: int, condition: str) -> Optional[Watch]:
+def watch_of(data_id: str, number: int, condition: str, count: int) -> Optional[Watch]:
     """Returns the watch of such a name, or None if it is none."""
     fields = data_id.split(":", 3)
     if len(fields) != 4 or not all(re.fullmatch("[0-9]{1,6}", it) for it in fields[1:3]):
         return None
-    return Watch(number, fields[0], int(fields[1]), int(fields[2]), fields[3], condition)
+    return Watch(number, fields[0], int(fields[1]), int(fields[2]), fields[3], condition, count)
 
 
 def is_kept(address: int) -> bool:

@@ -6,12 +6,11 @@ statement has the one before it, and the one after it if its result was not expe
 
 from __future__ import annotations
 
-import re
 from bisect import bisect_left
 from dataclasses import dataclass
 from typing import Callable, Dict, List, Optional, Tuple
 
-from desktexts import Play, Section, State, Statement
+from desktexts import Play, Refused, Section, State, Statement
 from labtexts import remarks_of
 
 Level = Tuple[int, int]
@@ -26,10 +25,24 @@ class Position:
 
 
 def holds(pattern: str, result: str) -> bool:
-    """Whether an expectation holds: `?` is any character, `*` any or none, letters are in either case, and blanks are nothing."""
-    letters = pattern.replace(" ", "").replace("\t", "")
-    form = "".join({"?": ".", "*": ".*"}.get(it, re.escape(it)) for it in letters)
-    return letters != "" and re.fullmatch(form, result.replace(" ", ""), re.IGNORECASE) is not None
+    """Whether an expectation holds: `?` is any character, `*` any or none, letters are in either case, and blanks are nothing. Each part between
+    two `*` is taken where it comes first, so that the time is bounded by the product of both lengths."""
+    letters, rest = pattern.replace(" ", "").replace("\t", "").lower(), result.replace(" ", "").lower()
+    first, *parts = letters.split("*")
+    if not letters or not begins(first, rest) or not parts and len(first) != len(rest):
+        return False
+    rest = rest[len(first):]
+    for part in parts[:-1]:
+        at = next((it for it in range(len(rest) - len(part) + 1) if begins(part, rest[it:it + len(part)])), None)
+        if at is None:
+            return False
+        rest = rest[at + len(part):]
+    return not parts or len(parts[-1]) <= len(rest) and begins(parts[-1], rest[len(rest) - len(parts[-1]):])
+
+
+def begins(part: str, text: str) -> bool:
+    """Whether a text begins with a part, in which `?` is any character."""
+    return len(part) <= len(text) and all(it in ("?", character) for it, character in zip(part, text))
 
 
 def expectations_of(lines: List[str], statements: List[int]) -> Dict[int, List[str]]:
@@ -56,9 +69,15 @@ class Walk:
     # ---- positions
 
     def statement(self, position: Position) -> Statement:
-        """Returns the statement of a position."""
+        """Returns the statement of a position.
+
+        # Errors
+
+        Refused, if a play without statements has none.
+        """
         found = self.play.statement(position.statement)
-        assert found is not None
+        if found is None:
+            raise Refused("the draft has no statement", 1)
         return found
 
     def unexpected(self, statement: Statement) -> Optional[str]:
