@@ -26,13 +26,13 @@ import labtexts
 import sources
 import terminal
 from card import program_path
+from labtexts import DECLARES
 from sources import Source
 
 MARK = b"\xef\xbb\xbf"
 LINE = re.compile(r"(\d+):(\d+): ([^:]+): (.*)$")
 REFUSED = re.compile(r"line (\d+) ([A-Z]\w*)$")
 QUOTED = re.compile(r"`(\w+)")
-DECLARES = ("STATIC", "SESSION", "PUBLIC", "CONST")
 # Causes of a line that has a name which an earlier line was to declare.
 OF_NAMES = ("BadNumber", "BadOperands", "UnknownName")
 BYTES = re.compile(r"(SETB|CMPB|ADDB|SUBB)[ \t]+([A-Za-z_]\w*)[ \t]*,")
