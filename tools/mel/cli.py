@@ -38,12 +38,14 @@ ADAPTER = "debug"  # without a draft it is the adapter that editors start
 def commands() -> Dict[str, Tuple[str, Callable[[argparse.ArgumentParser], None], Callable[[argparse.Namespace], int]]]:
     """Returns the commands of `mel` itself: what each does, its words, and its function."""
     import console
+    import faults
     import new
     import playing
     import rules
     import testing
 
     return {"new": ("a folder with an application that is tested and proved, to begin with", new.add_words, new.main),
+            "check": ("what is wrong with a draft and its rules, for editors", faults.add_words, faults.main),
             "test": ("tries a draft by all jobs: results, cuts, explorations, proofs, coverage, mutants", testing.add_words, testing.main),
             "play": ("the result of each command", playing.add_play, playing.play),
             "debug": ("goes through a play, forward and back; without DRAFT the adapter for editors", console.add_words, console.main),

@@ -108,7 +108,7 @@ def cases_of(text: Text, lines: List[str], no_between: bool) -> Iterator[Case]:
     """The cases of a text by its job."""
     if text.refused is not None:
         number, cause = text.refused
-        yield named(number, statement_of(lines, number)), "error", cause
+        yield named(number, statement_of(lines, number)), "error", cause + labtexts.draft_hint(text.refused, lines)
     elif text.kind == "expect":
         yield from expected(text, lines)
     elif text.kind == "sweep":

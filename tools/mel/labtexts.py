@@ -15,6 +15,9 @@ WORDS = ("before", "after", "same", "between", "torn")
 MEANINGS = {0: "held", 1: "failed", 2: "wrong words", 3: "no input", 4: "no output", 5: "out of memory",
             6: "not all was explored"}
 
+# The words with which a draft declares names; no deck has them.
+DECLARES = ("STATIC", "SESSION", "PUBLIC", "CONST")
+
 SWEPT = re.compile(r"line (\d+) writes (\d+):((?: [a-z]+ \d+-\d+)+)( not whole)?$")
 RUN = re.compile(r" ([a-z]+) (\d+)-(\d+)")
 SWEEP_SUMS = re.compile(r"swept (\d+) writes (\d+) plays (\d+)$")
@@ -78,6 +81,13 @@ def lines_of(text: str) -> List[str]:
 def fields_of(line: str) -> List[str]:
     """The fields of a line of a deck, which blanks and tabs separate."""
     return [field for field in re.split("[ \t]", line) if field]
+
+
+def draft_hint(refused: Tuple[int, str], lines: List[str]) -> str:
+    """What is said besides of a refused line that only a draft may have, or nothing."""
+    number, cause = refused
+    is_draft = cause == "UnknownWord" and 0 < number <= len(lines) and fields_of(lines[number - 1])[:1] in [[it] for it in DECLARES]
+    return ": this is a draft, of which `meldesk deck` makes the deck" if is_draft else ""
 
 
 @dataclass

@@ -8,6 +8,7 @@ import subprocess
 import sys
 from pathlib import Path
 
+import faults
 import labtexts
 import prove_html
 import sources
@@ -28,13 +29,13 @@ def deck_of(source: Source) -> str:
     """
     made = terminal.run([program_path("meldesk"), "deck"], source.draft)
     if made.status:
-        raise refused(source, made.errors.strip() or f"status {made.status}")
+        raise refused(source, made.errors.strip() or terminal.ended("meldesk", made.status))
     return made.text
 
 
 def refused(source: Source, text: str) -> NotRead:
     """Returns why a deck was refused: the line that a program wrote, and what `meldesk explain` writes, or else the text of that line."""
-    said = terminal.run([program_path("meldesk"), "explain", str(source.path)], source.draft).text.strip()
+    said = "\n".join(faults.said(source, it) for it in faults.faults_of(source)[0] if not it.is_warning)
     found, lines = labtexts.REFUSAL.match(text), labtexts.lines_of(source.draft.decode("utf-8", "replace"))
     if not said and found is not None and 0 < int(found[1]) <= len(lines):
         said = f"{source.place(int(found[1]))}: {lines[int(found[1]) - 1].strip()}"
@@ -53,7 +54,7 @@ def play(given: argparse.Namespace) -> int:
     """Plays a draft, and writes each statement with its result."""
     source = sources.read(Path(given.draft))
     if given.trace:
-        return subprocess.run([program_path("meldesk"), "trace"], input=source.draft, check=False).returncode
+        return terminal.say_end("meldesk", subprocess.run([program_path("meldesk"), "trace"], input=source.draft, check=False).returncode)
     deck = deck_of(source)
     ran = terminal.run([program_path("melcard"), "play"], deck.encode("utf-8", "surrogateescape"), "play")
     if ran.status == 1:
@@ -61,7 +62,7 @@ def play(given: argparse.Namespace) -> int:
     labtexts.end_with_reader()
     if given.raw or ran.status:
         sys.stdout.write(ran.text)
-        return ran.status
+        return terminal.say_end("melcard", ran.status)
     lines = labtexts.lines_of(source.draft.decode("utf-8", "replace"))
     rows = [(int(found[1]), found[2]) for found in map(RESULT.match, ran.text.splitlines()) if found]
     stated = {number: " ".join(lines[number - 1].split()) if 0 < number <= len(lines) else "" for number, _ in rows}
@@ -93,4 +94,4 @@ def prove(given: argparse.Namespace) -> int:
     if given.page:
         names = prove_html.names_in(source.draft.decode("utf-8", "surrogateescape"))
         Path(given.page).write_text("".join(f"{line}\n" for line in prove_html.page(ran.text, names)), encoding="utf-8")
-    return ran.status
+    return terminal.say_end("mellab", ran.status)

@@ -62,7 +62,7 @@ def verdict(job: Job) -> Tuple[str, str]:
     """What is said of a job in a few words, and whether it is good."""
     text = job.text
     if text.refused is not None:
-        return f"refused: line {text.refused[0]} {text.refused[1]}", BAD
+        return f"refused: line {text.refused[0]} {text.refused[1]}{labtexts.draft_hint(text.refused, job.lines)}", BAD
     if job.status not in (0, 1, 6) or text.kind == "" or not text.is_whole:
         meaning = labtexts.MEANINGS.get(job.status, "ended by a signal")
         return f"status {job.status}: {meaning}" if job.status not in (0, 1, 6) else "its text has no end", BAD

@@ -110,6 +110,20 @@ def read(path: Path) -> Source:
         raise NotRead(f"{path} cannot be read: {error.strerror}") from None
 
 
+def paths_of(given: List[str]) -> List[Path]:
+    """Returns the files that are meant: those that are named, those of folders that are named, or those of the working folder.
+
+    # Errors
+
+    NotRead, if there is none.
+    """
+    named = [Path(it) for it in given] or [Path(".")]
+    found = [path for it in named for path in (found_in(it) if it.is_dir() else [it])]
+    if not found:
+        raise NotRead(f"{named[0].resolve()} has no draft: `mel new NAME` makes one")
+    return found
+
+
 def watched(path: Path) -> List[Path]:
     """Returns the files of which a source is made."""
     return [path, *map(path.with_suffix, BESIDE)] if path.suffix == ".c" else [path]

@@ -14,6 +14,8 @@ import watch
 COLOURS = {"good": "32", "look": "33", "bad": "1;31", "quiet": "2"}
 PERIOD = 0.25  # seconds between two looks at a program that runs
 SHOWN = 0.5    # seconds after which its line appears
+# Statuses with which the programs write nothing of what came to be.
+ENDS = {3: "the input could not be read", 4: "the output could not be written", 5: "out of memory"}
 
 
 def has_colour(stream: Optional[IO[str]]) -> bool:
@@ -24,6 +26,20 @@ def has_colour(stream: Optional[IO[str]]) -> bool:
 def painted(text: str, kind: str) -> str:
     """Returns a text in a colour if the standard output has colours, else as it is. `kind` is a key of COLOURS."""
     return f"\033[{COLOURS[kind]}m{text}\033[0m" if kind in COLOURS and has_colour(sys.stdout) else text
+
+
+def ended(program: str, status: int) -> str:
+    """Returns how a program ended, with the meaning of its status."""
+    if status < 0:
+        return f"{program} was ended by signal {-status}"
+    return f"{program} ended with status {status}" + (f": {ENDS[status]}" if status in ENDS else "")
+
+
+def say_end(program: str, status: int) -> int:
+    """Writes a line on the standard error if a program could not do its work, and returns its status."""
+    if status < 0 or status in ENDS:
+        print(f"mel: {ended(program, status)}", file=sys.stderr)
+    return status
 
 
 @dataclass

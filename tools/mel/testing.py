@@ -239,16 +239,13 @@ def write(results: List[Result], given: argparse.Namespace) -> None:
 
 
 def paths_of(given: argparse.Namespace) -> List[Path]:
-    """Returns the files to try: those that are named, those of folders that are named, or those of the working folder.
+    """Returns the files to try, as `sources.paths_of`.
 
     # Errors
 
     NotRead, if there is none, or two have one name.
     """
-    named = [Path(it) for it in given.drafts] or [Path(".")]
-    found = [path for it in named for path in (sources.found_in(it) if it.is_dir() else [it])]
-    if not found:
-        raise NotRead(f"{named[0].resolve()} has no draft: `mel new NAME` makes one")
+    found = sources.paths_of(given.drafts)
     names: Dict[str, Path] = {}
     for path in found:
         if path.stem in names:

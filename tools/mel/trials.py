@@ -9,10 +9,12 @@ import json
 import re
 import sys
 import tempfile
+import time
 from dataclasses import asdict, dataclass, field
 from pathlib import Path
 from typing import Callable, Dict, Iterator, List, Optional, Tuple
 
+import faults
 import labtexts
 import report
 import terminal
@@ -76,21 +78,17 @@ def count_of(count: int, what: str) -> str:
 
 def explain(it: Trial) -> Done:
     """Tries whether the draft is read, and makes its deck."""
-    ran = it.run("explain", "meldesk", ["explain", str(it.source.path)], it.source.draft)
-    lines = [explained(it.source, line) for line in ran.text.splitlines()]
-    warnings = sum(": warning: " in line for line in lines)
+    begin = time.monotonic()
+    found, status = faults.faults_of(it.source)
+    lines = [faults.said(it.source, fault) for fault in found]
+    warnings = sum(fault.is_warning for fault in found)
     made = it.run("explain", "meldesk", ["deck"], it.source.draft)
     it.deck = made.text
-    if ran.status or made.status:
-        said = count_of(len(lines) - warnings, "fault") if lines else made.errors.strip() or f"status {ran.status}"
-        return Done("explain", FAILED, said, ran.seconds, ran.status or made.status, ran.text, lines or made.errors.splitlines())
-    return Done("explain", LOOK if warnings else PASSED, count_of(warnings, "warning") if warnings else "", ran.seconds, 0, ran.text, lines)
-
-
-def explained(source: Source, line: str) -> str:
-    """Returns a line of `meldesk explain`, for a file in C with the place in C."""
-    found = re.match(rf"{re.escape(str(source.path))}:(\d+):\d+: (.*)$", line)
-    return f"{source.place(int(found[1]))}: {found[2]}" if found is not None and source.is_c else line
+    seconds, text = time.monotonic() - begin, "".join(f"{line}\n" for line in lines)
+    if status or made.status or len(lines) > warnings:
+        said = count_of(len(lines) - warnings, "fault") if lines else made.errors.strip() or terminal.ended("meldesk", status or made.status)
+        return Done("explain", FAILED, said, seconds, status or made.status or 1, text, lines or made.errors.splitlines())
+    return Done("explain", LOOK if warnings else PASSED, count_of(warnings, "warning") if warnings else "", seconds, 0, text, lines)
 
 
 def check(it: Trial) -> Done:
@@ -142,7 +140,7 @@ def cover(it: Trial) -> Done:
     """Counts the lines of code that no command reached, and the ways of branches that were not taken."""
     ran = it.run("cover", "meldesk", ["cover", str(it.source.path)], it.source.draft)
     if ran.status:
-        return Done("cover", FAILED, ran.text.strip() or f"status {ran.status}", ran.seconds, ran.status, ran.text)
+        return Done("cover", FAILED, ran.text.strip() or terminal.ended("meldesk", ran.status), ran.seconds, ran.status, ran.text)
     rows = [line.partition(":")[::2] for line in ran.text.splitlines()]
     lines = [value.split(",") for key, value in rows if key == "DA"]
     ways = [value.split(",") for key, value in rows if key == "BRDA"]

@@ -109,6 +109,14 @@ def test_a_campaign_without_texts_is_status_2(tmp_path, name, content):
         assert (done.returncode, done.stdout) == (2, "") and f"{folder[-1]} has no verdicts" in done.stderr
 
 
+def test_a_draft_that_was_taken_for_a_deck_is_told_as_one():
+    text = labtexts.read_text("line 4 UnknownWord\n")
+    lines = ["format", "power", "app a A000000001", "STATIC left 1 03", "end"]
+    assert list(junit.cases(text, lines, 1, False)) == [
+        ("line 4: STATIC left 1 03", "error", "UnknownWord: this is a draft, of which `meldesk deck` makes the deck")]
+    assert list(junit.cases(text, [*lines[:3], "STATI", "end"], 1, False)) == [("line 4: STATI", "error", "UnknownWord")]
+
+
 def test_a_status_that_says_so_is_a_failure():
     text = labtexts.read_text("explored states 1 tries 1 all\n")
     assert [fault for _, fault, _ in junit.cases(text, [], 0, False)] == [None]

@@ -1,7 +1,7 @@
-"""Makes docs/DEFINITIONS.md from the comments of the definitions.
+"""Makes build/DEFINITIONS.md of docs/DEFINITIONS.md and the comments of the definitions.
 
-    tools/dev/make definitions           writes the page anew below its line <!-- made by tools/dev/make definitions -->
-    tools/dev/make --check definitions   writes nothing, names definitions without a comment, and ends with 1 where the page is not up to date
+    tools/dev/make definitions           writes the page and below it the tables
+    tools/dev/make --check definitions   writes nothing, names definitions without a comment, and ends with 1 if there is one
 
 A definition is a `record`, a `data`, an `abbrev`, an `unfoldable` or an `enum` that is `pub` in a file of some crate's specs/. Its
 meaning is the comment right above it. The page has the files of the crates of definitions, layer by layer; what one crate owns is read
@@ -13,7 +13,7 @@ from pathlib import Path
 
 TOP = Path(__file__).resolve().parent.parent.parent.parent
 PAGE = TOP / "docs" / "DEFINITIONS.md"
-MARK = "<!-- made by tools/dev/make definitions -->"
+MADE = TOP / "build" / "DEFINITIONS.md"
 LAYERS = (
     ("Bytes, device and image", "model_device"),
     ("The machine", "model_machine"),
@@ -91,13 +91,14 @@ def page():
 
 def main(words):
     made, missing = page()
-    text = PAGE.read_text(encoding="utf-8")
-    whole = f"{text.split(MARK)[0]}{MARK}\n\n{made}"
-    if words == ["--check"]:
-        for name in missing:
-            print(f"no comment: {name}")
-        if whole != text:
-            print("docs/DEFINITIONS.md is not up to date: run tools/dev/make definitions")
-        return 1 if missing or whole != text else 0
-    PAGE.write_text(whole, encoding="utf-8")
-    return 0
+    for name in missing:
+        print(f"no comment: {name}")
+    if words != ["--check"]:
+        target = Path(words[0]) if words else MADE
+        target.parent.mkdir(exist_ok=True)
+        target.write_text(f"{PAGE.read_text(encoding='utf-8').rstrip()}\n\n{made}", encoding="utf-8")
+    return 1 if missing else 0
+
+
+if __name__ == "__main__":
+    sys.exit(main(sys.argv[1:]))
