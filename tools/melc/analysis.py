@@ -216,7 +216,7 @@ class Analysis:
         if node is not None:
             if any(it is known for it, _ in self.bodies):
                 raise Refused(at, f"`{name}` is declared twice")
-            known.at = at
+            known.at, known.end = at, At(at.file, _last(node, at.file, at.line))
             for it, kind in zip(given, kinds):
                 if it.name is None:
                     raise Refused(at_of(it, at), "a parameter has a name")
@@ -555,6 +555,15 @@ class Analysis:
                 name = call.function.name if isinstance(call, Called) else "multosGetDelegatorAID"
                 self.faults.error(call.at, f"C leaves open whether `{name}` is called before what stands beside it: call it first, into a local")
                 return
+
+
+def _last(node: c_ast.Node, file: str, line: int) -> int:
+    """Returns the last line of a file that a node has."""
+    here = at_of(node)
+    line = max(line, here.line) if here.file == file else line
+    for _, it in node.children():
+        line = _last(it, file, line)
+    return line
 
 
 STATEMENTS = {"Compound", "EmptyStatement", "If", "While", "DoWhile", "For", "Switch", "Break", "Continue", "Return"}

@@ -88,9 +88,10 @@ class Branch:
 
 @dataclass
 class Stop:
-    """An exit or a return ends it."""
+    """An exit or a return ends it. One that is implied stands at the end of `main`."""
 
     code: Ins
+    is_implied: bool = False
 
 
 End = Union[Goto, Branch, Stop]

@@ -64,23 +64,25 @@ def _is_exit(block: Block) -> bool:
     return not block.code and isinstance(block.end, Stop)
 
 
+def _ended(target: Block, at: At) -> "Goto | Stop":
+    """Returns what a jump to a block is: an exit, if the block is one."""
+    if not _is_exit(target):
+        return Goto(target, at)
+    assert isinstance(target.end, Stop)
+    code = target.end.code
+    return Stop(Ins(code.word, code.operands, code.size, at if target.end.is_implied else code.at))
+
+
 def _threaded(blocks: List[Block]) -> None:
     """Lets jumps go where they lead to in the end."""
     for it in blocks:
         if isinstance(it.end, Goto):
-            target = _through(it.end.target)
-            it.end = Stop(it.end.target.end.code) if _is_exit(it.end.target) and isinstance(it.end.target.end, Stop) else Goto(target, it.end.at)
-            if isinstance(it.end, Goto) and _is_exit(target):
-                assert isinstance(target.end, Stop)
-                it.end = Stop(target.end.code)
+            it.end = _ended(_through(it.end.target), it.end.at)
     for it in blocks:
         if isinstance(it.end, Branch):
             it.end = Branch(it.end.condition, _through(it.end.yes), _through(it.end.no), it.end.at)
             if it.end.yes is it.end.no:
-                it.end = Goto(it.end.yes, it.end.at)
-                if _is_exit(it.end.target):
-                    assert isinstance(it.end.target.end, Stop)
-                    it.end = Stop(it.end.target.end.code)
+                it.end = _ended(it.end.yes, it.end.at)
 
 
 def _successors(block: Block) -> List[Block]:

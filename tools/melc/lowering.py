@@ -451,7 +451,7 @@ class Lowering(Selection):
             self._to(context.end)
             return
         if context.function.name == "main":
-            self.close(Stop(self._made("EXIT", "")))
+            self.close(Stop(self._made("EXIT", ""), True))
         else:
             size = context.function.result.size
             if value is not None:

@@ -102,6 +102,12 @@ class Selection:
 
     def zeros(self, count: int) -> None:
         """Pushes zeros."""
+        last = self.current.code[-1] if self.current.code else None
+        if last is not None and last.word == "PUSHZ" and last.at == self.at and count and int(last.operands) + count <= LONGEST:
+            last.operands = str(int(last.operands) + count)
+            self.height += count
+            self.most = max(self.most, self.height)
+            return
         while count > 0:
             part = min(count, LONGEST)
             self.emit("PUSHZ", str(part), part)

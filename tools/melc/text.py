@@ -44,6 +44,9 @@ def section(source: Source, program: Program, code: List[Line], made: Lowered, n
         last = place
     for it in made.locals:
         lines.append(f"; local {it.function}.{it.name} {it.operand},{it.size} ; {place_of(it.at)}")
+    for one in program.reached():
+        last_line = one.end.line if one.end is not None else one.at.line
+        lines.append(f"; lines {one.name} ; {place_of(one.at)}-{last_line}")
     lines.append("end")
     return lines
 

@@ -51,6 +51,8 @@ class Spot:
             yield "Static", views.static(self.state, self.depth, self.section)
             if self.place is not None or any(self.state.public):
                 yield "Session", views.session(self.state, self.depth, self.section)
+                if self.section is not None and any(it.register == "LB" for it in self.section.names.values()):
+                    yield "Locals", views.local(self.state, self.depth, self.section)
                 yield "Stack", views.stack(self.state, self.depth)
                 yield "Public", views.public(self.state, self.depth, self.section)
                 yield "Header", views.header(self.state)
