@@ -351,15 +351,24 @@ class Adapter:
         for it in given["breakpoints"]:
             front, _, label = it["name"].rpartition(".")
             found = [(section, section.labels[label]) for section in self.sections if label in section.labels and front in ("", section.name)]
-            found = found or [(section, 0) for section in self.sections if section.name == it["name"]]
+            found = found or self.of_function(it["name"]) or [(section, 0) for section in self.sections if section.name == it["name"]]
             if not found or self.wrong_hits(it):
                 told.append(self.wrong_hits(it) or {"verified": False, "message": f"there is no label {it['name'][:100]}"})
                 continue
             section, place = found[0]
             self.stops.functions.append(self.made(it, section=section, place=place))
             code = section.at(place)
-            told.append({"id": self.numbers, "verified": True, "source": self.source(), **({"line": code.line} if code else {})})
+            at = self.origin.place(code.line) if code else None
+            told.append({"id": self.numbers, "verified": True, "source": source_of(at[0] if at else self.path), **({"line": at[1]} if at else {})})
         return {"breakpoints": told}
+
+    def of_function(self, name: str) -> List[Tuple[Section, int]]:
+        """Returns where the code of a function of C begins, also of one that is inlined."""
+        if not self.origin.is_c:
+            return []
+        places = self.origin.lines.places
+        return [(section, it.place) for section in self.sections for it in section.code
+                if it.line in places and self.origin.lines.function(places[it.line]) == name][:1]
 
     def on_setInstructionBreakpoints(self, given: dict) -> dict:
         self.stops.places, told = [], []
@@ -371,7 +380,8 @@ class Adapter:
                 told.append(self.wrong_hits(it))
             elif section and code and code.place == place:
                 self.stops.places.append(self.made(it, section=section, place=place))
-                told.append({"id": self.numbers, "verified": True, "line": code.line, "source": self.source()})
+                at = self.origin.place(code.line) or (self.path, code.line)
+                told.append({"id": self.numbers, "verified": True, "line": at[1], "source": source_of(at[0])})
             else:
                 told.append({"verified": False, "message": "no instruction begins there"})
         return {"breakpoints": told}
@@ -667,7 +677,12 @@ class Adapter:
         address, count = address_of("disassemble", given, "memoryReference"), given["instructionCount"]
         if not 0 <= count <= MOST_INSTRUCTIONS:
             raise Failed(f"disassemble writes at most {MOST_INSTRUCTIONS} instructions")
-        return {"instructions": instructions(self.sections, address, given.get("instructionOffset") or 0, count, self.source())}
+        return {"instructions": instructions(self.sections, address, given.get("instructionOffset") or 0, count, self.located)}
+
+    def located(self, line: int) -> dict:
+        """Returns the line and the file of a line of the draft, as the protocol has them."""
+        place = self.origin.place(line)
+        return {"line": place[1], "location": source_of(place[0])} if place is not None else {}
 
     # ---- cuts and the words of the console
 

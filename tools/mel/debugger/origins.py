@@ -67,6 +67,17 @@ class Origin:
         return replace(section, names={**section.names, **names}) if names else section
 
 
+def of(source: sources.Source) -> Origin:
+    """Returns where the lines of a source come from. A compiler that notes no lines of C leaves those of its draft."""
+    if not source.is_c:
+        return Origin(str(source.path))
+    try:
+        from melc.lines import lines_of
+    except ImportError:
+        return Origin(str(source.path))
+    return Origin(os.path.abspath(source.path), lines_of(source.draft.decode("utf-8", "surrogateescape")), source.after)
+
+
 def read(path: str) -> Tuple[bytes, Origin, str]:
     """Returns the draft of an application in C, where its lines come from, and what the compiler wrote.
 
@@ -80,5 +91,4 @@ def read(path: str) -> Tuple[bytes, Origin, str]:
             found = sources.compiled(Path(path))
     except sources.NotRead as why:
         raise sources.NotRead(str(why), said.getvalue()) from None
-    from melc.lines import lines_of
-    return found.draft, Origin(path, lines_of(found.draft.decode("utf-8", "surrogateescape")), found.after), said.getvalue()
+    return found.draft, of(found), said.getvalue()
