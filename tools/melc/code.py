@@ -88,10 +88,11 @@ class Branch:
 
 @dataclass
 class Stop:
-    """An exit or a return ends it. One that is implied stands at the end of `main`."""
+    """An exit or a return ends it. One that is implied stands at the end of `main`; one in place of a jump has the block that this went to."""
 
     code: Ins
     is_implied: bool = False
+    target: Optional[Block] = None
 
 
 End = Union[Goto, Branch, Stop]

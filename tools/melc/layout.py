@@ -70,7 +70,7 @@ def _ended(target: Block, at: At) -> "Goto | Stop":
         return Goto(target, at)
     assert isinstance(target.end, Stop)
     code = target.end.code
-    return Stop(Ins(code.word, code.operands, code.size, at if target.end.is_implied else code.at))
+    return Stop(Ins(code.word, code.operands, code.size, at if target.end.is_implied else code.at), target=target)
 
 
 def _threaded(blocks: List[Block]) -> None:
@@ -191,14 +191,17 @@ def _placed(chains: List[List[Block]], shared: List[Block]) -> List[Block]:
 
 def _written(order: List[Block]) -> List[Line]:
     leaps: Dict[int, List[Leap]] = {}
+    ends: Dict[int, List[Ins]] = {}
     for it, following in zip(order, [*order[1:], None]):
         leaps[id(it)] = _leaps(it, following)
+        # An exit that follows anyway is not written twice.
+        ends[id(it)] = [it.end.code] if isinstance(it.end, Stop) and (it.end.target is None or it.end.target is not following) else []
     while True:
         places, place = {}, 0
         for it in order:
             places[id(it)] = place
             place += sum(code.size for code in it.code) + sum(leap.size for leap in leaps[id(it)])
-            place += it.end.code.size if isinstance(it.end, Stop) else 0
+            place += sum(code.size for code in ends[id(it)])
         grown = False
         for it in order:
             place = places[id(it)] + sum(code.size for code in it.code)
@@ -225,8 +228,7 @@ def _written(order: List[Block]) -> List[Line]:
         code = list(it.code)
         for leap in leaps[id(it)]:
             code.append(Ins("JUMP" if leap.is_far else "BRANCH", f"{leap.condition},{names[id(leap.target)]}", leap.size, leap.at))
-        if isinstance(it.end, Stop):
-            code.append(it.end.code)
+        code += ends[id(it)]
         if not code and it.name:
             code = [Ins("", "", 0, At("", 0))]
         for place, one in enumerate(code):

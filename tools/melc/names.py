@@ -31,6 +31,8 @@ class Names:
         self.functions: Dict[str, Function] = {}
         self.locals: List[Dict[str, Variable]] = []
         self.library: "frozenset[str]" = frozenset()
+        # Nodes of structs, which several names of one declaration share.
+        self._records: Dict[int, Tuple[c_ast.Node, Record]] = {}
         self.constant: Callable[[c_ast.Node], int] = lambda _: 0
         for name, (offset, kind) in HEADER.items():
             self.variables[name] = Variable(name, kind, "header", At("", 0), offset)
@@ -115,6 +117,11 @@ class Names:
             raise Refused(at, f"the members of `{kind.name}` are not declared above")
 
     def _record(self, node: c_ast.Node, at: At) -> Record:
+        if id(node) not in self._records:
+            self._records[id(node)] = (node, self._declared(node, at))
+        return self._records[id(node)][1]
+
+    def _declared(self, node: c_ast.Node, at: At) -> Record:
         is_union = isinstance(node, c_ast.Union)
         name = node.name or ""
         found = self.tags.get(name) if name else None

@@ -140,7 +140,8 @@ def bare(made, node, types):
     inner.quals, kind = [], inner.type
     if isinstance(kind, (c_ast.Struct, c_ast.Union)) and kind.decls is not None:
         kind.name = kind.name or f"of_{node.name}"
-        types.append(made.visit(kind) + ";")
+        text = made.visit(kind) + ";"
+        types += [] if text in types else [text]
         kind.decls = None
     return made.visit(changed), inner
 

@@ -301,7 +301,7 @@ class Maker:
         """A case: one that falls through, too."""
         kept = self.loops
         self.loops = 0 if not kept else kept
-        inner = [] if self.pick(5) == 4 else ["    {", *(f"    {line}" for line in self.body(depth - 1, 1 + self.pick(2))), "    }"]
+        inner = ["    ;"] if self.pick(5) == 4 else ["    {", *(f"    {line}" for line in self.body(depth - 1, 1 + self.pick(2))), "    }"]
         self.loops = kept
         return [f"{front}:", *inner, *(["    break;"] if self.pick(3) < 2 else [])]
 
