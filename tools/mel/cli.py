@@ -32,6 +32,7 @@ TOOLS: Dict[str, Tuple[str, str]] = {
     "prove-moves": ("prove_moves", "a deck with moves that lead to what is not proved"),
     "outline": ("outline", "the skeleton of a proof by hand"),
     "watch": ("watch", "runs a command beside a line of progress")}
+READS_C = ("film",)  # these read a file in C themselves
 ADAPTER = "debug"  # without a draft it is the adapter that editors start
 
 
@@ -72,7 +73,7 @@ def parser() -> argparse.ArgumentParser:
 def run_tool(name: str, words: List[str]) -> int:
     """Runs a tool as if it was called by itself; a file in C among its words is compiled first."""
     with tempfile.TemporaryDirectory(prefix="melcard-c-") as folder:
-        sys.argv = [f"mel {name}", *(drafted(word, folder) for word in words)]
+        sys.argv = [f"mel {name}", *(words if name in READS_C else (drafted(word, folder) for word in words))]
         module = importlib.import_module(TOOLS[name][0])
         try:
             status = module.main(sys.argv[1:]) if name == "watch" else module.main()

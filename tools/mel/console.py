@@ -14,6 +14,7 @@ import debug
 import labtexts
 import sources
 import terminal
+from debugger import origins
 from sources import HERE, Source
 
 try:
@@ -22,9 +23,9 @@ except ImportError:
     pass
 
 HELP = """c, r         go on, and back, to the next reason to stop
-s, n, o      one instruction; one of this routine; out of this routine
-p            undo one instruction
-b [PLACE]    set or delete a breakpoint at a line or a label; without PLACE list them
+s, n, o      one instruction, of C one line; one of this routine; out of this routine
+p            undo one instruction, of C one line
+b [PLACE]    set or delete a breakpoint at a line, a label or a function of C; without PLACE list them
 w NAME       stop when these bytes change; `unwatch NAME` takes it back
 k [K]        cut power in the next device write, or in write K of this line; u goes back to the play without the cut
 g LINE       go to the statement of a line
@@ -96,9 +97,20 @@ class Console:
 
     def __init__(self, client: Client, source: Source, draft: Path) -> None:
         self.client, self.source, self.draft = client, source, draft
-        self.lines = labtexts.lines_of(source.draft.decode("utf-8", "replace"))
+        self.texts: Dict[str, List[str]] = {}
+        self.path = str(draft)
         self.line, self.frame = 0, 0
         self.places: List[str] = []
+
+    @property
+    def lines(self) -> List[str]:
+        """The lines of the file in which the play stands."""
+        if self.path not in self.texts:
+            try:
+                self.texts[self.path] = labtexts.lines_of(Path(self.path).read_text(encoding="utf-8", errors="replace"))
+            except OSError:
+                self.texts[self.path] = []
+        return self.texts[self.path]
 
     def show(self, stop: Optional[Dict[str, Any]]) -> None:
         """Writes where the play stands and why."""
@@ -107,6 +119,7 @@ class Console:
             return
         frames = self.client.ask("stackTrace", threadId=1)[1]["stackFrames"]
         self.line, self.frame = (frames[0]["line"], frames[0]["id"]) if frames else (0, 0)
+        self.path = frames[0].get("source", {}).get("path", self.path) if frames else self.path
         reason = stop.get("text") or stop.get("description") or stop.get("reason", "")
         print(terminal.painted(f"stopped: {reason}", "look"))
         if 0 < self.line <= len(self.lines):
@@ -228,7 +241,7 @@ def main(given: argparse.Namespace) -> int:
     source = sources.read(Path(given.draft))
     with tempfile.TemporaryDirectory(prefix="melcard-debug-") as folder:
         draft = source.path.resolve()
-        if source.is_c:
+        if source.is_c and not origins.of(source).is_c:
             draft = Path(folder, f"{source.name}.draft")
             draft.write_bytes(source.draft)
         return session(source, draft, given.line)

@@ -3,7 +3,8 @@
 
     tools/mel/film.py DRAFT LINE [--fill FILL] [--title TEXT] > FILM.html
 
-LINE is the number of a statement whose command runs an application. The page has the source with the current line, the bytes by the names of
+LINE is the number of a statement whose command runs an application; of an application in C, badge.c, it is a line of badge.tests, and the page
+has the source in C. The page has the source with the current line, the bytes by the names of
 the draft with what the last turn changed, the stack, and a bar with the device writes. Each write shows what the card is if power goes in
 it and comes back; FILL are the 8 bytes, in hexadecimal, that are left in its word (zeros if none are given). The page stands alone, loads
 nothing, and lets a browser run its own script alone. It is UTF-8, whatever the locale is.
@@ -23,9 +24,11 @@ import sys
 from pathlib import Path
 from typing import Dict, List, Optional, Tuple
 
+import sources
 import tear
 from card.sessions import armed_in
-from debugger import cuts, views
+from debugger import cuts, origins, views
+from debugger.origins import Origin
 from desktexts import Play, Refused, Section, State, Statement, desk, sections_of
 from labtexts import end_with_reader, lines_of, write
 
@@ -163,7 +166,22 @@ def policy_of(template: str) -> str:
     return "; ".join(words)
 
 
-def film(given: argparse.Namespace, draft: bytes) -> str:
+def shown_source(draft: bytes, origin: Origin, turns: List[dict]) -> List[str]:
+    """Returns the lines that are shown beside the turns: of a draft its own. Of an application in C they are those of its file and of the one with its
+    statements, and the lines of the turns are counted in them."""
+    if not origin.is_c:
+        return lines_of(draft.decode(errors="replace"))
+    files = [Path(origin.path), *(path for path, _ in origin.after[:1])]
+    texts = [lines_of(it.read_text(encoding="utf-8", errors="replace")) for it in files]
+    firsts = {str(it.resolve()): sum(map(len, texts[:place])) for place, it in enumerate(files)}
+    for it in turns:
+        place = origin.place(it["line"])
+        first = firsts.get(str(Path(place[0]).resolve())) if place is not None else None
+        it["line"] = first + place[1] if first is not None and place is not None else None
+    return [line for text in texts for line in text]
+
+
+def film(given: argparse.Namespace, draft: bytes, origin: Origin) -> str:
     """Returns the page.
 
     # Errors
@@ -172,7 +190,7 @@ def film(given: argparse.Namespace, draft: bytes) -> str:
     """
     sections, play = sections_of(draft), Play(draft)
     try:
-        found = next((it for it in play.statements() if it.line == given.line), None)
+        found = next((it for it in play.statements() if it.line == origin.statement(given.line)), None)
     finally:
         play.close()
     if found is None:
@@ -185,13 +203,21 @@ def film(given: argparse.Namespace, draft: bytes) -> str:
     count = turns[-1]["writes"]
     writes, outcomes = outcomes_of(draft, found.line, count, given.fill, sections) if count and stop is None else ([], [])
     title = given.title or f"{Path(given.draft).name}, line {given.line}"
-    told = {"title": title, "text": found.text, "result": found.result or "", "source": lines_of(draft.decode(errors="replace")),
+    told = {"title": title, "text": found.text, "result": found.result or "", "source": shown_source(draft, origin, turns),
             "panels": panels.told(), "turns": turns, "cuts": writes, "outcomes": outcomes,
             "stop": f"the draft has a stop in write {stop[1]} of this line" if stop is not None else ""}
     # No text of a draft ends the element that has it.
     data = json.dumps(told, separators=(",", ":")).replace("<", "\\u003C")
     template = TEMPLATE.read_text(encoding="utf-8")
     return template.replace("POLICY", policy_of(template), 1).replace("FILM</script>", data + "</script>", 1)
+
+
+def content(path: str) -> Tuple[bytes, Origin]:
+    """Returns the draft of a file, and where its lines come from."""
+    if not path.endswith(".c"):
+        return Path(path).read_bytes(), Origin(path)
+    source = sources.compiled(Path(path))
+    return source.draft, origins.of(source)
 
 
 def main() -> int:
@@ -204,7 +230,7 @@ def main() -> int:
     if not re.fullmatch("[0-9A-Fa-f]{16}", given.fill):
         words.error("FILL is 16 hexadecimal digits")
     try:
-        page = film(given, Path(given.draft).read_bytes())
+        page = film(given, *content(given.draft))
     except OSError as error:
         print(f"film.py: {error}", file=sys.stderr)
         return 2
@@ -217,4 +243,7 @@ def main() -> int:
 
 
 if __name__ == "__main__":
-    sys.exit(main())
+    try:
+        sys.exit(main())
+    except sources.NotRead as not_read:
+        sys.exit(f"film.py: {not_read}")

@@ -5,17 +5,19 @@ from __future__ import annotations
 import base64
 import os
 import re
-from dataclasses import dataclass
-from typing import Callable, Dict, List, Optional
+from dataclasses import dataclass, replace
+from typing import Callable, Dict, List, Optional, Tuple
 
 from desktexts import Play, Refused, Section, desk, sections_of
 from labtexts import lines_of
+from sources import NotRead
 from units import statements
 
-from . import cuts, stops, views
+from . import cuts, origins, stops, views
 from .arguments import OF_A_PLAY, Wrong, address_of, check, hits_of
 from .expressions import BadExpression, Bytes, value_of
 from .forms import Form
+from .origins import Origin, Place
 from .stack import CODE, Spot, instructions, memory, reference, spots
 from .stops import Breakpoint, Stop, Stops, Watch
 from .walk import Position, Walk, expectations_of
@@ -58,10 +60,12 @@ class NotPlayed(Failed):
 
 @dataclass
 class Read:
-    """A draft that is played: its path and text, its sections, the lines of its statements, and what is expected of their results."""
+    """A draft that is played: its path and text, where its lines come from, its sections, the lines of its statements, and what is expected of
+    their results."""
 
     path: str
     draft: bytes
+    origin: Origin
     sections: List[Section]
     lines: List[int]
     expected: Dict[int, List[str]]
@@ -74,6 +78,9 @@ class Adapter:
         self.wire = wire
         self.path, self.line = "", None
         self.draft = b""
+        self.origin = Origin()
+        # A step of an application in C is a line, unless the client asks for an instruction.
+        self.is_by_line = False
         self.sections: List[Section] = []
         self.statement_lines: List[int] = []
         self.expected: Dict[int, List[str]] = {}
@@ -176,9 +183,10 @@ class Adapter:
     def load(self, path: str, line: Optional[int] = None) -> None:
         """Reads a draft and begins to play it. One that is refused leaves the play that there is as it was."""
         found = self.read(path)
-        if line is not None and line not in found.lines:
+        if line is not None and found.origin.statement(line) not in found.lines:
             raise Failed(f"{os.path.basename(path)}: line {line} is no statement")
         play = self.played(found.draft)
+        self.origin = found.origin
         self.path, self.draft, self.sections, self.statement_lines, self.expected = found.path, found.draft, found.sections, found.lines, found.expected
         self.whole, self.told, self.is_over = None, 0, False
         self.use(play, lambda it: it, found.expected)
@@ -194,9 +202,8 @@ class Adapter:
         try:
             if os.path.exists(path) and not os.path.isfile(path):
                 raise Failed(f"{name} is no file")
-            with open(path, "rb") as file:
-                draft = file.read(LONGEST_DRAFT)
-            is_told = self.explain(path, draft)
+            draft, origin = self.content(path)
+            is_told = self.explain(path, draft, origin)
             sections, deck = sections_of(draft), lines_of(desk(["deck"], draft))
         except OSError as error:
             raise Failed(f"{error.filename or name}: {error.strerror or error}") from None
@@ -208,7 +215,29 @@ class Adapter:
                 self.console(f"{why}\n", "stderr", source=source_of(path), line=int(refused.group(1)))
             raise Failed(f"{name}: {why}") from None
         lines = [number for number, _ in statements(deck)]
-        return Read(path, draft, sections, lines, expectations_of(deck, lines))
+        return Read(path, draft, origin, sections, lines, expectations_of(deck, lines))
+
+    def content(self, path: str) -> Tuple[bytes, Origin]:
+        """Returns the text of a draft, or what an application in C is compiled to, and where its lines come from.
+
+        # Errors
+
+        Failed, if the compiler refuses it.
+        """
+        if not path.endswith(".c"):
+            with open(path, "rb") as file:
+                return file.read(LONGEST_DRAFT), Origin(path)
+        try:
+            with open(path, "rb"):
+                pass
+            draft, origin, said = origins.read(path)
+        except NotRead as why:
+            if len(why.args) > 1 and why.args[1]:
+                self.console(why.args[1], "stderr")
+            raise Failed(why.args[0]) from None
+        if said:
+            self.console(said)
+        return draft, origin
 
     def played(self, draft: bytes) -> Play:
         """Begins to play a draft.
@@ -230,7 +259,7 @@ class Adapter:
         self.position, self.stopped = Position(0, 0), None
         self.refs, self.shown = [], []
 
-    def explain(self, path: str, draft: bytes) -> bool:
+    def explain(self, path: str, draft: bytes, origin: Origin) -> bool:
         """Writes all that is wrong with a draft, each with its line, and returns whether anything but warnings is."""
         is_told, name = False, os.path.basename(path)
         try:
@@ -241,8 +270,11 @@ class Adapter:
             found = EXPLAINED.match(line)
             if found:
                 is_told = is_told or found.group(4) != "warning"
-                self.console(line + "\n", "console" if found.group(4) == "warning" else "stderr", source=source_of(path),
-                             line=int(found.group(2)), column=int(found.group(3)))
+                place = origin.place(int(found.group(2))) or (path, int(found.group(2)))
+                column = 1 if origin.is_c else int(found.group(3))
+                text = f"{os.path.basename(place[0])}:{place[1]}:{column}: {found.group(4)}: {found.group(5)}"
+                self.console(text + "\n", "console" if found.group(4) == "warning" else "stderr", source=source_of(place[0]), line=place[1],
+                             column=column)
         return is_told
 
     def on_configurationDone(self, given: dict) -> None:
@@ -284,40 +316,62 @@ class Adapter:
     def on_setBreakpoints(self, given: dict) -> dict:
         asked = given.get("breakpoints")
         asked = [{"line": it} for it in given.get("lines", [])] if asked is None else asked
-        if self.path == "" or not is_same_file(self.form.path(given["source"].get("path") or ""), self.path):
+        path = real_path(self.form.path(given["source"].get("path") or ""))
+        files = self.files()
+        if self.path == "" or path not in files:
             played = f"{os.path.basename(self.path)} is what is played" if self.path else "nothing was launched"
             return {"breakpoints": [{"verified": False, "message": played} for _ in asked]}
-        self.stops.lines, told, lines = [], [], self.lines_with_code()
+        lines, told = files[path], []
+        self.stops.lines = [it for it in self.stops.lines if it.path != path]
         for it in asked:
             asked_line = self.form.line(it["line"])
-            line = next((at for at in lines if at >= asked_line), None)
+            line = min((at for at in lines if at >= asked_line), default=None)
             if line is None or asked_line < 1 or self.wrong_hits(it):
                 told.append(self.wrong_hits(it) or {"verified": False, "message": "there is no code from this line on" if asked_line > 0
                                                     else "there is no such line"})
                 continue
-            self.stops.lines.append(self.made(it, line=line))
-            told.append({"id": self.numbers, "verified": True, "line": line, "source": self.source()})
+            made = self.made(it, line=lines[line][0], path=os.path.realpath(path))
+            # A line of C may have code in several places.
+            self.stops.lines += [made, *(replace(made, line=at) for at in lines[line][1:])]
+            told.append({"id": self.numbers, "verified": True, "line": line, "source": source_of(path) if self.origin.is_c else self.source()})
         return {"breakpoints": told}
+
+    def files(self) -> Dict[str, Dict[int, List[int]]]:
+        """Returns the files that have lines on which a run may stop, and for each of these lines those of the draft."""
+        if not self.origin.is_c:
+            return {os.path.realpath(self.path): {it: [it] for it in self.lines_with_code()}}
+        return self.origin.files(self.lines_with_code())
 
     def on_breakpointLocations(self, given: dict) -> dict:
         first = self.form.line(given["line"])
         last = first if given.get("endLine") is None else self.form.line(given["endLine"])
-        return {"breakpoints": [{"line": it} for it in self.lines_with_code() if first <= it <= last]}
+        path = os.path.realpath(self.form.path((given.get("source") or {}).get("path") or "").replace("\0", ""))
+        lines = self.files().get(path if self.origin.is_c else os.path.realpath(self.path), {})
+        return {"breakpoints": [{"line": it} for it in sorted(lines) if first <= it <= last]}
 
     def on_setFunctionBreakpoints(self, given: dict) -> dict:
         self.stops.functions, told = [], []
         for it in given["breakpoints"]:
             front, _, label = it["name"].rpartition(".")
             found = [(section, section.labels[label]) for section in self.sections if label in section.labels and front in ("", section.name)]
-            found = found or [(section, 0) for section in self.sections if section.name == it["name"]]
+            found = found or self.of_function(it["name"]) or [(section, 0) for section in self.sections if section.name == it["name"]]
             if not found or self.wrong_hits(it):
                 told.append(self.wrong_hits(it) or {"verified": False, "message": f"there is no label {it['name'][:100]}"})
                 continue
             section, place = found[0]
             self.stops.functions.append(self.made(it, section=section, place=place))
             code = section.at(place)
-            told.append({"id": self.numbers, "verified": True, "source": self.source(), **({"line": code.line} if code else {})})
+            at = self.origin.place(code.line) if code else None
+            told.append({"id": self.numbers, "verified": True, "source": source_of(at[0] if at else self.path), **({"line": at[1]} if at else {})})
         return {"breakpoints": told}
+
+    def of_function(self, name: str) -> List[Tuple[Section, int]]:
+        """Returns where the code of a function of C begins, also of one that is inlined."""
+        if not self.origin.is_c:
+            return []
+        places = self.origin.lines.places
+        return [(section, it.place) for section in self.sections for it in section.code
+                if it.line in places and self.origin.lines.function(places[it.line]) == name][:1]
 
     def on_setInstructionBreakpoints(self, given: dict) -> dict:
         self.stops.places, told = [], []
@@ -329,7 +383,8 @@ class Adapter:
                 told.append(self.wrong_hits(it))
             elif section and code and code.place == place:
                 self.stops.places.append(self.made(it, section=section, place=place))
-                told.append({"id": self.numbers, "verified": True, "line": code.line, "source": self.source()})
+                at = self.origin.place(code.line) or (self.path, code.line)
+                told.append({"id": self.numbers, "verified": True, "line": at[1], "source": source_of(at[0])})
             else:
                 told.append({"verified": False, "message": "no instruction begins there"})
         return {"breakpoints": told}
@@ -375,6 +430,7 @@ class Adapter:
 
     def _move(self, given: dict) -> None:
         """Moves, which `handle` does after the answer."""
+        self.is_by_line = self.origin.is_c and given.get("granularity") != "instruction"
 
     on_next = on_stepIn = on_stepOut = on_stepBack = on_reverseContinue = _move
 
@@ -421,7 +477,7 @@ class Adapter:
         """Goes to the first turn of the statement of a line."""
         assert self.walk is not None and self.play is not None
         for number, it in enumerate(self.play.statements()):
-            if self.walk.line(Position(number, 0)) == line:
+            if self.walk.line(Position(number, 0)) == self.origin.statement(line):
                 self.position = Position(number, 1 if it.turns else 0)
                 self.tell()
                 return
@@ -432,6 +488,7 @@ class Adapter:
         assert self.walk is not None
         is_back = name in ("stepBack", "reverseContinue")
         start, steps = self.walk.level(self.position), 0
+        begin = self.origin.place(self.walk.line(self.position)) if self.is_by_line else None
         while True:
             if name in ("continue", "reverseContinue"):
                 self.skip(is_back)
@@ -443,8 +500,10 @@ class Adapter:
                             "the beginning of the play" if is_back else "the end of the play")
             self.position, self.is_over = found, False
             self.tell()
-            stop = (self.stops.at(self.walk, found, is_back) if self.is_stopping else None) or self.stepped(name, start)
+            stop = (self.stops.at(self.walk, found, is_back) if self.is_stopping else None) or self.stepped(name, start, begin)
             if stop is not None:
+                if is_back and begin is not None and stop.reason == "step":
+                    self.go_to_front()
                 return stop
             steps += 1
             if (steps % 1024 == 0 or found.at == 0) and self.is_interrupted():
@@ -460,9 +519,21 @@ class Adapter:
         at = (found or 0) + 1 if is_back else (found or end + 1) - 1
         self.position = Position(number, at)
 
-    def stepped(self, name: str, start: tuple) -> Optional[Stop]:
-        """Whether a step of some kind, which began at a depth, is done."""
+    def go_to_front(self) -> None:
+        """Goes back to the first instruction of the line of C."""
         assert self.walk is not None
+        level, place = self.walk.level(self.position), self.origin.place(self.walk.line(self.position))
+        while (found := self.walk.step(self.position, True)) is not None:
+            if self.walk.turn(found) is None or self.walk.level(found) != level or self.origin.place(self.walk.line(found)) != place:
+                break
+            self.position = found
+
+    def stepped(self, name: str, start: tuple, begin: Optional[Place] = None) -> Optional[Stop]:
+        """Whether a step of some kind, which began at a depth, is done; one by lines began at a place."""
+        assert self.walk is not None
+        if begin is not None and name in ("stepIn", "stepBack", "next") and self.walk.level(self.position) == start \
+                and self.origin.place(self.walk.line(self.position)) == begin:
+            return None
         if name in ("stepIn", "stepBack"):
             return Stop("step", "")
         if name not in ("next", "stepOut"):
@@ -492,7 +563,8 @@ class Adapter:
             assert it is not None
             if it.result is not None:
                 line = self.walk.line(Position(self.told, 0))
-                self.console(f"{line} {it.text}: {it.result}\n", "stdout", source=self.source(), line=line)
+                place = self.origin.place(line) or (self.path, line)
+                self.console(f"{place[1]} {it.text}: {it.result}\n", "stdout", source=source_of(place[0]), line=place[1])
             self.told += 1
 
     def stop(self, why: Optional[Stop]) -> None:
@@ -518,7 +590,9 @@ class Adapter:
         """Returns the frames of the stack trace, the running one first."""
         if self.walk is None:
             raise NotPlayed
-        return spots(self.walk, self.position)
+        found = spots(self.walk, self.position)
+        found[0].section = self.origin.with_locals(found[0].section, found[0].line, found[0].state, found[0].depth)
+        return found
 
     def spot(self, number: Optional[int]) -> Spot:
         """Returns a frame by the number that the client has of it; the running one without."""
@@ -532,14 +606,26 @@ class Adapter:
         first, count = max(given.get("startFrame") or 0, 0), max(given.get("levels") or 0, 0) or len(found)
         frames = []
         for number, it in enumerate(found[first:first + count], first + 1):
-            frame = {"id": number, "name": it.name, "line": it.line or 0, "column": 1 if it.line else 0}
-            if it.line:
-                frame["source"] = self.source()
-            address = reference(self.sections, it)
+            place = self.origin.place(it.line)
+            frame = {"id": number, "name": self.frame_name(it), "line": place[1] if place else 0, "column": 1 if place else 0}
+            if place:
+                frame["source"] = source_of(place[0])
+            address = self.reference(it)
             if address is not None:
                 frame["instructionPointerReference"] = address
             frames.append(frame)
         return {"stackFrames": frames, "totalFrames": len(found)}
+
+    def frame_name(self, spot: Spot) -> str:
+        """Returns what a frame is called: of C the function that its line is in."""
+        noted = self.origin.lines.places.get(spot.line) if self.origin.is_c and spot.line is not None else None
+        name = self.origin.lines.function(noted) if noted is not None else None
+        return name if name is not None else spot.name
+
+    def reference(self, spot: Spot) -> Optional[str]:
+        """Returns the address of the code of a frame; the names of locals are no part of its section."""
+        section = next((it for it in self.sections if spot.section is not None and (it.name, it.aid) == (spot.section.name, spot.section.aid)), None)
+        return reference(self.sections, replace(spot, section=section))
 
     def keep(self, shown: List[views.Shown], depth: int, spot: Spot) -> int:
         """Keeps the lines of a scope, and returns the reference by which the client asks for them."""
@@ -596,7 +682,12 @@ class Adapter:
         address, count = address_of("disassemble", given, "memoryReference"), given["instructionCount"]
         if not 0 <= count <= MOST_INSTRUCTIONS:
             raise Failed(f"disassemble writes at most {MOST_INSTRUCTIONS} instructions")
-        return {"instructions": instructions(self.sections, address, given.get("instructionOffset") or 0, count, self.source())}
+        return {"instructions": instructions(self.sections, address, given.get("instructionOffset") or 0, count, self.located)}
+
+    def located(self, line: int) -> dict:
+        """Returns the line and the file of a line of the draft, as the protocol has them."""
+        place = self.origin.place(line)
+        return {"line": place[1], "location": source_of(place[0])} if place is not None else {}
 
     # ---- cuts and the words of the console
 
@@ -704,12 +795,12 @@ class Adapter:
         return f"{len(self.stops.watches)} watched"
 
 
-def is_same_file(path: str, other: str) -> bool:
-    """Whether two paths are of one file; what is no path is none's."""
+def real_path(path: str) -> str:
+    """Returns where a path leads, or nothing for what is no path."""
     try:
-        return os.path.realpath(path) == os.path.realpath(other)
+        return os.path.realpath(path)
     except ValueError:
-        return False
+        return ""
 
 
 def source_of(path: str) -> dict:

@@ -3,7 +3,7 @@
 from __future__ import annotations
 
 from dataclasses import dataclass
-from typing import Iterator, List, Optional, Tuple
+from typing import Callable, Iterator, List, Optional, Tuple
 
 from desktexts import Frame, Section, State, segment_of
 
@@ -51,6 +51,8 @@ class Spot:
             yield "Static", views.static(self.state, self.depth, self.section)
             if self.place is not None or any(self.state.public):
                 yield "Session", views.session(self.state, self.depth, self.section)
+                if self.section is not None and any(it.register == "LB" for it in self.section.names.values()):
+                    yield "Locals", views.local(self.state, self.depth, self.section)
                 yield "Stack", views.stack(self.state, self.depth)
                 yield "Public", views.public(self.state, self.depth, self.section)
                 yield "Header", views.header(self.state)
@@ -115,8 +117,9 @@ def memory(walk: Optional[Walk], position: Position, address: int, count: int) -
     return address, state.read(depth, at, count) or b""
 
 
-def instructions(sections: List[Section], address: int, offset: int, count: int, source: dict) -> List[dict]:
-    """Returns `count` instructions, the first of them `offset` from the one at an address; what is no code is said to be none."""
+def instructions(sections: List[Section], address: int, offset: int, count: int, located: Callable[[int], dict]) -> List[dict]:
+    """Returns `count` instructions, the first of them `offset` from the one at an address; what is no code is said to be none. `located` returns the
+    line and the file of a line of the draft."""
     index, place = divmod(address - CODE, 0x10000)
     section = sections[index] if 0 <= index < len(sections) else None
     code = section.code if section is not None else []
@@ -132,5 +135,5 @@ def instructions(sections: List[Section], address: int, offset: int, count: int,
         it = code[at]
         text = it.text.partition(":")[2].strip() if it.place in labels and it.text.startswith(labels[it.place] + ":") else it.text
         made.append({"address": hex(CODE + index * 0x10000 + it.place), "instructionBytes": it.content.hex(" ").upper(), "instruction": text,
-                     "line": it.line, "location": source, **({"symbol": labels[it.place]} if it.place in labels else {})})
+                     **located(it.line), **({"symbol": labels[it.place]} if it.place in labels else {})})
     return made

@@ -31,7 +31,8 @@ class Stop:
 
 @dataclass
 class Breakpoint:
-    """A breakpoint: its number, where it is, and under which condition it stops; `message` is written in place of a stop."""
+    """A breakpoint: its number, where it is, and under which condition it stops; `message` is written in place of a stop. `path` is the file
+    that the client set it in."""
 
     number: int
     line: Optional[int] = None
@@ -41,6 +42,7 @@ class Breakpoint:
     count: int = 0
     message: str = ""
     hits: int = 0
+    path: str = ""
 
 
 @dataclass

@@ -83,6 +83,17 @@ def session(state: State, depth: int, section: Optional[Section]) -> List[Shown]
     return list(named(state, depth, section, "DB", DYNAMIC, state.frames[depth - 1].floor))
 
 
+def local(state: State, depth: int, section: Section) -> List[Shown]:
+    """The locals of a function in C, by their names."""
+    found = []
+    for it in section.names.values():
+        address = state.frames[depth - 1].lb + it.offset
+        content = state.read(depth, address, it.size) if it.register == "LB" else None
+        if content is not None:
+            found.append(Shown(it.name, text_of(content), f"{it.operand},{it.size}", it.name, address, it.size))
+    return found
+
+
 def stack(state: State, depth: int) -> List[Shown]:
     """The stack, its top first: what each instruction pushed that is still there."""
     frame = state.frames[depth - 1]

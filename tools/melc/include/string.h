@@ -1,0 +1,2 @@
+/* memcpy, memset and memcmp are declared in multos.h. */
+#include <multos.h>
