@@ -330,7 +330,7 @@ class Adapter:
                 told.append(self.wrong_hits(it) or {"verified": False, "message": "there is no code from this line on" if asked_line > 0
                                                     else "there is no such line"})
                 continue
-            made = self.made(it, line=lines[line][0], path=os.path.realpath(path))
+            made = self.made(it, line=lines[line][0], path=path)
             # A line of C may have code in several places.
             self.stops.lines += [made, *(replace(made, line=at) for at in lines[line][1:])]
             told.append({"id": self.numbers, "verified": True, "line": line, "source": source_of(path) if self.origin.is_c else self.source()})
