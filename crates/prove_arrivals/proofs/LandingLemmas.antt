@@ -1,6 +1,7 @@
--- What is known at a place whose static bytes power would leave as they are read.
+-- What is known at a place whose static bytes power would leave as they are read, and what is claimed of outcomes that are
+-- gathered.
 use Rattle.std.proofs.Common.{◌≡◌, ◌∙◌, ℕ, Bool, true, List, [], ◌∷◌, ap, sym, refl}
-use Rattle.std.specs.Prelude.{◌&&◌, nat_eq}
+use Rattle.std.specs.Prelude.{◌&&◌, nat_eq, Result, Ok, Err, IfOk, ⊥}
 use Rattle.std.specs.Cmp.Lexicographic.{pointwise}
 use Rattle.std.proofs.lemmas.Bool.{and_parts, eqb-true, eq-eqb}
 use Rattle.std.proofs.lemmas.Slice.Eq.{slice_eq-Decides}
@@ -12,7 +13,10 @@ use Rattle.prove_facts.specs.Facts.{fact_of, facts_of}
 use Rattle.prove_facts.specs.Sets.{set_of, values_of}
 use Rattle.prove_keys.specs.Known.{settled_of}
 use Rattle.prove_spots.specs.Grounds.{Ground}
-use Rattle.prove_arrivals.specs.Subjects.{known_in}
+use Rattle.prove_facts.specs.model_prove.specs.Arrivals.{Setting}
+use Rattle.prove_arrivals.specs.declared.subject.Landing.{Landing}
+use Rattle.prove_arrivals.specs.declared.subject.Subject.{Subject}
+use Rattle.prove_arrivals.specs.Subjects.{IsHeld, IsOver, IsSubject, known_in}
 
 -- whether two facts are the same, as `==` decides it
 abbrev fact_eq : Fact → Fact → Bool
@@ -43,3 +47,21 @@ settled_is g fixed bytes compare b c k =
     ap (λ (f : Facts). settled_of fixed f compare) b
     ∙ ap (settled_of fixed g.bytes) c
     ∙ sym (ap (known_with g) k)
+
+-- ---- outcomes that are gathered
+
+-- nothing is claimed of them
+pub gathered : {E : Type 0} (r : Result Bool E) (l : Landing) → (IsHeld l → ⊥) → IfOk r (λ goes. goes ≡ true → IsHeld l → ⊥)
+gathered (Ok h) l not = λ t held. not held
+gathered (Err y) l not = tt
+
+-- as amounts have it, and without them
+pub gathered_over : {E : Type 0} (r : Result Bool E) (u : Subject) (amounts : List ℕ) (P : List (List ℕ) → Setting → Type 0) → (IsHeld u.landing → ⊥)
+    → IfOk r (λ h. h ≡ true → (names : List (List ℕ)) (s : Setting) → IsOver names s u amounts → P names s)
+gathered_over (Ok h) u amounts P not = λ t names s o. absurd (not o.subject.held)
+gathered_over (Err y) u amounts P not = tt
+
+pub gathered_with : {E : Type 0} (r : Result Bool E) (u : Subject) (P : List (List ℕ) → Setting → Type 0) → (IsHeld u.landing → ⊥)
+    → IfOk r (λ h. h ≡ true → (names : List (List ℕ)) (s : Setting) → IsSubject names s u → P names s)
+gathered_with (Ok h) u P not = λ t names s is. absurd (not is.held)
+gathered_with (Err y) u P not = tt

@@ -1,5 +1,5 @@
--- What a check of finished tables looks at, as the definition has it.
-use Rattle.std.specs.Prelude.{◌≡◌, ℕ, Bool, true, List, length, map}
+-- What is looked at as code is followed, as the definition has it.
+use Rattle.std.specs.Prelude.{◌≡◌, ℕ, Bool, true, List, length, map, ⊤, ⊥}
 use Rattle.prove_facts.specs.model_prove.specs.Keys.{Start, Known, Tables}
 use Rattle.prove_facts.specs.model_prove.specs.Arrivals.{Setting, Arrival}
 use Rattle.prove_facts.specs.model_prove.specs.Tables.{includes_all}
@@ -13,6 +13,8 @@ use Rattle.prove_keys.specs.Tables as keys
 use Rattle.prove_patterns.specs.Replies.{IsPrepared}
 use Rattle.prove_scenes.specs.Scenes.{IsSized}
 use Rattle.prove_spots.specs.Grounds.{Ground, spot_of}
+use Rattle.prove_arrivals.specs.declared.subject.Landing.{Landing}
+use Rattle.prove_arrivals.specs.declared.subject.Landing.TheVariants.{Held, Gathered}
 use Rattle.prove_arrivals.specs.declared.subject.Subject.{Subject}
 
 -- of each class of commands which lines match
@@ -23,7 +25,13 @@ classes_in u = map (λ c. c.items) u.classes.now
 abbrev pub tables_in : List (List ℕ) → Subject → Tables
 tables_in names u = tables_of names (classes_in u) u.sizes.fixed u.tables.now
 
--- a subject is that of an application with its rules, whose allowances have these names
+-- outcomes are held against finished tables
+abbrev pub IsHeld : Landing → Type 0
+IsHeld Held = ⊤
+IsHeld (Gathered list) = ⊥
+
+-- a subject is that of an application with its rules, whose allowances have these names, and outcomes are held against
+-- its tables
 pub record IsSubject (names : List (List ℕ)) (s : Setting) (u : Subject) : Type 0 where
   pub code : s.app.code ≡ u.code.now
   pub sized : IsSized s.app u.sizes
@@ -33,6 +41,7 @@ pub record IsSubject (names : List (List ℕ)) (s : Setting) (u : Subject) : Typ
   pub whole : AreWhole (length names) (length (classes_in u)) u.tables.now
   pub apart : keys.AreDistinct (classes_in u)
   pub prepared : IsPrepared s.rules u.replies.now
+  pub held : IsHeld u.landing
 
 -- it is, and there is an amount for each name
 pub record IsOver (names : List (List ℕ)) (s : Setting) (u : Subject) (amounts : List ℕ) : Type 0 where

@@ -1,11 +1,12 @@
 // Stops, abends and exits.
-ghost use Rattle.std.specs.Prelude.{◌≡◌, ℕ, true, List, [], get_or, IfOk};
+ghost use Rattle.std.specs.Prelude.{◌≡◌, ℕ, true, List, [], get_or, IfOk, ⊥};
 ghost use Rattle.prove_facts.specs.model_prove.specs.Arrivals as arrivals;
 ghost use Rattle.prove_facts.specs.model_prove.specs.Arrivals.{Setting};
 ghost use Rattle.prove_keys.specs.Keys.{amounts_of};
-ghost use Rattle.prove_arrivals.specs.Subjects.{Accepts, IsOver, classes_in, known_in, spot_in, start_in};
+ghost use Rattle.prove_arrivals.specs.Subjects.{Accepts, IsHeld, IsOver, classes_in, known_in, spot_in, start_in};
 
-use crate::landings::{idle, in_session};
+use crate::landings::{broken, broken_at, idle, in_session};
+use crate::outcomes::{Break, Rule};
 use crate::subject::Subject;
 use mc_arith::model_machine::Abend;
 use model_device::NoMemory;
@@ -35,8 +36,8 @@ pub fn stopped(
     match begun {
         Begun::Delegated => idle(alloc, subject, amounts, facts),
         Begun::Class(_) => match after_session(alloc, subject.ons, amounts)? {
-            Some(after) => idle(alloc, subject, after.as_slice(), facts),
-            None => Ok(false),
+            Ok(after) => idle(alloc, subject, after.as_slice(), facts),
+            Err(breach) => broken_at(subject, None, &breach),
         },
     }
 }
@@ -106,9 +107,23 @@ pub fn answered(
         return Ok(false);
     };
     match after_answer(alloc, subject.ons, amounts, class, results)? {
-        Some(after) => in_session(alloc, subject, after.as_slice(), spot),
-        None => Ok(false),
+        Ok(after) => in_session(alloc, subject, after.as_slice(), spot),
+        Err(breach) => broken_at(subject, None, &breach),
     }
+}
+
+// Takes an abend of the instruction at a place that a line says is none.
+fn never(subject: &Subject<'_>, line: u32, at: u16) -> Result<bool, NoMemory>
+    ensures { IfOk result (λ goes. goes ≡ true → IsHeld subject.now.landing → ⊥) }
+{
+    broken(
+        subject,
+        Break {
+            line,
+            at: Some(at),
+            rule: Rule::Abend,
+        },
+    )
 }
 
 /// Returns whether the tables include an abend of the instruction at a place, unless a rule says that there is none.
@@ -129,8 +144,8 @@ pub fn fails(
         → Accepts names subject.now
         (arrivals.fails s (spot_in names subject.now begun amounts.now spot.now).key (known_in spot.now) cause)) }
 {
-    if subject.never.is_some() {
-        return Ok(false);
+    if let Some(line) = subject.never {
+        return never(subject, line, spot.at());
     }
     abended(alloc, subject, begun, amounts, spot, cause)
 }

@@ -14,6 +14,7 @@ ghost use Rattle.prove_arrivals.specs.Subjects.{Accepts, IsOver, spot_in};
 
 use crate::endings::{fails, stopped};
 use crate::exits::exits;
+use crate::landings::lost;
 use crate::subject::Subject;
 use crate::turns::{Row, turned};
 use mc_arith::model_machine::{Abend, Ins};
@@ -240,7 +241,7 @@ pub fn row(
         (spot_in names subject.now begun amounts.now before.now) q)) }
 {
     if is_lost(&shape.act, before) {
-        return Ok(false);
+        return lost(subject, before.at());
     }
     let fixed = subject.sizes.fixed;
     let protected = before.protected();

@@ -1,5 +1,5 @@
 // What follows the event of a row.
-ghost use Rattle.std.specs.Prelude.{◌≡◌, ℕ, true, List, [], flat_map, IfOk, IfSome};
+ghost use Rattle.std.specs.Prelude.{◌≡◌, ℕ, true, List, [], flat_map, IfOk};
 ghost use Rattle.mc_arith.specs.model_machine.specs.declared.instruction.Ins.{Ins};
 ghost use Rattle.mc_arith.specs.model_machine.specs.Primitives as model;
 ghost use Rattle.prove_facts.specs.model_prove.specs.Arrivals as arrivals;
@@ -14,14 +14,13 @@ ghost use Rattle.prove_arrivals.specs.Following.{IsAccepted, IsText, after_event
 ghost use Rattle.prove_arrivals.specs.Subjects.{Accepts, IsOver, known_in, start_in};
 
 use crate::endings::{abended, stopped};
-use crate::landings::at_place;
+use crate::landings::{at_place, broken_at};
 use crate::replies::exited;
 use crate::subject::Subject;
 use mc_arith::model_machine::Abend;
 use model_device::NoMemory;
-use prove_events::TurnEvent;
 use prove_keys::Begun;
-use prove_occasions::after_turn;
+use prove_occasions::{Breach, TurnEvent, after_turn};
 use prove_scenes::Next;
 use prove_spots::Spot;
 use std::alloc::Global;
@@ -53,7 +52,7 @@ fn event_of<'a>(row: &Row<'a>, depth: u8, after: &Spot) -> TurnEvent<'a>
     }
 }
 
-// The amounts after the event of a row, at a depth, or `None` if a rule is broken.
+// The amounts after the event of a row, at a depth, or the rule that is broken.
 fn amounts_after(
     alloc: Global,
     subject: &Subject<'_>,
@@ -61,10 +60,10 @@ fn amounts_after(
     amounts: &[u32],
     depth: u8,
     after: &Spot,
-) -> Result<Option<Vec<u32>>, NoMemory>
+) -> Result<Result<Vec<u32>, Breach>, NoMemory>
     ensures { (names : List (List ℕ)) (s : Setting) (i : Ins) → IsOver names s subject.now amounts.now
         → IsText row.now i
-        → IfOk result (λ r. IfSome r (λ b. AreAfter names (after_occasion s.rules.ons
+        → IfOk result (λ r. IfOk r (λ b. AreAfter names (after_occasion s.rules.ons
         (OnTurn (line_of depth row.now.before.now.at i after.now.dt after.now.c after.now.z))
         (amounts_of names amounts.now))
         b.items)) }
@@ -188,8 +187,8 @@ fn at_depth(
         depth after.now) }
 {
     match amounts_after(alloc, subject, row, amounts, depth, after)? {
-        Some(left) => included_after(alloc, subject, row, left.as_slice(), after),
-        None => Ok(false),
+        Ok(left) => included_after(alloc, subject, row, left.as_slice(), after),
+        Err(breach) => broken_at(subject, Some(row.before.at()), &breach),
     }
 }
 

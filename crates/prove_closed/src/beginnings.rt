@@ -7,9 +7,9 @@ ghost use Rattle.prove_keys.specs.Keys.{amounts_of, place_of, start_of};
 ghost use Rattle.prove_arrivals.specs.Subjects.{IsOver, start_in, tables_in};
 
 use model_device::NoMemory;
-use prove_arrivals::Subject;
+use prove_arrivals::{Subject, at_beginning};
 use prove_facts::Facts;
-use prove_keys::{Begun, DYNAMIC, Last, LastSaid, PlaceKey, Registers};
+use prove_keys::{Begun, DYNAMIC, PlaceKey, Registers};
 use prove_scenes::Sizes;
 use std::alloc::Global;
 
@@ -61,9 +61,6 @@ pub fn begins(
         return Ok(false);
     };
     let key = key_under(alloc, stack, begun, amounts)?;
-    Ok(
-        subject
-            .tables
-            .holds_settled(&key, facts, &LastSaid::Held(Last::Nothing)),
-    )
+    let holds = at_beginning(alloc, subject, key, facts)?;
+    Ok(holds)
 }

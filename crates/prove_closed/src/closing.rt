@@ -20,7 +20,7 @@ use crate::places::places_hold;
 use crate::ranges::keeps_ranges;
 use lab_app_rules::{Always, Rules};
 use model_device::NoMemory;
-use prove_arrivals::Subject;
+use prove_arrivals::{Landing, Subject};
 use prove_facts::Facts;
 use prove_keys::{MomentKey, Tables};
 use prove_patterns::{Class, Replies, classes};
@@ -110,6 +110,7 @@ pub fn subject_of<'a>(
         classes: numbers,
         replies,
         tables,
+        landing: Landing::Held,
     })
 }
 

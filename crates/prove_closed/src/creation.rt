@@ -9,10 +9,9 @@ ghost use Rattle.lab_app_rules.specs.Rules.{AreRules, name_of};
 ghost use Rattle.prove_arrivals.specs.Subjects.{IsSubject, tables_in};
 
 use crate::knowing::{know_bytes, zero_bytes};
-use crate::moments::at_moment;
 use lab_app_rules::{Load, Named, Rules};
 use model_device::NoMemory;
-use prove_arrivals::Subject;
+use prove_arrivals::{Subject, at_moment};
 use prove_facts::Facts;
 use std::alloc::Global;
 

@@ -12,4 +12,5 @@ mod places;
 mod ranges;
 
 pub use closing::{classes_of, is_closed, moments_closed, replies_of, subject_of};
+pub use moments::moment_holds;
 pub use places::{place_closed, spot_at};

@@ -13,43 +13,12 @@ use crate::beginnings::begins;
 use crate::classes::number_of;
 use crate::knowing::{know_command, own_facts, with_zero_session};
 use model_device::NoMemory;
-use prove_arrivals::Subject;
+use prove_arrivals::{Subject, at_moment, broken_at};
 use prove_facts::Facts;
 use prove_keys::{Begun, MomentKey};
-use prove_occasions::{after_command, after_session};
+use prove_occasions::{Breach, after_command, after_session};
 use prove_patterns::Class;
 use std::alloc::Global;
-
-// The key of a moment.
-fn key_of(alloc: Global, selected: bool, amounts: &[u32]) -> Result<MomentKey, NoMemory>
-    ensures { let there : Bool = selected in IfOk result (λ key. (names : List (List ℕ)) → moment_of names key
-        ≡ record { selected = there; allowances = amounts_of names amounts.now }) }
-{
-    Ok(MomentKey {
-        selected,
-        amounts: Vec::from_slice(alloc, amounts)?,
-    })
-}
-
-/// Returns whether the tables include a moment with these facts.
-///
-/// # Errors
-///
-/// Returns `NoMemory` if it is out of memory.
-pub fn at_moment(
-    alloc: Global,
-    subject: &Subject<'_>,
-    selected: bool,
-    amounts: &[u32],
-    facts: &Facts,
-) -> Result<bool, NoMemory>
-    ensures { let there : Bool = selected in IfOk result (λ holds. holds ≡ true → (names : List (List ℕ)) (s : Setting)
-        → IsOver names s subject.now amounts.now → includes (tables_in names subject.now)
-        (AtMoment (record { selected = there; allowances = amounts_of names amounts.now }) facts.now) ≡ true) }
-{
-    let key = key_of(alloc, selected, amounts)?;
-    Ok(subject.tables.holds_moment(&key, facts))
-}
 
 // Whether the tables include the moment after a session begins or ends, with these facts.
 fn session_changes(
@@ -65,30 +34,23 @@ fn session_changes(
         (λ b. AtMoment (record { selected = there; allowances = b }) facts.now ∷ []))) }
 {
     match after_session(alloc, subject.ons, amounts)? {
-        Some(after) => at_moment(alloc, subject, selected, after.as_slice(), facts),
-        None => Ok(false),
+        Ok(after) => at_moment(alloc, subject, selected, after.as_slice(), facts),
+        Err(breach) => broken_at(subject, None, &breach),
     }
 }
 
-// The amounts after a command of a class, by the number of the class.
+// The amounts after a command of a class, or the rule that is broken.
 fn after_class(
     alloc: Global,
     subject: &Subject<'_>,
     class: &Class,
     amounts: &[u32],
-) -> Result<Option<(usize, Vec<u32>)>, NoMemory>
-    ensures { IfOk result (λ r. IfSome r (λ found. (names : List (List ℕ)) (s : Setting)
+) -> Result<Result<Vec<u32>, Breach>, NoMemory>
+    ensures { IfOk result (λ r. IfOk r (λ b. (names : List (List ℕ)) (s : Setting)
         → IsOver names s subject.now amounts.now
-        → (get_or (classes_in subject.now) found.0 [] ≡ class.now.matches.items)
-        × AreAfter names (after_command s class.now.matches.items (amounts_of names amounts.now)) found.1.items)) }
+        → AreAfter names (after_command s class.now.matches.items (amounts_of names amounts.now)) b.items)) }
 {
-    let Some(number) = number_of(subject.classes, class.matches.as_slice()) else {
-        return Ok(None);
-    };
-    match after_command(alloc, subject.ons, amounts, class.matches.as_slice())? {
-        Some(after) => Ok(Some((number, after))),
-        None => Ok(None),
-    }
+    after_command(alloc, subject.ons, amounts, class.matches.as_slice())
 }
 
 // Whether the tables include the beginning of a command of a class with this number, after its event.
@@ -124,11 +86,12 @@ fn commanded(
         → IsOver names s subject.now amounts.now → own.now ≡ between.own_facts s f
         → Accepts names subject.now (between.commanded s (amounts_of names amounts.now) f (class_value class.now))) }
 {
+    let Some(number) = number_of(subject.classes, class.matches.as_slice()) else {
+        return Ok(false);
+    };
     match after_class(alloc, subject, class, amounts)? {
-        Some((number, after)) => {
-            command_begins(alloc, subject, number, class, after.as_slice(), own)
-        }
-        None => Ok(false),
+        Ok(after) => command_begins(alloc, subject, number, class, after.as_slice(), own),
+        Err(breach) => broken_at(subject, None, &breach),
     }
 }
 

@@ -3,7 +3,7 @@ use Rattle.std.specs.Prelude.{List, ℕ, Some, None}
 use Rattle.model_text.specs.model_machine.specs.declared.instruction.Ins.{Ins}
 use Rattle.model_text.specs.TurnText.{turn_line}
 use Rattle.prove_facts.specs.model_rules.specs.Keeping.{line_of}
-use Rattle.prove_events.specs.declared.turns.TurnEvent.{TurnEvent}
+use Rattle.prove_occasions.specs.declared.turns.TurnEvent.{TurnEvent}
 
 -- the line of an instruction that was done, as a trace has it, with its mark and its line feed
 abbrev pub whole_line : TurnEvent → Ins → List ℕ

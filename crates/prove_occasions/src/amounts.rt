@@ -1,5 +1,5 @@
 // What lines do to the amounts of the allowances.
-ghost use Rattle.std.specs.Prelude.{◌≡◌, ◌&&◌, ℕ, List, true, IfOk, IfSome, Some};
+ghost use Rattle.std.specs.Prelude.{◌≡◌, ◌&&◌, ℕ, List, true, IfOk, OnOk, Some};
 ghost use Rattle.prove_facts.specs.model_rules.specs.Rules.{OnLine};
 ghost use Rattle.prove_facts.specs.model_rules.specs.Keeping.{after_occasion, OnSession};
 ghost use Rattle.prove_keys.specs.Keys.{amounts_of};
@@ -16,6 +16,13 @@ use std::alloc::Global;
 pub enum Occasion<'a> {
     Turn(&'a [u8]),
     Session,
+}
+
+/// A rule that is broken: its line, and the number of its allowance.
+#[derive(Clone, Copy)]
+pub struct Breach {
+    pub line: u32,
+    pub name: usize,
 }
 
 // Whether a line is about an occasion.
@@ -67,17 +74,33 @@ fn keeps(amounts: &mut Vec<u32>, on: &On, applies: bool) -> bool
     }
 }
 
-/// Does what the lines about an occasion say, in their order; returns `true` only if all rules are kept.
-pub fn keep_on(amounts: &mut Vec<u32>, ons: &[On], occasion: &Occasion<'_>) -> bool
-    ensures { result ≡ true → after_tested (is_due occasion.now) ons.now amounts.old.items ≡ Some amounts.new.items }
+// What is broken if the rule of a line is.
+fn breach_of(on: &On) -> Breach {
+    Breach {
+        line: on.line,
+        name: on.name,
+    }
+}
+
+/// Does what the lines about an occasion say, in their order.
+///
+/// # Errors
+///
+/// Returns the first rule that is broken.
+pub fn keep_on(
+    amounts: &mut Vec<u32>,
+    ons: &[On],
+    occasion: &Occasion<'_>,
+) -> Result<(), Breach>
+    ensures { OnOk result (after_tested (is_due occasion.now) ons.now amounts.old.items ≡ Some amounts.new.items) }
 {
     for on in ons {
         let applies = is_due(on, occasion);
         if !keeps(amounts, on, applies) {
-            return false;
+            return Err(breach_of(on));
         }
     }
-    true
+    Ok(())
 }
 
 /// Returns the first of some marks, or `false` if there is none.
@@ -110,23 +133,26 @@ fn is_marked(on: &On, marks: &[bool]) -> bool
     is_of_allowance(&on.effect) && first_mark(marks)
 }
 
-/// Does what the lines with a mark say, in their order; returns `true` only if all rules are kept. The marks are those
-/// of the lines about allowances.
-pub fn keep_marked(amounts: &mut Vec<u32>, ons: &[On], marks: &[bool]) -> bool
-    ensures { result ≡ true → after_marked marks.now ons.now amounts.old.items ≡ Some amounts.new.items }
+/// Does what the lines with a mark say, in their order. The marks are those of the lines about allowances.
+///
+/// # Errors
+///
+/// Returns the first rule that is broken.
+pub fn keep_marked(amounts: &mut Vec<u32>, ons: &[On], marks: &[bool]) -> Result<(), Breach>
+    ensures { OnOk result (after_marked marks.now ons.now amounts.old.items ≡ Some amounts.new.items) }
 {
     let mut rest = marks;
     for on in ons {
         let applies = is_marked(on, rest);
         rest = marks_after(is_of_allowance(&on.effect), rest);
         if !keeps(amounts, on, applies) {
-            return false;
+            return Err(breach_of(on));
         }
     }
-    true
+    Ok(())
 }
 
-/// Returns the amounts after a session begins or ends, or `None` if a rule is broken.
+/// Returns the amounts after a session begins or ends, or the rule that is broken.
 ///
 /// # Errors
 ///
@@ -136,14 +162,14 @@ pub fn after_session(
     alloc: Global,
     ons: &[On],
     amounts: &[u32],
-) -> Result<Option<Vec<u32>>, NoMemory>
+) -> Result<Result<Vec<u32>, Breach>, NoMemory>
     ensures { (names : List (List ℕ)) (ls : List OnLine) → AreLinesOver names ls ons.now amounts.now
-        → IfOk result (λ r. IfSome r (λ b.
+        → IfOk result (λ r. IfOk r (λ b.
         AreAfter names (after_occasion ls OnSession (amounts_of names amounts.now)) b.items)) }
 {
     let mut after = Vec::from_slice(alloc, amounts)?;
-    if keep_on(&mut after, ons, &Occasion::Session) {
-        return Ok(Some(after));
+    match keep_on(&mut after, ons, &Occasion::Session) {
+        Ok(()) => Ok(Ok(after)),
+        Err(breach) => Ok(Err(breach)),
     }
-    Ok(None)
 }

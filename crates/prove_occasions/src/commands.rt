@@ -1,5 +1,5 @@
 // What a command and its answer do to the allowances.
-ghost use Rattle.std.specs.Prelude.{◌≡◌, ◌&&◌, ◌++◌, ℕ, List, map, IfOk, IfSome, OnOk};
+ghost use Rattle.std.specs.Prelude.{◌≡◌, ◌&&◌, ◌++◌, ℕ, List, map, IfOk, OnOk};
 ghost use Rattle.lab_app_rules.specs.model_events.specs.Matching.{fits};
 ghost use Rattle.model_text.specs.model_machine.specs.Chain.{Abended};
 ghost use Rattle.model_text.specs.TurnText.{outcome_text};
@@ -10,7 +10,7 @@ ghost use Rattle.prove_keys.specs.Keys.{amounts_of};
 ghost use Rattle.prove_occasions.specs.Amounts.{first_mark, is_answer, is_command, is_of_allowance, AreAfter, AreLinesOver};
 ghost use Rattle.prove_occasions.specs.Picks.{answer_marks, command_marks, has_result, mark_if, result_marks};
 
-use crate::amounts::{first_mark, keep_marked, marks_after};
+use crate::amounts::{Breach, first_mark, keep_marked, marks_after};
 use crate::lines::{has_mark, has_result, is_answer, is_command, is_of_allowance};
 use lab_app_rules::On;
 use lab_match::fits;
@@ -53,7 +53,7 @@ fn command_marks(alloc: Global, ons: &[On], class: &[bool]) -> Result<Vec<bool>,
     Ok(marks)
 }
 
-/// Returns the amounts after a command of a class, or `None` if a rule is broken. A class has for each `command`
+/// Returns the amounts after a command of a class, or the rule that is broken. A class has for each `command`
 /// and `answer` line about an allowance, in their order, whether its commands match.
 ///
 /// # Errors
@@ -65,17 +65,17 @@ pub fn after_command(
     ons: &[On],
     amounts: &[u32],
     class: &[bool],
-) -> Result<Option<Vec<u32>>, NoMemory>
+) -> Result<Result<Vec<u32>, Breach>, NoMemory>
     ensures { (names : List (List ℕ)) (ls : List OnLine) → AreLinesOver names ls ons.now amounts.now
-        → IfOk result (λ r. IfSome r (λ b.
+        → IfOk result (λ r. IfOk r (λ b.
         AreAfter names (after_picks (command_picks class.now ls) ls (amounts_of names amounts.now)) b.items)) }
 {
     let marks = command_marks(alloc, ons, class)?;
     let mut after = Vec::from_slice(alloc, amounts)?;
-    if keep_marked(&mut after, ons, marks.as_slice()) {
-        return Ok(Some(after));
+    match keep_marked(&mut after, ons, marks.as_slice()) {
+        Ok(()) => Ok(Ok(after)),
+        Err(breach) => Ok(Err(breach)),
     }
-    Ok(None)
 }
 
 // Whether a line is an `answer` line with the first of some marks, and with the first of some results.
@@ -109,7 +109,7 @@ fn answer_marks(
     Ok(marks)
 }
 
-/// Returns the amounts after an answer of a command of a class, or `None` if a rule is broken. The class is that of
+/// Returns the amounts after an answer of a command of a class, or the rule that is broken. The class is that of
 /// `after_command`; `results` has for each `answer` line about an allowance, in their order, whether its result
 /// matches.
 ///
@@ -123,18 +123,18 @@ pub fn after_answer(
     amounts: &[u32],
     class: &[bool],
     results: &[bool],
-) -> Result<Option<Vec<u32>>, NoMemory>
+) -> Result<Result<Vec<u32>, Breach>, NoMemory>
     ensures { (names : List (List ℕ)) (ls : List OnLine) → AreLinesOver names ls ons.now amounts.now
-        → IfOk result (λ r. IfSome r (λ b. AreAfter names
+        → IfOk result (λ r. IfOk r (λ b. AreAfter names
         (after_picks (answered_picks ls (answer_picks class.now ls) results.now) ls
         (amounts_of names amounts.now)) b.items)) }
 {
     let marks = answer_marks(alloc, ons, class, results)?;
     let mut after = Vec::from_slice(alloc, amounts)?;
-    if keep_marked(&mut after, ons, marks.as_slice()) {
-        return Ok(Some(after));
+    match keep_marked(&mut after, ons, marks.as_slice()) {
+        Ok(()) => Ok(Ok(after)),
+        Err(breach) => Ok(Err(breach)),
     }
-    Ok(None)
 }
 
 // The text of an abend.

@@ -7,6 +7,6 @@ mod commands;
 mod lines;
 mod turns;
 
-pub use amounts::after_session;
+pub use amounts::{Breach, after_session};
 pub use commands::{abend_results, after_answer, after_command};
-pub use turns::{after_turn, whole_line, without_mark};
+pub use turns::{TurnEvent, after_turn, whole_line, without_mark};

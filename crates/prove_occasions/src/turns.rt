@@ -1,22 +1,31 @@
 // What an instruction that was done does to the allowances.
-ghost use Rattle.std.specs.Prelude.{◌≡◌, ◌+◌, ◌≤◌, ◌∷◌, [], ℕ, List, length, IfOk, IfSome};
+ghost use Rattle.std.specs.Prelude.{◌≡◌, ◌+◌, ◌≤◌, ◌∷◌, [], ℕ, List, length, IfOk};
 ghost use Rattle.model_text.specs.model_machine.specs.declared.instruction.Ins.{Ins};
 ghost use Rattle.model_text.specs.Listing.{text_of};
 ghost use Rattle.model_text.specs.TurnText.{bit_text};
 ghost use Rattle.prove_facts.specs.model_rules.specs.Rules.{OnLine};
 ghost use Rattle.prove_facts.specs.model_rules.specs.Keeping.{after_occasion, OnTurn};
-ghost use Rattle.prove_events.specs.declared.turns.TurnEvent.{TurnEvent};
 ghost use Rattle.prove_keys.specs.Keys.{amounts_of};
 ghost use Rattle.prove_occasions.specs.Amounts.{AreAfter, AreLinesOver};
 ghost use Rattle.prove_occasions.specs.Turns.{line_of_turn, whole_line};
 
-use crate::amounts::{Occasion, keep_on};
+use crate::amounts::{Breach, Occasion, keep_on};
 use arrayvec::ArrayVec;
 use lab_app_rules::On;
 use mc_text::{add, add_hex, cut};
 use model_device::{NoMemory, bytes_of};
-use prove_events::TurnEvent;
 use std::alloc::Global;
+
+/// An instruction that was done: the depth of its frame, its place and its text, and DT and the flags after it.
+#[derive(Clone, Copy)]
+pub struct TurnEvent<'a> {
+    pub depth: u8,
+    pub at: u16,
+    pub ins: &'a [u8],
+    pub dt: u16,
+    pub c: bool,
+    pub z: bool,
+}
 
 // The most characters of an instruction.
 const LONGEST: usize = 40;
@@ -57,9 +66,9 @@ pub fn without_mark(line: &[u8]) -> &[u8]
     }
 }
 
-/// Returns the amounts after an instruction that was done, or `None` if a rule is broken. `turn` has the text of the
+/// Returns the amounts after an instruction that was done, or the rule that is broken. `turn` has the text of the
 /// instruction; for a frame deeper than 4 and for a text of more than 40 characters, which no instruction has, it
-/// returns `None`.
+/// returns a rule of line 0.
 ///
 /// # Errors
 ///
@@ -70,23 +79,23 @@ pub fn after_turn(
     ons: &[On],
     amounts: &[u32],
     turn: &TurnEvent<'_>,
-) -> Result<Option<Vec<u32>>, NoMemory>
+) -> Result<Result<Vec<u32>, Breach>, NoMemory>
     ensures { (names : List (List ℕ)) (ls : List OnLine) (i : Ins) → AreLinesOver names ls ons.now amounts.now
         → turn.now.ins.now ≡ text_of i
-        → IfOk result (λ r. IfSome r (λ b.
+        → IfOk result (λ r. IfOk r (λ b.
         AreAfter names (after_occasion ls (OnTurn (line_of_turn turn.now i)) (amounts_of names amounts.now)) b.items)) }
 {
     if turn.depth > 4 || turn.ins.len() > LONGEST {
-        return Ok(None);
+        return Ok(Err(Breach { line: 0, name: 0 }));
     }
     let line = whole_line(turn);
     let mut after = Vec::from_slice(alloc, amounts)?;
-    if keep_on(
+    match keep_on(
         &mut after,
         ons,
         &Occasion::Turn(without_mark(line.as_slice())),
     ) {
-        return Ok(Some(after));
+        Ok(()) => Ok(Ok(after)),
+        Err(breach) => Ok(Err(breach)),
     }
-    Ok(None)
 }

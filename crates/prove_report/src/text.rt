@@ -8,9 +8,10 @@ use itoa::Buffer;
 use mc_isa::{decode, text_of};
 use mc_text::digit;
 use model_device::{NoMemory, bytes_of};
+use prove_arrivals::{Break, Rule};
 use prove_facts::{Fact, Facts, Values};
 use prove_keys::{DYNAMIC, MomentKey, Tables};
-use prove_search::{Break, Found, Rule, Subject, all_keep, code_of};
+use prove_search::{Found, Subject, all_keep, code_of};
 use std::alloc::Global;
 use std::collections::BTreeMap;
 

@@ -5,20 +5,14 @@ use lab_app_rules::CodeLine;
 use mc_isa::decode;
 use mc_isa::model_machine::Ins;
 use model_device::NoMemory;
-use prove_events::Class;
 use prove_facts::{Facts, Values};
-use prove_keys::{Begun, Tables};
+use prove_keys::{Begun, PUBLIC_END, Tables};
+use prove_patterns::Class;
 use prove_search::{Subject, code_of};
 use std::alloc::Global;
 
-// The addresses of CLA, INS, P1 and P2.
+// The address of CLA, before those of INS, P1 and P2.
 const CLA: u16 = 0xC404;
-
-const INS: u16 = 0xC405;
-
-const P1: u16 = 0xC406;
-
-const P2: u16 = 0xC407;
 
 // The number of the line whose code begins at a place.
 fn line_at(lines: &[CodeLine], place: u16) -> Option<u32> {
@@ -56,10 +50,10 @@ fn add_header_byte(
 
 // The header of a command of a class, by what is known at the last place of its frame.
 fn add_header(text: &mut Vec<u8>, class: &Class, read: &Facts) -> Result<(), NoMemory> {
-    add_header_byte(text, &class.cla, read, CLA)?;
-    add_header_byte(text, &class.ins, read, INS)?;
-    add_header_byte(text, &class.p1, read, P1)?;
-    add_header_byte(text, &class.p2, read, P2)
+    for (at, values) in (CLA..PUBLIC_END).zip(class.sets.iter()) {
+        add_header_byte(text, values, read, at)?;
+    }
+    Ok(())
 }
 
 // The last place of the frame that the rest of a way begins in.

@@ -1,9 +1,10 @@
 // The shortest ways to what is broken: from the creation, over the keys of finished tables.
 use model_device::NoMemory;
+use prove_arrivals::{Break, Outcome, Rule};
 use prove_facts::push;
 use prove_keys::{Begun, PlaceKey, Tables};
 use prove_search::{
-    Break, Found, Outcome, Rule, Subject, is_kept, outcomes_of_moment, outcomes_of_place,
+    Found, Subject, break_of, is_kept, outcomes_of_moment, outcomes_of_place,
 };
 use std::alloc::Global;
 use std::collections::{BTreeMap, VecDeque};
@@ -204,6 +205,27 @@ fn take_all(
     Ok(())
 }
 
+// The totals that are off at a key.
+fn note_totals(
+    walk: &mut Walk,
+    subject: &Subject<'_>,
+    found: &Found,
+    key: Key,
+) -> Result<(), NoMemory> {
+    let Key::Place(place) = key else {
+        return Ok(());
+    };
+    let Some(totals) = found.off.get(place) else {
+        return Ok(());
+    };
+    for total in totals {
+        if let Some(broken) = break_of(subject, &found.tables, place, *total) {
+            note_break(walk, broken, key)?;
+        }
+    }
+    Ok(())
+}
+
 // Whether the walk came to all that is broken or not known.
 fn is_done(walk: &Walk, found: &Found) -> bool {
     walk.broken.len() >= found.broken.len() && walk.unknown.len() >= found.unknown.len()
@@ -255,6 +277,7 @@ pub fn walk_to_faults(
         };
         let outcomes = outcomes_of(alloc, subject, tables, key)?;
         take_all(&mut walk, subject, tables, key, outcomes.as_slice())?;
+        note_totals(&mut walk, subject, found, key)?;
     }
     Ok(walk)
 }

@@ -1,13 +1,13 @@
 // The search that fills the tables.
-use crate::keys::Outcome;
-use crate::moments::moment_outcomes;
-use crate::places::place_outcomes;
+use crate::outcomes::{outcomes_of_moment, outcomes_of_place};
 use crate::subject::Subject;
 use crate::successors::Successors;
+use crate::sums::fill_sums;
 use crate::tables::{Found, MOST_KEYS, rounded};
 use model_device::NoMemory;
+use prove_arrivals::Outcome;
 use prove_facts::{Facts, push};
-use prove_keys::{Known, MomentKey, PackedKnown, PlaceKey, Tables};
+use prove_keys::{Known, MomentKey, PackedKnown, PlaceKey};
 use std::alloc::Global;
 use std::collections::VecDeque;
 
@@ -225,46 +225,6 @@ fn next_due(run: &mut Run) -> Due {
     Due::Nothing
 }
 
-/// Returns the outcomes of a moment by its number.
-///
-/// # Errors
-///
-/// Returns `NoMemory` if it is out of memory.
-pub fn outcomes_of_moment(
-    alloc: Global,
-    subject: &Subject<'_>,
-    tables: &Tables,
-    number: usize,
-) -> Result<Vec<Outcome>, NoMemory> {
-    let Some(key) = tables.moments.get_index(number) else {
-        return Ok(Vec::new(alloc));
-    };
-    match tables.facts.get(number) {
-        Some(facts) => moment_outcomes(alloc, subject, key, facts),
-        None => Ok(Vec::new(alloc)),
-    }
-}
-
-/// Returns the outcomes of a place by its number.
-///
-/// # Errors
-///
-/// Returns `NoMemory` if it is out of memory.
-pub fn outcomes_of_place(
-    alloc: Global,
-    subject: &Subject<'_>,
-    tables: &Tables,
-    number: usize,
-) -> Result<Vec<Outcome>, NoMemory> {
-    let Some(key) = tables.places.get_index(number) else {
-        return Ok(Vec::new(alloc));
-    };
-    match tables.known.get(number) {
-        Some(known) => place_outcomes(alloc, subject, key, known.known(alloc)?),
-        None => Ok(Vec::new(alloc)),
-    }
-}
-
 // Takes the outcomes of one key; returns whether some were due.
 fn advance(alloc: Global, subject: &Subject<'_>, run: &mut Run) -> Result<bool, Stopped> {
     let due = next_due(run);
@@ -306,7 +266,8 @@ fn run_all(alloc: Global, subject: &Subject<'_>, run: &mut Run) -> Result<(), St
     Err(Stopped::NoMemory)
 }
 
-/// Returns the least tables that hold the first key with its facts and are closed under each outcome.
+/// Returns the least tables that hold the first key with its facts and are closed under each outcome, and beside them
+/// what is known for sums.
 ///
 /// # Errors
 ///
@@ -326,6 +287,9 @@ pub fn search(
     };
     join_moment(alloc, subject, &mut run, first, facts)?;
     run_all(alloc, subject, &mut run)?;
-    let Run { found, .. } = run;
+    let Run { mut found, .. } = run;
+    if !subject.rules.balances.is_empty() {
+        fill_sums(alloc, subject, &mut found)?;
+    }
     Ok(found)
 }

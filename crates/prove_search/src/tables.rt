@@ -1,10 +1,11 @@
 // What a search found, and facts as they are kept between commands.
-use crate::keys::Break;
 use crate::successors::Successors;
 use lab_app_rules::{Always, Rules};
 use model_device::NoMemory;
+use prove_arrivals::Break;
 use prove_facts::{Fact, Facts, Values};
 use prove_keys::Tables;
+use prove_sums::Sums;
 use std::alloc::Global;
 use std::collections::BTreeSet;
 
@@ -20,6 +21,10 @@ pub struct Found {
     pub tables: Tables,
     /// Noted of rules with lines of sums alone.
     pub successors: Successors,
+    /// What is known for sums at each place, of rules with lines of sums.
+    pub sums: Vec<Sums>,
+    /// The totals that are off at each place.
+    pub off: Vec<Vec<usize>>,
     pub broken: BTreeSet<Break>,
     pub unknown: BTreeSet<u16>,
 }
@@ -30,6 +35,8 @@ impl Found {
         Found {
             tables: Tables::new(alloc),
             successors: Successors::new(alloc),
+            sums: Vec::new(alloc),
+            off: Vec::new(alloc),
             broken: BTreeSet::new(alloc),
             unknown: BTreeSet::new(alloc),
         }

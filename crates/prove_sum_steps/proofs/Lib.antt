@@ -7,3 +7,4 @@ pub mod StepLemmas
 pub mod PlaceLemmas
 pub mod TotalLemmas
 pub mod ClosingLemmas
+pub mod HeldLemmas

@@ -20,7 +20,7 @@ use Rattle.prove_spots.specs.Grounds.{Ground}
 use Rattle.prove_sums.specs.Values.{sums_value}
 use Rattle.prove_sum_steps.specs.declared.turns.Turn.{Turn}
 use Rattle.prove_sum_steps.specs.Places.{AreGoals, near_in, spot_with}
-use Rattle.prove_sum_steps.specs.Walks.{IsTurn, Passes, instruction_closed, place_in}
+use Rattle.prove_sum_steps.specs.Walks.{IsHeld, IsTurn, Passes, instruction_closed, place_in}
 
 -- the place of an instruction is that of a key
 pub place_is : (names : List (List ℕ)) (u : Subject) (k : PlaceKey) (p : PackedKnown) (g : Ground)
@@ -30,14 +30,15 @@ place_is names u k p g key known = λ i. record { key = key i; known = known i }
 
 -- what is checked of an instruction at a place
 pub turn_is : (names : List (List ℕ)) (s : Setting) (u : SumsTable) (t : Turn) (p : Spot) → place_in names t ≡ p → IsOver names s t.subject.now t.key.now.amounts.items
-    → AreSums s.rules t.rules.now → AreGoals names s u t.subject.now p t.goals.now → IsTurn names s u t
-turn_is names s u t p e over sums are =
+    → AreSums s.rules t.rules.now → AreGoals names s u t.subject.now p t.goals.now → IsHeld t.landing → IsTurn names s u t
+turn_is names s u t p e over sums are held =
     record {
       over = over;
       sums = sums;
       goals = are.goals;
       reached = λ w next after k all.
           subst (λ (p : Spot). all_pass (arrival_closed s u w next after) (place_arrivals s p.key p.known) ≡ true) (sym e) (are.reached w next after k all);
+      held = held;
     }
 
 -- an instruction that was fetched there
@@ -63,6 +64,6 @@ module _ (names : List (List ℕ)) (u v : Subject) (near : Tables) (sizes : v.si
 
 -- an instruction that passes at the place
 pub fetched_with : (names : List (List ℕ)) (s : Setting) (u : SumsTable) (t : Turn) (p : Spot) → place_in names t ≡ p → IsOver names s t.subject.now t.key.now.amounts.items
-    → AreSums s.rules t.rules.now → AreGoals names s u t.subject.now p t.goals.now → Passes t (λ names s u. instruction_closed names s u t)
+    → AreSums s.rules t.rules.now → AreGoals names s u t.subject.now p t.goals.now → IsHeld t.landing → Passes t (λ names s u. instruction_closed names s u t)
     → fetched_closed s u p (sums_value t.sums.now) (Ok (t.ins.now, t.next)) ≡ true
-fetched_with names s u t p e over sums are h = fetched_is names s u t p e (h names s u (turn_is names s u t p e over sums are))
+fetched_with names s u t p e over sums are held h = fetched_is names s u t p e (h names s u (turn_is names s u t p e over sums are held))

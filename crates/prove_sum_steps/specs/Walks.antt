@@ -1,5 +1,5 @@
 -- What is checked of the instruction at a place, in parts.
-use Rattle.std.specs.Prelude.{◌≡◌, ℕ, Bool, true, ◌&&◌, List, []}
+use Rattle.std.specs.Prelude.{◌≡◌, ℕ, Bool, true, ◌&&◌, List, [], ⊤, ⊥}
 use Rattle.std.specs.List.{AllByRecursion}
 use Rattle.mc_isa.specs.model_machine.specs.Primitives.{Then}
 use Rattle.mc_isa.specs.model_machine.specs.Shapes.{Shape}
@@ -25,6 +25,8 @@ use Rattle.prove_steps.specs.Scenes.{scene_after}
 use Rattle.prove_sums.specs.declared.values.Sums as code
 use Rattle.prove_sums.specs.Values.{SumsAre, sums_value}
 use Rattle.prove_sum_steps.specs.declared.goals.Goal.{Goal}
+use Rattle.prove_sum_steps.specs.declared.turns.SumsLanding.{SumsLanding}
+use Rattle.prove_sum_steps.specs.declared.turns.SumsLanding.TheVariants.{Held, Gathered}
 use Rattle.prove_sum_steps.specs.declared.turns.Turn.{Turn}
 use Rattle.prove_sum_steps.specs.Tables.{IsGoal, goal_key}
 
@@ -54,6 +56,11 @@ arrivals_of names s t = place_arrivals s (place_in names t).key (place_in names 
 abbrev pub goal_arrival : List (List ℕ) → Turn → Known → Goal → Arrival
 goal_arrival names t k g = AtPlace (goal_key names t.subject.now g) k
 
+-- what an instruction leaves is held against a table
+abbrev pub IsHeld : SumsLanding → Type 0
+IsHeld Held = ⊤
+IsHeld (Gathered list) = ⊥
+
 -- What is checked of an instruction is for a setting and a table of sums: the subject and the rules are of the setting,
 -- the table has what the goals have, and each outcome of the place leads to one of them.
 pub record IsTurn (names : List (List ℕ)) (s : Setting) (u : SumsTable) (t : Turn) : Type 0 where
@@ -63,6 +70,7 @@ pub record IsTurn (names : List (List ℕ)) (s : Setting) (u : SumsTable) (t : T
   pub reached : (w : closed.Turn) (next : Then) (after : Sums) (k : Known)
       → all_pass (λ g. arrival_closed s u w next after (goal_arrival names t k g)) t.goals.now ≡ true
       → all_pass (arrival_closed s u w next after) (arrivals_of names s t) ≡ true
+  pub held : IsHeld t.landing
 
 -- ---- what passes
 

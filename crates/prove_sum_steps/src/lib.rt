@@ -15,4 +15,7 @@ mod steps;
 mod totals;
 mod turns;
 
+pub use branching::instruction_holds;
 pub use closing::sums_are_closed;
+pub use goals::Goal;
+pub use turns::{SumsLanding, SumsOutcome, Turn};

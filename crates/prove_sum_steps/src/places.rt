@@ -14,7 +14,7 @@ ghost use Rattle.prove_sums.specs.Values.{sums_value};
 use crate::branching::instruction_holds;
 use crate::goals::{Goal, goals_of, sums_at};
 use crate::near::set_places;
-use crate::turns::Turn;
+use crate::turns::{SumsLanding, Turn};
 use lab_app_rules::Rules;
 use mc_isa::decode;
 use model_device::NoMemory;
@@ -55,6 +55,7 @@ pub fn with_tables<'a>(
         never: subject.never,
         classes: subject.classes,
         tables,
+        landing: subject.landing,
         replies: subject.replies,
     })
 }
@@ -110,6 +111,7 @@ fn done_holds(
         ins,
         next,
         goals,
+        landing: SumsLanding::Held,
     };
     let holds = instruction_holds(alloc, &turn)?;
     Ok(holds)

@@ -1,5 +1,5 @@
 // What is known for sums after the event of an instruction, held against what the table has at the place after it.
-ghost use Rattle.std.specs.Prelude.{◌≡◌, ◌≤◌, ℕ, true, List, bytes_eq, IfOk, IfSome};
+ghost use Rattle.std.specs.Prelude.{◌≡◌, ◌≤◌, ℕ, true, List, bytes_eq, IfOk, ⊥};
 ghost use Rattle.mc_isa.specs.model_machine.specs.Code.{Shaped};
 ghost use Rattle.mc_isa.specs.model_machine.specs.declared.instruction.Ins.{Ins};
 ghost use Rattle.prove_facts.specs.model_prove.specs.Arrivals.{Setting};
@@ -14,18 +14,118 @@ ghost use Rattle.mc_isa.specs.model_text.specs.Listing.{text_of};
 ghost use Rattle.prove_keys.specs.Keys.{amounts_of};
 ghost use Rattle.prove_occasions.specs.Amounts.{AreAfter};
 ghost use Rattle.prove_occasions.specs.Turns.{line_of_turn};
-ghost use Rattle.prove_sum_steps.specs.Walks.{IsTurn, PassesAt, PassesWith, event_closed, event_sums, turn_in};
+ghost use Rattle.prove_facts.specs.model_rules.specs.Rules.{Total};
+ghost use Rattle.lab_app_rules.specs.Sums.{AreTotals};
+ghost use Rattle.prove_sum_steps.specs.Walks.{IsHeld, IsTurn, PassesAt, PassesWith, event_closed, event_sums, turn_in};
 ghost use Rattle.prove_sums.specs.Values.{SumsAre};
 
 use crate::goals::Goal;
-use crate::turns::Turn;
+use crate::turns::{SumsLanding, SumsOutcome, Turn};
+use lab_app_rules::Balance;
 use mc_isa::text_of;
 use model_device::NoMemory;
-use prove_events::TurnEvent;
-use prove_occasions::{after_turn, whole_line, without_mark};
+use prove_facts::push;
+use prove_forms::Form;
+use prove_occasions::{Breach, TurnEvent, after_turn, whole_line, without_mark};
 use prove_scenes::Next;
 use prove_sums::{Sums, asks, counted, drops, mode_of};
 use std::alloc::Global;
+use std::cell::RefCell;
+
+// Adds to what is gathered; returns `true`.
+fn gather(list: &RefCell<Vec<SumsOutcome>>, outcome: SumsOutcome) -> Result<bool, NoMemory> {
+    match list.try_borrow_mut() {
+        Ok(mut outcomes) => {
+            push(&mut outcomes, outcome)?;
+            Ok(true)
+        }
+        Err(_) => Err(NoMemory),
+    }
+}
+
+// Gathers what is known at the place of a goal.
+fn gather_known(
+    list: &RefCell<Vec<SumsOutcome>>,
+    turn: &Turn<'_>,
+    goal: &Goal<'_>,
+    sums: Sums,
+) -> Result<bool, NoMemory> {
+    match turn.subject.tables.places.get_index_of(goal.key) {
+        Some(number) => gather(list, SumsOutcome::Known(number, sums)),
+        None => Ok(false),
+    }
+}
+
+// Gathers which totals are off.
+fn gather_off(
+    list: &RefCell<Vec<SumsOutcome>>,
+    turn: &Turn<'_>,
+    sums: &Sums,
+) -> Result<(), NoMemory> {
+    for (number, (balance, off)) in turn
+        .rules
+        .balances
+        .iter()
+        .zip(sums.offs.iter())
+        .enumerate()
+    {
+        if !is_even(balance, off) {
+            gather(list, SumsOutcome::Off(number))?;
+        }
+    }
+    Ok(())
+}
+
+// Whether a total is not off.
+fn is_even(balance: &Balance, off: &Option<Form>) -> bool {
+    match off {
+        Some(form) => form.is_zero(balance.n),
+        None => false,
+    }
+}
+
+// Takes totals that are off after an event: no table of sums says that they are not. What is gathered goes on as if they
+// were not.
+fn take_off(
+    alloc: Global,
+    turn: &Turn<'_>,
+    sums: Sums,
+    goal: &Goal<'_>,
+) -> Result<bool, NoMemory>
+    ensures { IfOk result (λ goes. goes ≡ true → IsHeld turn.now.landing → ⊥) }
+{
+    match turn.landing {
+        SumsLanding::Held => Ok(false),
+        SumsLanding::Gathered(list) => {
+            gather_off(list, turn, &sums)?;
+            let Sums { origins, mores, .. } = sums;
+            let Sums { offs, .. } = Sums::first(alloc, turn.rules.balances.as_slice())?;
+            gather_known(
+                list,
+                turn,
+                goal,
+                Sums {
+                    origins,
+                    mores,
+                    offs,
+                },
+            )
+        }
+    }
+}
+
+// Takes totals that are off after an exit.
+fn take_last_off(turn: &Turn<'_>, sums: &Sums) -> Result<bool, NoMemory>
+    ensures { IfOk result (λ goes. goes ≡ true → IsHeld turn.now.landing → ⊥) }
+{
+    match turn.landing {
+        SumsLanding::Held => Ok(false),
+        SumsLanding::Gathered(list) => {
+            gather_off(list, turn, sums)?;
+            Ok(true)
+        }
+    }
+}
 
 // What is known for sums after the event of an instruction with this line.
 fn after_event(alloc: Global, turn: &Turn<'_>, after: &Sums, line: &[u8]) -> Result<Sums, NoMemory>
@@ -44,6 +144,24 @@ fn is_settled(turn: &Turn<'_>, sums: &Sums) -> bool
     !asks(turn.spot.protected(), mode_of(turn.ins)) || sums.are_even(turn.rules.balances.as_slice())
 }
 
+// Whether what a goal has follows from what is known.
+fn follows(
+    alloc: Global,
+    turn: &Turn<'_>,
+    known: &Sums,
+    goal: &Goal<'_>,
+) -> Result<bool, NoMemory>
+    ensures { IfOk result (λ holds. holds ≡ true → IsHeld turn.now.landing
+        → (names : List (List ℕ)) (ts : List Total) (u v : sums.Sums)
+        → AreTotals names ts turn.now.rules.now.balances.items → SumsAre known.now u → SumsAre goal.now.sums.now v
+        → sums.sums_follow ts u v ≡ true) }
+{
+    match turn.landing {
+        SumsLanding::Held => known.follows(alloc, turn.rules.balances.as_slice(), goal.sums),
+        SumsLanding::Gathered(list) => gather_known(list, turn, goal, known.copied(alloc)?),
+    }
+}
+
 // Whether what a place of the table has follows from what is known after an event.
 fn follows_at(
     alloc: Global,
@@ -56,19 +174,18 @@ fn follows_at(
         (λ s u w n v k. has_sums s.rules.totals (after_next n v) (sums_at u k))) }
 {
     goal.sums.fits();
-    let balances = turn.rules.balances.as_slice();
     match next {
         Next::Delegates => {
             let left = sums.delegated(alloc)?;
-            let holds = left.follows(alloc, balances, goal.sums)?;
+            let holds = follows(alloc, turn, &left, goal)?;
             Ok(holds)
         }
         Next::Goes => {
-            let holds = sums.follows(alloc, balances, goal.sums)?;
+            let holds = follows(alloc, turn, sums, goal)?;
             Ok(holds)
         }
         Next::Exits => {
-            let holds = sums.follows(alloc, balances, goal.sums)?;
+            let holds = follows(alloc, turn, sums, goal)?;
             Ok(holds)
         }
     }
@@ -88,7 +205,7 @@ fn event_holds(
 {
     let sums = after_event(alloc, turn, after, line)?;
     if !is_settled(turn, &sums) {
-        return Ok(false);
+        return take_off(alloc, turn, sums, goal);
     }
     let holds = follows_at(alloc, turn, next, &sums, goal)?;
     Ok(holds)
@@ -117,14 +234,14 @@ fn event_at<'a>(
     }
 }
 
-// The amounts after the event of an instruction, or `None` if a rule is broken.
+// The amounts after the event of an instruction, or the rule that is broken.
 fn amounts_after(
     alloc: Global,
     turn: &Turn<'_>,
     event: &TurnEvent<'_>,
-) -> Result<Option<Vec<u32>>, NoMemory>
+) -> Result<Result<Vec<u32>, Breach>, NoMemory>
     ensures { (names : List (List ℕ)) (s : Setting) (u : SumsTable) → IsTurn names s u turn.now
-        → event.now.ins.now ≡ text_of turn.now.ins.now → IfOk result (λ r. IfSome r (λ b. AreAfter names
+        → event.now.ins.now ≡ text_of turn.now.ins.now → IfOk result (λ r. IfOk r (λ b. AreAfter names
         (after_occasion s.rules.ons (OnTurn (line_of_turn event.now turn.now.ins.now))
         (amounts_of names turn.now.key.now.amounts.items)) b.items)) }
 {
@@ -167,7 +284,7 @@ pub fn depth_holds(
         registers.c,
         registers.z,
     );
-    let Some(left) = amounts_after(alloc, turn, &event)? else {
+    let Ok(left) = amounts_after(alloc, turn, &event)? else {
         return Ok(false);
     };
     if !leads_to(left.as_slice(), goal) {
@@ -208,5 +325,8 @@ pub fn exit_holds(
     let line = whole_line(&event);
     let text = without_mark(line.as_slice());
     let sums = after_event(alloc, turn, after, text)?;
-    Ok(is_settled(turn, &sums))
+    if is_settled(turn, &sums) {
+        return Ok(true);
+    }
+    take_last_off(turn, &sums)
 }

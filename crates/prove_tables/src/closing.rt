@@ -9,36 +9,13 @@ ghost use Rattle.prove_keys.specs.Tables.{tables_of};
 ghost use Rattle.lab_app_rules.specs.Sums.{AreSums};
 ghost use Rattle.prove_tables.specs.Closed.{AreProved, HasSums, tables_with};
 
-use crate::sums_table::table_of_sums;
-use lab_app_rules::{Event, On};
 use model_device::NoMemory;
 use prove_closed::is_closed;
-use prove_events::Class;
 use prove_facts::push;
 use prove_search::{Found, Subject};
 use prove_sum_steps::sums_are_closed;
 use std::alloc::Global;
 use std::collections::BTreeSet;
-
-// Which `command` and `answer` lines the commands of a class match.
-fn lines_of(alloc: Global, ons: &[On], class: &Class) -> Result<Vec<bool>, NoMemory> {
-    let mut lines = Vec::new(alloc);
-    for (on, matches) in ons.iter().zip(class.matches.iter()) {
-        if on.event == Event::Command || on.event == Event::Answer {
-            push(&mut lines, *matches)?;
-        }
-    }
-    Ok(lines)
-}
-
-// The lines that the commands of each class match.
-fn lines_of_all(alloc: Global, ons: &[On], classes: &[Class]) -> Result<Vec<Vec<bool>>, NoMemory> {
-    let mut all = Vec::new(alloc);
-    for class in classes {
-        push(&mut all, lines_of(alloc, ons, class)?)?;
-    }
-    Ok(all)
-}
 
 // Whether the tables that a search found are closed: they have the first moment and every outcome of each of their keys,
 // none breaks a rule, and each moment keeps the ranges.
@@ -76,14 +53,13 @@ fn have_sums(
         → HasSums a g (tables_with subject.now.rules.now numbers.now found.now.tables)) }
 {
     let tables = &found.tables;
-    let sums = table_of_sums(alloc, subject.sizes.blocks, tables.known.as_slice())?;
     let begun = listed(alloc, &found.successors.begun)?;
     sums_are_closed(
         alloc,
         subject.rules,
         tables,
         numbers,
-        sums.as_slice(),
+        found.sums.as_slice(),
         found.successors.near.as_slice(),
         begun.as_slice(),
     )
@@ -100,12 +76,12 @@ pub fn are_proved(alloc: Global, subject: &Subject<'_>, found: &Found) -> Result
         → AreSums a subject.now.rules.now → AreProved a g) }
 {
     let rules = subject.rules;
-    let numbers = lines_of_all(alloc, rules.ons.as_slice(), subject.classes.as_slice())?;
-    if !are_closed(alloc, subject, found, numbers.as_slice())? {
+    let numbers = subject.numbers.as_slice();
+    if !are_closed(alloc, subject, found, numbers)? {
         return Ok(false);
     }
     if rules.balances.is_empty() {
         return Ok(true);
     }
-    have_sums(alloc, subject, found, numbers.as_slice())
+    have_sums(alloc, subject, found, numbers)
 }

@@ -5,6 +5,5 @@
 
 mod closing;
 mod proving;
-mod sums_table;
 
 pub use proving::{Verdict, prove};

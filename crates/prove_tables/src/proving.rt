@@ -14,12 +14,11 @@ use lab_app_rules::{Balance, Load, Rules};
 use law_sum_plays::closed_sums_keep_rules;
 use law_sum_plays::law_prove_closed::closed_tables_keep_rules;
 use model_device::NoMemory;
+use prove_arrivals::{Break, Rule};
 use prove_facts::{Facts, Values, mask, push};
 use prove_keys::MomentKey;
 use prove_report::{add_verdict, break_ranges, text_of_tables};
-use prove_search::{
-    Break, Found, MOST_KEYS, Rule, Stopped, Subject, balance_at_creation, blocks_of, search,
-};
+use prove_search::{Found, MOST_KEYS, Stopped, Subject, search};
 use std::alloc::Global;
 
 /// A text, and whether it says that all rules are proved.
@@ -76,6 +75,22 @@ fn is_extended(load: &Load<'_>, balance: &Balance, value: u128) -> bool {
     true
 }
 
+// What a line says that its block is at the creation, modulo 256 to the 16th.
+fn balance_at_creation(rules: &Rules<'_>, balance: &Balance) -> u128 {
+    let mut value = balance.constant as u128;
+    for signed in &balance.sums {
+        if let Some(sum) = rules.sums.get(signed.sum) {
+            let amount = sum.amount as u128;
+            value = if signed.minus {
+                value.wrapping_sub(amount)
+            } else {
+                value.wrapping_add(amount)
+            };
+        }
+    }
+    value
+}
+
 // Whether a line of sums holds at the creation.
 fn holds_at_creation(rules: &Rules<'_>, balance: &Balance) -> bool {
     let value = balance_at_creation(rules, balance);
@@ -100,13 +115,13 @@ fn break_balances(rules: &Rules<'_>, found: &mut Found) -> Result<(), NoMemory> 
     Ok(())
 }
 
-// The text where there are too many keys.
-fn too_many(alloc: Global) -> Result<Verdict, NoMemory>
+// The text where nothing is proved, with a number of keys.
+fn unproved(alloc: Global, keys: usize) -> Result<Verdict, NoMemory>
     ensures report { IfOk result (λ v. IsReport v.proved v.text.items) }
     ensures unproved { IfOk result (λ v. v.proved ≡ false) }
 {
     let mut text = Vec::new(alloc);
-    add_verdict(&mut text, false, MOST_KEYS)?;
+    add_verdict(&mut text, false, keys)?;
     Ok(Verdict {
         text,
         proved: false,
@@ -152,13 +167,14 @@ pub fn prove(alloc: Global, rules: &Rules<'_>) -> Result<Verdict, NoMemory>
 {
     closed_tables_keep_rules();
     closed_sums_keep_rules();
-    let blocks = blocks_of(alloc, rules)?;
-    let subject = Subject::new(alloc, rules, blocks.as_slice())?;
+    let Some(subject) = Subject::new(alloc, rules)? else {
+        return unproved(alloc, 0);
+    };
     let first = first_key(alloc, rules)?;
     let facts = first_facts(alloc, &rules.load)?;
     match search(alloc, &subject, first, facts) {
         Ok(found) => verdict_of(alloc, &subject, found),
-        Err(Stopped::TooMany) => too_many(alloc),
+        Err(Stopped::TooMany) => unproved(alloc, MOST_KEYS),
         Err(Stopped::NoMemory) => Err(NoMemory),
     }
 }

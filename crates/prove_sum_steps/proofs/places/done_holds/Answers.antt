@@ -7,4 +7,4 @@ returns c h names s u is size goals =
     let j = c.args.stand.now.subject.now in
     let k = c.args.key.now in
     fetched_with names s u _ (spot_with names j k c.args.packed.now) (place_is names j k c.args.packed.now c.in_ok-spot.spot (c.in_ok-spot.ensures.key names j) c.in_ok-spot.ensures.known)
-    (record { subject = is.subject; size = size }) is.sums goals (c.in_ok-holds.ensures h)
+    (record { subject = is.subject; size = size }) is.sums goals tt (c.in_ok-holds.ensures h)

@@ -1,4 +1,4 @@
-use Rattle.std.proofs.Common.{◌≡◌, ◌∙◌, ℕ, List, IfSome, true, sym, subst}
+use Rattle.std.proofs.Common.{◌≡◌, ◌∙◌, ℕ, List, IfOk, true, sym, subst}
 use Rattle.prove_facts.specs.model_rules.specs.Keeping.{OnTurn, after_occasion, line_of}
 use Rattle.prove_sums.specs.model_sums.specs.Closed.{event_leads_to}
 use Rattle.prove_keys.specs.Keys.{amounts_of}
@@ -16,9 +16,9 @@ returns-then-not-leads_to c h names s u e n v is at same are =
     let k = goal_key names t.subject.now c.args.goal.now in
     let event = c.event_at-event.result in
     let left =
-    subst (λ r. IfSome r (λ b. AreAfter names (after_occasion s.rules.ons (OnTurn (line_of_turn event i)) (amounts_of names t.key.now.amounts.items)) b.items)) c.in-Some.is
+    subst (λ r. IfOk r (λ b. AreAfter names (after_occasion s.rules.ons (OnTurn (line_of_turn event i)) (amounts_of names t.key.now.amounts.items)) b.items)) c.in-Ok.is
     (c.in_ok-left.ensures names s u is (c.event_at-event.ensures.text ∙ c.as_slice.ensures.value ∙ c.text_of-ins.ensures)) in
-    elsewhere s.rules.ons (line_of_turn event i) (line_of c.args.depth t.spot.now.at i k.dt k.c k.z) names t.key.now.amounts.items c.in-Some.left.items c.as_slice-2.result.now
+    elsewhere s.rules.ons (line_of_turn event i) (line_of c.args.depth t.spot.now.at i k.dt k.c k.z) names t.key.now.amounts.items c.in-Ok.left.items c.as_slice-2.result.now
     c.args.goal.now.key.now.amounts.items _ (c.event_at-event.ensures.line i) left c.as_slice-2.ensures.value at.whole.0 (sym c.leads_to.ensures ∙ c.if-not-leads_to.true)
 
 pub returns : goal.returns

@@ -1,6 +1,7 @@
-// The rules that are broken, and the outcomes that lead from one key of the tables to another.
+// Outcomes as a search gathers them.
 use prove_facts::Facts;
 use prove_keys::{Known, MomentKey, PlaceKey};
+use prove_occasions::Breach;
 
 /// A rule by its number among those of its kind: an allowance, no abend, a range, or the block of a line of sums.
 #[derive(Clone, Copy, PartialEq, Eq, PartialOrd, Ord, Debug)]
@@ -19,11 +20,21 @@ pub struct Break {
     pub rule: Rule,
 }
 
-/// An outcome of a key.
+/// An outcome of a key: a moment or a place with what is known there, a rule that is broken, or a return from the
+/// instruction at a place to where it is not known.
 #[derive(Drop)]
 pub enum Outcome {
     Moment(MomentKey, Facts),
     Place(PlaceKey, Known),
     Broken(Break),
     Unknown(u16),
+}
+
+/// Returns what an event breaks at a place, or without one.
+pub fn break_of(at: Option<u16>, breach: &Breach) -> Break {
+    Break {
+        line: breach.line,
+        at,
+        rule: Rule::Allowance(breach.name),
+    }
 }

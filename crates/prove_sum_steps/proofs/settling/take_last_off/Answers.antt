@@ -1,0 +1,6 @@
+use Rattle.std.proofs.Common.{subst}
+use Rattle.prove_sum_steps.specs.Walks.{IsHeld}
+use Rattle.prove_sum_steps.proofs.settling.take_last_off.Goals as goal
+
+pub returns-in-Gathered : goal.returns-in-Gathered
+returns-in-Gathered c t h = subst IsHeld c.in-Gathered.is h
