@@ -1,5 +1,5 @@
 -- What is included if a call says so.
-use Rattle.std.specs.Prelude.{◌≡◌, ℕ, Bool, true, List, Result, Ok, Err, IfOk, ⊥}
+use Rattle.std.specs.Prelude.{◌≡◌, ℕ, Bool, true, List, Result, Ok, Err, IfOk}
 use Rattle.mc_arith.specs.model_machine.specs.declared.instruction.Ins.{Ins}
 use Rattle.prove_facts.specs.model_prove.specs.Arrivals.{Setting, Arrival}
 use Rattle.prove_arrivals.specs.declared.subject.Subject.{Subject}

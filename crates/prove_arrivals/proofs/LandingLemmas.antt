@@ -1,7 +1,7 @@
 -- What is known at a place whose static bytes power would leave as they are read, and what is claimed of outcomes that are
 -- gathered.
 use Rattle.std.proofs.Common.{◌≡◌, ◌∙◌, ℕ, Bool, true, List, [], ◌∷◌, ap, sym, refl}
-use Rattle.std.specs.Prelude.{◌&&◌, nat_eq, Result, Ok, Err, IfOk, ⊥}
+use Rattle.std.specs.Prelude.{◌&&◌, nat_eq, Result, Ok, Err, IfOk}
 use Rattle.std.specs.Cmp.Lexicographic.{pointwise}
 use Rattle.std.proofs.lemmas.Bool.{and_parts, eqb-true, eq-eqb}
 use Rattle.std.proofs.lemmas.Slice.Eq.{slice_eq-Decides}

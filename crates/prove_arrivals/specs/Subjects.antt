@@ -1,5 +1,5 @@
 -- What is looked at as code is followed, as the definition has it.
-use Rattle.std.specs.Prelude.{◌≡◌, ℕ, Bool, true, List, length, map, ⊤, ⊥}
+use Rattle.std.specs.Prelude.{◌≡◌, ℕ, Bool, true, List, length, map, ⊤}
 use Rattle.prove_facts.specs.model_prove.specs.Keys.{Start, Known, Tables}
 use Rattle.prove_facts.specs.model_prove.specs.Arrivals.{Setting, Arrival}
 use Rattle.prove_facts.specs.model_prove.specs.Tables.{includes_all}

@@ -1,5 +1,5 @@
 // Stops, abends and exits.
-ghost use Rattle.std.specs.Prelude.{◌≡◌, ℕ, true, List, [], get_or, IfOk, ⊥};
+ghost use Rattle.std.specs.Prelude.{◌≡◌, ℕ, true, List, [], get_or, IfOk};
 ghost use Rattle.prove_facts.specs.model_prove.specs.Arrivals as arrivals;
 ghost use Rattle.prove_facts.specs.model_prove.specs.Arrivals.{Setting};
 ghost use Rattle.prove_keys.specs.Keys.{amounts_of};

@@ -1,5 +1,5 @@
 // The moments and the places to which outcomes lead, and the rules that they break.
-ghost use Rattle.std.specs.Prelude.{◌≡◌, ℕ, Bool, true, List, [], ◌∷◌, length, IfOk, IfSome, ⊥};
+ghost use Rattle.std.specs.Prelude.{◌≡◌, ℕ, Bool, true, List, [], ◌∷◌, length, IfOk, IfSome};
 ghost use Rattle.prove_facts.specs.model_prove.specs.Arrivals as arrivals;
 ghost use Rattle.prove_facts.specs.model_prove.specs.Arrivals.{AtMoment, AtPlace, Setting};
 ghost use Rattle.prove_facts.specs.model_prove.specs.Compares.{NoCompare};

@@ -1,5 +1,5 @@
 -- What is claimed of an instruction whose outcomes are gathered: nothing.
-use Rattle.std.specs.Prelude.{◌≡◌, Bool, true, Result, Ok, Err, IfOk, ⊥}
+use Rattle.std.specs.Prelude.{◌≡◌, Bool, true, Result, Ok, Err, IfOk}
 use Rattle.prove_scenes.specs.declared.shapes.Next.{Next}
 use Rattle.prove_sums.specs.declared.values.Sums as code
 use Rattle.prove_facts.specs.model_prove.specs.Arrivals.{Setting}

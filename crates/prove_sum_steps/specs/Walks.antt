@@ -1,5 +1,5 @@
 -- What is checked of the instruction at a place, in parts.
-use Rattle.std.specs.Prelude.{◌≡◌, ℕ, Bool, true, ◌&&◌, List, [], ⊤, ⊥}
+use Rattle.std.specs.Prelude.{◌≡◌, ℕ, Bool, true, ◌&&◌, List, [], ⊤}
 use Rattle.std.specs.List.{AllByRecursion}
 use Rattle.mc_isa.specs.model_machine.specs.Primitives.{Then}
 use Rattle.mc_isa.specs.model_machine.specs.Shapes.{Shape}

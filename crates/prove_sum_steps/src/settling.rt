@@ -1,5 +1,5 @@
 // What is known for sums after the event of an instruction, held against what the table has at the place after it.
-ghost use Rattle.std.specs.Prelude.{◌≡◌, ◌≤◌, ℕ, true, List, bytes_eq, IfOk, ⊥};
+ghost use Rattle.std.specs.Prelude.{◌≡◌, ◌≤◌, ℕ, true, List, bytes_eq, IfOk};
 ghost use Rattle.mc_isa.specs.model_machine.specs.Code.{Shaped};
 ghost use Rattle.mc_isa.specs.model_machine.specs.declared.instruction.Ins.{Ins};
 ghost use Rattle.prove_facts.specs.model_prove.specs.Arrivals.{Setting};

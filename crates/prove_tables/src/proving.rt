@@ -128,6 +128,22 @@ fn unproved(alloc: Global, keys: usize) -> Result<Verdict, NoMemory>
     })
 }
 
+// The text where there are too many keys.
+fn too_many(alloc: Global) -> Result<Verdict, NoMemory>
+    ensures report { IfOk result (λ v. IsReport v.proved v.text.items) }
+    ensures unproved { IfOk result (λ v. v.proved ≡ false) }
+{
+    unproved(alloc, MOST_KEYS)
+}
+
+// The text where the search for classes of commands gave up.
+fn gave_up(alloc: Global) -> Result<Verdict, NoMemory>
+    ensures report { IfOk result (λ v. IsReport v.proved v.text.items) }
+    ensures unproved { IfOk result (λ v. v.proved ≡ false) }
+{
+    unproved(alloc, 0)
+}
+
 // Whether what a search found proves the rules: nothing is broken or not known, and its tables are closed, as the
 // definition has it.
 fn is_proved(alloc: Global, subject: &Subject<'_>, found: &Found) -> Result<bool, NoMemory>
@@ -168,13 +184,13 @@ pub fn prove(alloc: Global, rules: &Rules<'_>) -> Result<Verdict, NoMemory>
     closed_tables_keep_rules();
     closed_sums_keep_rules();
     let Some(subject) = Subject::new(alloc, rules)? else {
-        return unproved(alloc, 0);
+        return gave_up(alloc);
     };
     let first = first_key(alloc, rules)?;
     let facts = first_facts(alloc, &rules.load)?;
     match search(alloc, &subject, first, facts) {
         Ok(found) => verdict_of(alloc, &subject, found),
-        Err(Stopped::TooMany) => unproved(alloc, MOST_KEYS),
+        Err(Stopped::TooMany) => too_many(alloc),
         Err(Stopped::NoMemory) => Err(NoMemory),
     }
 }

@@ -12,5 +12,5 @@ returns-in-Held c h names s o =
     subst (λ (k : known.MomentKey). includes (tables_in names u) (AtMoment k c.args.facts.now) ≡ true) (c.in_ok-key.ensures names)
     (c.holds_moment.ensures names (classes_in u) u.sizes.fixed o.subject.whole h)
 
-pub returns-in-Gathered : goal.returns-in-Gathered
-returns-in-Gathered c = gathered_over c.gather.result c.args.subject.now c.args.amounts.now _ (λ h. subst IsHeld c.in-Gathered.is h)
+pub returns-in_ok-copied-in-Gathered : goal.returns-in_ok-copied-in-Gathered
+returns-in_ok-copied-in-Gathered c = gathered_over c.gather.result c.args.subject.now c.args.amounts.now _ (λ h. subst IsHeld c.in-Gathered.is h)

@@ -5,9 +5,9 @@ use Rattle.prove_occasions.proofs.LineLemmas.{marked}
 use Rattle.prove_occasions.proofs.MarkLemmas.{command_lines}
 use Rattle.prove_occasions.proofs.commands.after_command.Goals as goal
 
-pub returns-then-keep_marked : goal.returns-then-keep_marked
-returns-then-keep_marked c names ls are =
+pub returns-in-Ok : goal.returns-in-Ok
+returns-in-Ok c names ls are =
     marked c.as_slice.result.now (command_picks c.args.class.now ls) names ls c.args.ons.now c.args.amounts.now c.keep_marked.new.amounts.items are
     (c.as_slice.ensures.value ∙ c.in_ok-marks.ensures ∙ command_lines names ls c.args.ons.now c.args.class.now are.lines)
     (subst (λ (x : List ℕ). after_marked c.as_slice.result.now c.args.ons.now x ≡ Some c.keep_marked.new.amounts.items) c.in_ok-after.ensures.items
-    (c.keep_marked.ensures c.if-keep_marked.true))
+    c.in-Ok.ensures)
