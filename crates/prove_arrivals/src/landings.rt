@@ -74,11 +74,7 @@ pub fn broken(subject: &Subject<'_>, broken: Break) -> Result<bool, NoMemory>
 /// # Errors
 ///
 /// Returns `NoMemory` if it is out of memory.
-pub fn broken_at(
-    subject: &Subject<'_>,
-    at: Option<u16>,
-    breach: &Breach,
-) -> Result<bool, NoMemory>
+pub fn broken_at(subject: &Subject<'_>, at: Option<u16>, breach: &Breach) -> Result<bool, NoMemory>
     ensures { IfOk result (λ goes. goes ≡ true → IsHeld subject.now.landing → ⊥) }
 {
     broken(subject, break_of(at, breach))

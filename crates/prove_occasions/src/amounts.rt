@@ -87,11 +87,7 @@ fn breach_of(on: &On) -> Breach {
 /// # Errors
 ///
 /// Returns the first rule that is broken.
-pub fn keep_on(
-    amounts: &mut Vec<u32>,
-    ons: &[On],
-    occasion: &Occasion<'_>,
-) -> Result<(), Breach>
+pub fn keep_on(amounts: &mut Vec<u32>, ons: &[On], occasion: &Occasion<'_>) -> Result<(), Breach>
     ensures { OnOk result (after_tested (is_due occasion.now) ons.now amounts.old.items ≡ Some amounts.new.items) }
 {
     for on in ons {

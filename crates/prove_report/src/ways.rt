@@ -3,9 +3,7 @@ use model_device::NoMemory;
 use prove_arrivals::{Break, Outcome, Rule};
 use prove_facts::push;
 use prove_keys::{Begun, PlaceKey, Tables};
-use prove_search::{
-    Found, Subject, break_of, is_kept, outcomes_of_moment, outcomes_of_place,
-};
+use prove_search::{Found, Subject, break_of, is_kept, outcomes_of_moment, outcomes_of_place};
 use std::alloc::Global;
 use std::collections::{BTreeMap, VecDeque};
 

@@ -7,7 +7,12 @@ use prove_sums::{More, Sums};
 use std::alloc::Global;
 
 // Lists the origin of the byte at an address as both have it, unless it is listed.
-fn add_agreed(list: &mut Vec<Listed>, first: &Origins, second: &Origins, at: u32) -> Result<(), NoMemory> {
+fn add_agreed(
+    list: &mut Vec<Listed>,
+    first: &Origins,
+    second: &Origins,
+    at: u32,
+) -> Result<(), NoMemory> {
     for known in list.iter() {
         if known.at == at {
             return Ok(());

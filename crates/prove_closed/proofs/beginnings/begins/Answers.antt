@@ -13,4 +13,4 @@ returns c e names s over =
     c.in-Some.ensures ∙ ap (λ (n : ℕ). 0x8000 + n) (sym is.sized.session)
     in
     begins_there names s u (start_in u c.args.begun) (amounts_of names c.args.amounts.now) (place_of names (classes_in u) key) c.args.facts.now is
-    (c.in_ok-key.ensures names (classes_in u) s stack) (c.holds_settled.ensures names (classes_in u) u.sizes.fixed is.whole is.apart e)
+    (c.in_ok-key.ensures names (classes_in u) s stack) (c.in_ok-holds.ensures e names s is)
