@@ -21,7 +21,7 @@ use std::alloc::Global;
 // Whether what the instruction leaves with a choice and another after it is what the table says.
 fn both_hold(
     alloc: Global,
-    turn: &Turn<'_>,
+    turn: &Turn<'_, '_>,
     first: &[(u16, u8)],
     second: &Choice,
 ) -> Result<bool, NoMemory>
@@ -37,7 +37,7 @@ fn both_hold(
 // Whether it is with a choice and each of some others after it.
 fn each_after_holds(
     alloc: Global,
-    turn: &Turn<'_>,
+    turn: &Turn<'_, '_>,
     first: &[(u16, u8)],
     list: &[Choice],
 ) -> Result<bool, NoMemory>
@@ -57,7 +57,7 @@ fn each_after_holds(
 // Whether it is after the first choice, in the scene of that choice, with the bytes that then decide.
 fn first_holds(
     alloc: Global,
-    turn: &Turn<'_>,
+    turn: &Turn<'_, '_>,
     scene: &Scene,
     first: &[(u16, u8)],
 ) -> Result<bool, NoMemory>
@@ -77,7 +77,7 @@ fn first_holds(
 }
 
 // Whether it is after a first choice.
-fn first_included(alloc: Global, turn: &Turn<'_>, first: &Choice) -> Result<bool, NoMemory>
+fn first_included(alloc: Global, turn: &Turn<'_, '_>, first: &Choice) -> Result<bool, NoMemory>
     requires { Shaped turn.now.ins.now }
     ensures { IfOk result (λ holds. holds ≡ true → Passes turn.now
         (λ names s u. first_choice_closed s u (turn_of names s turn.now) (choice_of first.now))) }
@@ -92,7 +92,7 @@ fn first_included(alloc: Global, turn: &Turn<'_>, first: &Choice) -> Result<bool
 }
 
 // Whether it is for each first choice.
-fn each_first_holds(alloc: Global, turn: &Turn<'_>, list: &[Choice]) -> Result<bool, NoMemory>
+fn each_first_holds(alloc: Global, turn: &Turn<'_, '_>, list: &[Choice]) -> Result<bool, NoMemory>
     requires { Shaped turn.now.ins.now }
     ensures { IfOk result (λ holds. holds ≡ true → Passes turn.now
         (λ names s u. all_pass (first_choice_closed s u (turn_of names s turn.now)) (choices_of list.now))) }
@@ -106,7 +106,7 @@ fn each_first_holds(alloc: Global, turn: &Turn<'_>, list: &[Choice]) -> Result<b
 }
 
 // Whether it is with the two bytes at a place an address.
-fn target_holds(alloc: Global, turn: &Turn<'_>, at: u16, target: u16) -> Result<bool, NoMemory>
+fn target_holds(alloc: Global, turn: &Turn<'_, '_>, at: u16, target: u16) -> Result<bool, NoMemory>
     requires place { at < 65535 }
     requires shaped { Shaped turn.now.ins.now }
     ensures { IfOk result (λ holds. holds ≡ true → Passes turn.now
@@ -121,7 +121,7 @@ fn target_holds(alloc: Global, turn: &Turn<'_>, at: u16, target: u16) -> Result<
 // Whether it is, if the bytes may be this address.
 fn allowed_target_holds(
     alloc: Global,
-    turn: &Turn<'_>,
+    turn: &Turn<'_, '_>,
     at: u16,
     target: u16,
 ) -> Result<bool, NoMemory>
@@ -139,7 +139,12 @@ fn allowed_target_holds(
 }
 
 // Whether it is for each address in the code that the bytes may be.
-fn each_target_holds(alloc: Global, turn: &Turn<'_>, at: u16, limit: u16) -> Result<bool, NoMemory>
+fn each_target_holds(
+    alloc: Global,
+    turn: &Turn<'_, '_>,
+    at: u16,
+    limit: u16,
+) -> Result<bool, NoMemory>
     requires place { at < 65535 }
     requires shaped { Shaped turn.now.ins.now }
     ensures { IfOk result (λ holds. holds ≡ true → Passes turn.now
@@ -155,7 +160,12 @@ fn each_target_holds(alloc: Global, turn: &Turn<'_>, at: u16, limit: u16) -> Res
 }
 
 // Whether it is for the greatest address that the bytes may be, if it is not in the code.
-fn last_target_holds(alloc: Global, turn: &Turn<'_>, at: u16, limit: u16) -> Result<bool, NoMemory>
+fn last_target_holds(
+    alloc: Global,
+    turn: &Turn<'_, '_>,
+    at: u16,
+    limit: u16,
+) -> Result<bool, NoMemory>
     requires place { at < 65535 }
     requires shaped { Shaped turn.now.ins.now }
     ensures { IfOk result (λ holds. holds ≡ true → Passes turn.now
@@ -171,7 +181,7 @@ fn last_target_holds(alloc: Global, turn: &Turn<'_>, at: u16, limit: u16) -> Res
 }
 
 // Whether it is for each place to which a jump or a call from the stack may lead.
-fn targets_hold(alloc: Global, turn: &Turn<'_>) -> Result<bool, NoMemory>
+fn targets_hold(alloc: Global, turn: &Turn<'_, '_>) -> Result<bool, NoMemory>
     requires code { length turn.now.subject.now.code.now ≤ 8192 }
     requires shaped { Shaped turn.now.ins.now }
     ensures { IfOk result (λ holds. holds ≡ true → Passes turn.now
@@ -192,7 +202,7 @@ fn targets_hold(alloc: Global, turn: &Turn<'_>) -> Result<bool, NoMemory>
 }
 
 // Whether it is for an instruction of too many combinations.
-fn many_hold(alloc: Global, turn: &Turn<'_>, scene: &Scene) -> Result<bool, NoMemory>
+fn many_hold(alloc: Global, turn: &Turn<'_, '_>, scene: &Scene) -> Result<bool, NoMemory>
     requires code { length turn.now.subject.now.code.now ≤ 8192 }
     requires scene { IsSceneOf turn.now scene.now }
     requires shaped { Shaped turn.now.ins.now }
@@ -210,7 +220,7 @@ fn many_hold(alloc: Global, turn: &Turn<'_>, scene: &Scene) -> Result<bool, NoMe
 // Whether it is by some choices.
 fn choices_hold(
     alloc: Global,
-    turn: &Turn<'_>,
+    turn: &Turn<'_, '_>,
     scene: &Scene,
     choices: &Choices,
 ) -> Result<bool, NoMemory>
@@ -233,7 +243,7 @@ fn choices_hold(
 // Whether it is by the choices of the bytes at some places, which decide it.
 fn decided_holds(
     alloc: Global,
-    turn: &Turn<'_>,
+    turn: &Turn<'_, '_>,
     scene: &Scene,
     places: &[u16],
 ) -> Result<bool, NoMemory>
@@ -261,7 +271,7 @@ fn decided_holds(
 /// # Errors
 ///
 /// Returns `NoMemory` if it is out of memory.
-pub fn instruction_holds(alloc: Global, turn: &Turn<'_>) -> Result<bool, NoMemory>
+pub fn instruction_holds(alloc: Global, turn: &Turn<'_, '_>) -> Result<bool, NoMemory>
     requires code { length turn.now.subject.now.code.now ≤ 8192 }
     requires shaped { Shaped turn.now.ins.now }
     ensures { IfOk result (λ holds. holds ≡ true → Passes turn.now

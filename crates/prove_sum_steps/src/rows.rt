@@ -18,7 +18,7 @@ use std::alloc::Global;
 // Whether what a row leaves is what the table says at the place of a goal, at each depth of a frame of a delegation.
 fn delegated_holds(
     alloc: Global,
-    turn: &Turn<'_>,
+    turn: &Turn<'_, '_>,
     next: Next,
     after: &Sums,
     goal: &Goal<'_>,
@@ -40,7 +40,7 @@ fn delegated_holds(
 // Whether it is at each depth.
 fn goal_holds(
     alloc: Global,
-    turn: &Turn<'_>,
+    turn: &Turn<'_, '_>,
     next: Next,
     after: &Sums,
     goal: &Goal<'_>,
@@ -62,7 +62,12 @@ fn goal_holds(
 }
 
 // Whether it is at each place to which the instruction may lead.
-fn goals_hold(alloc: Global, turn: &Turn<'_>, next: Next, after: &Sums) -> Result<bool, NoMemory>
+fn goals_hold(
+    alloc: Global,
+    turn: &Turn<'_, '_>,
+    next: Next,
+    after: &Sums,
+) -> Result<bool, NoMemory>
     requires { Shaped turn.now.ins.now }
     ensures { IfOk result (λ holds. holds ≡ true → (f : Known) → PassesAfter turn.now next after.now
         (λ names s u w n v. all_pass (λ g. arrival_closed s u w n v (goal_arrival names turn.now f g))
@@ -79,7 +84,7 @@ fn goals_hold(alloc: Global, turn: &Turn<'_>, next: Next, after: &Sums) -> Resul
 // Whether no total is off after an exit of a frame of a delegation.
 fn delegated_exit_holds(
     alloc: Global,
-    turn: &Turn<'_>,
+    turn: &Turn<'_, '_>,
     dt: u16,
     after: &Sums,
 ) -> Result<bool, NoMemory>
@@ -99,7 +104,7 @@ fn delegated_exit_holds(
 }
 
 // Whether no total is off after an exit, at each depth.
-fn exits_hold(alloc: Global, turn: &Turn<'_>, dt: u16, after: &Sums) -> Result<bool, NoMemory>
+fn exits_hold(alloc: Global, turn: &Turn<'_, '_>, dt: u16, after: &Sums) -> Result<bool, NoMemory>
     requires { Shaped turn.now.ins.now }
     ensures { IfOk result (λ holds. holds ≡ true → PassesWith turn.now after.now
         (λ s w v. all_pass (λ d. is_settled s w (after_event s w v dt w.spot.key.c w.spot.key.z d))
@@ -125,7 +130,7 @@ fn exits_hold(alloc: Global, turn: &Turn<'_>, dt: u16, after: &Sums) -> Result<b
 /// Returns `NoMemory` if it is out of memory.
 pub fn row_holds(
     alloc: Global,
-    turn: &Turn<'_>,
+    turn: &Turn<'_, '_>,
     next: Next,
     dt: u16,
     after: &Sums,

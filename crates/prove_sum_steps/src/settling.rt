@@ -46,7 +46,7 @@ fn gather(list: &RefCell<Vec<SumsOutcome>>, outcome: SumsOutcome) -> Result<bool
 // Gathers what is known at the place of a goal.
 fn gather_known(
     list: &RefCell<Vec<SumsOutcome>>,
-    turn: &Turn<'_>,
+    turn: &Turn<'_, '_>,
     goal: &Goal<'_>,
     sums: Sums,
 ) -> Result<bool, NoMemory> {
@@ -59,16 +59,10 @@ fn gather_known(
 // Gathers which totals are off.
 fn gather_off(
     list: &RefCell<Vec<SumsOutcome>>,
-    turn: &Turn<'_>,
+    turn: &Turn<'_, '_>,
     sums: &Sums,
 ) -> Result<(), NoMemory> {
-    for (number, (balance, off)) in turn
-        .rules
-        .balances
-        .iter()
-        .zip(sums.offs.iter())
-        .enumerate()
-    {
+    for (number, (balance, off)) in turn.rules.balances.iter().zip(sums.offs.iter()).enumerate() {
         if !is_even(balance, off) {
             gather(list, SumsOutcome::Off(number))?;
         }
@@ -88,7 +82,7 @@ fn is_even(balance: &Balance, off: &Option<Form>) -> bool {
 // were not.
 fn take_off(
     alloc: Global,
-    turn: &Turn<'_>,
+    turn: &Turn<'_, '_>,
     sums: Sums,
     goal: &Goal<'_>,
 ) -> Result<bool, NoMemory>
@@ -115,7 +109,7 @@ fn take_off(
 }
 
 // Takes totals that are off after an exit.
-fn take_last_off(turn: &Turn<'_>, sums: &Sums) -> Result<bool, NoMemory>
+fn take_last_off(turn: &Turn<'_, '_>, sums: &Sums) -> Result<bool, NoMemory>
     ensures { IfOk result (λ goes. goes ≡ true → IsHeld turn.now.landing → ⊥) }
 {
     match turn.landing {
@@ -128,7 +122,12 @@ fn take_last_off(turn: &Turn<'_>, sums: &Sums) -> Result<bool, NoMemory>
 }
 
 // What is known for sums after the event of an instruction with this line.
-fn after_event(alloc: Global, turn: &Turn<'_>, after: &Sums, line: &[u8]) -> Result<Sums, NoMemory>
+fn after_event(
+    alloc: Global,
+    turn: &Turn<'_, '_>,
+    after: &Sums,
+    line: &[u8],
+) -> Result<Sums, NoMemory>
     ensures { IfOk result (λ known. (names : List (List ℕ)) (s : Setting) (u : SumsTable) (e : Scene) (v : sums.Sums)
         → IsTurn names s u turn.now → SumsAre after.now v
         → SumsAre known (event_sums s (turn_in names turn.now e) v line.now)) }
@@ -138,7 +137,7 @@ fn after_event(alloc: Global, turn: &Turn<'_>, after: &Sums, line: &[u8]) -> Res
 }
 
 // Whether no total is off after an event, if they are asked.
-fn is_settled(turn: &Turn<'_>, sums: &Sums) -> bool
+fn is_settled(turn: &Turn<'_, '_>, sums: &Sums) -> bool
     ensures { result ≡ true → PassesWith turn.now sums.now closed.is_settled }
 {
     !asks(turn.spot.protected(), mode_of(turn.ins)) || sums.are_even(turn.rules.balances.as_slice())
@@ -147,7 +146,7 @@ fn is_settled(turn: &Turn<'_>, sums: &Sums) -> bool
 // Whether what a goal has follows from what is known.
 fn follows(
     alloc: Global,
-    turn: &Turn<'_>,
+    turn: &Turn<'_, '_>,
     known: &Sums,
     goal: &Goal<'_>,
 ) -> Result<bool, NoMemory>
@@ -165,7 +164,7 @@ fn follows(
 // Whether what a place of the table has follows from what is known after an event.
 fn follows_at(
     alloc: Global,
-    turn: &Turn<'_>,
+    turn: &Turn<'_, '_>,
     next: Next,
     sums: &Sums,
     goal: &Goal<'_>,
@@ -194,7 +193,7 @@ fn follows_at(
 // Whether what is known after the event with a line is settled, and a place of the table says no more.
 fn event_holds(
     alloc: Global,
-    turn: &Turn<'_>,
+    turn: &Turn<'_, '_>,
     next: Next,
     after: &Sums,
     goal: &Goal<'_>,
@@ -213,7 +212,7 @@ fn event_holds(
 
 // The event of an instruction at a depth, with DT and flags after it.
 fn event_at<'a>(
-    turn: &Turn<'_>,
+    turn: &Turn<'_, '_>,
     text: &'a [u8],
     depth: u8,
     dt: u16,
@@ -237,7 +236,7 @@ fn event_at<'a>(
 // The amounts after the event of an instruction, or the rule that is broken.
 fn amounts_after(
     alloc: Global,
-    turn: &Turn<'_>,
+    turn: &Turn<'_, '_>,
     event: &TurnEvent<'_>,
 ) -> Result<Result<Vec<u32>, Breach>, NoMemory>
     ensures { (names : List (List ℕ)) (s : Setting) (u : SumsTable) → IsTurn names s u turn.now
@@ -263,7 +262,7 @@ fn leads_to(amounts: &[u32], goal: &Goal<'_>) -> bool
 /// Returns `NoMemory` if it is out of memory.
 pub fn depth_holds(
     alloc: Global,
-    turn: &Turn<'_>,
+    turn: &Turn<'_, '_>,
     next: Next,
     after: &Sums,
     goal: &Goal<'_>,
@@ -303,7 +302,7 @@ pub fn depth_holds(
 /// Returns `NoMemory` if it is out of memory.
 pub fn exit_holds(
     alloc: Global,
-    turn: &Turn<'_>,
+    turn: &Turn<'_, '_>,
     dt: u16,
     after: &Sums,
     depth: u8,

@@ -22,7 +22,7 @@ use prove_sums::{Before, coarse_outlines_move_alike, moved, moved_coarsely, outl
 use std::alloc::Global;
 
 // The registers of a place that matter to sums.
-fn before_of(turn: &Turn<'_>) -> Before
+fn before_of(turn: &Turn<'_, '_>) -> Before
     ensures { (names : List (List ℕ)) → IsBefore (place_in names turn.now).key result }
 {
     Before {
@@ -35,7 +35,7 @@ fn before_of(turn: &Turn<'_>) -> Before
 // Whether what an instruction leaves in a scene is what the table says at the places to which it may lead.
 fn around_holds(
     alloc: Global,
-    turn: &Turn<'_>,
+    turn: &Turn<'_, '_>,
     scene: &Scene,
     around: &Around,
 ) -> Result<bool, NoMemory>
@@ -61,7 +61,7 @@ fn around_holds(
 // Whether it is, whatever the instruction may know around its frame.
 fn arounds_hold(
     alloc: Global,
-    turn: &Turn<'_>,
+    turn: &Turn<'_, '_>,
     scene: &Scene,
     list: &[Around],
 ) -> Result<bool, NoMemory>
@@ -83,7 +83,7 @@ fn arounds_hold(
 /// # Errors
 ///
 /// Returns `NoMemory` if it is out of memory.
-pub fn scene_holds(alloc: Global, turn: &Turn<'_>, scene: &Scene) -> Result<bool, NoMemory>
+pub fn scene_holds(alloc: Global, turn: &Turn<'_, '_>, scene: &Scene) -> Result<bool, NoMemory>
     requires { Shaped turn.now.ins.now }
     ensures { IfOk result (λ holds. holds ≡ true → Passes turn.now
         (λ names s u. scene_closed s u (turn_in names turn.now scene.now))) }
@@ -99,7 +99,11 @@ pub fn scene_holds(alloc: Global, turn: &Turn<'_>, scene: &Scene) -> Result<bool
 /// # Errors
 ///
 /// Returns `NoMemory` if it is out of memory.
-pub fn choice_holds(alloc: Global, turn: &Turn<'_>, choice: &[(u16, u8)]) -> Result<bool, NoMemory>
+pub fn choice_holds(
+    alloc: Global,
+    turn: &Turn<'_, '_>,
+    choice: &[(u16, u8)],
+) -> Result<bool, NoMemory>
     requires { Shaped turn.now.ins.now }
     ensures { IfOk result (λ holds. holds ≡ true → Passes turn.now
         (λ names s u. choice_closed s u (turn_of names s turn.now) choice.now)) }
@@ -115,7 +119,7 @@ pub fn choice_holds(alloc: Global, turn: &Turn<'_>, choice: &[(u16, u8)]) -> Res
 // Whether what a row of too many combinations leaves is what the table says at the places to which it may lead.
 fn crude_row_holds(
     alloc: Global,
-    turn: &Turn<'_>,
+    turn: &Turn<'_, '_>,
     scene: &Scene,
     shape: &Shape,
     crude: Coarse,
@@ -146,7 +150,7 @@ fn crude_row_holds(
 /// # Errors
 ///
 /// Returns `NoMemory` if it is out of memory.
-pub fn crude_holds(alloc: Global, turn: &Turn<'_>, scene: &Scene) -> Result<bool, NoMemory>
+pub fn crude_holds(alloc: Global, turn: &Turn<'_, '_>, scene: &Scene) -> Result<bool, NoMemory>
     requires { Shaped turn.now.ins.now }
     ensures { IfOk result (λ holds. holds ≡ true → Passes turn.now
         (λ names s u. coarse_closed s u (turn_in names turn.now scene.now)

@@ -29,7 +29,7 @@ pub enum SumsLanding<'a> {
 /// An instruction that was fetched at a place: its key, what is known there of bytes and for sums, the instruction, the
 /// address after it, the places to which it may lead, and what is done with what it leaves.
 #[derive(Clone, Copy)]
-pub struct Turn<'a> {
+pub struct Turn<'a, 'b> {
     pub subject: &'a Subject<'a>,
     pub rules: &'a Rules<'a>,
     pub key: &'a PlaceKey,
@@ -38,5 +38,5 @@ pub struct Turn<'a> {
     pub ins: &'a Ins,
     pub next: u16,
     pub goals: &'a [Goal<'a>],
-    pub landing: SumsLanding<'a>,
+    pub landing: SumsLanding<'b>,
 }

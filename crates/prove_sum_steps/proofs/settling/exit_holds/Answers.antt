@@ -1,12 +1,14 @@
 use Rattle.std.proofs.Common.{◌≡◌, ◌∙◌, ℕ, Bool, List, true, ap, subst}
 use Rattle.prove_facts.specs.model_rules.specs.Keeping.{line_of}
-use Rattle.prove_sums.specs.model_sums.specs.Closed.{is_settled}
+use Rattle.prove_sums.specs.model_sums.specs.Closed.{after_event, is_settled}
 use Rattle.prove_sum_steps.specs.Walks.{event_sums, turn_in}
 use Rattle.prove_sum_steps.proofs.HeldLemmas.{never_with}
 use Rattle.prove_sum_steps.proofs.settling.exit_holds.Goals as goal
 
 pub returns : goal.returns
-returns c = never_with c.take_last_off.result c.args.turn.now c.args.after.now _ c.take_last_off.ensures
+returns c =
+    never_with c.take_last_off.result c.args.turn.now c.args.after.now (λ s w v. is_settled s w (after_event s w v c.args.dt w.spot.key.c w.spot.key.z c.args.depth))
+    c.take_last_off.ensures
 
 pub returns-then-is_settled : goal.returns-then-is_settled
 returns-then-is_settled c h names s u e v is are =

@@ -11,5 +11,5 @@ returns-in-Held c =
     IfOk-weaker c.follows.result _ _
     (λ b h t held names ts u v totals. h t names ts u v (totals_at names ts balances _ c.as_slice.ensures.value totals)) c.follows.ensures
 
-pub returns-in-Gathered : goal.returns-in-Gathered
-returns-in-Gathered c = gathered_if c.gather_known.result c.args.turn.now.landing _ (λ h. subst IsHeld c.in-Gathered.is h)
+pub returns-in_ok-copied-in-Gathered : goal.returns-in_ok-copied-in-Gathered
+returns-in_ok-copied-in-Gathered c = gathered_if c.gather_known.result c.args.turn.now.landing _ (λ h. subst IsHeld c.in-Gathered.is h)
