@@ -128,10 +128,10 @@ fn goals_of<'b>(
 }
 
 // What an instruction that was fetched at a place leads to.
-fn from_instruction(
+fn from_instruction<'x>(
     alloc: Global,
-    subject: &Subject<'_>,
-    found: &Found,
+    subject: &'x Subject<'_>,
+    found: &'x Found,
     near: &[usize],
     key: &PlaceKey,
     packed: &PackedKnown,
@@ -180,7 +180,8 @@ fn from_place(
     let Some(near) = found.successors.near.get(number) else {
         return Ok(Vec::new(alloc));
     };
-    let Ok((ins, next)) = decode(subject.rules.load.code, key.registers.at) else {
+    let rules = subject.rules;
+    let Ok((ins, next)) = decode(rules.load.code, key.registers.at) else {
         return Ok(Vec::new(alloc));
     };
     let near = near.as_slice();
