@@ -3,7 +3,7 @@ ghost use Rattle.std.specs.Prelude.{◌≤◌, length};
 ghost use Rattle.mc_isa.specs.model_machine.specs.Code.{Shaped};
 
 use crate::joining::joined;
-use crate::subject::Subject;
+use crate::subject::{Subject, code_of};
 use crate::tables::Found;
 use mc_isa::decode;
 use mc_isa::model_machine::Ins;
@@ -181,7 +181,8 @@ fn from_place(
         return Ok(Vec::new(alloc));
     };
     let rules = subject.rules;
-    let Ok((ins, next)) = decode(rules.load.code, key.registers.at) else {
+    let code = code_of(&rules.load);
+    let Ok((ins, next)) = decode(code, key.registers.at) else {
         return Ok(Vec::new(alloc));
     };
     let near = near.as_slice();
