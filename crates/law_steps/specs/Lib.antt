@@ -3,6 +3,7 @@ pub mod Shown
 pub mod Registers
 pub mod Nexts
 pub mod Replays
+pub mod Tolds
 pub mod Laws
 pub mod Writes
 pub mod Spans

@@ -1,10 +1,11 @@
 //! Worked rows: the runs of two readings, memory by lines, and device writes.
 #![tactic(auto)]
 
-ghost use Rattle.std.specs.Prelude.{◌≡◌, [], ◌∷◌, true, false, Some, None};
+ghost use Rattle.std.specs.Prelude.{◌≡◌, [], ◌∷◌, true, false, cond, bytes_eq, Some, None};
 ghost use Rattle.law_steps.specs.Readings.{no_reading, sets_between};
 ghost use Rattle.law_family.specs.model_machine.specs.Shapes.{Writes};
 ghost use Rattle.law_steps.specs.Replays.{BeginsFrame, RunsTurn, memory_of, no_memory};
+ghost use Rattle.law_steps.specs.Tolds.{lates, told_at};
 ghost use Rattle.law_steps.specs.Writes.{act_span, now_by, span_now, span_waits, waits_by, with_waits, words_under, writes_of_words};
 
 /// A static byte that changed, a byte that was pushed, and two public bytes that changed side by side are three runs.
@@ -61,4 +62,21 @@ pub fn writes_of_some_words()
     ensures none { writes_of_words 0 ≡ 0 }
     ensures one { writes_of_words 1 ≡ 6 }
     ensures four { writes_of_words 4 ≡ 12 }
+{}
+
+/// The application 1 wrote 7 under protection and delegated to 2, which abended: what 1 had waiting is dropped. The
+/// application 2 keeps what its last turn said.
+pub fn a_drop_is_said_late()
+    ensures told { told_at 2 (2 ∷ []) (9 ∷ []) (told_at 1 (1 ∷ []) (0 ∷ 7 ∷ []) [])
+        ≡ (1 ∷ [], 0 ∷ 7 ∷ []) ∷ (2 ∷ [], 9 ∷ []) ∷ [] }
+    ensures late { lates (λ name. cond (bytes_eq name (1 ∷ [])) (0 ∷ 0 ∷ []) (9 ∷ []))
+        ((1 ∷ [], 0 ∷ 7 ∷ []) ∷ (2 ∷ [], 9 ∷ []) ∷ [])
+        ≡ (1 ∷ [], (1, 0 ∷ []) ∷ []) ∷ [] }
+{}
+
+/// A frame that exited is left out once the frame that called it has a turn. Where nothing is dropped, nothing is left to
+/// say.
+pub fn frames_that_ended_are_left_out()
+    ensures exited { told_at 1 (1 ∷ []) (5 ∷ []) ((1 ∷ [], 4 ∷ []) ∷ (2 ∷ [], 9 ∷ []) ∷ []) ≡ (1 ∷ [], 5 ∷ []) ∷ [] }
+    ensures none { lates (λ name. 5 ∷ []) ((1 ∷ [], 5 ∷ []) ∷ []) ≡ [] }
 {}
