@@ -231,6 +231,16 @@ class State:
         frame.dt, frame.lb, frame.c, frame.z, frame.open = turn["dt"], turn["lb"], turn["c"], turn["z"], turn["open"]
         self._set(turn["sets"])
 
+    def end(self, kept: List[list]) -> None:
+        """The turns of a statement are done, and static bytes are not those of the last turns: what waited was dropped, or a write that a
+        stop hit is whole. `kept` has the runs that differ by application."""
+        for aid, sets in kept:
+            for frame in self.frames:
+                if frame.aid == aid:
+                    for address, digits in sets:
+                        content = bytes.fromhex(digits)
+                        frame.static[address:address + len(content)] = content
+
     def _calls(self, frame: Frame, turn: dict) -> None:
         if is_call(turn, frame.dt):
             frame.calls.append(CallFrame(turn["place"], -1, turn["lb"]))
@@ -314,6 +324,8 @@ class Statement:
     records: List[dict]
     turns: List[int]
     sizes: Dict[str, Tuple[int, int]]
+    # Static bytes after it that are not those of the last turns, as runs by application.
+    kept: List[list] = field(default_factory=list)
     _kept: Dict[int, State] = field(default_factory=dict)
     # The state that was asked for last, and the turn before which it is: the next one that is asked for is often close after it.
     _last: Optional[Tuple[int, State]] = None
@@ -336,8 +348,10 @@ class Statement:
         return state
 
     def after(self) -> State:
-        """Returns the state after all that was told."""
-        return self._before_record(len(self.turns) + 1)
+        """Returns the state after all that was told, with the static bytes that were kept."""
+        state = self._before_record(len(self.turns) + 1)
+        state.end(self.kept)
+        return state
 
     def _before_record(self, number: int) -> State:
         """The state after all records before a turn, made from the last one that is kept."""
@@ -460,7 +474,8 @@ class Play:
             self._read.pop(next(iter(self._read)))
         turns = [at for at, told in enumerate(records) if "turn" in told]
         sizes = next(it for since, it in reversed(self._sizes) if since <= number)
-        self._read[number] = Statement(last["line"], last["source"], last["text"], last.get("result"), records, turns, sizes)
+        self._read[number] = Statement(last["line"], last["source"], last["text"], last.get("result"), records, turns, sizes,
+                                       last.get("kept", []))
 
     def _load(self, text: str) -> None:
         """Notes the sizes with which an application is loaded."""

@@ -107,7 +107,9 @@ def turns_of(statement: Statement, panels: Panels) -> List[dict]:
             begun += 1
             numbers[told["frame"]] = begun
             continue
-        if told is not None:
+        if told is None:
+            state.end(statement.kept)
+        else:
             state.enter(told)
         made.append(moment(state, panels, numbers, told, made[-1] if made else None))
         if told is not None:

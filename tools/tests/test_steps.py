@@ -14,6 +14,8 @@ from card import program_path
 
 TOP = Path(__file__).resolve().parent.parent.parent
 DRAFTS = sorted([*TOP.glob("examples/*.draft"), *TOP.glob("examples/*.deck")])
+# A frame below one that abends, a chain of four, and stops in writes with and without something that waits.
+DROPS = sorted((TOP / "tools/tests/drops").glob("*.draft"))
 TURN = re.compile(r"> (\d) ([0-9A-F]{4}) (.*) ([0-9A-F]{4}) ([01])([01])$")
 SIZES = {0x0000: 4096, 0x8000: 512, 0xC000: 1041}
 
@@ -66,12 +68,18 @@ def played(lines):
             frames = [*frames[:line["frame"] - 1], Bytes()]
             # DT of a frame that begins is behind its session bytes, which the first turn tells.
             frames[-1].take(line["sets"], 0x8000 + 512)
+            statics[line["aid"]] = bytes(frames[-1].by_base[0x0000])
         elif "turn" in line:
             frames = frames[:line["depth"]]
             frames[-1].take(line["sets"], line["dt"])
             statics[line["aid"]] = bytes(frames[-1].by_base[0x0000])
             yield line, frames[-1]
         else:
+            for aid, sets in line.get("kept", []):
+                kept = bytearray(statics[aid])
+                for address, digits in sets:
+                    kept[address:address + len(digits) // 2] = bytes.fromhex(digits)
+                statics[aid] = bytes(kept)
             yield line, dict(statics)
 
 
@@ -124,7 +132,7 @@ def test_turns_count_from_one_and_writes_follow_each_other(path):
             number, writes = 0, 0
 
 
-@pytest.mark.parametrize("path", DRAFTS, ids=lambda it: it.name)
+@pytest.mark.parametrize("path", [*DRAFTS, *DROPS], ids=lambda it: it.name)
 def test_bytes_are_those_of_dumps(path):
     if run("meldesk", "steps", path.read_bytes())[1]:
         return
@@ -133,15 +141,55 @@ def test_bytes_are_those_of_dumps(path):
     fresh = {}
     for line, seen in played(lines):
         if "turn" in line:
-            # A turn that a stop hit is not there, so only lines without one tell what a dump has to show.
             fresh[line["aid"]] = True
-        elif line["text"].split()[0] in ("load", "delete", "format", "poke") or line.get("result", "").startswith(("off", "6581", "unusable")):
+        elif line["text"].split()[0] in ("load", "delete", "format", "poke") or line.get("result", "").startswith("unusable"):
             fresh = {}
         elif line["text"].startswith("dump ") and line.get("result", "").startswith("static"):
             aid = line["text"].split()[1].upper()
             shown = bytes.fromhex(line["result"][7:])
             if aid in ran and fresh.get(aid):
                 assert seen[aid][:len(shown)] == shown, f"line {line['line']}"
+
+
+def kept_by_plays(deck, line, ran, statics):
+    """The runs of each application that ran in a line, between bytes and those that a play up to the line and one more power-up leave."""
+    tried = [*deck[:line], "power", *(f"dump {aid}" for aid in ran)]
+    results = run("melcard", "play", "".join(f"{it}\n" for it in tried).encode())[0].decode().splitlines()
+    kept = []
+    for aid, result in zip(ran, results[len(results) - len(ran):]):
+        runs = []
+        for address, byte in enumerate(bytes.fromhex(result.split(" static ")[1])):
+            if byte == statics[aid][address]:
+                continue
+            if runs and runs[-1][0] + len(runs[-1][1]) // 2 == address:
+                runs[-1][1] += f"{byte:02X}"
+            else:
+                runs.append([address, f"{byte:02X}"])
+        kept += [[aid, runs]] if runs else []
+    return kept
+
+
+@pytest.mark.parametrize("path", DROPS, ids=lambda it: it.name)
+def test_kept_is_what_the_next_power_up_leaves(path):
+    deck = run("meldesk", "deck", path.read_bytes())[0].decode().splitlines()
+    lines, ran, statics, found = lines_of(path.read_bytes()), [], {}, 0
+    for line in lines:
+        if "line" not in line:
+            if line["aid"] not in ran:
+                ran.append(line["aid"])
+            if "frame" in line:
+                statics[line["aid"]] = bytearray(4096)
+            for address, digits in line["sets"]:
+                if address < 4096:
+                    statics[line["aid"]][address:address + len(digits) // 2] = bytes.fromhex(digits)
+            continue
+        if ran:
+            wanted = kept_by_plays(deck, line["line"], ran, statics)
+            assert line.get("kept", []) == wanted, f"line {line['line']}"
+            assert ("kept" in line) == bool(wanted) and list(line) in (["line", "source", "text", "result"], ["line", "source", "text", "kept", "result"])
+            found += bool(wanted)
+        ran, statics = [], {}
+    assert found
 
 
 @pytest.mark.parametrize("path", [it for it in DRAFTS if it.suffix == ".draft"], ids=lambda it: it.name)

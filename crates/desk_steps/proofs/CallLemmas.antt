@@ -1,6 +1,6 @@
 -- The lines of a turn: the first frame before it, its own, and that of the frame that it called.
-use Rattle.std.proofs.Common.{◌≡◌, ℕ, zero, suc, ◌+◌, ◌≤◌, Bool, true, false, cond, List, [], ◌++◌, Option, Some, None, codes, Result, Ok, Err, refl, arith, sym, ap, subst, ◌∙◌}
-use Rattle.std.specs.Prelude.{get_or, length, min, slice_set}
+use Rattle.std.proofs.Common.{◌≡◌, ℕ, zero, suc, ◌+◌, ◌-◌, ◌≤◌, Bool, true, false, cond, List, [], ◌∷◌, ◌++◌, Option, Some, None, codes, Result, Ok, Err, refl, arith, sym, ap, subst, ◌∙◌}
+use Rattle.std.specs.Prelude.{get_or, length, min, slice_set, take}
 use Rattle.mc_words.specs.model_device.specs.Bytes.{lookup}
 use Rattle.mc_words.specs.model_device.specs.Device.{DeviceState}
 use Rattle.mc_text.specs.model_machine.specs.declared.instruction.Ins.{Ins}
@@ -18,7 +18,8 @@ use Rattle.mc_card.specs.declared.card.Card.{Card}
 use Rattle.mc_card.specs.Parts.{RunsChain}
 use Rattle.desk_json.specs.law_steps.specs.Nexts.{open_by}
 use Rattle.desk_json.specs.law_steps.specs.Writes.{chain_span, moves_in, waits_of}
-use Rattle.desk_json.specs.law_steps.specs.Readings.{Reading, first_sets, reading_of, sets_between, turn_sets}
+use Rattle.desk_json.specs.law_steps.specs.Readings.{Reading, first_sets, reading_after, reading_of, sets_between, turn_sets}
+use Rattle.desk_json.specs.law_steps.specs.Tolds.{Tolds, told_at, told_frame}
 use Rattle.desk_cover.specs.Looking.{Shows}
 use Rattle.desk_json.specs.Sheets.{PutsOn}
 use Rattle.desk_steps.specs.declared.recording.Recorder.{Recorder}
@@ -27,7 +28,7 @@ use Rattle.desk_steps.specs.Counted.{count_after, moves_by_shots, waits_by_shots
 use Rattle.desk_steps.specs.Lines.{Found, abend_key, aid_key, flag_key, frame_text, number_key, open_key, place_keys, sets_key, turn_text, writes_key}
 use Rattle.desk_steps.specs.Moments.{Moment}
 use Rattle.desk_steps.specs.Recorded.{called_text, first_before, first_by, found_of, line_of, kept_called, kept_in, kept_moves, kept_parts, next_number, open_in, puts_as, puts_from, puts_none, puts_on, same_kept, CallsNext, IsQuiet, KeepsState, Kept, PutsText, RecordsTurn}
-use Rattle.desk_steps.specs.Shots.{shot_changes, shot_reading}
+use Rattle.desk_steps.specs.Shots.{shot_changes, shot_reading, statics}
 use Rattle.desk_steps.specs.Turning.{abend_alone, bare_turn, bare_value, end_of, frame_place, is_deeper, IsAfter, IsBefore, IsOneDeeper, IsWideNext}
 use Rattle.desk_steps.proofs.FrameLemmas.{first_is}
 use Rattle.desk_steps.proofs.SeenLemmas.{IsTurn, Sees, moves_shown, waits_shown}
@@ -54,6 +55,9 @@ code_depth n ch turn same = sym (ap (λ (u : ModelTurn). u.depth) same) ∙ turn
 
 depth_place : (d k : ℕ) → d ≡ k + 1 → k ≤ 3 → frame_place d ≡ k
 depth_place d k e few = omega (arith, e, few)
+
+one_less : (d k : ℕ) → d ≡ k + 1 → d - 1 ≡ k
+one_less d k e = omega (arith, e)
 
 -- protection after a turn and its line show nothing of a reply
 open_alone : (o : Option Outcome) (i : Option Ins) (on : Bool) → open_by (abend_alone o) i on ≡ open_by o i on
@@ -91,20 +95,22 @@ module _ {T : Type 0} (sink : Ghosts T) where
         adds = puts_as sink q q [] (called_text d (Continues c)) (sym (ap (λ (b : Bool). cond b (frame_text (depth_of c) c.frame.name None (first_sets (depth_of c) c.frame c.public)) []) e)) (puts_none sink q);
         sections = refl;
         command = refl;
-        kept = sym (ap (λ (b : Bool). record (kept_in q) { opens = cond b (slice_set q.memory.opens d false) q.memory.opens; waits = cond b (slice_set q.memory.guards d []) q.memory.guards }) e);
+        kept = sym (ap (λ (b : Bool). record (kept_in q) { opens = cond b (slice_set q.memory.opens d false) q.memory.opens; waits = cond b (slice_set q.memory.guards d []) q.memory.guards; tolds = cond b (told_frame c q.memory.tolds) q.memory.tolds }) e);
       }
 
   -- a turn that called one
   pub calls_one : {N : Type 0} (state : N → DeviceState) (card : Card N) (q r : Recorder T) (d e : ℕ) (next : Follows) → Shows state card next → IsWideNext next → IsOneDeeper d next → 1 ≤ d → is_deeper d next ≡ true → e ≡ min (d + 1) 255
       → ((c : Chain) (left : ℕ) → RunsChain state card c left → 512 ≤ length c.frame.dyn → 2 ≤ e → PutsText sink q (frame_text e c.frame.name None (first_sets e c.frame c.public)) r) → r.sections.now ≡ q.sections.now → r.turns ≡ q.turns → r.memory.command.items ≡ q.memory.command.items
-      → r.memory.opens ≡ slice_set q.memory.opens (frame_place e) false → r.memory.guards ≡ slice_set q.memory.guards (frame_place e) [] → r.memory.writes ≡ q.memory.writes → CallsNext sink q d next r
-  calls_one state card q r d e (Ends o) shows wide deeper low is sum writes sections turns command opens guards count = absurd (cc is)
-  calls_one state card q r d e (Continues c) shows wide deeper low is sum writes sections turns command opens guards count =
+      → r.memory.opens ≡ slice_set q.memory.opens (frame_place e) false → r.memory.guards ≡ slice_set q.memory.guards (frame_place e) [] → r.memory.writes ≡ q.memory.writes
+      → ((c : Chain) (left : ℕ) → RunsChain state card c left → 512 ≤ length c.frame.dyn → r.memory.tolds ≡ take (frame_place e) q.memory.tolds ++ (c.frame.name, (reading_of c.frame c.public).fixed) ∷ []) → CallsNext sink q d next r
+  calls_one state card q r d e (Ends o) shows wide deeper low is sum writes sections turns command opens guards count tolds = absurd (cc is)
+  calls_one state card q r d e (Continues c) shows wide deeper low is sum writes sections turns command opens guards count tolds =
       let one = deeper is in
       let few : d ≤ 3 = one.1 in
       let plus : e ≡ d + 1 = omega (arith, sum, few) in
       let same : e ≡ depth_of c = plus ∙ sym one.0 in
       let deep : 2 ≤ e = omega (arith, plus, low) in
+      let here : frame_place e ≡ depth_of c - 1 = depth_place e d plus few ∙ sym (one_less (depth_of c) d one.0) in
       record {
         adds = puts_as sink q r (frame_text (depth_of c) c.frame.name None (first_sets (depth_of c) c.frame c.public)) (called_text d (Continues c))
             (sym (ap (λ (b : Bool). cond b (frame_text (depth_of c) c.frame.name None (first_sets (depth_of c) c.frame c.public)) []) is))
@@ -112,9 +118,10 @@ module _ {T : Type 0} (sink : Ghosts T) where
         sections = sections;
         command = command;
         kept =
-            kept_parts r.turns q.turns r.memory.writes q.memory.writes r.memory.opens (slice_set q.memory.opens d false) r.memory.guards (slice_set q.memory.guards d []) turns count
+            kept_parts r.turns q.turns r.memory.writes q.memory.writes r.memory.opens (slice_set q.memory.opens d false) r.memory.guards (slice_set q.memory.guards d []) r.memory.tolds (told_frame c q.memory.tolds) turns count
             (opens ∙ ap (λ (k : ℕ). slice_set q.memory.opens k false) (depth_place e d plus few)) (guards ∙ ap (λ (k : ℕ). slice_set q.memory.guards k []) (depth_place e d plus few))
-            ∙ sym (ap (λ (b : Bool). record (kept_in q) { opens = cond b (slice_set q.memory.opens d false) q.memory.opens; waits = cond b (slice_set q.memory.guards d []) q.memory.guards }) is);
+            (tolds c shows.0 shows.1 wide ∙ ap (λ (k : ℕ). take k q.memory.tolds ++ (c.frame.name, (reading_of c.frame c.public).fixed) ∷ []) here)
+            ∙ sym (ap (λ (b : Bool). record (kept_in q) { opens = cond b (slice_set q.memory.opens d false) q.memory.opens; waits = cond b (slice_set q.memory.guards d []) q.memory.guards; tolds = cond b (told_frame c q.memory.tolds) q.memory.tolds }) is);
       }
 
   -- ---- a turn
@@ -181,22 +188,23 @@ module _ {T : Type 0} (sink : Ghosts T) where
       record { puts = subst (λ (o : MutBor T). PutsOn q.fault (sunk sink q.out.now) x r.fault (sunk sink o.now)) (sym out) one; same = ap (λ (o : MutBor T). o.ghost_name) out ∙ h.same }
 
   keeps_on : (q p f : Recorder T) → KeepsState q p → KeepsState p f → KeepsState q f
-  keeps_on q p f one two = record { sections = two.sections ∙ one.sections; turns = two.turns ∙ one.turns; command = two.command ∙ one.command; opens = two.opens ∙ one.opens; guards = two.guards ∙ one.guards; writes = two.writes ∙ one.writes }
+  keeps_on q p f one two = record { sections = two.sections ∙ one.sections; turns = two.turns ∙ one.turns; command = two.command ∙ one.command; opens = two.opens ∙ one.opens; guards = two.guards ∙ one.guards; writes = two.writes ∙ one.writes; tolds = two.tolds ∙ one.tolds }
 
   -- what a recorder that wrote a turn keeps, by one that wrote the frame before it
-  pub record WroteTurn (f : Recorder T) (turn : BriefTurn) (m : Recorder T) : Type 0 where
+  pub record WroteTurn (f : Recorder T) (name : List ℕ) (turn : BriefTurn) (m : Recorder T) : Type 0 where
     pub sections : m.sections.now ≡ f.sections.now
     pub turns : m.turns ≡ next_number f.turns
     pub command : m.memory.command.items ≡ f.memory.command.items
     pub opens : m.memory.opens ≡ slice_set f.memory.opens (frame_place turn.depth) (open_by (end_of turn.end) turn.ins (get_or f.memory.opens (frame_place turn.depth) false))
     pub guards : m.memory.guards ≡ slice_set f.memory.guards (frame_place turn.depth) (found_waits f turn)
     pub writes : m.memory.writes ≡ count_after f.memory.writes (found_moves f turn)
+    pub tolds : m.memory.tolds ≡ take (frame_place turn.depth) f.memory.tolds ++ (name, statics f.memory.after) ∷ []
 
   -- a turn that was recorded: a recorder looked at the card, wrote the first frame, the turn and the frame that it called
   pub records_moment : (q p f m k r : Recorder T) (name : List ℕ) (source : Option ℕ) (turn : BriefTurn) (t : Moment) → bare_turn (turn_of t.left t.chain).turn ≡ bare_value turn (turn_of t.left t.chain).turn.wrote → name ≡ t.chain.frame.name → length t.chain.below ≤ 3 → 512 ≤ length t.chain.frame.dyn
       → IsBefore q.memory.before t.chain → IsQuiet q p → p.memory.before ≡ q.memory.before → IsAfter p.memory.after t.left t.chain
       → PutsText sink p (first_by p.turns p.memory.command.items name p.memory.before) f → KeepsState p f → f.memory.before ≡ p.memory.before → f.memory.after ≡ p.memory.after
-      → PutsText sink f (found_text f name source turn (turn_of t.left t.chain).turn.wrote) m → WroteTurn f turn m
+      → PutsText sink f (found_text f name source turn (turn_of t.left t.chain).turn.wrote) m → WroteTurn f name turn m
       → CallsNext sink m turn.depth (turn_of t.left t.chain).follows k → r.out ≡ k.out → r.fault ≡ k.fault → KeepsState k r → r.first ≡ None → RecordsTurn sink q source t r
   records_moment q p f m k r name source turn t same named few wide before quiet shot after first kept fbefore fafter writes wrote calls out fault last none =
       let next : Follows = (turn_of t.left t.chain).follows in
@@ -233,6 +241,15 @@ module _ {T : Type 0} (sink : Ghosts T) where
       in
       let count : m.memory.writes ≡ count_after q.memory.writes (kept_moves (kept_in q) t) = wrote.writes ∙ ap (λ (k : ℕ). count_after k (found_moves f turn)) keeps.writes ∙ ap (λ (k : ℕ). count_after q.memory.writes k) moves in
       let turns : m.turns ≡ next_number q.turns = wrote.turns ∙ ap (λ (n : ℕ). next_number n) keeps.turns in
+      let x : Tolds = q.memory.tolds in
+      let bytes : List ℕ = (reading_after t.left t.chain).fixed in
+      let own : List ℕ → List ℕ → List (List ℕ × List ℕ) = λ i b. (i, b) ∷ [] in
+      let told : m.memory.tolds ≡ told_at (depth_of t.chain) t.chain.frame.name bytes x =
+      wrote.tolds ∙ ap (λ (ts : Tolds). take (frame_place turn.depth) ts ++ own name (statics f.memory.after)) keeps.tolds
+      ∙ ap (λ (k : ℕ). take k x ++ own name (statics f.memory.after)) (place ∙ sym (one_less (depth_of t.chain) (length t.chain.below) refl))
+      ∙ ap (λ (i : List ℕ). take (depth_of t.chain - 1) x ++ own i (statics f.memory.after)) named
+      ∙ ap (λ (b : List ℕ). take (depth_of t.chain - 1) x ++ own t.chain.frame.name b) (ap (λ (r : Reading). r.fixed) (fresh.reading wide))
+      in
       record {
         adds = puts_on sink q f r (first_before q.turns q.memory.command.items t.chain) (line ++ called_text (depth_of t.chain) next) one (puts_on sink f m r line (called_text (depth_of t.chain) next) two three);
         sections = last.sections ∙ called.sections ∙ wrote.sections ∙ keeps.sections;
@@ -240,7 +257,7 @@ module _ {T : Type 0} (sink : Ghosts T) where
         kept =
             same_kept k r last ∙ called.kept
             ∙ ap (λ (x : Kept). kept_called sink (depth_of t.chain) next x)
-            (kept_parts m.turns (next_number q.turns) m.memory.writes (count_after q.memory.writes (kept_moves (kept_in q) t)) m.memory.opens (slice_set q.memory.opens (length t.chain.below) (open_in q.memory.opens t)) m.memory.guards (slice_set q.memory.guards (length t.chain.below) mine) turns count opens guards);
+            (kept_parts m.turns (next_number q.turns) m.memory.writes (count_after q.memory.writes (kept_moves (kept_in q) t)) m.memory.opens (slice_set q.memory.opens (length t.chain.below) (open_in q.memory.opens t)) m.memory.guards (slice_set q.memory.guards (length t.chain.below) mine) m.memory.tolds (told_at (depth_of t.chain) t.chain.frame.name bytes x) turns count opens guards told);
         roomy = before.roomy wide;
         first = none;
       }

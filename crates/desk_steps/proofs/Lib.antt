@@ -10,3 +10,7 @@ pub mod TurnLemmas
 pub mod GuardLemmas
 pub mod SeenLemmas
 pub mod StatementLemmas
+pub mod LateTexts
+pub mod SizeLemmas
+pub mod SpareLemmas
+pub mod TellLemmas

@@ -46,7 +46,7 @@ along_run (suc j) (suc n) ch k h w room = by (turn_of_chain ch).follows refl roo
 
 -- what is kept before the first turn of a line
 abbrev pub first_kept : Kept
-first_kept = record { turns = 0; writes = 0; opens = all_shut; waits = all_clear }
+first_kept = record { turns = 0; writes = 0; opens = all_shut; waits = all_clear; tolds = [] }
 
 start_waits : (c : model.Card) (s : Selected) (a : ApduParts) (o : Option App) → WaitsOf all_clear (start_app c.apps s.name s.session a (unwrap_or o no_app))
 unfolding touched_words

@@ -3,6 +3,7 @@ pub mod Guards
 pub mod Counted
 pub mod Statements
 pub mod Lines
+pub mod Lates
 pub mod Moments
 pub mod Turning
 pub mod Recorded

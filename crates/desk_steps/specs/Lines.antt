@@ -8,6 +8,7 @@ use Rattle.mc_text.specs.model_text.specs.TurnText.{bit_text, ins_text}
 use Rattle.mc_deck.specs.model_play.specs.Play.{LineResult}
 use Rattle.mc_deck.specs.model_play.specs.Transcript.{text_of_result}
 use Rattle.desk_json.specs.Json.{characters, runs_text}
+use Rattle.desk_json.specs.law_steps.specs.Tolds.{Lates}
 
 -- ---- keys
 
@@ -102,6 +103,47 @@ result_key (Some r) = codes ",\"result\":\"" ++ text_of_result r ++ codes "\""
 abbrev pub line_keys : ℕ → List ℕ → List ℕ
 line_keys n statement = number_key (codes "{\"line\":") n ++ number_key (codes ",\"source\":") n ++ (codes ",\"text\":\"" ++ characters statement ++ codes "\"")
 
+-- an application with the runs in which its static bytes are not those of the turns' lines
+abbrev pub late_text : List ℕ × List (ℕ × List ℕ) → List ℕ
+late_text l = codes "[\"" ++ hex_text l.0 ++ codes "\"," ++ runs_text l.1 ++ codes "]"
+
+-- further ones
+abbrev pub late_texts : Lates → List ℕ
+late_texts [] = codes "]"
+late_texts (l ∷ ls) = codes "," ++ late_text l ++ late_texts ls
+
+-- what is left to say of static bytes after the turns of a line, if something is
+abbrev pub kept_key : Lates → List ℕ
+kept_key [] = []
+kept_key (l ∷ ls) = codes ",\"kept\":[" ++ late_text l ++ late_texts ls
+
 -- the line of a line of the deck
-abbrev pub line_text : ℕ → List ℕ → Option LineResult → List ℕ
-line_text n statement r = line_keys n statement ++ result_key r ++ codes "}\n"
+abbrev pub line_text : ℕ → List ℕ → Lates → Option LineResult → List ℕ
+line_text n statement ls r = line_keys n statement ++ kept_key ls ++ result_key r ++ codes "}\n"
+
+-- ---- application by application
+
+-- what begins an application, after another one or as the first
+abbrev pub late_begin : Bool → List ℕ
+late_begin true = codes ","
+late_begin false = codes ",\"kept\":["
+
+-- what is written of an application, unless its static bytes are those of its last line
+abbrev pub late_front : Bool → Bool → List ℕ → List (ℕ × List ℕ) → List ℕ
+late_front any true name rs = []
+late_front any false name rs = late_begin any ++ late_text (name, rs)
+
+-- whether an application stands there after that
+abbrev pub any_late : Bool → Bool → Bool
+any_late any true = any
+any_late any false = true
+
+-- what ends them, if there are some
+abbrev pub kept_end : Bool → List ℕ
+kept_end true = codes "]"
+kept_end false = []
+
+-- what is written of those that are left, after another one or as the first
+abbrev pub lates_more : Bool → Lates → List ℕ
+lates_more true ls = late_texts ls
+lates_more false ls = kept_key ls

@@ -14,15 +14,16 @@ use Rattle.desk_draft.specs.Traces.{line_of_turn}
 use Rattle.mc_script.specs.Plays.{Bench, Played, SumsDeck}
 use Rattle.desk_json.specs.Sheets.{PutsOn, puts_both, puts_nothing}
 use Rattle.desk_json.specs.law_steps.specs.Nexts.{called_opens, open_after, open_by, opens_after}
-use Rattle.desk_json.specs.law_steps.specs.Readings.{first_sets, turn_sets}
+use Rattle.desk_json.specs.law_steps.specs.Readings.{first_sets, reading_of, turn_sets}
 use Rattle.desk_json.specs.law_steps.specs.Registers.{frame_after}
+use Rattle.desk_json.specs.law_steps.specs.Tolds.{Tolds, lates, statics_in, told_at, told_called, told_turn}
 use Rattle.desk_json.specs.law_steps.specs.Writes.{IsRoomy, called_waits, moves_in, turn_moves, waits_after}
 use Rattle.desk_steps.specs.declared.recording.Recorder.{Recorder}
 use Rattle.desk_steps.specs.declared.shot.Shot.{Shot}
 use Rattle.desk_steps.specs.Counted.{count_after, writes_after}
 use Rattle.desk_steps.specs.Lines.{Found, frame_text, line_text, turn_text}
 use Rattle.desk_steps.specs.Moments.{Moment, command_of, full_of, moments_of_step}
-use Rattle.desk_steps.specs.Shots.{frame_changes}
+use Rattle.desk_steps.specs.Shots.{frame_changes, statics}
 use Rattle.desk_steps.specs.Statements.{statement_at}
 use Rattle.desk_steps.specs.Turning.{IsBefore}
 
@@ -79,13 +80,14 @@ lines_of ss command n m (t ∷ ts) =
 abbrev pub open_in : List Bool → Moment → Bool
 open_in os t = let u = (turn_of t.left t.chain).turn in open_by u.end u.ins (get_or os (length t.chain.below) false)
 
--- what a recorder keeps of the turns of a line: their number, that of their device writes, and by depth protection and
--- the words that wait
+-- what a recorder keeps of the turns of a line: their number, that of their device writes, by depth protection and the
+-- words that wait, and what their lines say last of static bytes
 pub record Kept : Type 0 where
   pub turns : ℕ
   pub writes : ℕ
   pub opens : List Bool
   pub waits : List (List ℕ)
+  pub tolds : Tolds
 
 -- the device writes of a turn, by what was kept before it
 abbrev pub kept_moves : Kept → Moment → ℕ
@@ -99,6 +101,7 @@ kept_after k t =
       writes = count_after k.writes (kept_moves k t);
       opens = opens_after t.left t.chain k.opens;
       waits = waits_after t.left t.chain k.opens k.waits;
+      tolds = told_turn t.left t.chain k.tolds;
     }
 
 -- what is kept after some turns
@@ -122,17 +125,24 @@ AllRoomy (t ∷ ts) = IsRoomy t.chain.frame t.chain.public × AllRoomy ts
 
 -- ---- lines of the deck
 
--- what stands after the turns of a line: nothing, or if it has none the line of the first frame of some chain, whose
--- first turn a stop hit
-abbrev pub IsStoppedFrame : Step → List ℕ → Type 0
-IsStoppedFrame t frame = (frame ≡ []) ⊎ ((moments_of_step t ≡ []) × (ch : Chain) × (frame ≡ first_text (command_of t.line) ch))
+-- what the lines of some turns say last of static bytes
+abbrev pub told_of : Tolds → List Moment → Tolds
+told_of ts [] = ts
+told_of ts (t ∷ us) = told_of (told_turn t.left t.chain ts) us
+
+-- what stands after the turns of a line, and what its lines say last of static bytes: nothing stands there, or if it has no
+-- turns the line of the first frame of some chain, whose first turn a stop hit
+abbrev pub IsStoppedFrame : Step → List ℕ → Tolds → Type 0
+IsStoppedFrame t frame told =
+    ((frame ≡ []) × (told ≡ told_of [] (moments_of_step t)))
+    ⊎ ((moments_of_step t ≡ []) × (ch : Chain) × (frame ≡ first_text (command_of t.line) ch) × (told ≡ told_at 1 ch.frame.name (reading_of ch.frame ch.public).fixed []))
 
 -- the text of a line that was played, of a deck with this text: the lines of its turns up to the one in which a stop hit
--- it, and its own with its number, its statement and its result
+-- it, and its own with its number, its statement, the static bytes after it that those lines do not say, and its result
 abbrev pub ShowsStep : List Source → List ℕ → Step → List ℕ → Type 0
 ShowsStep ss deck t text =
-    (frame : List ℕ) × IsStoppedFrame t frame × (map full_of (moments_of_step t) ≡ turns_of_step t)
-    × (text ≡ lines_of ss (command_of t.line) 0 0 (moments_of_step t) ++ (frame ++ line_text t.number (statement_at t.number deck) t.result))
+    (frame : List ℕ) × (told : Tolds) × IsStoppedFrame t frame told × (map full_of (moments_of_step t) ≡ turns_of_step t)
+    × (text ≡ lines_of ss (command_of t.line) 0 0 (moments_of_step t) ++ (frame ++ line_text t.number (statement_at t.number deck) (lates (statics_in t.after) told) t.result))
 
 -- the text of lines that were played, one after the other
 abbrev pub ShowsSteps : List Source → List ℕ → List Step → List ℕ → Type 0
@@ -193,7 +203,7 @@ module _ {T : Type 0} (sink : Ghosts T) where
 
 -- what a recorder keeps of the turns of its line
 abbrev pub kept_in : {T : Type 0} → Recorder T → Kept
-kept_in q = record { turns = q.turns; writes = q.memory.writes; opens = q.memory.opens; waits = q.memory.guards }
+kept_in q = record { turns = q.turns; writes = q.memory.writes; opens = q.memory.opens; waits = q.memory.guards; tolds = q.memory.tolds }
 
 -- a recorder is as before but for its text, the shots and the frame that waits
 pub record KeepsState {T : Type 0} (q r : Recorder T) : Type 0 where
@@ -203,15 +213,17 @@ pub record KeepsState {T : Type 0} (q r : Recorder T) : Type 0 where
   pub opens : r.memory.opens ≡ q.memory.opens
   pub guards : r.memory.guards ≡ q.memory.guards
   pub writes : r.memory.writes ≡ q.memory.writes
+  pub tolds : r.memory.tolds ≡ q.memory.tolds
 
 -- what is kept, by its parts
-pub kept_parts : (m n v w : ℕ) (os us : List Bool) (vs ws : List (List ℕ)) → m ≡ n → v ≡ w → os ≡ us → vs ≡ ws → ◌≡◌ {A = Kept} (record { turns = m; writes = v; opens = os; waits = vs }) (record { turns = n; writes = w; opens = us; waits = ws })
-kept_parts m n v w os us vs ws a b c d =
-    let all : ℕ → ℕ → List Bool → List (List ℕ) → Kept = λ i j k l. record { turns = i; writes = j; opens = k; waits = l } in
-    ap (λ (i : ℕ). all i v os vs) a ∙ ap (λ (j : ℕ). all n j os vs) b ∙ ap (λ (k : List Bool). all n w k vs) c ∙ ap (λ (l : List (List ℕ)). all n w us l) d
+pub kept_parts : (m n v w : ℕ) (os us : List Bool) (vs ws : List (List ℕ)) (xs ys : Tolds) → m ≡ n → v ≡ w → os ≡ us → vs ≡ ws → xs ≡ ys
+    → ◌≡◌ {A = Kept} (record { turns = m; writes = v; opens = os; waits = vs; tolds = xs }) (record { turns = n; writes = w; opens = us; waits = ws; tolds = ys })
+kept_parts m n v w os us vs ws xs ys a b c d e =
+    let all : ℕ → ℕ → List Bool → List (List ℕ) → Tolds → Kept = λ i j k l x. record { turns = i; writes = j; opens = k; waits = l; tolds = x } in
+    ap (λ (i : ℕ). all i v os vs xs) a ∙ ap (λ (j : ℕ). all n j os vs xs) b ∙ ap (λ (k : List Bool). all n w k vs xs) c ∙ ap (λ (l : List (List ℕ)). all n w us l xs) d ∙ ap (λ (x : Tolds). all n w us ws x) e
 
 pub same_kept : {T : Type 0} (q r : Recorder T) → KeepsState q r → kept_in r ≡ kept_in q
-same_kept q r h = kept_parts r.turns q.turns r.memory.writes q.memory.writes r.memory.opens q.memory.opens r.memory.guards q.memory.guards h.turns h.writes h.opens h.guards
+same_kept q r h = kept_parts r.turns q.turns r.memory.writes q.memory.writes r.memory.opens q.memory.opens r.memory.guards q.memory.guards r.memory.tolds q.memory.tolds h.turns h.writes h.opens h.guards h.tolds
 
 -- and wrote nothing
 pub record IsQuiet {T : Type 0} (q r : Recorder T) : Type 0 where
@@ -223,10 +235,12 @@ pub record IsQuiet {T : Type 0} (q r : Recorder T) : Type 0 where
 abbrev pub first_by : ℕ → List ℕ → List ℕ → Shot → List ℕ
 first_by n command name s = cond (n == 0) (frame_text 1 name (Some command) (frame_changes true s)) []
 
--- what stands after the turns of a line, by what its recorder kept: nothing, or the line of the frame that waits if no
--- turn was recorded
-abbrev pub StoppedBy : {T : Type 0} → Recorder T → List ℕ → Type 0
-StoppedBy q frame = (frame ≡ []) ⊎ ((q.turns ≡ 0) × (name : List ℕ) × (q.first ≡ Some name) × (frame ≡ frame_text 1 name (Some q.memory.command.items) (frame_changes true q.memory.before)))
+-- what stands after the turns of a line, and what its lines say last of static bytes, by what its recorder kept: nothing
+-- stands there, or the line of the frame that waits if no turn was recorded
+abbrev pub StoppedBy : {T : Type 0} → Recorder T → List ℕ → Tolds → Type 0
+StoppedBy q frame told =
+    ((frame ≡ []) × (told ≡ q.memory.tolds))
+    ⊎ ((q.turns ≡ 0) × (name : List ℕ) × (q.first ≡ Some name) × (frame ≡ frame_text 1 name (Some q.memory.command.items) (frame_changes true q.memory.before)) × (told ≡ (name, statics q.memory.before) ∷ []))
 
 -- the frame of a recorder that waits, if one does, is that of a chain before a turn
 abbrev pub WaitsFirst : {T : Type 0} → Recorder T → Type 0
@@ -235,11 +249,11 @@ WaitsFirst r = (r.first ≡ None) ⊎ ((ch : Chain) × (r.first ≡ Some ch.fram
 module _ {T : Type 0} (sink : Ghosts T) where
   -- a recorder wrote what stands after the turns of a line
   abbrev pub StoppedText : Recorder T → Recorder T → Type 0
-  StoppedText q r = (frame : List ℕ) × StoppedBy q frame × PutsText sink q frame r
+  StoppedText q r = (frame : List ℕ) × StoppedBy q frame r.memory.tolds × PutsText sink q frame r
 
   -- what is kept after a turn at a depth, if it called a frame
   abbrev pub kept_called : ℕ → Follows → Kept → Kept
-  kept_called depth next k = record k { opens = called_opens depth next k.opens; waits = called_waits depth next k.waits }
+  kept_called depth next k = record k { opens = called_opens depth next k.opens; waits = called_waits depth next k.waits; tolds = told_called depth next k.tolds }
 
   -- a recorder wrote the line of the frame that a turn at a depth called, if it called one
   pub record CallsNext (q : Recorder T) (depth : ℕ) (next : Follows) (r : Recorder T) : Type 0 where

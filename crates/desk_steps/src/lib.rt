@@ -5,13 +5,16 @@
 mod changes;
 mod guard;
 mod keys;
+mod late;
 mod looking;
 mod memory;
 mod modes;
 mod playing;
 mod recording;
 mod shot;
+mod spare;
 mod statements;
+mod tolds;
 mod watching;
 mod writes;
 

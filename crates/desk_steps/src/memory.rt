@@ -1,5 +1,5 @@
 // What is kept of the frames of a play between two turns: their bytes, their protection and the device writes.
-ghost use Rattle.std.specs.Prelude.{◌≡◌, ◌≤◌, ℕ, bytes_eq, get_or, length, slice_set, take, false, IsSome, Some, []};
+ghost use Rattle.std.specs.Prelude.{◌≡◌, ◌≤◌, ◌++◌, ◌∷◌, ℕ, bytes_eq, get_or, length, slice_set, take, false, IsSome, Some, []};
 ghost use Rattle.mc_words.specs.model_device.specs.Bytes.{lookup};
 ghost use Rattle.mc_bank.specs.Bank.{app_of};
 ghost use Rattle.mc_text.specs.model_machine.specs.Chain.{depth_of, turn_of, Chain as ModelChain, Follows};
@@ -13,12 +13,13 @@ ghost use Rattle.desk_json.specs.law_steps.specs.Shown.{exit_public, shown_readi
 ghost use Rattle.desk_steps.specs.Counted.{count_after, moves_by_shots, waits_by_shots, writes_after};
 ghost use Rattle.desk_steps.specs.Guards.{all_clear};
 ghost use Rattle.desk_steps.specs.Moments.{command_of};
-ghost use Rattle.desk_steps.specs.Shots.{shot_reading};
+ghost use Rattle.desk_steps.specs.Shots.{shot_reading, statics};
 ghost use Rattle.desk_steps.specs.Turning.{all_shut, end_of, frame_place, is_deeper, is_other, IsAfter, IsBefore, IsWideNext, WasTurn, lb_shown};
 
 use crate::guard::Guard;
 use crate::modes::{abend_of, exit_of, open_by};
 use crate::shot::Shot;
+use crate::tolds::{Tolds, place_of};
 use crate::writes::{device_writes, turn_words};
 use arrayvec::ArrayVec;
 use mc_bank::Bank;
@@ -32,7 +33,8 @@ use mc_words::Aid;
 const COMMAND: usize = 1040;
 
 /// The command of a line; the shots of the frame that runs, before a turn and after it; of the frames at depths 1 to 4
-/// whether protection is on, and the words that wait; and the number of device writes that the line made.
+/// whether protection is on, and the words that wait; the number of device writes that the line made; and the static
+/// bytes of its frames, as its lines said them last.
 #[derive(Drop)]
 pub struct Memory {
     pub command: ArrayVec<u8, 1040>,
@@ -41,6 +43,7 @@ pub struct Memory {
     pub opens: [bool; 4],
     pub guards: [Guard; 4],
     pub writes: u32,
+    pub tolds: Tolds,
 }
 
 // The guards of four frames in which no word waits.
@@ -53,14 +56,6 @@ fn no_guards() -> [Guard; 4]
         Guard::empty(),
         Guard::empty(),
     ]
-}
-
-// The place of what is kept of a frame, by its depth from 1 to 4.
-fn place_of(depth: u8) -> usize
-    ensures value { result ≡ frame_place depth }
-    ensures few { result ≤ 3 }
-{
-    (depth.saturating_sub(1) as usize).min(3)
 }
 
 // Sets in a shot the public bytes that an instruction which exits sets.
@@ -114,6 +109,7 @@ impl Memory {
             opens: [false; 4],
             guards: no_guards(),
             writes: 0,
+            tolds: Tolds::none(),
         }
     }
 
@@ -144,16 +140,19 @@ impl Memory {
         ensures opens { self.new.opens ≡ all_shut }
         ensures guards { self.new.guards ≡ all_clear }
         ensures writes { self.new.writes ≡ 0 }
+        ensures tolds { self.new.tolds ≡ [] }
     {
         self.keep_line(line);
         self.guards = no_guards();
         self.opens = [false; 4];
         self.writes = 0;
+        self.tolds.clear();
     }
 
     /// Begins a frame that another one called, whose protection is off, and in which no word waits.
     pub fn begin_frame(&mut self, depth: u8)
         ensures command { self.new.command.items ≡ self.old.command.items }
+        ensures tolds { self.new.tolds ≡ self.old.tolds }
         ensures before { self.new.before ≡ self.old.before }
         ensures opens { self.new.opens ≡ slice_set self.old.opens (frame_place depth) false }
         ensures guards { self.new.guards ≡ slice_set self.old.guards (frame_place depth) [] }
@@ -169,6 +168,7 @@ impl Memory {
     pub fn look_before<N: Nvm>(&mut self, card: &Card<N>)
         requires { IsWatched N.state card.now }
         ensures command { self.new.command.items ≡ self.old.command.items }
+        ensures tolds { self.new.tolds ≡ self.old.tolds }
         ensures opens { self.new.opens ≡ self.old.opens }
         ensures guards { self.new.guards ≡ self.old.guards }
         ensures writes { self.new.writes ≡ self.old.writes }
@@ -186,6 +186,7 @@ impl Memory {
     fn look_running<N: Nvm>(&mut self, card: &Card<N>, aid: &Aid, dt: u16) -> bool
         requires { IsWatched N.state card.now }
         ensures command { self.new.command.items ≡ self.old.command.items }
+        ensures tolds { self.new.tolds ≡ self.old.tolds }
         ensures opens { self.new.opens ≡ self.old.opens }
         ensures guards { self.new.guards ≡ self.old.guards }
         ensures writes { self.new.writes ≡ self.old.writes }
@@ -211,6 +212,7 @@ impl Memory {
     fn look_exit<N: Nvm>(&mut self, card: &Card<N>, aid: &Aid, ins: &Ins)
         requires { IsUp N.state card.now }
         ensures command { self.new.command.items ≡ self.old.command.items }
+        ensures tolds { self.new.tolds ≡ self.old.tolds }
         ensures opens { self.new.opens ≡ self.old.opens }
         ensures guards { self.new.guards ≡ self.old.guards }
         ensures writes { self.new.writes ≡ self.old.writes }
@@ -232,6 +234,7 @@ impl Memory {
         requires up { IsUp N.state card.now }
         requires watched { IsWatched N.state card.now }
         ensures command { self.new.command.items ≡ self.old.command.items }
+        ensures tolds { self.new.tolds ≡ self.old.tolds }
         ensures opens { self.new.opens ≡ self.old.opens }
         ensures guards { self.new.guards ≡ self.old.guards }
         ensures writes { self.new.writes ≡ self.old.writes }
@@ -256,6 +259,7 @@ impl Memory {
     // Keeps the words that wait after a turn, and returns the number of device writes of the turn.
     fn count_writes(&mut self, turn: &BriefTurn) -> u32
         ensures command { self.new.command.items ≡ self.old.command.items }
+        ensures tolds { self.new.tolds ≡ self.old.tolds }
         ensures opens { self.new.opens ≡ self.old.opens }
         ensures before { self.new.before ≡ self.old.before }
         ensures after { self.new.after ≡ self.old.after }
@@ -284,6 +288,7 @@ impl Memory {
     /// its line from 1, or `None` if it made none.
     pub fn writes_of(&mut self, turn: &BriefTurn) -> Option<(u32, u32)>
         ensures command { self.new.command.items ≡ self.old.command.items }
+        ensures tolds { self.new.tolds ≡ self.old.tolds }
         ensures opens { self.new.opens ≡ self.old.opens }
         ensures before { self.new.before ≡ self.old.before }
         ensures after { self.new.after ≡ self.old.after }
@@ -312,6 +317,7 @@ impl Memory {
     /// Keeps the protection of the frame that ran a turn, and returns whether it is on.
     pub fn protection_of(&mut self, turn: &BriefTurn) -> bool
         ensures command { self.new.command.items ≡ self.old.command.items }
+        ensures tolds { self.new.tolds ≡ self.old.tolds }
         ensures guards { self.new.guards ≡ self.old.guards }
         ensures writes { self.new.writes ≡ self.old.writes }
         ensures before { self.new.before ≡ self.old.before }
@@ -324,5 +330,31 @@ impl Memory {
         let is_on = open_by(turn, self.opens[place]);
         self.opens[place] = is_on;
         is_on
+    }
+
+    /// Keeps the static bytes that the line of a turn at a depth says of its frame, by the shot after the turn.
+    pub fn tell_turn(&mut self, depth: u8, aid: &Aid)
+        ensures command { self.new.command.items ≡ self.old.command.items }
+        ensures before { self.new.before ≡ self.old.before }
+        ensures opens { self.new.opens ≡ self.old.opens }
+        ensures guards { self.new.guards ≡ self.old.guards }
+        ensures writes { self.new.writes ≡ self.old.writes }
+        ensures tolds { self.new.tolds
+            ≡ take (frame_place depth) self.old.tolds ++ (aid.now, statics self.old.after) ∷ [] }
+    {
+        self.tolds.tell(depth, aid, self.after.statics());
+    }
+
+    /// Keeps the static bytes that the line of a frame that begins at a depth says of it, by the shot before its first
+    /// turn.
+    pub fn tell_frame(&mut self, depth: u8, aid: &Aid)
+        ensures command { self.new.command.items ≡ self.old.command.items }
+        ensures opens { self.new.opens ≡ self.old.opens }
+        ensures guards { self.new.guards ≡ self.old.guards }
+        ensures writes { self.new.writes ≡ self.old.writes }
+        ensures tolds { self.new.tolds
+            ≡ take (frame_place depth) self.old.tolds ++ (aid.now, statics self.old.before) ∷ [] }
+    {
+        self.tolds.tell(depth, aid, self.before.statics());
     }
 }

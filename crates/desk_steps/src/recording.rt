@@ -1,5 +1,5 @@
 // The lines of frames and turns, as a recorder writes them.
-ghost use Rattle.std.specs.Prelude.{◌≡◌, ◌≤◌, length, ℕ, Option, [], ◌++◌, codes, get_or, slice_set, Some, None, true, false, IfSome};
+ghost use Rattle.std.specs.Prelude.{◌≡◌, ◌≤◌, length, ℕ, Option, [], ◌∷◌, ◌++◌, codes, get_or, slice_set, take, Some, None, true, false, IfSome};
 ghost use Rattle.mc_text.specs.model_machine.specs.Code.{Shaped};
 ghost use Rattle.mc_text.specs.model_machine.specs.Chain.{depth_of, turn_of, Chain as ModelChain, Follows};
 ghost use Rattle.mc_card.specs.Parts.{IsUp, RunsChain};
@@ -9,13 +9,13 @@ ghost use Rattle.desk_cover.specs.Watching.{IsWatched};
 ghost use Rattle.mc_text.specs.Texts.{sunk};
 ghost use Rattle.desk_json.specs.Sheets.{Adds, PutsOn};
 ghost use Rattle.desk_json.specs.law_steps.specs.Nexts.{open_by};
-ghost use Rattle.desk_json.specs.law_steps.specs.Readings.{first_sets};
+ghost use Rattle.desk_json.specs.law_steps.specs.Readings.{first_sets, reading_of};
 ghost use Rattle.desk_steps.specs.Counted.{count_after, moves_by_shots, waits_by_shots, writes_after};
 ghost use Rattle.desk_steps.specs.Guards.{all_clear};
 ghost use Rattle.desk_steps.specs.Lines.{aid_key, frame_text, number_key, sets_key, turn_text};
 ghost use Rattle.desk_steps.specs.Moments.{command_of, moment};
 ghost use Rattle.desk_steps.specs.Recorded.{first_by, next_number, CallsNext, IsQuiet, KeepsState, PutsText, RecordsTurn, StoppedText};
-ghost use Rattle.desk_steps.specs.Shots.{frame_changes, shot_changes};
+ghost use Rattle.desk_steps.specs.Shots.{frame_changes, shot_changes, statics};
 ghost use Rattle.desk_steps.specs.Turning.{all_shut, bare_value, end_of, frame_place, is_deeper, IsAfter, IsBefore, IsOneDeeper, IsWideNext, WasTurn};
 
 use crate::changes::{add_changes, add_frame};
@@ -41,7 +41,7 @@ pub struct Recorder<'s, 'o, T: Sink> {
     pub sections: &'o Sections<'s>,
     turns: u32,
     first: Option<Aid>,
-    memory: Memory,
+    pub memory: Memory,
 }
 
 // Adds the bytes of a frame that begins, by its shot.
@@ -213,6 +213,7 @@ impl<'s, 'o, T: Sink> Recorder<'s, 'o, T> {
         ensures opens { self.new.memory.opens ≡ all_shut }
         ensures guards { self.new.memory.guards ≡ all_clear }
         ensures writes { self.new.memory.writes ≡ 0 }
+        ensures tolds { self.new.memory.tolds ≡ [] }
     {
         self.turns = 0;
         self.first = None;
@@ -244,19 +245,21 @@ impl<'s, 'o, T: Sink> Recorder<'s, 'o, T> {
         }
     }
 
-    /// Writes the line of the first frame of a command of which no turn was recorded, because a stop hit its first one.
+    /// Writes the line of the first frame of a command of which no turn was recorded, because a stop hit its first one,
+    /// and keeps its static bytes.
     pub fn end_turns(&mut self)
         ensures adds { StoppedText T.Sink self.old self.new }
-        ensures keeps { KeepsState self.old self.new }
+        ensures sections { self.new.sections.now ≡ self.old.sections.now }
     {
         if self.turns == 0 {
             if let Some(aid) = self.first {
                 self.fault = write_first(self.out, self.fault, &aid, &self.memory);
+                self.memory.tell_frame(1, &aid);
             }
         }
     }
 
-    // Writes the line of a frame that another one called, which runs now.
+    // Writes the line of a frame that another one called, which runs now, and keeps its static bytes.
     fn begin_called<N: Nvm>(&mut self, card: &Card<N>, depth: u8)
         requires { IsWatched N.state card.now }
         ensures adds { (c : ModelChain) (left : ℕ) → RunsChain N.state card.now c left → 512 ≤ length c.frame.dyn
@@ -268,15 +271,19 @@ impl<'s, 'o, T: Sink> Recorder<'s, 'o, T> {
         ensures opens { self.new.memory.opens ≡ slice_set self.old.memory.opens (frame_place depth) false }
         ensures guards { self.new.memory.guards ≡ slice_set self.old.memory.guards (frame_place depth) [] }
         ensures writes { self.new.memory.writes ≡ self.old.memory.writes }
+        ensures tolds { (c : ModelChain) (left : ℕ) → RunsChain N.state card.now c left → 512 ≤ length c.frame.dyn
+            → self.new.memory.tolds ≡ take (frame_place depth) self.old.memory.tolds
+            ++ (c.frame.name, (reading_of c.frame c.public).fixed) ∷ [] }
     {
         self.memory.look_before(card);
         self.memory.begin_frame(depth);
         if let Some(aid) = running_aid(card) {
             self.fault = write_called(self.out, self.fault, depth, &aid, &self.memory);
+            self.memory.tell_frame(depth, &aid);
         }
     }
 
-    // Writes the line of a turn, whose shots were taken.
+    // Writes the line of a turn, whose shots were taken, and keeps the static bytes that it says.
     fn write_turn(&mut self, aid: &Aid, turn: &BriefTurn, source: Option<u32>)
         requires { IfSome turn.now.ins Shaped }
         ensures adds { (wrote : Option ℕ) → PutsText T.Sink self.old
@@ -304,6 +311,8 @@ impl<'s, 'o, T: Sink> Recorder<'s, 'o, T> {
             (moves_by_shots turn.now self.old.memory.before self.old.memory.after
             (get_or self.old.memory.opens (frame_place turn.now.depth) false)
             (get_or self.old.memory.guards (frame_place turn.now.depth) [])) }
+        ensures tolds { self.new.memory.tolds ≡ take (frame_place turn.now.depth) self.old.memory.tolds
+            ++ (aid.now, statics self.old.memory.after) ∷ [] }
     {
         let writes = self.memory.writes_of(turn);
         let is_on = self.memory.protection_of(turn);
@@ -319,6 +328,7 @@ impl<'s, 'o, T: Sink> Recorder<'s, 'o, T> {
             is_on,
             writes,
         );
+        self.memory.tell_turn(turn.depth, aid);
     }
 
     // Looks at the card after a turn of an application, and returns whether the turn called another frame.

@@ -16,7 +16,7 @@ use desk_draft::Desk;
 use desk_steps::put_steps;
 use mc_deck::Deck;
 use mc_filter::{Rejection, Status, ended, read_input};
-use mc_nvm::Bench;
+use mc_nvm::{Bench, SimNvm};
 use mc_script::JobFault;
 use mc_streams::{Sink, Source};
 use mc_words::Steps;
@@ -40,21 +40,27 @@ fn write_trace<T: Sink, N: Bench, L: Ledger>(
 
 // Plays a deck, whose text is `text`, and writes its lines and turns as JSON Lines under the sections of its draft.
 fn write_steps<T: Sink, N: Bench, L: Ledger>(
+    alloc: Global,
     sections: &Sections<'_>,
     text: &[u8],
     deck: &Deck,
     out: &mut T,
     dev: &mut N,
     steps: &mut Steps<L>,
-) -> Status
+) -> Result<Status, Rejection>
     requires { IsUnfused (N.bench dev.old) }
-    ensures { IsStepped sections.now text.now deck.now result (bench_at N.Bench dev.old)
-        (sunk T.Sink out.old) (bench_at N.Bench dev.new) (sunk T.Sink out.new) }
+    ensures stepped { IfOk result (λ s. IsStepped sections.now text.now deck.now s
+        (bench_at N.Bench dev.old) (sunk T.Sink out.old)
+        (bench_at N.Bench dev.new) (sunk T.Sink out.new)) }
+    ensures memory { IfErr result (λ e. e ≡ rejection.NoMemory) }
+    ensures out { IfErr result (λ e. sunk T.Sink out.new ≡ sunk T.Sink out.old) }
+    ensures kept { IfErr result (λ e. dev.new ≡ dev.old) }
 {
-    ended(
+    let mut spare = SimNvm::new(alloc, dev.len())?;
+    Ok(ended(
         Status::Done,
-        put_steps(sections, text, deck, dev, out, steps),
-    )
+        put_steps(sections, text, deck, dev, &mut spare, out, steps),
+    ))
 }
 
 // Plays a deck and writes how often each line of its draft's code ran, as a record for the file `name`.
@@ -103,7 +109,7 @@ fn play_deck<T: Sink, N: Bench, L: Ledger>(
 {
     match play {
         Play::Trace => Ok(write_trace(sections, deck, out, dev, steps)),
-        Play::Steps => Ok(write_steps(sections, text, deck, out, dev, steps)),
+        Play::Steps => write_steps(alloc, sections, text, deck, out, dev, steps),
         Play::Cover(name) => write_coverage(alloc, name, sections, deck, out, dev, steps),
     }
 }

@@ -1,4 +1,4 @@
-use Rattle.std.proofs.Common.{◌≡◌, drop}
+use Rattle.std.proofs.Common.{◌≡◌, drop, length}
 use Rattle.mc_deck.specs.model_play.specs.Play.{start}
 use Rattle.mc_script.specs.Players.{device_of}
 use Rattle.desk_steps.specs.Statements.{StandsAt}
@@ -13,4 +13,5 @@ invariant-loop-i g l =
       stands : StandsAt l.statements;
       text : l.statements.text.now ≡ l.text;
       keeps_device : g.N.Nvm.same l.fn.device (device_of l.player);
+      size : length l.spare.words ≡ length (g.N.Nvm.state (device_of l.player)).words;
     }

@@ -10,10 +10,10 @@ returns-in-Some-clause-adds g c =
     let none : q.turns ≡ 0 = search rules in
     let waits : q.first ≡ Some c.in-Some.aid = search rules in
     let frame : List ℕ = frame_text 1 c.in-Some.aid (Some q.memory.command.items) (frame_changes true q.memory.before) in
-    (frame, inr (none, c.in-Some.aid, waits, refl), record { puts = c.write_first-self.ensures; same = refl })
+    (frame, inr (none, c.in-Some.aid, waits, refl, c.tell_frame.ensures.tolds), record { puts = c.write_first-self.ensures; same = refl })
 
 pub returns-else-self-eq0-clause-adds : goal.returns-else-self-eq0-clause-adds
-returns-else-self-eq0-clause-adds g c = ([], inl refl, puts_none g.T.Sink c.args.self.now)
+returns-else-self-eq0-clause-adds g c = ([], inl (refl, refl), puts_none g.T.Sink c.args.self.now)
 
 pub returns-in_default-clause-adds : goal.returns-in_default-clause-adds
-returns-in_default-clause-adds g c = ([], inl refl, puts_none g.T.Sink c.args.self.now)
+returns-in_default-clause-adds g c = ([], inl (refl, refl), puts_none g.T.Sink c.args.self.now)
