@@ -93,6 +93,10 @@ module _ {N : Type 0} (state : N → DeviceState) (bench : N → BenchState) whe
   some_card p s ts name None is some at = absurd (cc some)
   some_card p s ts name (Some n) is some at = player_shows p s ts (has_card p name (Some n) n is refl) at
 
+pub no_frames : (ts : Tolds) → length ts ≡ 0 → ts ≡ []
+no_frames [] e = refl
+no_frames (t ∷ ts) e = absurd (omega (arith, e))
+
 -- nothing is left to say of no frame
 pub none_left : (f g : List ℕ → List ℕ) (ts : Tolds) → ts ≡ [] → lates f ts ≡ lates g ts
 none_left f g ts e = ap (λ (x : Tolds). lates f x) e ∙ ap (λ (x : Tolds). lates g x) (sym e)

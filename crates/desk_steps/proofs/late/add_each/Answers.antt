@@ -18,14 +18,15 @@ loop-told-preserved g c =
     let after = shown_statics g.N.Nvm.state c.args.player.now in
     let i = c.loop-told.told-index in
     let all : Tolds = c.args.tolds.now in
-    let t : List ℕ × List ℕ = get_or all i ([], []) in
+    let t : List ℕ × List ℕ = c.told-item.result in
+    let own : get_or all i t ≡ t = search (rules, c.told-item.is) in
     let any = c.loop-told.any in
     let same : Bool = bytes_eq t.1 (after t.0) in
     let did = c.add_late-any.ensures in
     record {
       rest = λ r last.
           c.loop-told.invariant.rest r
-          (adds_as g.T.Sink c.loop-told.sheet r _ _ (late_next any after t (drop i all) (drop (i + 1) all) (drop_more all i ([], []) c.loop-told-test.true))
+          (adds_as g.T.Sink c.loop-told.sheet r _ _ (late_next any after t (drop i all) (drop (i + 1) all) (drop_more all i t c.loop-told-test.true ∙ ap (λ (x : List ℕ × List ℕ). x ∷ drop (i + 1) all) own))
           (adds_on g.T.Sink c.loop-told.sheet c.add_late-any.new.sheet r (late_front any same t.0 (changes 0 t.1 (after t.0))) (lates_more (any_late any same) (lates after (drop (i + 1) all))) did.adds
           (adds_as g.T.Sink c.add_late-any.new.sheet r _ _ (ap (λ (x : Bool). lates_more x (lates after (drop (i + 1) all))) did.any) last)));
     }

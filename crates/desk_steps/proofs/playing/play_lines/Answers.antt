@@ -42,8 +42,8 @@ loop-i-preserved g c =
     let player = sym c.record_line.ensures.player in
     let recorded =
     recording_on g.T.Sink state bench c.args.text.now first deck a c.args.recorder.now (drop (c.loop-i.i + 1) deck) line.0 (line_of line.1) c.loop-i.player c.line-answer.new.self c.loop-i.recorder c.begin_line.new.self c.line-answer.new.runner c.record_line.new.recorder c.line-answer.result c.statement-statement.result.now h
-          (c.statement-statement.ensures.value ∙ ap (λ (t : List ℕ). statement_at line.0 t) c.loop-i.invariant.text)
-          begun.out begun.fault (record { sections = begun.sections; turns = begun.turns; first = begun.first; command = begun.command; opens = begun.opens; guards = begun.guards; writes = begun.writes; tolds = begun.tolds }) c.line-answer.ensures.done c.record_line.ensures.puts c.record_line.ensures.sections
+    (c.statement-statement.ensures.value ∙ ap (λ (t : List ℕ). statement_at line.0 t) c.loop-i.invariant.text)
+    begun.out begun.fault (record { sections = begun.sections; turns = begun.turns; first = begun.first; command = begun.command; opens = begun.opens; guards = begun.guards; writes = begun.writes; tolds = begun.tolds }) c.line-answer.ensures.done c.record_line.ensures.puts c.record_line.ensures.sections
     in
     record {
       recording = subst (λ p. Recording g.T.Sink state bench c.args.text.now first deck a c.args.recorder.now (drop (c.loop-i.i + 1) deck) p c.record_line.new.recorder) player recorded;
