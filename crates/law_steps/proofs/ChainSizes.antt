@@ -57,12 +57,6 @@ few_from m h n = by (lookup m n) refl
 few_same : (m d : List (List ℕ × App)) → SameSizes m d → FewSessions m → FewSessions d
 few_same m d same h n = subst FewSession (sym (same n)) (h n)
 
-few_of : (m : List (List ℕ × App)) (n : List ℕ) (o : Option App) → lookup m n ≡ o → FewSessions m → FewSession (size_of o)
-few_of m n o e h = subst (λ (x : Option App). FewSession (size_of x)) e (h n)
-
-limit_of : (m : List (List ℕ × App)) (n : List ℕ) (o : Option App) → lookup m n ≡ o → Limited m → Limit (size_of o)
-limit_of m n o e h = subst (λ (x : Option App). Limit (size_of x)) e (h n)
-
 -- ---- chains
 
 record ChainIn (ch : Chain) : Type 0 where

@@ -78,10 +78,6 @@ ran_done (suc n) ch i e goes =
 
 -- ---- the name of the frame that delegated
 
-get_front : (xs ys : List ℕ) → get_or (xs ++ ys) (length xs) 0 ≡ get_or ys 0 0
-get_front [] ys = refl
-get_front (x ∷ xs) ys = get_front xs ys
-
 get_take : (n i : ℕ) (xs : List ℕ) → i < n → get_or (take n xs) i 0 ≡ get_or xs i 0
 get_take zero i xs h = absurd (omega (arith, h))
 get_take (suc n) i [] h = refl

@@ -13,3 +13,4 @@ pub mod TurnWrites
 pub mod Waits
 pub mod SeenSpans
 pub mod DoneRows
+pub mod LateBytes

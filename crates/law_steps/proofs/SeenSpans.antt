@@ -166,9 +166,6 @@ delegator_span l f public seen (Some name) h r enough none sees =
     ap (λ (s : Option ℕ). static_only l.size (option_map (λ n. (l.number (l.dt - 2), n + 1)) s)) sees.1
     ∙ name_span l f (frame_after_pop f 2) public name sees.0 h r refl (stack_number l f public 2 2 h r enough (omega arith) (omega arith)) none.0 sees.2
 
-some_of : (f : Frame) (act : Act) (a n : ℕ) (b : List ℕ) → act ≡ Writes a n b → IsExact act f → 0 < n
-some_of f act a n b e x = (subst (λ (c : Act). IsExact c f) e x).some
-
 prim_span : (p : Primitive) (args : List ℕ) (l : Look) (f : Frame) (public : List ℕ) (x : Around) (seen : Option ℕ) → Looks l f public → IsRoomy f public → NoneHolds (later_causes p args f public x) → IsExact (prim_shape p args f public x).act (record f { dt = (prim_shape p args f public x).dt })
     → (p ≡ DelegatorAid → l.number (l.dt - 2) ≡ number_below_top f 2 → SeesName seen x.delegator (length f.fixed) (number_below_top f 2)) → static_only l.size (prim_target p args l seen) ≡ act_span (prim_shape p args f public x).act (length f.fixed)
 unfolding prim_shape later_causes

@@ -1,5 +1,5 @@
 -- The laws of the lines of a play, as its functions promise them.
-use Rattle.std.specs.Prelude.{◌≡◌, ◌≢◌, ⊤, ℕ, ◌+◌, ◌<◌, ◌≤◌, true, false, cond, ◌==◌, List, [], ◌∷◌, length, get_or, Option, Some, None}
+use Rattle.std.specs.Prelude.{◌≡◌, ◌≢◌, ⊤, ℕ, ◌+◌, ◌<◌, ◌≤◌, true, false, cond, ◌==◌, List, [], ◌∷◌, length, get_or, bytes_eq, Option, Some, None}
 use Rattle.law_family.specs.model_device.specs.Bytes.{lookup}
 use Rattle.law_family.specs.model_device.specs.Card.{App}
 use Rattle.law_family.specs.model_device.specs.Limits.{most_session}
@@ -16,6 +16,7 @@ use Rattle.law_steps.specs.Runs.{changes}
 use Rattle.law_steps.specs.Readings.{last_reading, reading_after, reading_of}
 use Rattle.law_steps.specs.Shown.{EndsFrame, exit_public, is_exit_of, shown_reading}
 use Rattle.law_steps.specs.Replays.{FitsAlong, HoldsAlong, frame_line, memory_after, no_memory}
+use Rattle.law_steps.specs.Tolds.{Tolds, bytes_after, lates}
 
 -- the runs of what differs have exactly the addresses whose bytes differ, each with its new byte; after its last old byte
 -- a segment was zero
@@ -64,3 +65,20 @@ pub record AfterLaw : Type 0 where
   pub goes : (n : ℕ) (ch : Chain) → ((i : Ins) → (turn_of n ch).turn.ins ≡ Some i → is_exit_of i ≡ false) → ((c : Abend) → (turn_of n ch).turn.end ≢ Some (Abended c))
       → reading_after n ch ≡ shown_reading (turn_of n ch).follows ch.frame.name (reading_of ch.frame ch.public) (turn_of n ch).turn.dt
   pub quiet : (n : ℕ) (ch : Chain) → EndsFrame (turn_of n ch).turn → (turn_of n ch).writes ≡ []
+
+-- no frame is of this application
+abbrev pub IsOther : List ℕ → Tolds → Type 0
+IsOther name [] = ⊤
+IsOther name (t ∷ ts) = (bytes_eq t.0 name ≡ false) × IsOther name ts
+
+-- the frames of a chain are of different applications
+abbrev pub DifferInNames : Tolds → Type 0
+DifferInNames [] = ⊤
+DifferInNames (t ∷ ts) = IsOther t.0 ts × DifferInNames ts
+
+-- Of each frame of a chain, whatever its turns' lines say last: these bytes and what is left to say of them give each static
+-- byte after the line.
+abbrev pub LateLaw : Type 0
+LateLaw =
+    (after : List ℕ → List ℕ) (ts : Tolds) (name told : List ℕ) (i : ℕ)
+    → DifferInNames ts → lookup ts name ≡ Some told → i < length (after name) → bytes_after (lates after ts) name (λ k. get_or told k 0) i ≡ get_or (after name) i 0

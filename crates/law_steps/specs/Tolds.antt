@@ -7,6 +7,7 @@ use Rattle.law_family.specs.model_device.specs.PowerUp.{Base, OnCard, AtFault, b
 use Rattle.law_family.specs.model_machine.specs.Chain.{Chain, Follows, Continues, Ends, depth_of, turn_of}
 use Rattle.law_family.specs.model_play.specs.Play.{State, BeforePower, AfterPower}
 use Rattle.law_steps.specs.Readings.{reading_after, reading_of}
+use Rattle.law_steps.specs.Replays.{bytes_with}
 use Rattle.law_steps.specs.Runs.{changes}
 
 -- ---- what the lines of turns say last
@@ -68,3 +69,11 @@ late_unless false name rs ls = (name, rs) ∷ ls
 abbrev pub lates : (List ℕ → List ℕ) → Tolds → Lates
 lates after [] = []
 lates after (t ∷ ts) = late_unless (bytes_eq t.1 (after t.0)) t.0 (changes 0 t.1 (after t.0)) (lates after ts)
+
+-- ---- who reads them
+
+-- the static byte of an application at an address after a line, by what is left to say and by the byte that the lines of
+-- the turns say
+abbrev pub bytes_after : Lates → List ℕ → (ℕ → ℕ) → ℕ → ℕ
+bytes_after [] name bytes i = bytes i
+bytes_after (l ∷ ls) name bytes i = cond (bytes_eq l.0 name) (bytes_with l.1 bytes i) (bytes_after ls name bytes i)

@@ -5,7 +5,7 @@
 
 mod rows;
 
-ghost use Rattle.law_steps.specs.Laws.{AfterLaw, ExactSetsLaw, LongestRunsLaw, PlaysReplayLaw, ReplayLaw, SizesLaw};
+ghost use Rattle.law_steps.specs.Laws.{AfterLaw, ExactSetsLaw, LateLaw, LongestRunsLaw, PlaysReplayLaw, ReplayLaw, SizesLaw};
 ghost use Rattle.law_steps.specs.Nexts.{NextLaw, OpensLaw};
 ghost use Rattle.law_steps.specs.Registers.{RegistersLaw};
 ghost use Rattle.law_steps.specs.Writes.{WritesLaw};
@@ -56,4 +56,10 @@ pub fn turns_give_protection()
 /// and these are computed turn by turn.
 pub fn turns_show_writes()
     ensures writes { WritesLaw }
+{}
+
+/// What a line says after its turns gives, over what the lines of these say last, each static byte that the next power-up
+/// finds, of each frame of the chain in which the line ended.
+pub fn late_runs_give_what_is_kept()
+    ensures late { LateLaw }
 {}
