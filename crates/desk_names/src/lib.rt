@@ -4,7 +4,6 @@
 
 mod entry;
 mod listing;
-mod text;
 
 pub use entry::{Declared, Meaning, Named, label_in, named_in};
 pub use listing::names_of;

@@ -1,56 +1,85 @@
 // The names and labels of sections as JSON Lines.
+ghost use Rattle.std.specs.Prelude.{◌≡◌, ◌++◌, map, option_map, IfOk, OnOk};
+ghost use Rattle.std.specs.Char.{to_ascii_uppercase};
+ghost use Rattle.desk_draft.specs.Sources.{source_value, sources_value};
+ghost use Rattle.desk_names.specs.Names.{entry_line, label_in, label_line, line_key, lines_from, meaning_keys, meaning_value, name_line, name_value, names_of, Bytes, Number, section_keys, section_lines, turn_in};
 
 use crate::entry::{Declared, Meaning, Named, label_in, named_in, place_of};
-use crate::text::push_upper;
-use desk_draft::{Section, Source};
-use mc_text::{push, push_signed};
+use desk_draft::{Section, Source, SourceLine};
+use mc_text::{push, push_decimal};
 use std::alloc::{AllocError, Global};
 
-// Adds the keys of a section: its name and its AID.
-fn push_section_keys(text: &mut Vec<u8>, section: &Section<'_>) -> Result<(), AllocError> {
-    push(text, b"{\"section\":\"")?;
-    push(text, section.name)?;
-    push(text, b"\",\"aid\":\"")?;
-    push_upper(text, section.sizes.aid)
+// Adds digits in upper case.
+fn push_upper(text: &mut Vec<u8>, digits: &[u8]) -> Result<(), AllocError>
+    ensures { OnOk result (text.new.items ≡ text.old.items ++ map to_ascii_uppercase digits.now) }
+{
+    for digit in digits {
+        text.push(digit.to_ascii_uppercase())?;
+    }
+    Ok(())
 }
 
-// Adds a key, as it is written, and a number.
-fn push_key(text: &mut Vec<u8>, key: &[u8], number: i32) -> Result<(), AllocError> {
-    push(text, key)?;
-    push_signed(text, number)
+// Adds the keys of a section: its name and its AID.
+fn push_section_keys(text: &mut Vec<u8>, source: &Source<'_>) -> Result<(), AllocError>
+    ensures { OnOk result (text.new.items ≡ text.old.items ++ section_keys (source_value source.now)) }
+{
+    push(text, b"{\"section\":\"")?;
+    push(text, source.name)?;
+    push(text, b"\",\"aid\":\"")?;
+    push_upper(text, source.sizes.aid)
 }
 
 // Adds the key of a line, and ends the line of JSON.
-fn push_line_key(text: &mut Vec<u8>, number: u32) -> Result<(), AllocError> {
-    push_key(text, b",\"line\":", number.min(i32::MAX as u32) as i32)?;
+fn push_line_key(text: &mut Vec<u8>, number: u32) -> Result<(), AllocError>
+    ensures { OnOk result (text.new.items ≡ text.old.items ++ line_key number) }
+{
+    push(text, b",\"line\":")?;
+    push_decimal(text, number as usize)?;
     push(text, b"}\n")
 }
 
+// Adds what a name of bytes stands for.
+fn push_span(text: &mut Vec<u8>, register: &[u8], at: u16, size: u16) -> Result<(), AllocError>
+    ensures { OnOk result (text.new.items ≡ text.old.items ++ meaning_keys (Bytes register.now at size)) }
+{
+    push(text, b"\",\"register\":\"")?;
+    push(text, register)?;
+    push(text, b"\",\"offset\":")?;
+    push_decimal(text, at as usize)?;
+    push(text, b",\"size\":")?;
+    push_decimal(text, size as usize)
+}
+
+// Adds a number under a name.
+fn push_number(text: &mut Vec<u8>, number: &[u8]) -> Result<(), AllocError>
+    ensures { OnOk result (text.new.items ≡ text.old.items ++ meaning_keys (Number number.now)) }
+{
+    push(text, b"\",\"number\":\"")?;
+    push(text, number)?;
+    push(text, b"\"")
+}
+
 // Adds what a name stands for.
-fn push_meaning(text: &mut Vec<u8>, meaning: &Meaning<'_>) -> Result<(), AllocError> {
-    match meaning {
-        Meaning::Bytes { register, at, size } => {
-            push(text, b"\",\"register\":\"")?;
-            push(text, register)?;
-            push_key(text, b"\",\"offset\":", *at as i32)?;
-            push_key(text, b",\"size\":", *size as i32)
-        }
-        Meaning::Number(number) => {
-            push(text, b"\",\"number\":\"")?;
-            push(text, number)?;
-            push(text, b"\"")
-        }
+fn push_meaning(text: &mut Vec<u8>, meaning: &Meaning<'_>) -> Result<(), AllocError>
+    ensures { OnOk result (text.new.items ≡ text.old.items ++ meaning_keys (meaning_value meaning.now)) }
+{
+    match *meaning {
+        Meaning::Bytes { register, at, size } => push_span(text, register, at, size),
+        Meaning::Number(number) => push_number(text, number),
     }
 }
 
 // Adds the line of a name.
 fn push_named(
     text: &mut Vec<u8>,
-    section: &Section<'_>,
+    source: &Source<'_>,
     named: &Named<'_>,
     number: u32,
-) -> Result<(), AllocError> {
-    push_section_keys(text, section)?;
+) -> Result<(), AllocError>
+    ensures { OnOk result (text.new.items
+        ≡ text.old.items ++ name_line (source_value source.now) number (name_value named.now)) }
+{
+    push_section_keys(text, source)?;
     push(text, b"\",\"name\":\"")?;
     push(text, named.name)?;
     push_meaning(text, &named.meaning)?;
@@ -60,52 +89,53 @@ fn push_named(
 // Adds the line of a label.
 fn push_label(
     text: &mut Vec<u8>,
-    section: &Section<'_>,
+    source: &Source<'_>,
     label: &[u8],
-    place: u16,
     number: u32,
-) -> Result<(), AllocError> {
-    push_section_keys(text, section)?;
+) -> Result<(), AllocError>
+    ensures { OnOk result (text.new.items
+        ≡ text.old.items ++ label_line (source_value source.now) number label.now) }
+{
+    push_section_keys(text, source)?;
     push(text, b"\",\"label\":\"")?;
     push(text, label)?;
-    push_key(text, b"\",\"place\":", place as i32)?;
+    push(text, b"\",\"place\":")?;
+    let place = place_of(source, number);
+    push_decimal(text, place as usize)?;
     push_line_key(text, number)
 }
 
-// Adds the line of what a line of a section declares, or of its label, if it has one.
+// Adds the line of a name, or else that of a label, if there is one.
 fn push_entry(
     text: &mut Vec<u8>,
-    section: &Section<'_>,
     source: &Source<'_>,
-    declared: &mut Declared,
-    line: &[u8],
     number: u32,
-) -> Result<(), AllocError> {
-    if let Some(named) = named_in(declared, line) {
-        return push_named(text, section, &named, number);
-    }
-    match label_in(line) {
-        Some(label) => push_label(text, section, label, place_of(source, number), number),
-        None => Ok(()),
+    named: Option<Named<'_>>,
+    label: Option<&[u8]>,
+) -> Result<(), AllocError>
+    ensures { OnOk result (text.new.items ≡ text.old.items ++ entry_line (source_value source.now) number
+        (option_map name_value named.entry) (option_map (λ l. l.now) label.entry)) }
+{
+    match (named, label) {
+        (Some(named), _) => push_named(text, source, &named, number),
+        (None, Some(label)) => push_label(text, source, label, number),
+        (None, None) => Ok(()),
     }
 }
 
-// Adds the lines of a section.
+// Adds the lines of a section's lines.
 fn push_section(
     text: &mut Vec<u8>,
-    section: &Section<'_>,
+    lines: &[SourceLine<'_>],
     source: &Source<'_>,
-) -> Result<(), AllocError> {
+) -> Result<(), AllocError>
+    ensures { OnOk result (text.new.items ≡ text.old.items ++ lines_from (source_value source.now)
+        (record { fixed = 0; session = 0 }) (map (λ l. (l.number, l.draft.now)) lines.now)) }
+{
     let mut declared = Declared::none();
-    for line in &section.lines {
-        push_entry(
-            text,
-            section,
-            source,
-            &mut declared,
-            line.draft,
-            line.number,
-        )?;
+    for line in lines {
+        let named = named_in(&mut declared, line.draft);
+        push_entry(text, source, line.number, named, label_in(line.draft))?;
     }
     Ok(())
 }
@@ -121,10 +151,13 @@ pub fn names_of(
     alloc: Global,
     sections: &[Section<'_>],
     sources: &[Source<'_>],
-) -> Result<Vec<u8>, AllocError> {
+) -> Result<Vec<u8>, AllocError>
+    ensures { IfOk result (λ text. text.items
+        ≡ names_of (map section_lines sections.now) (sources_value sources.now)) }
+{
     let mut text = Vec::new(alloc);
     for i in 0..sections.len().min(sources.len()) {
-        push_section(&mut text, &sections[i], &sources[i])?;
+        push_section(&mut text, sections[i].lines.as_slice(), &sources[i])?;
     }
     Ok(text)
 }

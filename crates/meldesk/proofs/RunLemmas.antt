@@ -1,5 +1,6 @@
 -- The text of a draft, and the line that refuses it.
-use Rattle.std.proofs.Common.{◌≡◌, ◌≤◌, ◌<◌, ℕ, Bool, true, false, nat_lt, List, length, Result, Ok, Err, IfErr, IfOk, OnOk, refl, ap, sym, subst, ◌∙◌, arith}
+use Rattle.std.proofs.Common.{◌≡◌, ◌≤◌, ◌<◌, ℕ, Bool, true, false, nat_lt, List, length, [], ◌∷◌, Result, Ok, Err, IfErr, IfOk, OnOk, refl, ap, sym, subst, ◌∙◌, arith}
+use Rattle.std.specs.Prelude.{map}
 use Rattle.mc_text.specs.model_text.specs.Text.{◌>>=◌, ok_as}
 use Rattle.mc_deck.specs.model_play.specs.DeckGrammar.{DeckLine, deck_read}
 use Rattle.mc_deck.specs.model_play.specs.declared.deck.DeckCause.{DeckCause}
@@ -10,14 +11,16 @@ use Rattle.mc_filter.specs.declared.rejection.Rejection.TheVariants as rejection
 use Rattle.desk_draft.specs.declared.desk.Desk.{Desk as KeptDesk}
 use Rattle.desk_draft.specs.declared.draft.Draft.{Draft as KeptDraft}
 use Rattle.desk_draft.specs.declared.draft.Section.{Section}
+use Rattle.desk_draft.specs.declared.draft.SourceLine.{SourceLine}
 use Rattle.desk_draft.specs.Drafts.{Draft, deck_of, draft_read}
-use Rattle.desk_draft.specs.Listings.{Desk, desk_read, draft_listing, listing_of, sources_of}
-use Rattle.desk_draft.specs.Written.{draft_value}
+use Rattle.desk_draft.specs.Listings.{Desk, Source, desk_read, draft_listing, listing_of, sources_of}
+use Rattle.desk_draft.specs.Written.{draft_value, line_value, section_value}
 use Rattle.desk_draft.proofs.DeskLemmas as desk
+use Rattle.desk_names.specs.Names.{draft_lines, draft_names, names_of, section_lines}
 use Rattle.desk_explain.specs.Explained.{Explains}
 use Rattle.meldesk.specs.Checks.{ShowsVerdicts}
 use Rattle.meldesk.specs.Running.{draft_with, refused_desk, refused_draft, RejectsAs}
-use Rattle.meldesk.specs.Verdicts.{has_long_deck, is_long, of_listing, of_text, IsCheckOf, IsExplainedOf, IsNamesOf, JobVerdict, Refusal, Whole}
+use Rattle.meldesk.specs.Verdicts.{has_long_deck, is_long, of_listing, of_text, IsCheckOf, IsExplainedOf, JobVerdict, Refusal, Whole}
 
 -- ---- lines
 
@@ -104,23 +107,75 @@ err_of_draft t d (Err e) P h k = k t h
 pub is_draft_with : (t : List ℕ) (d : KeptDraft) (ss : List Section) → draft_read t ≡ Ok (draft_value d) → ss ≡ d.sections.items → draft_read t ≡ Ok (draft_with d.deck.items ss)
 is_draft_with t d ss h is = h ∙ sym (ap (λ (ss : List Section). Ok (draft_with d.deck.items ss)) is)
 
--- ---- the listing
+-- ---- the listing and the names
 
-listing_by : (t : List ℕ) (b : Bool) (r : Result Desk (ℕ × DeckCause)) → has_long_deck t ≡ b → desk_read t ≡ r → of_listing (has_long_deck t) (draft_listing t) ≡ of_listing b (ok_as (λ d. listing_of d.sources) r)
+-- a text that is refused where the deck is
+abbrev FailsAs : List ℕ → Result (List ℕ) (ℕ × DeckCause) → Type 0
+FailsAs t x = (e : ℕ × DeckCause) → desk_read t ≡ Err e → x ≡ Err e
+
+text_whole : (t text : List ℕ) (x : Result (List ℕ) (ℕ × DeckCause)) → has_long_deck t ≡ false → x ≡ Ok text → Whole true text ≡ of_listing (has_long_deck t) x
+text_whole t text x short is = sym (ap (λ (b : Bool). of_listing b x) short ∙ ap of_text is)
+
+text_refused : (t line : List ℕ) (b : Bool) (r : Result Desk (ℕ × DeckCause)) (x : Result (List ℕ) (ℕ × DeckCause)) → FailsAs t x → has_long_deck t ≡ b → desk_read t ≡ r → refused_desk b r line → Refusal line ≡ of_listing (has_long_deck t) x
+text_refused t line true r x fails long is h = ap Refusal h ∙ sym (ap (λ (b : Bool). of_listing b x) long)
+text_refused t line false (Ok d) x fails long is h = absurd h
+text_refused t line false (Err e) x fails long is h = ap Refusal h ∙ sym (ap (λ (b : Bool). of_listing b x) long ∙ ap of_text (fails e is))
+
+text_rejected : (t : List ℕ) (x : Result (List ℕ) (ℕ × DeckCause)) (e : Rejection) → FailsAs t x → Rejects (refused_desk (has_long_deck t) (desk_read t)) e → RejectsAs (λ v. v ≡ of_listing (has_long_deck t) x) e
+text_rejected t x e fails h =
+    rejects_as (refused_desk (has_long_deck t) (desk_read t)) (λ (line : List ℕ). Refusal line ≡ of_listing (has_long_deck t) x) e (λ line is. text_refused t line (has_long_deck t) (desk_read t) x fails refl refl is) h
+
+listing_fails : (t : List ℕ) → FailsAs t (draft_listing t)
 unfolding draft_listing
-listing_by t b r long is = ap (λ (c : Bool). of_listing c (ok_as (λ (d : Desk). listing_of d.sources) (desk_read t))) long ∙ ap (λ (q : Result Desk (ℕ × DeckCause)). of_listing b (ok_as (λ (d : Desk). listing_of d.sources) q)) is
+listing_fails t e h = ap (ok_as (λ (d : Desk). listing_of d.sources)) h
 
 pub listing_made : (t : List ℕ) (d : Desk) → has_long_deck t ≡ false → desk_read t ≡ Ok d → Whole true (listing_of d.sources) ≡ of_listing (has_long_deck t) (draft_listing t)
-listing_made t d short is = sym (listing_by t false (Ok d) short is)
-
-listing_refused : (t line : List ℕ) (b : Bool) (r : Result Desk (ℕ × DeckCause)) → has_long_deck t ≡ b → desk_read t ≡ r → refused_desk b r line → Refusal line ≡ of_listing (has_long_deck t) (draft_listing t)
-listing_refused t line true r long is h = ap Refusal h ∙ sym (listing_by t true r long is)
-listing_refused t line false (Ok d) long is h = absurd h
-listing_refused t line false (Err e) long is h = ap Refusal h ∙ sym (listing_by t false (Err e) long is)
+listing_made t d short is = text_whole t (listing_of d.sources) (draft_listing t) short (desk.listing_made t d is)
 
 pub listing_rejected : (t : List ℕ) (e : Rejection) → Rejects (refused_desk (has_long_deck t) (desk_read t)) e → RejectsAs (λ v. v ≡ of_listing (has_long_deck t) (draft_listing t)) e
-listing_rejected t e h =
-    rejects_as (refused_desk (has_long_deck t) (desk_read t)) (λ (line : List ℕ). Refusal line ≡ of_listing (has_long_deck t) (draft_listing t)) e (λ line is. listing_refused t line (has_long_deck t) (desk_read t) refl refl is) h
+listing_rejected t e h = text_rejected t (draft_listing t) e (listing_fails t) h
+
+-- the names of a draft, by its desk
+abbrev names_by : List ℕ → Draft → Result (List ℕ) (ℕ × DeckCause)
+names_by t d = ok_as (λ (desk : Desk). draft_lines d) (desk_read t)
+
+names_failed : (t : List ℕ) (q : Result Draft (ℕ × DeckCause)) (e : ℕ × DeckCause) → draft_read t ≡ q → desk_read t ≡ Err e → draft_names t ≡ Err e
+unfolding draft_names
+names_failed t (Ok d) e h is = ap (λ q. q >>= names_by t) h ∙ ap (ok_as (λ (desk : Desk). draft_lines d)) is
+names_failed t (Err f) e h is = ap (λ q. q >>= names_by t) h ∙ (sym (draft_refused t f h) ∙ is)
+
+pub names_rejected : (t : List ℕ) (e : Rejection) → Rejects (refused_desk (has_long_deck t) (desk_read t)) e → RejectsAs (λ v. v ≡ of_listing (has_long_deck t) (draft_names t)) e
+names_rejected t e h = text_rejected t (draft_names t) e (λ f. names_failed t (draft_read t) f refl) h
+
+-- the sections with their code, none where the deck is refused
+abbrev sources_in : Result Desk (ℕ × DeckCause) → List Source
+sources_in (Ok k) = k.sources
+sources_in (Err e) = []
+
+sources_by : (t : List ℕ) (d : Draft) (k : Desk) (r : Result (List (ℕ × DeckLine)) (ℕ × DeckCause)) → draft_read t ≡ Ok d → deck_read d.deck ≡ r → desk_read t ≡ Ok k → k.sources ≡ sources_of d
+sources_by t d k (Ok ls) h read is = ap sources_in (sym is ∙ desk_made t d ls h read)
+sources_by t d k (Err e) h read is = absurd (cc (sym is ∙ deck_refused t d e h read))
+
+lines_known : (deck : List ℕ) (ls : List SourceLine) → map (λ l. (l.number, l.draft)) (map (line_value deck) ls) ≡ map (λ l. (l.number, l.draft.now)) ls
+lines_known deck [] = refl
+lines_known deck (l ∷ ls) = ap (λ (xs : List (ℕ × List ℕ)). (l.number, l.draft.now) ∷ xs) (lines_known deck ls)
+
+sections_known : (deck : List ℕ) (ss : List Section) → map (λ s. map (λ l. (l.number, l.draft)) s.lines) (map (section_value deck) ss) ≡ map section_lines ss
+sections_known deck [] = refl
+sections_known deck (s ∷ ss) =
+    ap (λ (x : List (ℕ × List ℕ)). x ∷ map (λ s. map (λ l. (l.number, l.draft)) s.lines) (map (section_value deck) ss)) (lines_known deck s.lines.items)
+    ∙ ap (λ (xs : List (List (ℕ × List ℕ))). section_lines s ∷ xs) (sections_known deck ss)
+
+names_known : (t : List ℕ) (d : Draft) (k : Desk) → draft_read t ≡ Ok d → desk_read t ≡ Ok k → draft_names t ≡ Ok (draft_lines d)
+unfolding draft_names
+names_known t d k h is = ap (λ q. q >>= names_by t) h ∙ ap (ok_as (λ (desk : Desk). draft_lines d)) is
+
+pub names_made : (t text deck : List ℕ) (ss : List Section) (k : Desk) → has_long_deck t ≡ false → draft_read t ≡ Ok (draft_with deck ss) → desk_read t ≡ Ok k → text ≡ names_of (map section_lines ss) k.sources → Whole true text ≡ of_listing (has_long_deck t) (draft_names t)
+names_made t text deck ss k short h is made =
+    let d = draft_with deck ss in
+    let lines = ap (λ (ls : List (List (ℕ × List ℕ))). names_of ls (sources_of d)) (sections_known deck ss) in
+    let same : text ≡ draft_lines d = made ∙ (ap (names_of (map section_lines ss)) (sources_by t d k (deck_read deck) h refl is) ∙ sym lines) in
+    text_whole t text (draft_names t) short (names_known t d k h is ∙ sym (ap Ok same))
 
 -- ---- the verdicts
 
@@ -138,23 +193,6 @@ check_refused line false (Err e) h = ap Refusal h
 pub check_rejected : (t : List ℕ) (e : Rejection) → Rejects (refused_desk (has_long_deck t) (desk_read t)) e → RejectsAs (IsCheckOf (has_long_deck t) (desk_read t)) e
 check_rejected t e h =
     rejects_as (refused_desk (has_long_deck t) (desk_read t)) (λ (line : List ℕ). IsCheckOf (has_long_deck t) (desk_read t) (Refusal line)) e (λ line is. check_refused line (has_long_deck t) (desk_read t) is) h
-
--- ---- the names
-
-names_by : (t : List ℕ) (b : Bool) (r : Result Desk (ℕ × DeckCause)) (v : JobVerdict) → has_long_deck t ≡ b → desk_read t ≡ r → IsNamesOf b r v → IsNamesOf (has_long_deck t) (desk_read t) v
-names_by t b r v long is h = subst (λ (c : Bool). IsNamesOf c (desk_read t) v) (sym long) (subst (λ (q : Result Desk (ℕ × DeckCause)). IsNamesOf b q v) (sym is) h)
-
-pub names_made : (t text : List ℕ) (d : Desk) → has_long_deck t ≡ false → desk_read t ≡ Ok d → IsNamesOf (has_long_deck t) (desk_read t) (Whole true text)
-names_made t text d short is = names_by t false (Ok d) (Whole true text) short is (text, refl)
-
-names_refused : (line : List ℕ) (b : Bool) (r : Result Desk (ℕ × DeckCause)) → refused_desk b r line → IsNamesOf b r (Refusal line)
-names_refused line true r h = ap Refusal h
-names_refused line false (Ok d) h = absurd h
-names_refused line false (Err e) h = ap Refusal h
-
-pub names_rejected : (t : List ℕ) (e : Rejection) → Rejects (refused_desk (has_long_deck t) (desk_read t)) e → RejectsAs (IsNamesOf (has_long_deck t) (desk_read t)) e
-names_rejected t e h =
-    rejects_as (refused_desk (has_long_deck t) (desk_read t)) (λ (line : List ℕ). IsNamesOf (has_long_deck t) (desk_read t) (Refusal line)) e (λ line is. names_refused line (has_long_deck t) (desk_read t) is) h
 
 -- ---- all that is wrong with a draft
 

@@ -5,6 +5,7 @@ use Rattle.mc_filter.specs.Inputs.{input_limit}
 use Rattle.mc_filter.specs.Lines.{deck_line, too_long}
 use Rattle.desk_draft.specs.Drafts.{deck_of}
 use Rattle.desk_draft.specs.Listings.{Desk, desk_read, draft_listing}
+use Rattle.desk_names.specs.Names.{draft_names}
 use Rattle.desk_explain.specs.Explained.{Explains}
 use Rattle.meldesk.specs.Jobs.{MadeText}
 use Rattle.meldesk.specs.Jobs as text
@@ -31,7 +32,7 @@ abbrev pub of_text : Result (List ℕ) (ℕ × DeckCause) → JobVerdict
 of_text (Ok t) = Whole true t
 of_text (Err e) = Refusal (deck_line e)
 
--- the verdict with a listing of a draft, whose deck may not be too long
+-- the verdict with a listing or the names of a draft, whose deck may not be too long
 abbrev pub of_listing : Bool → Result (List ℕ) (ℕ × DeckCause) → JobVerdict
 of_listing true listing = Refusal too_long
 of_listing false listing = of_text listing
@@ -41,12 +42,6 @@ abbrev pub IsCheckOf : Bool → Result Desk (ℕ × DeckCause) → JobVerdict �
 IsCheckOf true desk v = v ≡ Refusal too_long
 IsCheckOf false (Ok d) v = (passes : Bool) × (text : List ℕ) × (v ≡ Whole passes text) × ShowsVerdicts d d.lines passes text
 IsCheckOf false (Err e) v = v ≡ Refusal (deck_line e)
-
--- the verdict with the names of a draft, whose deck may not be too long
-abbrev pub IsNamesOf : Bool → Result Desk (ℕ × DeckCause) → JobVerdict → Type 0
-IsNamesOf true desk v = v ≡ Refusal too_long
-IsNamesOf false (Ok d) v = (text : List ℕ) × (v ≡ Whole true text)
-IsNamesOf false (Err e) v = v ≡ Refusal (deck_line e)
 
 -- the verdict with all that is wrong with a draft, for a file of a name: what refuses the draft is part of the text, but a
 -- deck that is too long
@@ -61,5 +56,5 @@ abbrev pub IsTextOf : MadeText → List ℕ → JobVerdict → Type 0
 IsTextOf text.Deck draft v = v ≡ of_text (deck_of draft)
 IsTextOf text.Listing draft v = v ≡ of_listing (has_long_deck draft) (draft_listing draft)
 IsTextOf text.Verdicts draft v = IsCheckOf (has_long_deck draft) (desk_read draft) v
-IsTextOf text.Names draft v = IsNamesOf (has_long_deck draft) (desk_read draft) v
+IsTextOf text.Names draft v = v ≡ of_listing (has_long_deck draft) (draft_names draft)
 IsTextOf (text.Explained name) draft v = IsExplainedOf name (has_long_deck draft) (desk_read draft) v

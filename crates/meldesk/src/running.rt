@@ -12,10 +12,11 @@ ghost use Rattle.desk_draft.specs.Drafts.{deck_of, draft_read};
 ghost use Rattle.desk_draft.specs.Listings.{desk_read, draft_listing};
 ghost use Rattle.desk_draft.specs.Loads.{desk_value};
 ghost use Rattle.desk_draft.specs.Written.{draft_value};
+ghost use Rattle.desk_names.specs.Names.{draft_names};
 ghost use Rattle.meldesk.specs.Jobs.{job_of, job_value, text_value};
 ghost use Rattle.meldesk.specs.Running.{draft_with, refused_desk, refused_draft, RejectsAs, RejectsText, WritesDraft};
 ghost use Rattle.meldesk.specs.Statuses.{desk_outside, status_if, DeckSays, MeldeskCompletes, MeldeskSays, TextSays};
-ghost use Rattle.meldesk.specs.Verdicts.{has_long_deck, of_listing, of_text, IsCheckOf, IsExplainedOf, IsNamesOf, IsTextOf, Whole};
+ghost use Rattle.meldesk.specs.Verdicts.{has_long_deck, of_listing, of_text, IsCheckOf, IsExplainedOf, IsTextOf, Whole};
 
 use crate::about::describe;
 use crate::checking::verdicts_of;
@@ -130,8 +131,8 @@ fn verdicts_text(alloc: Global, draft: &[u8]) -> Result<DraftText, Rejection>
 // The names of a draft.
 fn names_text(alloc: Global, draft: &[u8]) -> Result<DraftText, Rejection>
     ensures { MatchResult result
-        (λ m. IsNamesOf (has_long_deck draft.now) (desk_read draft.now) (Whole m.passes m.text.items))
-        (RejectsAs (IsNamesOf (has_long_deck draft.now) (desk_read draft.now))) }
+        (λ m. Whole m.passes m.text.items ≡ of_listing (has_long_deck draft.now) (draft_names draft.now))
+        (RejectsAs (λ v. v ≡ of_listing (has_long_deck draft.now) (draft_names draft.now))) }
 {
     let Draft { deck, sections } = draft_of(alloc, draft)?;
     let desk = desk_with(alloc, deck, sections.as_slice())?;

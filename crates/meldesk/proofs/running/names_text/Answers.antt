@@ -1,5 +1,10 @@
+use Rattle.std.proofs.Common.{◌≡◌, ◌∙◌, List, ap, rules}
+use Rattle.std.specs.Prelude.{map}
 use Rattle.std.proofs.lemmas.Result.{err_from_is_err_and}
+use Rattle.desk_draft.specs.declared.source.Source.{Source}
 use Rattle.desk_draft.specs.Loads.{desk_value}
+use Rattle.desk_draft.specs.Sources.{sources_value}
+use Rattle.desk_names.specs.Names.{names_of, section_lines}
 use Rattle.meldesk.proofs.RunLemmas.{draft_rejected, is_draft_with, names_made, names_rejected}
 use Rattle.meldesk.proofs.running.names_text.Goals as goal
 
@@ -16,5 +21,7 @@ returns-in_err-desk c =
 
 pub returns : goal.returns
 returns c =
-    let read = is_draft_with c.args.draft.now c.in_ok-deck.field-0 c.as_slice.result.now c.in_ok-deck.ensures.draft c.as_slice.ensures.value in
-    names_made c.args.draft.now c.in_ok-text.text.items (desk_value c.in_ok-desk.desk) (c.in_ok-desk.ensures.short c.args.draft.now read) (c.in_ok-desk.ensures.desk c.args.draft.now read)
+    let t = c.args.draft.now in
+    let k = desk_value c.in_ok-desk.desk in
+    let read = is_draft_with t c.in_ok-deck.field-0 c.as_slice.result.now c.in_ok-deck.ensures.draft c.as_slice.ensures.value in
+    names_made t c.in_ok-text.text.items c.in_ok-deck.field-0.deck.items c.as_slice.result.now k (c.in_ok-desk.ensures.short t read) read (c.in_ok-desk.ensures.desk t read) c.in_ok-text.ensures
