@@ -18,6 +18,5 @@ mod uses;
 mod verdicts;
 mod warning;
 mod warnings;
-mod ways;
 
 pub use explaining::{Explained, explain};

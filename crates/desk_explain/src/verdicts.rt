@@ -13,9 +13,8 @@ use crate::entry::{Entry, push_sentence};
 use crate::lines::line_numbered;
 use crate::part::{without_comment, word_part};
 use crate::sentence::verdict_sentence;
-use crate::ways::{Way, Ways, ways_to};
 use desk_draft::{Desk, Loads, Source};
-use mc_check::{CheckCause, Routine, Verdict, check};
+use mc_check::{CheckCause, Routine, Verdict, Way, Ways, check, ways_to};
 use mc_deck::Line;
 use mc_text::{push, push_decimal, trim};
 use std::alloc::{AllocError, Global};
@@ -125,14 +124,15 @@ fn text_of(
     source: Option<&Source<'_>>,
     code: &[u8],
     judged: Judged,
-) -> Result<Vec<u8>, AllocError> {
+) -> Result<Vec<u8>, AllocError>
+    requires low { 1 ≤ length code.now }
+    requires high { length code.now ≤ most_code }
+{
     let mut text = Vec::new(alloc);
     push(&mut text, b"`")?;
     push(&mut text, line)?;
     push(&mut text, b"` stands here")?;
-    if code.len() <= MOST_CODE {
-        push_ways(&mut text, source, ways_to(alloc, code, judged.place)?)?;
-    }
+    push_ways(&mut text, source, ways_to(alloc, code, judged.place)?)?;
     push_sentence(&mut text, verdict_sentence(judged.cause))?;
     Ok(text)
 }
@@ -172,6 +172,8 @@ fn judged_entry(
     judged: Judged,
     number: u32,
 ) -> Result<Entry, AllocError>
+    requires low { 1 ≤ length code.now }
+    requires high { length code.now ≤ most_code }
     ensures number { IfOk result (λ e. e.number ≡ number) }
     ensures word { IfOk result (λ e. e.word.now ≡ check_word judged.cause) }
 {
@@ -196,6 +198,8 @@ fn push_judged(
     code: &[u8],
     judged: Judged,
 ) -> Result<(), AllocError>
+    requires low { 1 ≤ length code.now }
+    requires high { length code.now ≤ most_code }
     ensures { OnOk result (causes entries.new.items ≡ with_cause (causes entries.old.items) (
       place_number (option_map (λ s. source_value s.now) source.entry) judged.load judged.place,
       check_word judged.cause,

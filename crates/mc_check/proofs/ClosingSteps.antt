@@ -1,6 +1,6 @@
 -- The steps of the search: what a CALL and a plain instruction leave in the tables, the facts that they reach, and the
 -- refusals that are due.
-use Rattle.std.proofs.Common.{◌≡◌, ◌≢◌, ◌⊎◌, ◌<◌, ◌≤◌, ◌+◌, ◌-◌, ℕ, Bool, true, false, ◌&&◌, nat_eq, List, slice_get, Option, Some, None, inr, arith}
+use Rattle.std.proofs.Common.{◌≡◌, ◌≢◌, ◌⊎◌, ◌<◌, ◌≤◌, ◌+◌, ◌-◌, ℕ, Bool, true, false, ◌&&◌, nat_eq, List, slice_get, Option, Some, None, inr, refl, arith}
 use Rattle.std.proofs.lemmas.Bool.{cases_eq, and_from}
 use Rattle.law_family.specs.model_text.specs.declared.checker.CheckCause.TheVariants.{Returns, Under}
 use Rattle.law_family.specs.model_machine.specs.declared.instruction.Ins.{Ins}
@@ -11,6 +11,7 @@ use Rattle.mc_check.specs.declared.table.Entry.{Entry}
 use Rattle.mc_check.specs.declared.shape.Counts.{Counts as Pair}
 use Rattle.mc_check.specs.Table.{IsIn}
 use Rattle.mc_check.specs.Closing.{IsReal, ComesBack, IsClosed}
+use Rattle.mc_check.specs.Ways.{IsLed}
 use Rattle.mc_check.proofs.FactLooks.{is_at, refuses_good}
 use Rattle.mc_check.proofs.ClosingPlaces.{call_returns_not, call_jumps_not}
 use Rattle.mc_check.proofs.ClosingTables.{closed_from}
@@ -33,28 +34,28 @@ module _ (code : List ℕ) (t : List (Option Entry)) (cs : List (Option Pair)) (
   pub closed_high : 512 < f.height → counts i ≡ None → ((q : ℕ) (c : Pair) → slice_get cs q ≡ Some (Some c) → c.less ≤ 255) → IsClosed code t cs f
   closed_high high stays bound = grind (arith, closed_from)
 
--- ---- facts that are reached
+-- ---- facts to which a fact leads
 
 module _ (code : List ℕ) (f : Fact) (i : Ins) (next : ℕ) (stands : look code f ≡ Stands i next) (low : f.height ≤ 512) (reached : Reached code f) where
   gives : Gives code f i next
   gives = record { stands = stands; height = low }
 
-  pub goes_reached : call_target i ≡ None → goes_on i ≡ true → Reached code (fact f.routine next (height_after i f.height))
-  goes_reached plain on = shape.goes i next reached gives plain on
+  pub goes_led : call_target i ≡ None → goes_on i ≡ true → IsLed code (Some f.place) (fact f.routine next (height_after i f.height))
+  goes_led plain on = (shape.goes i next reached gives plain on, refl)
 
-  pub jump_reached : (to : ℕ) → jump_target i next ≡ Some (Some to) → Reached code (fact f.routine to f.height)
-  jump_reached to e = shape.jumps i next to reached gives e
+  pub jump_led : (to : ℕ) → jump_target i next ≡ Some (Some to) → IsLed code (Some f.place) (fact f.routine to f.height)
+  jump_led to e = (shape.jumps i next to reached gives e, refl)
 
-  pub call_reached : (q : ℕ) → call_target i ≡ Some q → Reached code (fact (At q) q 0)
-  call_reached q e = shape.calls i next q reached gives e
+  pub call_led : (q : ℕ) → call_target i ≡ Some q → IsLed code (Some f.place) (fact (At q) q 0)
+  call_led q e = (shape.calls i next q reached gives e, refl)
 
-  pub pass_reached : (q : ℕ) → call_target i ≡ Some q → is_conditional i ≡ true → Reached code (fact f.routine next f.height)
-  pass_reached q e conditional = shape.passes i next q reached gives e conditional
+  pub pass_led : (q : ℕ) → call_target i ≡ Some q → is_conditional i ≡ true → IsLed code (Some f.place) (fact f.routine next f.height)
+  pass_led q e conditional = (shape.passes i next q reached gives e conditional, refl)
 
-  pub back_reached : (q : ℕ) (c : Pair) → call_target i ≡ Some q → IsReal code q c → c.less ≤ f.height → Reached code (fact f.routine next (f.height - c.less + c.more))
-  back_reached q c e real enough =
+  pub back_led : (q : ℕ) (c : Pair) → call_target i ≡ Some q → IsReal code q c → c.less ≤ f.height → IsLed code (Some f.place) (fact f.routine next (f.height - c.less + c.more))
+  back_led q c e real enough =
       let back = real.counts in
-      shape.returns i next q back.back c.less c.more reached gives e back.reached back.stands back.counts enough
+      (shape.returns i next q back.back c.less c.more reached gives e back.reached back.stands back.counts enough, refl)
 
 -- ---- refusals
 

@@ -35,3 +35,4 @@ pub mod ClosingTables
 pub mod ClosingWhole
 pub mod TurnsReported
 pub mod CheckedPlays
+pub mod WayLemmas

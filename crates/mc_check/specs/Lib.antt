@@ -9,3 +9,4 @@ pub mod Standing
 pub mod CallList
 pub mod Searching
 pub mod Closing
+pub mod Ways

@@ -5,14 +5,16 @@ ghost use Rattle.model_stack.specs.StackRows as shape;
 ghost use Rattle.model_stack.specs.StackShape as stack;
 ghost use Rattle.mc_check.specs.Table.{fact_of, IsFaultDue, IsGoodFact, IsIn, IsWholeTable};
 ghost use Rattle.mc_check.specs.Closing as closing;
+ghost use Rattle.mc_check.specs.Ways.{AreLed, IsLed, KeepsWays};
 
 use crate::shape::{
     Counts, Seen, call_target, goes_on, height_after, is_conditional, jump_target, look,
     return_counts,
 };
 use crate::table::{Entry, Fault, Refusal, Routine};
+use crate::ways::{Way, Ways, with_way};
 use law_family::model_text::CheckCause;
-use std::alloc::Global;
+use std::alloc::{AllocError, Global};
 
 // From a height above this one no fact follows.
 const HIGHEST: u16 = 512;
@@ -25,13 +27,14 @@ struct Found {
     seen: Seen,
 }
 
-// The state of the search: the facts by their places, the counts of routines by theirs, and the places whose
-// facts are still to be followed.
+// The state of the search: the facts by their places, the counts of routines by theirs, the places whose facts
+// are still to be followed, and the ways to one place.
 #[derive(Drop)]
 struct Closing {
     table: Vec<Option<Entry>>,
     counts: Vec<Option<Counts>>,
     work: Vec<u16>,
+    ways: Ways,
 }
 
 fn refusal(place: u16, cause: CheckCause) -> Fault
@@ -86,8 +89,10 @@ fn same_counts(code: &[u8], found: Found, known: Counts, counts: Counts) -> Resu
     }
 }
 
+#[tactic(auto, using(crate::proofs::WayLemmas::keeps_same, crate::proofs::WayLemmas::keeps_then))]
 impl Closing {
-    fn new(alloc: Global, len: usize) -> Result<Closing, Fault>
+    fn new(alloc: Global, len: usize, place: u16) -> Result<Closing, Fault>
+        ensures ways { IfOk result (λ s. s.ways ≡ record { place = place; first = None; second = None }) }
         ensures empty { IfOk result (λ s. closing.tables_of s
             ≡ record { table = replicate len None; counts = replicate len None; work = [] }) }
         ensures due { IfErr result (λ e. e ≡ Fault.NoMemory) }
@@ -96,20 +101,33 @@ impl Closing {
             table: vec![in alloc; None; len]?,
             counts: vec![in alloc; None; len]?,
             work: Vec::new(alloc),
+            ways: Ways {
+                place,
+                first: None,
+                second: None,
+            },
         })
     }
 
-    // Adds a fact to the table, if it is good by itself and no other fact has its place.
-    fn add(&mut self, code: &[u8], place: u16, entry: Entry) -> Result<(), Fault>
+    // Adds a fact to which the one at a place leads, if it is good by itself and no other fact has its place.
+    fn add(
+        &mut self,
+        code: &[u8],
+        from: Option<u16>,
+        place: u16,
+        entry: Entry,
+    ) -> Result<(), Fault>
         requires high { length code.now ≤ most_code }
         requires inside { place < length code.now }
         requires fit { closing.IsFit code.now (closing.tables_of self.old) }
-        requires reached { stack.Reached code.now (fact_of place entry) }
+        requires led { IsLed code.now from (fact_of place entry) }
         ensures fit { OnOk result (closing.IsFit code.now (closing.tables_of self.new)) }
         ensures adds { OnOk result (closing.AddsFacts (closing.tables_of self.old) (closing.tables_of self.new)) }
         ensures there { OnOk result (IsIn self.new.table.items (fact_of place entry)) }
+        ensures ways { KeepsWays code.now self.old.ways self.new.ways }
         ensures due { IfErr result (λ fault. IsFaultDue code.now fault) }
     {
+        self.ways = with_way(code, self.ways, place, Way { from, entry });
         if let Some(known) = self.table[place as usize] {
             return same_fact(code, place, known, entry);
         }
@@ -131,6 +149,7 @@ impl Closing {
         ensures adds { OnOk result (closing.AddsFacts (closing.tables_of self.old) (closing.tables_of self.new)) }
         ensures back { OnOk result (closing.ComesBack self.new.table.items
             (closing.found_fact found) found.seen.next counts.less counts.more) }
+        ensures ways { KeepsWays code.now self.old.ways self.new.ways }
         ensures due { IfErr result (λ fault. IsFaultDue code.now fault) }
     {
         let less = u16::from(counts.less);
@@ -144,7 +163,7 @@ impl Closing {
             routine: found.entry.routine,
             height: found.entry.height - less + u16::from(counts.more),
         };
-        self.add(code, found.seen.next, entry)
+        self.add(code, Some(found.place), found.seen.next, entry)
     }
 
     // Follows the fact at a place to the place after it, if it is a CALL of this routine.
@@ -163,6 +182,7 @@ impl Closing {
         ensures adds { OnOk result (closing.AddsFacts (closing.tables_of self.old) (closing.tables_of self.new)) }
         ensures back { OnOk result ((f : stack.Fact) → IsIn self.old.table.items f → f.place ≡ place
             → closing.ComesBackFrom code.now self.new.table.items routine counts f) }
+        ensures ways { KeepsWays code.now self.old.ways self.new.ways }
         ensures due { IfErr result (λ fault. IsFaultDue code.now fault) }
     {
         let Some(entry) = self.table[place as usize] else {
@@ -185,6 +205,7 @@ impl Closing {
         ensures back { OnOk result ((f : stack.Fact) → IsIn self.new.table.items f
             → closing.ComesBackFrom code.now self.new.table.items routine counts f ⊎ closing.IsAmong
             self.new.work.items f.place) }
+        ensures ways { KeepsWays code.now self.old.ways self.new.ways }
         ensures due { IfErr result (λ fault. IsFaultDue code.now fault) }
     {
         for place in 0..code.len() as u16 {
@@ -205,6 +226,7 @@ impl Closing {
             (closing.tables_of self.new)) }
         ensures left { OnOk result (closing.remaining_work (closing.tables_of self.new)
             ≤ closing.remaining_work (closing.tables_of self.old)) }
+        ensures ways { KeepsWays code.now self.old.ways self.new.ways }
         ensures due { IfErr result (λ fault. IsFaultDue code.now fault) }
     {
         let Routine::At(routine) = found.entry.routine else {
@@ -231,12 +253,13 @@ impl Closing {
         ensures passes { OnOk result (shape.is_conditional found.seen.ins ≡ true
             → IsIn self.new.table.items
             (stack.fact (closing.found_fact found).routine found.seen.next found.entry.height)) }
+        ensures ways { KeepsWays code.now self.old.ways self.new.ways }
         ensures due { IfErr result (λ fault. IsFaultDue code.now fault) }
     {
         if !is_conditional(found.seen.ins) {
             return Ok(());
         }
-        self.add(code, found.seen.next, found.entry)
+        self.add(code, Some(found.place), found.seen.next, found.entry)
     }
 
     // Goes on after a CALL of a routine, if its counts are known.
@@ -251,6 +274,7 @@ impl Closing {
         ensures adds { OnOk result (closing.AddsFacts (closing.tables_of self.old) (closing.tables_of self.new)) }
         ensures back { OnOk result ((c : Counts) → slice_get self.new.counts.items routine ≡ Some (Some c)
             → closing.ComesBack self.new.table.items (closing.found_fact found) found.seen.next c.less c.more) }
+        ensures ways { KeepsWays code.now self.old.ways self.new.ways }
         ensures due { IfErr result (λ fault. IsFaultDue code.now fault) }
     {
         match self.counts[routine as usize] {
@@ -272,13 +296,14 @@ impl Closing {
             (closing.tables_of self.new)) }
         ensures left { OnOk result (closing.remaining_work (closing.tables_of self.new)
             ≤ closing.remaining_work (closing.tables_of self.old)) }
+        ensures ways { KeepsWays code.now self.old.ways self.new.ways }
         ensures due { IfErr result (λ fault. IsFaultDue code.now fault) }
     {
         let entry = Entry {
             routine: Routine::At(routine),
             height: 0,
         };
-        self.add(code, routine, entry)?;
+        self.add(code, Some(found.place), routine, entry)?;
         self.pass(code, found)?;
         self.come_back_known(code, found, routine)
     }
@@ -297,6 +322,7 @@ impl Closing {
             → IsIn self.new.table.items
             (stack.fact (closing.found_fact found).routine found.seen.next
             (shape.height_after found.seen.ins found.entry.height))) }
+        ensures ways { KeepsWays code.now self.old.ways self.new.ways }
         ensures due { IfErr result (λ fault. IsFaultDue code.now fault) }
     {
         if !goes_on(found.seen.ins) {
@@ -306,7 +332,7 @@ impl Closing {
             routine: found.entry.routine,
             height: height_after(found.seen.ins, found.entry.height),
         };
-        self.add(code, found.seen.next, entry)
+        self.add(code, Some(found.place), found.seen.next, entry)
     }
 
     // Goes to the target of a BRANCH or JUMP.
@@ -320,10 +346,11 @@ impl Closing {
         ensures adds { OnOk result (closing.AddsFacts (closing.tables_of self.old) (closing.tables_of self.new)) }
         ensures jumps { OnOk result ((to : ℕ) → shape.jump_target found.seen.ins found.seen.next ≡ Some (Some to)
             → IsIn self.new.table.items (stack.fact (closing.found_fact found).routine to found.entry.height)) }
+        ensures ways { KeepsWays code.now self.old.ways self.new.ways }
         ensures due { IfErr result (λ fault. IsFaultDue code.now fault) }
     {
         match jump_target(found.seen.ins, found.seen.next) {
-            Some(to) => self.add(code, to, found.entry),
+            Some(to) => self.add(code, Some(found.place), to, found.entry),
             None => Ok(()),
         }
     }
@@ -342,6 +369,7 @@ impl Closing {
             (closing.tables_of self.new)) }
         ensures left { OnOk result (closing.remaining_work (closing.tables_of self.new)
             ≤ closing.remaining_work (closing.tables_of self.old)) }
+        ensures ways { KeepsWays code.now self.old.ways self.new.ways }
         ensures due { IfErr result (λ fault. IsFaultDue code.now fault) }
     {
         self.go_on(code, found)?;
@@ -359,6 +387,7 @@ impl Closing {
             (closing.tables_of self.new)) }
         ensures left { OnOk result (closing.remaining_work (closing.tables_of self.new)
             ≤ closing.remaining_work (closing.tables_of self.old)) }
+        ensures ways { KeepsWays code.now self.old.ways self.new.ways }
         ensures due { IfErr result (λ fault. IsFaultDue code.now fault) }
     {
         if let Some(counts) = return_counts(found.seen.ins) {
@@ -382,6 +411,7 @@ impl Closing {
             (closing.tables_of self.new)) }
         ensures left { OnOk result (closing.remaining_work (closing.tables_of self.new)
             ≤ closing.remaining_work (closing.tables_of self.old)) }
+        ensures ways { KeepsWays code.now self.old.ways self.new.ways }
         ensures due { IfErr result (λ fault. IsFaultDue code.now fault) }
     {
         match self.table[place as usize] {
@@ -398,12 +428,34 @@ impl Closing {
         requires high { length code.now ≤ most_code }
         requires state { closing.ClosedOrWaiting code.now self.old.work.items (closing.tables_of self.old) }
         ensures state { OnOk result (closing.ClosedOrWaiting code.now [] (closing.tables_of self.new)) }
+        ensures ways { KeepsWays code.now self.old.ways self.new.ways }
         ensures due { IfErr result (λ fault. IsFaultDue code.now fault) }
     {
         while let Some(place) = self.work.pop() {
             self.work_place(code, place)?;
         }
         Ok(())
+    }
+
+    // Follows all facts of code.
+    fn close(&mut self, code: &[u8]) -> Result<(), Fault>
+        requires low { 1 ≤ length code.now }
+        requires high { length code.now ≤ most_code }
+        requires empty { closing.tables_of self.old ≡ record {
+            table = replicate (length code.now) None;
+            counts = replicate (length code.now) None;
+            work = [];
+        } }
+        ensures state { OnOk result (closing.ClosedOrWaiting code.now [] (closing.tables_of self.new)) }
+        ensures ways { KeepsWays code.now self.old.ways self.new.ways }
+        ensures due { IfErr result (λ fault. IsFaultDue code.now fault) }
+    {
+        let first = Entry {
+            routine: Routine::Main,
+            height: 0,
+        };
+        self.add(code, None, 0, first)?;
+        self.work_all(code)
     }
 }
 
@@ -414,13 +466,30 @@ pub fn close(alloc: Global, code: &[u8]) -> Result<Vec<Option<Entry>>, Fault>
     ensures whole { IfOk result (λ table. IsWholeTable code.now table.items) }
     ensures due { IfErr result (λ fault. IsFaultDue code.now fault) }
 {
-    let mut closing = Closing::new(alloc, code.len())?;
-    let first = Entry {
-        routine: Routine::Main,
-        height: 0,
-    };
-    closing.add(code, 0, first)?;
-    closing.work_all(code)?;
+    let mut closing = Closing::new(alloc, code.len(), 0)?;
+    closing.close(code)?;
     let Closing { table, .. } = closing;
     Ok(table)
+}
+
+/// Returns the ways by which code comes to a place, in the order in which the checker finds them, up to the
+/// first fact that breaks a rule.
+///
+/// # Errors
+///
+/// Returns `AllocError` if out of memory.
+#[tactic(auto, using(crate::proofs::WayLemmas::led_from_none, crate::proofs::WayLemmas::place_from_none))]
+pub fn ways_to(alloc: Global, code: &[u8], place: u16) -> Result<Ways, AllocError>
+    requires low { 1 ≤ length code.now }
+    requires high { length code.now ≤ most_code }
+    ensures place { IfOk result (λ ways. ways.place ≡ place) }
+    ensures led { IfOk result (λ ways. AreLed code.now ways) }
+{
+    let Ok(mut closing) = Closing::new(alloc, code.len(), place) else {
+        return Err(AllocError);
+    };
+    match closing.close(code) {
+        Err(Fault::NoMemory) => Err(AllocError),
+        _ => Ok(closing.ways),
+    }
 }

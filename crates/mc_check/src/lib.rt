@@ -13,14 +13,14 @@ mod shape;
 mod table;
 mod uses;
 mod verdict;
+mod ways;
 mod writing;
 
+pub use closing::ways_to;
 pub use law_family::model_text::CheckCause;
 pub use laws::checked_plays;
-pub use shape::{
-    Counts, Seen, call_target, goes_on, height_after, is_call, is_conditional, jump_target, look,
-    return_counts,
-};
+pub use shape::{call_target, goes_on, is_call, jump_target};
 pub use table::{Entry, Routine};
 pub use uses::always_abends;
 pub use verdict::{Verdict, check};
+pub use ways::{Way, Ways};

@@ -33,7 +33,7 @@ pub returns-clause-fit : goal.returns-clause-fit
 returns-clause-fit c =
     let found = c.in_ok-find in
     let good = good_found c.args.code.now c.args.place c.args.entry found.field-0 found.ensures.place found.ensures.entry found.ensures.found in
-    rw c.in_ok-push.ensures.items (put_fits c.args.code.now (tables_of c.args.self.now) c.args.place c.args.entry (none_there (goal.at.returns-clause-fit c).In_default) c.requires.inside c.requires.fit c.requires.reached good)
+    rw c.in_ok-push.ensures.items (put_fits c.args.code.now (tables_of c.args.self.now) c.args.place c.args.entry (none_there (goal.at.returns-clause-fit c).In_default) c.requires.inside c.requires.fit c.requires.led.0 good)
 
 pub returns-clause-adds : goal.returns-clause-adds
 returns-clause-adds c =

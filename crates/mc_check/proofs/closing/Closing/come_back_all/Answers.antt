@@ -2,6 +2,7 @@ use Rattle.std.proofs.Common.{arith}
 use Rattle.mc_check.specs.Closing.{tables_of}
 use Rattle.mc_check.proofs.ClosingTables.{adds_then}
 use Rattle.mc_check.proofs.ClosingBack.{back_more, back_all}
+use Rattle.mc_check.proofs.WayLemmas.{keeps_then}
 use Rattle.mc_check.proofs.closing.Closing.come_back_all.Goals as goal
 
 pub loop-place-preserved : goal.loop-place-preserved
@@ -12,6 +13,7 @@ loop-place-preserved c =
     record {
       fit = done.fit;
       adds = adds_then (tables_of c.args.self.now) before after c.loop-place.invariant.adds done.adds;
+      ways = keeps_then c.args.code.now _ _ _ c.loop-place.invariant.ways c.come_back_at.ensures.ways;
       back = back_more c.args.code.now before after c.args.routine c.args.counts c.loop-place.place c.loop-place.invariant.back done.adds done.back;
     }
 

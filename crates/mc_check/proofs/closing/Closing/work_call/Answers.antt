@@ -1,6 +1,6 @@
 use Rattle.mc_check.specs.Closing.{tables_of, found_fact}
 use Rattle.mc_check.proofs.ClosingPlaces.{routine_inside}
-use Rattle.mc_check.proofs.ClosingSteps.{call_reached}
+use Rattle.mc_check.proofs.ClosingSteps.{call_led}
 use Rattle.mc_check.proofs.ClosingDone.{on_ok_three, call_done}
 use Rattle.mc_check.proofs.closing.Closing.work_call.Goals as goal
 
@@ -9,10 +9,10 @@ add-requires-clause-inside c =
     let f = c.args.found in
     routine_inside c.args.code.now (found_fact f) f.seen.ins f.seen.next c.args.routine c.requires.found.stands c.requires.calls
 
-pub add-requires-clause-reached : goal.add-requires-clause-reached
-add-requires-clause-reached c =
+pub add-requires-clause-led : goal.add-requires-clause-led
+add-requires-clause-led c =
     let f = c.args.found in
-    call_reached c.args.code.now (found_fact f) f.seen.ins f.seen.next c.requires.found.stands c.requires.low (c.requires.state.fit.sound (found_fact f) c.requires.here).0 c.args.routine c.requires.calls
+    call_led c.args.code.now (found_fact f) f.seen.ins f.seen.next c.requires.found.stands c.requires.low (c.requires.state.fit.sound (found_fact f) c.requires.here).0 c.args.routine c.requires.calls
 
 pub pass-requires-clause-here : goal.pass-requires-clause-here
 pass-requires-clause-here c = c.in_ok-add.ensures.adds.kept (found_fact c.args.found) c.requires.here
