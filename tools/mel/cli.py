@@ -73,7 +73,7 @@ def parser() -> argparse.ArgumentParser:
 def run_tool(name: str, words: List[str]) -> int:
     """Runs a tool as if it was called by itself; a file in C among its words is compiled first."""
     with tempfile.TemporaryDirectory(prefix="melcard-c-") as folder:
-        sys.argv = [f"mel {name}", *(words if name in READS_C else (drafted(word, folder) for word in words))]
+        sys.argv = [f"mel {name}", *(compilable(word) if name in READS_C else drafted(word, folder) for word in words)]
         module = importlib.import_module(TOOLS[name][0])
         try:
             status = module.main(sys.argv[1:]) if name == "watch" else module.main()
@@ -82,6 +82,13 @@ def run_tool(name: str, words: List[str]) -> int:
                 print(end.code, file=sys.stderr)
             return end.code if isinstance(end.code, int) else 0 if end.code is None else 1
     return status or 0
+
+
+def compilable(word: str) -> str:
+    """Returns a word as it is; of a file in C, if there is a compiler."""
+    if word.endswith(".c") and os.path.isfile(word):
+        sources.melc_for(Path(word))
+    return word
 
 
 def drafted(word: str, folder: str) -> str:

@@ -73,6 +73,19 @@ def melc_main() -> Tuple[Optional[Callable[[List[str]], int]], str]:
     return None, NOT_INSTALLED
 
 
+def melc_for(path: Path) -> Callable[[List[str]], int]:
+    """Returns the program `melc`, for a file in C.
+
+    # Errors
+
+    NotRead, if it cannot be run.
+    """
+    main, why = melc_main()
+    if main is None:
+        raise NotRead(f"{path} is written in C, and {why}")
+    return main
+
+
 def compiled(path: Path) -> Source:
     """Returns the draft of an application in C, with what lies beside it.
 
@@ -80,9 +93,7 @@ def compiled(path: Path) -> Source:
 
     NotRead, if melc is not there or refuses it: its messages are on the standard error.
     """
-    main, why = melc_main()
-    if main is None:
-        raise NotRead(f"{path} is written in C, and {why}")
+    main = melc_for(path)
     with tempfile.TemporaryDirectory(prefix="melcard-c-") as folder:
         draft = Path(folder, f"{path.stem}.draft")
         with contextlib.redirect_stdout(io.StringIO()):

@@ -533,11 +533,13 @@ class Analysis:
         return None
 
     def _effects(self, function: Function) -> Tuple[bool, bool]:
-        found = [function, *self._below(function)]
+        found, waiting = [], [function]
+        while waiting:
+            it = waiting.pop()
+            if it not in found:
+                found.append(it)
+                waiting += [called for called, _ in it.calls]
         return any(it.writes for it in found), any(it.exits for it in found)
-
-    def _below(self, function: Function) -> List[Function]:
-        return [each for called, _ in function.calls for each in (called, *self._below(called))]
 
     def _order(self, at: At, operands: List[Expr]) -> None:
         effects = []
@@ -574,5 +576,3 @@ def analysed(source: Source, faults: Faults) -> Optional[Program]:
     program = Analysis(source, faults).program()
     return None if faults.is_refused else program
 
-
-__all__ = ["analysed", "U32"]

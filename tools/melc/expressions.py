@@ -11,9 +11,9 @@ from typing import Callable, Dict, List, Optional, Tuple
 from pycparser import c_ast
 
 from .faults import At, Faults, Refused, at_of
-from .kinds import INT, SIZE, U8, U32, VOID, Array, Kind, Number, Record
+from .kinds import INT, SIZE, U32, VOID, Array, Number, Record
 from .names import Names
-from .tree import (Asked, Binary, Blocks, Called, Choice, Compare, Const, Convert, Expr, Function, Load, Logic, Place, Unary, Variable, calls_in)
+from .tree import (Asked, Binary, Blocks, Called, Choice, Compare, Const, Convert, Expr, Function, Load, Logic, Place, Unary, calls_in)
 
 FLIPPED = {"==": "==", "!=": "!=", "<": ">", "<=": ">=", ">": "<", ">=": "<="}
 TURNED = {"==": "!=", "!=": "==", "<": ">=", "<=": ">", ">": "<=", ">=": "<"}
@@ -74,7 +74,6 @@ class Expressions:
         # What stands beside a call without an order in C: looked at when all functions are known.
         self.orders: List[Tuple[At, List[Expr]]] = []
         self.library: Dict[str, Callable[[c_ast.FuncCall, At], Optional[Expr]]] = {}
-        self.literals: "set[int]" = set()
         self.is_measured = False
         names.constant = self.constant
 
@@ -258,18 +257,17 @@ class Expressions:
             size = self.names.object(node, at).size
         else:
             # What is measured is not evaluated, so calls in it are none.
-            noted, orders, calls = self.function, len(self.orders), None
+            noted, orders = self.function, len(self.orders)
             self.function = None
             was, self.is_measured = self.is_measured, True
             try:
                 try:
                     size = self.place(node).kind.size
                 except Refused:
-                    kind = self.value(node).type
-                    size = kind.size
+                    size = self.value(node).type.size
             finally:
                 self.function, self.is_measured = noted, was
-                del self.orders[orders:], calls
+                del self.orders[orders:]
         return Const(at, SIZE, size, size)
 
     def _cast(self, node: c_ast.Cast, at: At) -> Expr:
@@ -498,5 +496,3 @@ def text_bytes(text: str, at: At) -> bytes:
         place = end
     return bytes(found)
 
-
-__all__ = ["Expressions", "Function", "Kind", "Variable", "U8"]

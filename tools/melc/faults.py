@@ -3,7 +3,7 @@
 from __future__ import annotations
 
 from dataclasses import dataclass
-from typing import Any, List
+from typing import Any, List, Tuple
 
 
 @dataclass(frozen=True)
@@ -34,7 +34,7 @@ class Faults:
 
     def __init__(self) -> None:
         self.is_refused = False
-        self._found: List[str] = []
+        self._found: List[Tuple[At, str]] = []
 
     def error(self, at: At, text: str) -> None:
         """Notes what is refused."""
@@ -46,10 +46,11 @@ class Faults:
         self._note(at, "warning", text)
 
     def _note(self, at: At, kind: str, text: str) -> None:
-        line = f"{at.file}:{at.line}:{at.column}: {kind}: {text}"
-        if line not in self._found:
-            self._found.append(line)
+        if (at, f"{kind}: {text}") not in self._found:
+            self._found.append((at, f"{kind}: {text}"))
 
     def lines(self) -> List[str]:
-        """Returns the messages in the order in which they were found."""
-        return list(self._found)
+        """Returns the messages in the order of their lines, the file first of which one was found first."""
+        files = list(dict.fromkeys(at.file for at, _ in self._found))
+        found = sorted(self._found, key=lambda it: (files.index(it[0].file), it[0].line, it[0].column))
+        return [f"{at.file}:{at.line}:{at.column}: {text}" for at, text in found]

@@ -6,7 +6,7 @@ from typing import Callable, Dict, List, Optional
 
 from pycparser import c_ast
 
-from .expressions import FLIPPED, INSIDE, Expressions, converted
+from .expressions import Expressions, converted
 from .faults import At, Faults, Refused, at_of
 from .kinds import INT, U8, U16
 from .names import Names
@@ -206,5 +206,3 @@ class Library(Expressions):
             self.function.exits = True
         return Primitive(at, [place], "7")
 
-
-__all__ = ["FLIPPED", "INSIDE", "Library", "NAMES"]

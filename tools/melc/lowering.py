@@ -12,10 +12,9 @@ from typing import Dict, List, Optional, Tuple
 from .code import Block, Branch, Goto, Ins, Spot, Stop
 from .expressions import decided
 from .faults import At, Faults
-from .kinds import VOID
 from .selection import WORDS, Selection, TooMuch, core, cut_to, is_same
-from .tree import (Assign, Binary, Block as Statements, Called, Compare, Const, Convert, Copy, Declare, Evaluate, Exit, Expr, Fill, Function, If, Jump,
-                   Load, Loop, Place, Primitive, Program, Return, Statement, Switch, Unary, Variable, calls_in)
+from .tree import (Assign, Binary, Block as Statements, Called, Compare, Const, Copy, Declare, Evaluate, Exit, Expr, Fill, Function, If, Jump,
+ Load, Loop, Place, Primitive, Program, Return, Statement, Switch, Unary, Variable, calls_in)
 
 STACK = 512
 SAVED = 4  # bytes of a call
@@ -71,6 +70,8 @@ class Lowering(Selection):
         self.is_wild = any(it.is_wild for it in reached)
         calls = [called for it in reached for called, _ in it.calls]
         self.routines = [] if self.is_wild else [it for it in reached if sum(called is it for called in calls) > 1]
+        # A label has at most 32 characters.
+        self.labels = {it: it.name if len(it.name) <= 32 else f"{it.name[:24]}_{at}" for at, it in enumerate(self.routines)}
         self.contexts: List[Context] = []
         self.locals: List[Local] = []
         self.mosts: Dict[str, int] = {}
@@ -83,11 +84,11 @@ class Lowering(Selection):
         main = self.program.functions["main"]
         self._routine(main, "")
         for it in self.routines:
-            self.routine = it.name
+            name = self.routine = self.labels[it]
             self.height = self.most = 0
-            self.current = Block(0, it.name, name=it.name)
+            self.current = Block(0, name, name=name)
             self.blocks.append(self.current)
-            self._routine(it, it.name)
+            self._routine(it, name)
         return Lowered(self.blocks, self.locals, self._depth(""))
 
     def _depth(self, name: str) -> int:
@@ -145,11 +146,8 @@ class Lowering(Selection):
         self.at = it.at
         getattr(self, "_" + type(it).__name__.lower())(it)
 
-    def _block(self, it: Statement, count: int = 0) -> None:  # type: ignore[override]
-        if isinstance(it, Place):
-            super()._block(it, count)
-        else:
-            self.block_of(it)
+    def _block(self, it: Statements) -> None:
+        self.block_of(it)
 
     def _declare(self, it: Declare) -> None:
         variable, height = it.variable, self.height
@@ -183,7 +181,7 @@ class Lowering(Selection):
     def _copy(self, it: Copy) -> None:
         count, before = it.count, self.height
         if it.to.is_fixed:
-            self._block(it.source, count)  # type: ignore[arg-type]
+            self.bytes_of(it.source, count)
             self.at_spot("STORE", self.spot(it.to), count, -count)
         elif it.source.is_fixed:
             self.address(it.to)
@@ -485,9 +483,9 @@ class Lowering(Selection):
         function, before = expr.function, self.height
         for argument, it in zip(expr.arguments, function.parameters):
             self.push(argument, it.kind.size)
-        self.calls.append((self.routine, function.name, self.height))
+        self.calls.append((self.routine, self.labels[function], self.height))
         size = function.result.size
-        self.emit("CALL", f"ALL,{function.name}", before + size - self.height)
+        self.emit("CALL", f"ALL,{self.labels[function]}", before + size - self.height)
         if not count:
             self.drop(size)
         else:
@@ -523,5 +521,3 @@ def lowered(program: Program, faults: Faults, path: str) -> Optional[Lowered]:
         return None
     return made
 
-
-__all__ = ["lowered", "VOID", "Convert"]

@@ -6,12 +6,12 @@ bytes below what it pushes, and returns how many.
 
 from __future__ import annotations
 
-from typing import Dict, List, Optional, Tuple
+from typing import Dict, List, Optional
 
-from .code import FIXED, IMMEDIATE, Block, Branch, End, Goto, Ins, Spot, Stop
+from .code import FIXED, IMMEDIATE, Block, Branch, End, Goto, Ins, Spot
 from .expressions import FLIPPED
-from .faults import At, Refused
-from .kinds import Number, bytes_for
+from .faults import At
+from .kinds import bytes_for
 from .tree import (Asked, Binary, Blocks, Called, Choice, Compare, Const, Convert, Expr, Load, Logic, Place, Unary, Variable, calls_in)
 
 REGISTERS = {"static": "SB", "session": "DB", "public": "PB", "header": "PT", "local": "LB"}
@@ -467,8 +467,8 @@ class Selection:
         """Compares two blocks: the second is pushed, the first stays where it lies."""
         count, before = expr.count, self.height
         if not expr.left.is_fixed:
-            self._block(expr.left, count)
-        self._block(expr.right, count)
+            self.bytes_of(expr.left, count)
+        self.bytes_of(expr.right, count)
         if expr.left.is_fixed:
             self.at_spot("CMPN", self.spot(expr.left), count)
         else:
@@ -480,7 +480,8 @@ class Selection:
         self.drop(self.height - before)
         return CONDITIONS[expr.op]
 
-    def _block(self, place: Place, count: int) -> None:
+    def bytes_of(self, place: Place, count: int) -> None:
+        """Pushes the bytes of a place, above its address if that is no constant."""
         if place.is_fixed:
             self.at_spot("LOAD", self.spot(place), count, count)
         else:
@@ -552,5 +553,3 @@ class Selection:
                 self.drop(2 * count + other)
         return CONDITIONS[op]
 
-
-__all__ = ["Selection", "TooMuch", "Refused", "Tuple", "Number", "Stop"]
