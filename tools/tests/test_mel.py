@@ -349,7 +349,7 @@ def test_an_application_in_c_is_compiled_first(badge, tmp_path):
 def test_without_melc_there_is_a_sentence(tmp_path, command):
     (tmp_path / "melc.py").write_text("raise ImportError('none')\n", encoding="utf-8")
     (tmp_path / "app.c").write_text("void main(void) {}\n", encoding="utf-8")
-    done = mel(command, "app.c", at=tmp_path, PYTHONPATH=str(tmp_path))
+    done = mel(command, "app.c", *(["3"] if command == "film" else []), at=tmp_path, PYTHONPATH=str(tmp_path))
     assert (done.returncode, done.stdout) == (2, "")
     assert done.stderr == f"mel {command}: app.c is written in C, and melc is not installed here\n"
 
